@@ -1,0 +1,100 @@
+-- One part more of a sequence or a choice, where the marks are moved in place.
+use Rattle.std.proofs.Common.{◌≡◌, ℕ, suc, ◌+◌, ◌<◌, ◌≤◌, ◌++◌, ◌||◌, ◌&&◌, List, [], ◌∷◌, Bool, true, false, take, drop, length, map, get_or, refl, sym, ◌∙◌, ap, arith, append_assoc, length-append, length-drop, drop-cons, add-one}
+use Rattle.std.proofs.lemmas.Slice.{take-put_mid, drop-put_mid}
+use Rattle.std.proofs.lemmas.List.{drop-drop, length-take}
+use borrow.Rule.Slice.PartMut.{put_mid, same_len_mid}
+use Rattle.cs_syntax.specs.Matching.{Tree, Trees, cat, alt, more}
+use Rattle.cs_syntax.specs.Node.{tree_of, trees_of}
+use Rattle.cs_syntax.specs.declared.node.Node.{Node}
+use Rattle.cs_match.specs.declared.around.Around.{Around}
+use Rattle.cs_match.specs.Places.{places, places_of, blank, blank_all, blank_some, leaves, leaves_all, leaves_some, exits, step, step_all, step_each}
+use Rattle.cs_match.proofs.Marks.{length-step, cat_bools, alt_bools}
+
+pub one_more : (parts : List Node) (i : ℕ) (part : Node) → i < length parts → part ≡ get_or parts i part →
+    trees_of (drop i parts) ≡ more (tree_of part) (trees_of (drop (i + 1) parts))
+one_more parts i part lt is =
+    let next : suc i ≡ i + 1 = omega arith in
+    ap trees_of (drop-cons parts i part lt ∙ ap (λ x. x ∷ drop (suc i) parts) (sym is) ∙ ap (λ n. part ∷ drop n parts) next)
+
+or_assoc : (a b c : Bool) → ((a || b) || c) ≡ (a || (b || c))
+or_assoc true b c = refl
+or_assoc false b c = refl
+
+pub exits_cat : (t : Tree) (ts : Trees) (out : Bool) (ms : List Bool) (here : Around) →
+    exits (cat (more t ts)) out ms here ≡ exits (cat ts) (exits t out (take (places t) ms) here) (drop (places t) ms) here
+exits_cat t ts out ms here =
+    cat_bools (leaves t (take (places t) ms) here) (blank_all ts here) (leaves_all ts (drop (places t) ms) here) out (blank t here)
+
+pub exits_alt : (t : Tree) (ts : Trees) (out : Bool) (ms : List Bool) (here : Around) →
+    exits (alt (more t ts)) out ms here ≡ (exits t out (take (places t) ms) here || exits (alt ts) out (drop (places t) ms) here)
+exits_alt t ts out ms here =
+    alt_bools (leaves t (take (places t) ms) here) (leaves_some ts (drop (places t) ms) here) out (blank t here) (blank_some ts here)
+
+module _ (t : Tree) (old ms ys : List Bool) (out : Bool) (here : Around) (byte at n k m : ℕ)
+    (is : n ≡ places t) (same : k ≡ n) (long : at + (places t + m) ≡ length ms) (rest : drop at ms ≡ drop at old)
+    (y : ys ≡ step t out (take k (drop at ms)) here byte) where
+
+  pub long_new : length ys ≡ n
+  long_new = ap length y ∙ length-step t out (take k (drop at ms)) here byte ∙ sym is
+
+  pub mid_is : take k (drop at ms) ≡ take (places t) (drop at old)
+  mid_is = ap (take k) rest ∙ ap (λ j. take j (drop at old)) (same ∙ is)
+
+  pub end_is : drop (at + n) old ≡ drop (places t) (drop at old)
+  end_is = ap (λ j. drop (at + j) old) is ∙ sym (drop-drop (places t) at old)
+
+  pub put_long : at + n + m ≡ length (put_mid at k ms ys)
+  put_long =
+      let h = long_new in
+      omega (arith, length-append {A = Bool}, length-drop {A = Bool}, length-take {A = Bool})
+
+  pub put_rest : drop (at + n) (put_mid at k ms ys) ≡ drop (at + n) old
+  put_rest =
+      let h = long_new in
+      let after : length ys ≡ k = omega arith in
+      drop-put_mid at k ms ys (at + n) (omega arith) (omega arith) after ∙ sym (drop-drop n at ms) ∙ ap (drop n) rest ∙ drop-drop n at old
+
+  pub put_front : take (at + n) (put_mid at k ms ys) ≡ take at ms ++ ys
+  put_front = let h = long_new in take-put_mid at k ms ys (at + n) (omega arith) (omega arith)
+
+module _ (t : Tree) (ts : Trees) (old ms ys : List Bool) (out : Bool) (here : Around) (byte at n k : ℕ)
+    (is : n ≡ places t) (same : k ≡ n) (long : at + places_of (more t ts) ≡ length ms) (rest : drop at ms ≡ drop at old)
+    (y : ys ≡ step t out (take k (drop at ms)) here byte) where
+
+  pub all_more : (left : Bool) (whole : List Bool) →
+      exits (cat (more t ts)) out (drop at old) here ≡ left →
+      take at ms ++ step_all (more t ts) out (drop at old) here byte ≡ whole →
+      (at + n + places_of ts ≡ length (put_mid at k ms ys))
+      × (exits (cat ts) (exits t out (take k (drop at ms)) here) (drop (at + n) old) here ≡ left)
+      × (drop (at + n) (put_mid at k ms ys) ≡ drop (at + n) old)
+      × (take (at + n) (put_mid at k ms ys) ++ step_all ts (exits t out (take k (drop at ms)) here) (drop (at + n) old) here byte ≡ whole)
+  all_more left whole l w =
+      let mid = mid_is t old ms ys out here byte at n k (places_of ts) is same long rest y in
+      let end = end_is t old ms ys out here byte at n k (places_of ts) is same long rest y in
+      (
+        put_long t old ms ys out here byte at n k (places_of ts) is same long rest y,
+        rw (mid, end) (sym (exits_cat t ts out (drop at old) here) ∙ l),
+        put_rest t old ms ys out here byte at n k (places_of ts) is same long rest y,
+        rw (put_front t old ms ys out here byte at n k (places_of ts) is same long rest y, y, mid, end)
+        (append_assoc (take at ms) (step t out (take (places t) (drop at old)) here byte) (step_all ts (exits t out (take (places t) (drop at old)) here) (drop (places t) (drop at old)) here byte) ∙ w),
+      )
+
+  pub some_more : (left so_far : Bool) (whole : List Bool) →
+      (so_far || exits (alt (more t ts)) out (drop at old) here) ≡ left →
+      take at ms ++ step_each (more t ts) out (drop at old) here byte ≡ whole →
+      (at + n + places_of ts ≡ length (put_mid at k ms ys))
+      × (((so_far || exits t out (take k (drop at ms)) here) || exits (alt ts) out (drop (at + n) old) here) ≡ left)
+      × (drop (at + n) (put_mid at k ms ys) ≡ drop (at + n) old)
+      × (take (at + n) (put_mid at k ms ys) ++ step_each ts out (drop (at + n) old) here byte ≡ whole)
+  some_more left so_far whole l w =
+      let mid = mid_is t old ms ys out here byte at n k (places_of ts) is same long rest y in
+      let end = end_is t old ms ys out here byte at n k (places_of ts) is same long rest y in
+      let first = exits t out (take (places t) (drop at old)) here in
+      let others = exits (alt ts) out (drop (places t) (drop at old)) here in
+      (
+        put_long t old ms ys out here byte at n k (places_of ts) is same long rest y,
+        rw (mid, end) (or_assoc so_far first others ∙ ap (λ b. so_far || b) (sym (exits_alt t ts out (drop at old) here)) ∙ l),
+        put_rest t old ms ys out here byte at n k (places_of ts) is same long rest y,
+        rw (put_front t old ms ys out here byte at n k (places_of ts) is same long rest y, y, mid, end)
+        (append_assoc (take at ms) (step t out (take (places t) (drop at old)) here byte) (step_each ts out (drop (places t) (drop at old)) here byte) ∙ w),
+      )

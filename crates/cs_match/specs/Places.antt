@@ -1,0 +1,140 @@
+-- The places of a tree are its sets, from left to right. A list of marks has one mark for each place.
+-- A place is marked after a front of the line where a part that ends there was taken with that place last.
+-- Every repeat is a loop here, of at least 0 or at least 1 rounds: counted ones are written out before (`Looped`).
+use Rattle.std.specs.Prelude.{ℕ, zero, suc, ◌≡◌, ◌+◌, Bool, true, false, ◌&&◌, ◌||◌, not, List, [], ◌∷◌, ◌++◌, take, drop, length, replicate, nat_eq, nat_le, ◌≤◌, slice_index, slice_index_or, Option, Some, None, is_none}
+use Rattle.cs_syntax.specs.Matching.{Tree, Trees, empty, one_of, cat, alt, rep, line_start, line_end, word_edge, not_word_edge, none, more}
+use Rattle.cs_syntax.specs.Matching.{member, at_word_edge}
+use Rattle.cs_match.specs.declared.around.Around.{Around}
+
+-- what stands around place i of the line
+abbrev pub around : List ℕ → ℕ → Around
+around s i = record { first = nat_eq i 0; last = nat_eq i (length s); edge = at_word_edge s i }
+
+abbrev mutual
+  pub places : Tree → ℕ
+  places empty = 0
+  places (one_of set) = 1
+  places (cat ts) = places_of ts
+  places (alt ts) = places_of ts
+  places (rep x n m) = places x
+  places line_start = 0
+  places line_end = 0
+  places word_edge = 0
+  places not_word_edge = 0
+
+  pub places_of : Trees → ℕ
+  places_of none = 0
+  places_of (more t ts) = places t + places_of ts
+
+-- the tree takes the empty part at a place with these surroundings
+abbrev mutual
+  pub blank : Tree → Around → Bool
+  blank empty a = true
+  blank (one_of set) a = false
+  blank (cat ts) a = blank_all ts a
+  blank (alt ts) a = blank_some ts a
+  blank (rep x n m) a = nat_eq n 0 || blank x a
+  blank line_start a = a.first
+  blank line_end a = a.last
+  blank word_edge a = a.edge
+  blank not_word_edge a = not a.edge
+
+  pub blank_all : Trees → Around → Bool
+  blank_all none a = true
+  blank_all (more t ts) a = blank t a && blank_all ts a
+
+  pub blank_some : Trees → Around → Bool
+  blank_some none a = false
+  blank_some (more t ts) a = blank t a || blank_some ts a
+
+-- from a marked place the tree can be left here
+abbrev mutual
+  pub leaves : Tree → List Bool → Around → Bool
+  leaves empty ms a = false
+  leaves (one_of set) ms a = slice_index_or ms 0 false
+  leaves (cat ts) ms a = leaves_all ts ms a
+  leaves (alt ts) ms a = leaves_some ts ms a
+  leaves (rep x n m) ms a = leaves x ms a
+  leaves line_start ms a = false
+  leaves line_end ms a = false
+  leaves word_edge ms a = false
+  leaves not_word_edge ms a = false
+
+  pub leaves_all : Trees → List Bool → Around → Bool
+  leaves_all none ms a = false
+  leaves_all (more t ts) ms a =
+      (leaves t (take (places t) ms) a && blank_all ts a) || leaves_all ts (drop (places t) ms) a
+
+  pub leaves_some : Trees → List Bool → Around → Bool
+  leaves_some none ms a = false
+  leaves_some (more t ts) ms a = leaves t (take (places t) ms) a || leaves_some ts (drop (places t) ms) a
+
+-- the tree can be left here, where `enter` says whether it can be entered here
+abbrev pub exits : Tree → Bool → List Bool → Around → Bool
+exits t enter ms a = leaves t ms a || (enter && blank t a)
+
+-- the marks after the byte b
+abbrev mutual
+  pub step : Tree → Bool → List Bool → Around → ℕ → List Bool
+  step empty enter ms a b = []
+  step (one_of set) enter ms a b = (enter && member set b) ∷ []
+  step (cat ts) enter ms a b = step_all ts enter ms a b
+  step (alt ts) enter ms a b = step_each ts enter ms a b
+  step (rep x n m) enter ms a b = step x (enter || leaves x ms a) ms a b
+  step line_start enter ms a b = []
+  step line_end enter ms a b = []
+  step word_edge enter ms a b = []
+  step not_word_edge enter ms a b = []
+
+  pub step_all : Trees → Bool → List Bool → Around → ℕ → List Bool
+  step_all none enter ms a b = []
+  step_all (more t ts) enter ms a b =
+      step t enter (take (places t) ms) a b ++ step_all ts (exits t enter (take (places t) ms) a) (drop (places t) ms) a b
+
+  pub step_each : Trees → Bool → List Bool → Around → ℕ → List Bool
+  step_each none enter ms a b = []
+  step_each (more t ts) enter ms a b =
+      step t enter (take (places t) ms) a b ++ step_each ts enter (drop (places t) ms) a b
+
+-- the marks after the first i bytes of s, where `enter` has the places at which the tree is entered
+abbrev pub marks : List ℕ → Tree → (ℕ → Bool) → ℕ → List Bool
+marks s t enter zero = replicate (places t) false
+marks s t enter (suc i) = step t (enter i) (marks s t enter i) (around s i) (slice_index s i)
+
+-- the tree can be left at i, where `enter` has the places at which it is entered
+abbrev pub exit_at : List ℕ → Tree → (ℕ → Bool) → ℕ → Bool
+exit_at s t enter i = exits t (enter i) (marks s t enter i) (around s i)
+
+-- each repeat of the tree is a loop of at least 0 or at least 1 rounds
+abbrev mutual
+  pub Starred : Tree → Type 0
+  Starred empty = Unit {0}
+  Starred (one_of set) = Unit {0}
+  Starred (cat ts) = AllStarred ts
+  Starred (alt ts) = AllStarred ts
+  Starred (rep x n m) = (n ≤ 1) × (m ≡ None) × Starred x
+  Starred line_start = Unit {0}
+  Starred line_end = Unit {0}
+  Starred word_edge = Unit {0}
+  Starred not_word_edge = Unit {0}
+
+  pub AllStarred : Trees → Type 0
+  AllStarred none = Unit {0}
+  AllStarred (more t ts) = Starred t × AllStarred ts
+
+-- the test for `Starred`
+abbrev mutual
+  pub is_starred : Tree → Bool
+  is_starred empty = true
+  is_starred (one_of set) = true
+  is_starred (cat ts) = are_starred ts
+  is_starred (alt ts) = are_starred ts
+  is_starred (rep x n m) = nat_le n 1 && (is_none m && is_starred x)
+  is_starred line_start = true
+  is_starred line_end = true
+  is_starred word_edge = true
+  is_starred not_word_edge = true
+
+  pub are_starred : Trees → Bool
+  are_starred none = true
+  are_starred (more t ts) = is_starred t && are_starred ts

@@ -1,0 +1,14 @@
+use Rattle.std.proofs.Common.{◌≡◌, ◌<◌, length, sym, ◌∙◌, ap, arith}
+use Rattle.cs_syntax.specs.Matching.{Tree, alt, none}
+use Rattle.cs_syntax.specs.Plug.{choice_after}
+use Rattle.cs_syntax.specs.Reading.{sequence}
+use Rattle.cs_syntax.specs.Node.{tree_of, trees_of}
+use Rattle.cs_syntax.proofs.View.{tree_of-Alt}
+use Rattle.cs_syntax.proofs.Trees.{branches_last}
+use Rattle.cs_syntax.proofs.draft.Draft.finish.Goals as goal
+
+pub returns : goal.returns
+returns c =
+    let some : 0 < length c.args.self.branches.items = grind (arith, c.is_empty.ensures) in
+    let b = branches_last c.args.self.branches.items c.in_order-last.result some in
+    tree_of-Alt _ ∙ ap (λ x. alt (trees_of x)) c.in_ok-push.ensures.items ∙ sym (ap (λ t. choice_after (trees_of c.args.self.branches.items) t none) (sym c.in_order-last.ensures) ∙ b)

@@ -1,0 +1,11 @@
+pub mod Matching
+pub mod ByteSet
+pub mod Node
+pub mod Weight
+pub mod Pattern
+pub mod Signs
+pub mod Items
+pub mod Reading
+pub mod Plug
+pub mod Halves
+pub mod Going

@@ -1,0 +1,78 @@
+-- The tree of a pattern, and what part of a line it takes.
+use Rattle.std.specs.Prelude.{ℕ, zero, suc, ◌≡◌, ◌+◌, ◌-◌, ◌<◌, ◌≤◌, ◌⊎◌, ◌&&◌, ◌||◌, not, Bool, true, false, List, length, slice_index, slice_index_or, nat_le, nat_lt, nat_eq, Option, Some, None}
+
+mutual
+  pub data Tree : Type 0 where
+    empty : Tree
+    one_of : List Bool → Tree
+    cat : Trees → Tree
+    alt : Trees → Tree
+    -- a chain of at least n parts, and at most m where it is given
+    rep : Tree → ℕ → Option ℕ → Tree
+    line_start : Tree
+    line_end : Tree
+    word_edge : Tree
+    not_word_edge : Tree
+
+  pub data Trees : Type 0 where
+    none : Trees
+    more : Tree → Trees → Trees
+
+-- the set has the byte
+abbrev pub member : List Bool → ℕ → Bool
+member set b = slice_index_or set b false
+
+-- 0-9, A-Z, a-z or _
+abbrev pub is_word : ℕ → Bool
+is_word b =
+    (nat_le 48 b && nat_le b 57) || (nat_le 65 b && nat_le b 90) || (nat_le 97 b && nat_le b 122) || nat_eq b 95
+
+-- the byte before the place is there and is a word byte
+unfoldable pub word_before : List ℕ → ℕ → Bool
+word_before s i = nat_lt 0 i && nat_le i (length s) && is_word (slice_index s (i - 1))
+
+-- the byte after the place is there and is a word byte
+unfoldable pub word_after : List ℕ → ℕ → Bool
+word_after s i = nat_lt i (length s) && is_word (slice_index s i)
+
+abbrev pub differ : Bool → Bool → Bool
+differ true b = not b
+differ false b = b
+
+unfoldable pub at_word_edge : List ℕ → ℕ → Bool
+at_word_edge s i = differ (word_before s i) (word_after s i)
+
+-- a chain of k parts of R from i to j
+abbrev pub Chain : (ℕ → ℕ → Type 0) → ℕ → ℕ → ℕ → Type 0
+Chain R zero i j = i ≡ j
+Chain R (suc k) i j = (l : ℕ) × R i l × Chain R k l j
+
+abbrev pub IsAtMost : ℕ → Option ℕ → Type 0
+IsAtMost k None = Unit {0}
+IsAtMost k (Some m) = k ≤ m
+
+-- the tree takes the part of s from i to j
+abbrev mutual
+  pub Takes : List ℕ → Tree → ℕ → ℕ → Type 0
+  Takes s empty i j = i ≡ j
+  Takes s (one_of set) i j = (i < length s) × (member set (slice_index s i) ≡ true) × (j ≡ suc i)
+  Takes s (cat ts) i j = TakesAll s ts i j
+  Takes s (alt ts) i j = TakesSome s ts i j
+  Takes s (rep x n m) i j = (k : ℕ) × (n ≤ k) × IsAtMost k m × Chain (Takes s x) k i j
+  Takes s line_start i j = (i ≡ 0) × (j ≡ 0)
+  Takes s line_end i j = (i ≡ length s) × (j ≡ length s)
+  Takes s word_edge i j = (i ≡ j) × (at_word_edge s i ≡ true)
+  Takes s not_word_edge i j = (i ≡ j) × (at_word_edge s i ≡ false)
+
+  -- places rise from i to j, and each member takes its part
+  pub TakesAll : List ℕ → Trees → ℕ → ℕ → Type 0
+  TakesAll s none i j = i ≡ j
+  TakesAll s (more t ts) i j = (l : ℕ) × Takes s t i l × TakesAll s ts l j
+
+  pub TakesSome : List ℕ → Trees → ℕ → ℕ → Type 0
+  TakesSome s none i j = ⊥
+  TakesSome s (more t ts) i j = Takes s t i j ⊎ TakesSome s ts i j
+
+-- some part of s is taken
+abbrev pub Found : Tree → List ℕ → Type 0
+Found t s = (i j : ℕ) × (i ≤ j) × (j ≤ length s) × Takes s t i j

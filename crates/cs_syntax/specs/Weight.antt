@@ -1,0 +1,24 @@
+-- The weight of a tree.
+use Rattle.std.specs.Prelude.{ℕ, ◌+◌, ◌*◌, max, Option, Some, None}
+use Rattle.cs_syntax.specs.Matching.{Tree, Trees, empty, one_of, cat, alt, rep, line_start, line_end, word_edge, not_word_edge, none, more}
+
+-- how often the weight of what is repeated counts
+abbrev pub times : ℕ → Option ℕ → ℕ
+times n None = max n 1
+times n (Some m) = max m 1
+
+abbrev mutual
+  pub weight : Tree → ℕ
+  weight empty = 1
+  weight (one_of set) = 1
+  weight (cat ts) = 1 + weights ts
+  weight (alt ts) = 1 + weights ts
+  weight (rep x n m) = 1 + times n m * weight x
+  weight line_start = 1
+  weight line_end = 1
+  weight word_edge = 1
+  weight not_word_edge = 1
+
+  pub weights : Trees → ℕ
+  weights none = 0
+  weights (more t ts) = weight t + weights ts

@@ -1,0 +1,101 @@
+// The system's readers and writers, by std's `Read` and `Write`.
+ghost use Rattle.std.specs.Prelude.{◌≡◌, ◌≢◌, ◌≤◌, ◌<◌, ℕ, List, [], Option, None, Err, IfOk, length};
+ghost use Rattle.cs_tree.specs.Told.{Told, Reads, Writes, Grows, counted};
+
+use crate::fault::IoFault;
+use crate::sink::Sink;
+use crate::source::Source;
+use std::io::{Read, Write};
+
+/// A reader of std as a source. It tells nothing, and each of the reader's errors is `Failed`.
+#[derive(Drop)]
+pub struct StdSource<R: Drop> {
+    inner: R,
+    failed: u64,
+}
+
+impl<R: Read + Drop> StdSource<R> {
+    pub fn new(inner: R) -> StdSource<R>
+        ensures { ⟦<StdSource<R> as Source>⟧.failed result ≡ 0 }
+    {
+        StdSource { inner, failed: 0 }
+    }
+}
+
+impl<R: Read + Drop> Source for StdSource<R> {
+    ghost failed = { λ s. s.failed };
+
+    ghost keeps_itself = { λ _. tt };
+
+    ghost keeps_chain = { λ _ _ _ _ _. tt };
+
+    fn read(&mut self, buf: &mut [u8]) -> Result<usize, IoFault>
+        ensures within { IfOk result (λ n. n ≤ length buf.new) }
+        ensures failed { self.new.failed ≡ counted result self.old.failed }
+        ensures no_memory { result ≢ Err IoFault.Memory }
+    {
+        match self.inner.read(buf) {
+            Ok(n) => Ok(n),
+            Err(_) => {
+                self.failed = self.failed.saturating_add(1);
+                Err(IoFault::Failed)
+            }
+        }
+    }
+
+    fn failures(&self) -> u64 {
+        self.failed
+    }
+}
+
+/// A writer of std as a sink. It tells nothing. Each of the writer's errors is `Failed`, and so is a
+/// write of some bytes that took none.
+#[derive(Drop)]
+pub struct StdSink<W: Drop> {
+    inner: W,
+    failed: u64,
+}
+
+impl<W: Write + Drop> StdSink<W> {
+    pub fn new(inner: W) -> StdSink<W>
+        ensures { ⟦<StdSink<W> as Sink>⟧.failed result ≡ 0 }
+    {
+        StdSink { inner, failed: 0 }
+    }
+}
+
+impl<W: Write + Drop> Sink for StdSink<W> {
+    ghost failed = { λ s. s.failed };
+
+    fn write(&mut self, buf: &[u8]) -> Result<usize, IoFault>
+        ensures within { IfOk result (λ n. n ≤ length buf.now) }
+        ensures some { IfOk result (λ n. 0 < length buf.now → 0 < n) }
+        ensures failed { self.new.failed ≡ counted result self.old.failed }
+        ensures no_memory { result ≢ Err IoFault.Memory }
+    {
+        match self.inner.write(buf) {
+            Ok(n) if n > 0 || buf.is_empty() => Ok(n),
+            _ => {
+                self.failed = self.failed.saturating_add(1);
+                Err(IoFault::Failed)
+            }
+        }
+    }
+
+    fn flush(&mut self) -> Result<(), IoFault>
+        ensures failed { self.new.failed ≡ counted result self.old.failed }
+        ensures no_memory { result ≢ Err IoFault.Memory }
+    {
+        match self.inner.flush() {
+            Ok(()) => Ok(()),
+            Err(_) => {
+                self.failed = self.failed.saturating_add(1);
+                Err(IoFault::Failed)
+            }
+        }
+    }
+
+    fn failures(&self) -> u64 {
+        self.failed
+    }
+}

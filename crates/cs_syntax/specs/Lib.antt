@@ -1,11 +1,14 @@
+-- What public contracts rest on: what a tree takes, and what a text reads as.
 pub mod Matching
 pub mod ByteSet
 pub mod Node
 pub mod Weight
-pub mod Pattern
-pub mod Signs
 pub mod Items
+pub mod Signs
 pub mod Reading
-pub mod Plug
-pub mod Halves
-pub mod Going
+pub mod Refusal
+-- What functions inside promise each other.
+pub mod TreeList
+pub mod TreeCode
+pub mod Begun
+pub mod ParserState

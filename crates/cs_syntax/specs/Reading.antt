@@ -3,11 +3,11 @@ use Rattle.std.specs.Prelude.{ℕ, zero, suc, ◌+◌, ◌≡◌, ◌⊎◌, Boo
 use Rattle.std.specs.Option.{option_or}
 use Rattle.cs_syntax.specs.Matching.{Tree, Trees, empty, one_of, cat, alt, rep, none, more}
 use Rattle.cs_syntax.specs.ByteSet.{char_set, dot_set}
-use Rattle.cs_syntax.specs.Items.{Flags, Setting, Item, char, dot, edge, bar, group_start, group_end, setting, repeat, Front, item, fault}
+use Rattle.cs_syntax.specs.Items.{Flags, Setting, Item, char, dot, edge, bar, group_start, group_end, setting, repeat, Front, item, fault, front}
 use Rattle.cs_syntax.specs.declared.before.Before.{Before}
 use Rattle.cs_syntax.specs.declared.before.Before.TheVariants.{Start, Operand, Counted}
-use Rattle.cs_syntax.specs.declared.fault.Fault.{Fault}
-use Rattle.cs_syntax.specs.declared.fault.Fault.TheVariants.{NoOperand, StackedRepeat, OpenGroup, StrayClose, TooDeep}
+use Rattle.cs_syntax.specs.declared.fault.PatternFault.{PatternFault}
+use Rattle.cs_syntax.specs.declared.fault.PatternFault.TheVariants.{NoOperand, StackedRepeat, OpenGroup, StrayClose, TooDeep}
 
 -- a sequence of units
 abbrev pub sequence : Trees → Tree
@@ -50,7 +50,7 @@ with_bar l = record { units = none; branches = more (sequence l.units) l.branche
 -- and last up to the end; or the first fault.
 pub data Rest : Type 0 where
   levels : Level → List Level → Rest
-  broken : Fault → ℕ → Rest
+  broken : PatternFault → ℕ → Rest
 
 -- what the rest is with one item before it that stays in the group
 abbrev pub inside : (Level → Level) → Rest → Rest
@@ -63,7 +63,7 @@ closed (broken k at) = broken k at
 
 -- the group up to its `)` is one unit of what follows it
 abbrev pub opened : Rest → Rest
-opened (levels l []) = broken OpenGroup 0 -- never: there is one level more than open groups
+opened (levels l []) = broken OpenGroup 0  -- never: there is one level more than open groups
 opened (levels l (outer ∷ ls)) = levels (with_unit (whole l) outer) ls
 opened (broken k at) = broken k at
 
@@ -83,37 +83,35 @@ abbrev pub at_end : List Group → Rest
 at_end [] = levels blank []
 at_end (g ∷ gs) = broken OpenGroup g.at
 
-module _ (front : ℕ → List ℕ → Front) where
-  -- `rest skip at before groups flags text`: the text at offset `at`, whose first `skip` bytes belong to the item before it
-  abbrev pub rest : ℕ → ℕ → Before → List Group → Flags → List ℕ → Rest
-  rest skip at before groups flags [] = at_end groups
-  rest (suc skip) at before groups flags (b ∷ text) = rest skip (at + 1) before groups flags text
-  rest zero at before groups flags (b ∷ text) =
-      elim (front b text) [
-        fault k behind ↦ broken k (at + behind)
+-- `rest skip at before groups flags text`: the text at offset `at`, whose first `skip` bytes belong to the item before it
+abbrev pub rest : ℕ → ℕ → Before → List Group → Flags → List ℕ → Rest
+rest skip at before groups flags [] = at_end groups
+rest (suc skip) at before groups flags (b ∷ text) = rest skip (at + 1) before groups flags text
+rest zero at before groups flags (b ∷ text) =
+    elim (front b text) [
+      | fault k behind ↦ broken k (at + behind)
       | item x len ↦
-        elim x [
-          char c ↦ inside (with_unit (one_of (char_set flags.fold c))) (rest len (at + 1) Operand groups flags text)
-        | dot ↦ inside (with_unit (one_of (dot_set flags.dot_all))) (rest len (at + 1) Operand groups flags text)
-        | edge t ↦ inside (with_unit t) (rest len (at + 1) Operand groups flags text)
-        | bar ↦ inside with_bar (rest len (at + 1) Start groups flags text)
-        | setting s ↦ rest len (at + 1) Start groups (set_flags s flags) text
-        | group_start s ↦ if nat_eq (length groups) 200 then broken TooDeep at else opened (rest len (at + 1) Start (record { at = at; flags = flags } ∷ groups) (set_flags s flags) text)
-        | group_end ↦ elim groups [ [] ↦ broken StrayClose at | g ∷ gs ↦ closed (rest len (at + 1) Operand gs g.flags text) ]
-        | repeat n m ↦
-          elim before [
-            Start ↦ broken NoOperand at
-          | Counted ↦ broken StackedRepeat at
-          | Operand ↦ inside (with_repeat n m) (rest len (at + 1) Counted groups flags text)
+          elim x [
+            | char c ↦ inside (with_unit (one_of (char_set flags.fold c))) (rest len (at + 1) Operand groups flags text)
+            | dot ↦ inside (with_unit (one_of (dot_set flags.dot_all))) (rest len (at + 1) Operand groups flags text)
+            | edge t ↦ inside (with_unit t) (rest len (at + 1) Operand groups flags text)
+            | bar ↦ inside with_bar (rest len (at + 1) Start groups flags text)
+            | setting s ↦ rest len (at + 1) Start groups (set_flags s flags) text
+            | group_start s ↦ if nat_eq (length groups) 200 then broken TooDeep at else opened (rest len (at + 1) Start (record { at = at; flags = flags } ∷ groups) (set_flags s flags) text)
+            | group_end ↦ elim groups [ [] ↦ broken StrayClose at | g ∷ gs ↦ closed (rest len (at + 1) Operand gs g.flags text) ]
+            | repeat n m ↦
+                elim before [
+                  | Start ↦ broken NoOperand at
+                  | Counted ↦ broken StackedRepeat at
+                  | Operand ↦ inside (with_repeat n m) (rest len (at + 1) Counted groups flags text)
+                ]
           ]
-        ]
-      ]
-
+    ]
 
 -- what a text reads as
 pub data Reading : Type 0 where
   tree : Tree → Reading
-  refused : Fault → ℕ → Reading
+  refused : PatternFault → ℕ → Reading
 
 abbrev pub answer : Rest → Reading
 answer (levels l ls) = tree (whole l)
@@ -122,19 +120,22 @@ answer (broken k at) = refused k at
 abbrev pub at_first : Bool → Flags
 at_first fold = record { fold = fold; dot_all = false }
 
-abbrev pub reading_by : (ℕ → List ℕ → Front) → List ℕ → Bool → Reading
-reading_by front text fold = answer (rest front 0 0 Start [] (at_first fold) text)
+-- what the text reads as; with `fold` a letter stands for both of its cases
+abbrev pub reading : List ℕ → Bool → Reading
+reading text fold = answer (rest 0 0 Start [] (at_first fold) text)
 
-abbrev pub Reads : (ℕ → List ℕ → Front) → List ℕ → Bool → Tree → Type 0
-Reads front text fold t = reading_by front text fold ≡ tree t
+-- the text reads as the tree
+abbrev pub Reads : List ℕ → Bool → Tree → Type 0
+Reads text fold t = reading text fold ≡ tree t
 
-abbrev pub Breaks : (ℕ → List ℕ → Front) → List ℕ → Bool → Fault → ℕ → Type 0
-Breaks front text fold k at = reading_by front text fold ≡ refused k at
+-- The first fault from the left, and its offset: the items before it are well formed.
+abbrev pub Breaks : List ℕ → Bool → PatternFault → ℕ → Type 0
+Breaks text fold k at = reading text fold ≡ refused k at
 
 -- exactly one tree is read, or exactly one fault breaks the text, and never both
-abbrev pub IsDecided : (ℕ → List ℕ → Front) → List ℕ → Bool → Type 0
-IsDecided front text fold =
-    (((t : Tree) × Reads front text fold t) ⊎ ((k : Fault) × ((at : ℕ) × Breaks front text fold k at)))
-    × ((t u : Tree) → Reads front text fold t → Reads front text fold u → t ≡ u)
-    × ((k j : Fault) (at by : ℕ) → Breaks front text fold k at → Breaks front text fold j by → (k ≡ j) × (at ≡ by))
-    × ((t : Tree) (k : Fault) (at : ℕ) → Reads front text fold t → Breaks front text fold k at → ⊥)
+abbrev pub IsDecided : List ℕ → Bool → Type 0
+IsDecided text fold =
+    (((t : Tree) × Reads text fold t) ⊎ ((k : PatternFault) × ((at : ℕ) × Breaks text fold k at)))
+    × ((t u : Tree) → Reads text fold t → Reads text fold u → t ≡ u)
+    × ((k j : PatternFault) (at by : ℕ) → Breaks text fold k at → Breaks text fold j by → (k ≡ j) × (at ≡ by))
+    × ((t : Tree) (k : PatternFault) (at : ℕ) → Reads text fold t → Breaks text fold k at → ⊥)

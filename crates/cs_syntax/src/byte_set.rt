@@ -1,5 +1,5 @@
 // Sets of bytes.
-ghost use Rattle.std.specs.Prelude.{◌≡◌, ◌≢◌, ℕ, List, Bool, true, Option, IfSome, IfNone};
+ghost use Rattle.std.specs.Prelude.{◌≡◌, ◌≢◌, ℕ, List, Bool, true, Option, IfSome, IfNone, length};
 ghost use Rattle.cs_syntax.specs.Matching.{member};
 ghost use Rattle.std.specs.Prelude.{◌<◌};
 ghost use Rattle.cs_syntax.specs.ByteSet.{IsOnly, between, count, char_set, dot_set, is_letter, is_in_char, is_in_dot};
@@ -40,15 +40,16 @@ impl ByteSet {
 
     /// How many members there are.
     pub fn len(&self) -> u32
-        ensures { result ≡ count self.now }
+        ensures members { result ≡ count self.now }
+        ensures bytes { length self.now ≡ 256 }
     {
         self.members.iter().filter(|m| **m).count() as u32
     }
 
     /// The member, where there is exactly one.
     pub fn single(&self) -> Option<u8>
-        ensures some { IfSome result (IsOnly self.now 256) }
-        ensures none { IfNone result ((b : ℕ) → IsOnly self.now 256 b → ⊥) }
+        ensures some { IfSome result (IsOnly self.now) }
+        ensures none { IfNone result ((b : ℕ) → IsOnly self.now b → ⊥) }
     {
         let mut found = None;
         for (b, m) in self.members.iter().enumerate() {

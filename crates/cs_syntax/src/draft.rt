@@ -3,12 +3,11 @@ ghost use Rattle.std.specs.Prelude.{◌≡◌, ◌<◌, ℕ, OnOk, IfOk, length,
 ghost use Rattle.cs_syntax.specs.Matching.{rep};
 ghost use Rattle.cs_syntax.specs.Reading.{sequence};
 ghost use Rattle.cs_syntax.specs.Node.{tree_of, trees_of};
-ghost use Rattle.cs_syntax.specs.Plug.{Half, more_units, more_branches, finished, nothing};
-
-use std::alloc::{AllocError, Global};
-use std::mem;
+ghost use Rattle.cs_syntax.specs.Begun.{Begun, with_last_unit, with_last_branch, finished, just_begun};
 
 use crate::node::Node;
+use std::alloc::{AllocError, Global};
+use std::mem;
 
 /// The branches of a group that are done, and the units of the one that is not.
 #[derive(Drop)]
@@ -18,7 +17,7 @@ pub struct Draft {
 }
 
 /// One unit as it is, or several in order.
-#[tactic(auto, using(crate::proofs::Trees::several))]
+#[tactic(auto, using(crate::proofs::TreeLemmas::several))]
 pub fn in_order(mut units: Vec<Node>) -> Node
     ensures { tree_of result ≡ sequence (trees_of units.items) }
 {
@@ -36,10 +35,10 @@ pub fn in_order(mut units: Vec<Node>) -> Node
 }
 
 impl Draft {
-    ghost use Rattle.cs_syntax.specs.Halves.{half_of};
+    ghost use Rattle.cs_syntax.specs.ParserState.{begun_of};
 
     pub fn new(alloc: Global) -> Draft
-        ensures { half_of result ≡ nothing }
+        ensures { begun_of result ≡ just_begun }
     {
         Draft {
             branches: Vec::new(alloc),
@@ -48,9 +47,9 @@ impl Draft {
     }
 
     /// One more unit.
-    #[tactic(auto, using(crate::proofs::Trees::trees_last))]
+    #[tactic(auto, using(crate::proofs::TreeLemmas::trees_last))]
     pub fn add(&mut self, unit: Node) -> Result<(), AllocError>
-        ensures more { OnOk result (half_of self.new ≡ more_units (half_of self.old) (tree_of unit)) }
+        ensures more { OnOk result (begun_of self.new ≡ with_last_unit (begun_of self.old) (tree_of unit)) }
         ensures some { OnOk result (0 < length self.new.units.items) }
     {
         self.units.push(unit)?;
@@ -58,23 +57,24 @@ impl Draft {
     }
 
     /// The last unit is repeated.
-    #[tactic(auto, using(crate::proofs::Trees::trees_last))]
+    #[tactic(auto, using(crate::proofs::TreeLemmas::trees_last))]
     pub fn repeat(&mut self, alloc: Global, least: u32, most: Option<u32>) -> Result<(), AllocError>
         requires { 0 < length self.old.units.items }
-        ensures { OnOk result ((t : _) × (h : Half) × (half_of self.old ≡ more_units h t) × (half_of self.new ≡ more_units h (rep t least most))) }
+        ensures { OnOk result ((t : _) × (h : Begun) × (begun_of self.old ≡ with_last_unit h t) × (begun_of self.new ≡ with_last_unit h (rep t least most))) }
     {
         let unit = match self.units.pop() {
             Some(unit) => unit,
             None => unreachable!(),
         };
-        self.units.push(Node::Rep(Box::new(alloc, unit)?, least, most))?;
+        self.units
+            .push(Node::Rep(Box::new(alloc, unit)?, least, most))?;
         Ok(())
     }
 
     /// The units so far are a branch.
-    #[tactic(auto, using(crate::proofs::Trees::trees_last))]
+    #[tactic(auto, using(crate::proofs::TreeLemmas::trees_last))]
     pub fn bar(&mut self, alloc: Global) -> Result<(), AllocError>
-        ensures { OnOk result (half_of self.new ≡ more_branches (half_of self.old)) }
+        ensures { OnOk result (begun_of self.new ≡ with_last_branch (begun_of self.old)) }
     {
         let units = mem::replace(&mut self.units, Vec::new(alloc));
         self.branches.push(in_order(units))?;
@@ -82,9 +82,9 @@ impl Draft {
     }
 
     /// The whole group.
-    #[tactic(auto, using(crate::proofs::Trees::branches_last))]
+    #[tactic(auto, using(crate::proofs::TreeLemmas::branches_last))]
     pub fn finish(self) -> Result<Node, AllocError>
-        ensures { IfOk result (λ n. tree_of n ≡ finished (half_of self)) }
+        ensures { IfOk result (λ n. tree_of n ≡ finished (begun_of self)) }
     {
         let Draft {
             mut branches,

@@ -1,10 +1,8 @@
 // Laws of the definitions.
 ghost use Rattle.std.specs.Prelude.{ℕ, Bool, List};
-ghost use Rattle.cs_syntax.specs.Items.{front};
 ghost use Rattle.cs_syntax.specs.Reading.{IsDecided};
 
-/// Each text reads as one tree or has one first fault, and never both.
+/// Each text reads as one tree or breaks by one fault, and never both.
 pub fn reading_is_decided()
-    ensures { (text : List ℕ) (fold : Bool) → IsDecided front text fold }
-{
-}
+    ensures { (text : List ℕ) (fold : Bool) → IsDecided text fold }
+{}

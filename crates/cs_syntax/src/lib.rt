@@ -1,4 +1,5 @@
-//! Patterns: their trees, and the trees that texts are read as. Read `specs/Matching.antt` first, then `specs/Reading.antt`.
+//! Patterns: their trees, which parts of a line a tree takes, and the tree that a text is read as.
+//! Read `specs/Matching.antt` first, then `specs/Reading.antt`.
 #![tactic(auto)]
 
 mod before;
@@ -14,7 +15,7 @@ mod sign_type;
 mod weight;
 
 pub use byte_set::ByteSet;
-pub use fault::Fault;
+pub use fault::{PatternError, PatternFault};
 pub use node::Node;
-pub use parser::{PatternError, parse};
+pub use parser::parse;
 pub use pattern::Pattern;

@@ -1,43 +1,21 @@
 // Patterns read from text.
-ghost use Rattle.std.specs.Prelude.{◌≡◌, ◌⊎◌, ◌+◌, ◌++◌, ◌∷◌, [], ◌<◌, ℕ, OnOk, IfOk, IfErr, length, string_bytes, drop};
-ghost use Rattle.cs_syntax.specs.Items.{first_front, is_question};
+ghost use Rattle.std.specs.Prelude.{◌≡◌, ◌⊎◌, ◌+◌, ◌++◌, ◌∷◌, [], ◌<◌, ◌≤◌, ℕ, OnOk, IfOk, IfErr, length, string_bytes, drop};
+ghost use Rattle.cs_syntax.specs.Items.{is_question};
 ghost use Rattle.cs_syntax.specs.Reading.{Reads, Breaks};
 ghost use Rattle.cs_syntax.specs.Node.{tree_of};
-ghost use Rattle.cs_syntax.specs.Halves.{half_of};
-ghost use Rattle.cs_syntax.specs.Plug.{nothing};
-
-use std::alloc::{AllocError, Global};
-use std::mem;
+ghost use Rattle.cs_syntax.specs.ParserState.{begun_of};
+ghost use Rattle.cs_syntax.specs.Begun.{just_begun};
 
 use crate::before::Before;
 use crate::byte_set::ByteSet;
 use crate::draft::Draft;
-use crate::fault::Fault;
+use crate::fault::{PatternError, PatternFault};
 use crate::node::Node;
 use crate::pattern::Pattern;
 use crate::sign::sign;
 use crate::sign_type::Sign;
-
-/// Why and where a text is no pattern.
-#[derive(Clone, Copy, Drop)]
-pub struct PatternError {
-    pub fault: Fault,
-    pub at: usize,
-}
-
-impl From<AllocError> for PatternError {
-    ghost use Rattle.std.specs.Prelude.{◌≡◌};
-    ghost use Rattle.cs_syntax.specs.declared.fault.Fault.TheVariants.{Memory};
-
-    ghost from_gives = { λ _ e. e ≡ record { fault = Memory; at = 0 } };
-
-    fn from(_e: AllocError) -> PatternError {
-        PatternError {
-            fault: Fault::Memory,
-            at: 0,
-        }
-    }
-}
+use std::alloc::{AllocError, Global};
+use std::mem;
 
 /// A group that is open: where its `(` stands, and what goes before it in the group around it.
 #[derive(Drop)]
@@ -56,20 +34,21 @@ pub struct Parser {
 }
 
 impl Parser {
-    ghost use Rattle.cs_syntax.specs.Going.{going, at_the_end, HasOperand, IsRefusal};
+    ghost use Rattle.cs_syntax.specs.ParserState.{reading_from, reading_at_end, HasOperand, IsRefusal};
     ghost use Rattle.cs_syntax.specs.Reading.{tree};
 
     /// Reads the item at the place, which is one byte long.
     pub fn read_item(&mut self, alloc: Global, text: &[u8], at: usize) -> Result<(), PatternError>
         requires inside { at < length text.now }
         requires kept { HasOperand self.old }
-        ensures same { OnOk result (going self.new text.now (at + 1) ≡ going self.old text.now at) }
+        ensures same { OnOk result (reading_from self.new text.now (at + 1) ≡ reading_from self.old text.now at) }
         ensures still { OnOk result (HasOperand self.new) }
-        ensures refused { IfErr result (IsRefusal (going self.old text.now at)) }
+        ensures refused { IfErr result (IsRefusal (reading_from self.old text.now at)) }
     {
         match sign(text[at]) {
             Sign::Plain => {
-                self.draft.add(Node::Set(ByteSet::of_char(self.fold, text[at])))?;
+                self.draft
+                    .add(Node::Set(ByteSet::of_char(self.fold, text[at])))?;
                 self.before = Before::Operand;
             }
             Sign::Dot => {
@@ -87,13 +66,13 @@ impl Parser {
             Sign::Star => match self.before {
                 Before::Start => {
                     return Err(PatternError {
-                        fault: Fault::NoOperand,
+                        fault: PatternFault::NoOperand,
                         at,
                     });
                 }
                 Before::Counted => {
                     return Err(PatternError {
-                        fault: Fault::StackedRepeat,
+                        fault: PatternFault::StackedRepeat,
                         at,
                     });
                 }
@@ -109,13 +88,13 @@ impl Parser {
             Sign::Open => {
                 if is_head(text, at + 1) {
                     return Err(PatternError {
-                        fault: Fault::NotInProfile,
+                        fault: PatternFault::NotInProfile,
                         at,
                     });
                 }
                 if self.open.len() == 200 {
                     return Err(PatternError {
-                        fault: Fault::TooDeep,
+                        fault: PatternFault::TooDeep,
                         at,
                     });
                 }
@@ -125,7 +104,7 @@ impl Parser {
             Sign::Close => {
                 let Some(Open { at: _, outer }) = self.open.pop() else {
                     return Err(PatternError {
-                        fault: Fault::StrayClose,
+                        fault: PatternFault::StrayClose,
                         at,
                     });
                 };
@@ -140,7 +119,7 @@ impl Parser {
             | Sign::Backslash
             | Sign::Wide => {
                 return Err(PatternError {
-                    fault: Fault::NotInProfile,
+                    fault: PatternFault::NotInProfile,
                     at,
                 });
             }
@@ -150,8 +129,8 @@ impl Parser {
 
     /// The pattern, where the text ends here.
     fn end(self) -> Result<Node, PatternError>
-        ensures reads { IfOk result (λ n. at_the_end self ≡ tree (tree_of n)) }
-        ensures breaks { IfErr result (IsRefusal (at_the_end self)) }
+        ensures reads { IfOk result (λ n. reading_at_end self ≡ tree (tree_of n)) }
+        ensures breaks { IfErr result (IsRefusal (reading_at_end self)) }
     {
         let Parser {
             mut open,
@@ -161,7 +140,7 @@ impl Parser {
         } = self;
         if let Some(group) = open.pop() {
             return Err(PatternError {
-                fault: Fault::OpenGroup,
+                fault: PatternFault::OpenGroup,
                 at: group.at,
             });
         }
@@ -177,37 +156,46 @@ fn is_head(text: &[u8], after: usize) -> bool
 }
 
 /// What is read of a group waits while a group in it is read.
-fn open_group(alloc: Global, open: &mut Vec<Open>, draft: &mut Draft, at: usize) -> Result<(), AllocError>
+fn open_group(
+    alloc: Global,
+    open: &mut Vec<Open>,
+    draft: &mut Draft,
+    at: usize,
+) -> Result<(), AllocError>
     ensures waits { OnOk result (open.new.items ≡ open.old.items ++ record { at = at; outer = draft.old } ∷ []) }
-    ensures fresh { OnOk result (half_of draft.new ≡ nothing) }
+    ensures fresh { OnOk result (begun_of draft.new ≡ just_begun) }
 {
     let outer = mem::replace(draft, Draft::new(alloc));
     open.push(Open { at, outer })?;
     Ok(())
 }
 
-ghost use Rattle.cs_syntax.specs.Going.{IsRefusal, IsRefusedBy};
-ghost use Rattle.cs_syntax.specs.Pattern.{pattern_tree};
-ghost use Rattle.cs_syntax.specs.Reading.{reading_by};
+ghost use Rattle.cs_syntax.specs.ParserState.{IsRefusal};
+ghost use Rattle.cs_syntax.specs.Reading.{reading};
+ghost use Rattle.cs_syntax.specs.Refusal.{IsRefused};
+ghost use Rattle.cs_syntax.specs.Weight.{weight};
 
-/// Reads a pattern of the first profile. With `fold` letters stand for both cases.
+/// Reads a pattern. With `fold` a letter stands for both of its cases, until a flag says otherwise.
+///
+/// So far it takes ASCII literals, `.`, `|`, `(re)`, `*`, `^` and `$`; all else is `NotInProfile`.
 pub fn parse(alloc: Global, text: &str, fold: bool) -> Result<Pattern, PatternError>
-    ensures reads { IfOk result (λ p. Reads first_front text.now fold (pattern_tree p)) }
-    ensures breaks { IfErr result (IsRefusedBy (reading_by first_front text.now fold)) }
+    ensures reads { IfOk result (λ p. Reads text.now fold p) }
+    ensures light { IfOk result (λ p. weight p ≤ 10000) }
+    ensures refused { IfErr result (IsRefused text.now fold) }
 {
     let root = read(alloc, text, fold)?;
     match Pattern::new(root) {
         Some(pattern) => Ok(pattern),
         None => Err(PatternError {
-            fault: Fault::TooLarge,
+            fault: PatternFault::TooLarge,
             at: 0,
         }),
     }
 }
 
 fn read(alloc: Global, text: &str, fold: bool) -> Result<Node, PatternError>
-    ensures reads { IfOk result (λ n. Reads first_front text.now fold (tree_of n)) }
-    ensures breaks { IfErr result (IsRefusal (reading_by first_front text.now fold)) }
+    ensures reads { IfOk result (λ n. Reads text.now fold (tree_of n)) }
+    ensures breaks { IfErr result (IsRefusal (reading text.now fold)) }
 {
     let bytes = text.as_bytes();
     let mut parser = Parser {

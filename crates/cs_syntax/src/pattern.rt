@@ -1,25 +1,38 @@
 // Patterns: trees within the weight.
-ghost use Rattle.std.specs.Prelude.{◌≡◌, ◌≤◌, ◌<◌};
+ghost use Rattle.std.specs.Prelude.{◌≡◌, ◌≤◌, ◌<◌, MatchOption};
 ghost use Rattle.cs_syntax.specs.Node.{tree_of};
 ghost use Rattle.cs_syntax.specs.Weight.{weight};
 
 use crate::node::Node;
 use crate::weight::weigh;
+use std::marker::Model;
 
 /// A pattern: a tree that weighs at most 10000.
 #[derive(Drop)]
 pub struct Pattern {
     root: Node,
-    ghost within: { weight (tree_of root) ≤ 10000 },
+}
+
+impl Model for Pattern {
+    ghost use Rattle.std.specs.Prelude.{◌≤◌};
+    ghost use Rattle.cs_syntax.specs.Matching.{Tree};
+    ghost use Rattle.cs_syntax.specs.TreeCode.{tree_code};
+    ghost use Rattle.cs_syntax.specs.Node.{tree_of};
+    ghost use Rattle.cs_syntax.specs.Weight.{weight};
+
+    ghost Value = { Tree };
+
+    ghost coded = { tree_code };
+
+    ghost view = { λ p. tree_of p.root };
+
+    ghost invariant = { λ p. weight (tree_of p.root) ≤ 10000 };
 }
 
 impl Pattern {
-    ghost use Rattle.std.specs.Prelude.{MatchOption, List, ℕ};
-    ghost use Rattle.cs_syntax.specs.Pattern.{pattern_tree};
-
-    /// The pattern of a tree, where it is not too heavy.
+    /// The pattern of a tree, where the tree is not too heavy.
     pub fn new(root: Node) -> Option<Pattern>
-        ensures { MatchOption result (10000 < weight (tree_of root)) (λ p. pattern_tree p ≡ tree_of root) }
+        ensures { MatchOption result (10000 < weight (tree_of root)) (λ p. (p ≡ tree_of root) × (weight p ≤ 10000)) }
     {
         if weigh(&root).is_none() {
             return None;
@@ -29,8 +42,8 @@ impl Pattern {
 
     /// The pattern's tree.
     pub fn tree(&self) -> &Node
-        ensures tree { tree_of result.now ≡ pattern_tree self.now }
-        ensures within { weight (tree_of result.now) ≤ 10000 }
+        ensures tree { tree_of result.now ≡ self.now }
+        ensures light { weight (tree_of result.now) ≤ 10000 }
     {
         &self.root
     }

@@ -1,6 +1,6 @@
 use Rattle.std.proofs.Common.{◌≡◌, ◌≤◌, length, sym, ◌∙◌, arith}
-use Rattle.cs_syntax.proofs.View.{tree_of-Cat}
-use Rattle.cs_syntax.proofs.Trees.{several}
+use Rattle.cs_syntax.proofs.NodeLemmas.{tree_of-Cat}
+use Rattle.cs_syntax.proofs.TreeLemmas.{several}
 use Rattle.cs_syntax.proofs.draft.in_order.Goals as goal
 
 pub returns-else-is_empty : goal.returns-else-is_empty

@@ -2,8 +2,8 @@ use Rattle.std.proofs.Common.{◌≡◌, ◌<◌, ◌≤◌, sym, ◌∙◌, ap,
 use Rattle.cs_syntax.specs.Matching.{rep}
 use Rattle.cs_syntax.specs.Node.{tree_of}
 use Rattle.cs_syntax.specs.Weight.{weight, times}
-use Rattle.cs_syntax.proofs.View.{tree_of-Rep}
-use Rattle.cs_syntax.proofs.Weights.{weight_pos, heavy}
+use Rattle.cs_syntax.proofs.NodeLemmas.{tree_of-Rep}
+use Rattle.cs_syntax.proofs.WeightLemmas.{weight_pos, heavy}
 use Rattle.cs_syntax.proofs.weight.+weigh.Goals as goal
 
 pub weigh-returns-then-count-ge10000 : goal.weigh-returns-then-count-ge10000

@@ -1,7 +1,7 @@
 use Rattle.std.proofs.Common.{◌≡◌, ◌&&◌, arith}
 use Rattle.std.specs.Prelude.{nat_le}
 use Rattle.cs_syntax.specs.ByteSet.{between}
-use Rattle.cs_syntax.proofs.Sets.{set_from}
+use Rattle.cs_syntax.proofs.SetLemmas.{set_from}
 use Rattle.cs_syntax.proofs.byte_set.ByteSet.between.Goals as goal
 
 pub returns : goal.returns

@@ -1,6 +1,6 @@
 use Rattle.std.proofs.Common.{arith}
 use Rattle.cs_syntax.specs.ByteSet.{is_in_char, char_set}
-use Rattle.cs_syntax.proofs.Sets.{set_from}
+use Rattle.cs_syntax.proofs.SetLemmas.{set_from}
 use Rattle.cs_syntax.proofs.byte_set.ByteSet.of_char.Goals as goal
 
 pub returns : goal.returns

@@ -1,19 +1,19 @@
 use Rattle.std.proofs.Common.{◌≡◌, ◌++◌, ◌∷◌, [], List, sym, ◌∙◌, ap, arith}
 use Rattle.cs_syntax.specs.Matching.{Trees, rep}
 use Rattle.cs_syntax.specs.Node.{tree_of, trees_of}
-use Rattle.cs_syntax.specs.Plug.{Half, last}
-use Rattle.cs_syntax.specs.Halves.{half_of}
+use Rattle.cs_syntax.specs.Begun.{Begun}
+use Rattle.cs_syntax.specs.TreeList.{last}
+use Rattle.cs_syntax.specs.ParserState.{begun_of}
 use Rattle.cs_syntax.specs.declared.node.Node.{Node}
-use Rattle.cs_syntax.proofs.View.{tree_of-Rep}
-use Rattle.cs_syntax.proofs.Trees.{trees_last}
+use Rattle.cs_syntax.proofs.NodeLemmas.{tree_of-Rep}
+use Rattle.cs_syntax.proofs.TreeLemmas.{trees_last}
 use Rattle.cs_syntax.proofs.draft.Draft.repeat.Goals as goal
 
 pub returns : goal.returns
 returns c =
     let before = c.pop.new.self.items in
     let bs = trees_of c.args.self.now.branches.items in
-    let f = λ (us : Trees). (let h : Half = record { branches = bs; units = us } in h) in
-    (
+    let f = λ (us : Trees). (let h : Begun = record { branches = bs; units = us } in h) in (
       tree_of c.in-Some.unit,
       record { branches = bs; units = trees_of before },
       ap f (ap trees_of c.in-Some.ensures.items ∙ trees_last before c.in-Some.unit),

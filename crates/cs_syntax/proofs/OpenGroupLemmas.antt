@@ -1,7 +1,7 @@
 -- Open groups, the innermost first.
 use Rattle.std.proofs.Common.{◌≡◌, ℕ, ◌+◌, List, [], ◌∷◌, ◌++◌, Bool, length, reverse, map, refl, sym, ◌∙◌, ap, arith}
 use Rattle.std.proofs.lemmas.List.{reverse-append, length-map, length-reverse}
-use Rattle.cs_syntax.specs.Going.{groups_of}
+use Rattle.cs_syntax.specs.ParserState.{groups_of}
 use Rattle.cs_syntax.specs.declared.parser.Open.{Open}
 
 pub long_groups : (fold : Bool) (os : List Open) → length (groups_of fold (reverse os)) ≡ length os

@@ -3,7 +3,8 @@ use Rattle.std.proofs.Common.{◌≡◌, ℕ, ◌<◌, ◌≤◌, List, [], ◌�
 use Rattle.cs_syntax.specs.Matching.{Tree, Trees, cat, alt, more, none}
 use Rattle.cs_syntax.specs.Reading.{sequence}
 use Rattle.cs_syntax.specs.Node.{tree_of, trees_of}
-use Rattle.cs_syntax.specs.Plug.{last, choice_after}
+use Rattle.cs_syntax.specs.Begun.{choice_after}
+use Rattle.cs_syntax.specs.TreeList.{last}
 use Rattle.cs_syntax.specs.declared.node.Node.{Node}
 
 pub trees_last : (xs : List Node) (x : Node) → trees_of (xs ++ x ∷ []) ≡ last (trees_of xs) (tree_of x)

@@ -1,7 +1,7 @@
 -- The places of a tree are its sets, from left to right. A list of marks has one mark for each place.
 -- A place is marked after a front of the line where a part that ends there was taken with that place last.
--- Every repeat is a loop here, of at least 0 or at least 1 rounds: counted ones are written out before (`Looped`).
-use Rattle.std.specs.Prelude.{ℕ, zero, suc, ◌≡◌, ◌+◌, Bool, true, false, ◌&&◌, ◌||◌, not, List, [], ◌∷◌, ◌++◌, take, drop, length, replicate, nat_eq, nat_le, ◌≤◌, slice_index, slice_index_or, Option, Some, None, is_none}
+-- Every repeat is a loop here, of at least 0 or at least 1 rounds (`IsLooped`), since counted ones are written out.
+use Rattle.std.specs.Prelude.{ℕ, zero, suc, ◌≡◌, ◌+◌, Bool, true, false, ◌&&◌, ◌||◌, not, List, [], ◌∷◌, ◌++◌, take, drop, length, replicate, nat_eq, ◌≤◌, slice_index, slice_index_or, None}
 use Rattle.cs_syntax.specs.Matching.{Tree, Trees, empty, one_of, cat, alt, rep, line_start, line_end, word_edge, not_word_edge, none, more}
 use Rattle.cs_syntax.specs.Matching.{member, at_word_edge}
 use Rattle.cs_match.specs.declared.around.Around.{Around}
@@ -107,34 +107,17 @@ exit_at s t enter i = exits t (enter i) (marks s t enter i) (around s i)
 
 -- each repeat of the tree is a loop of at least 0 or at least 1 rounds
 abbrev mutual
-  pub Starred : Tree → Type 0
-  Starred empty = Unit {0}
-  Starred (one_of set) = Unit {0}
-  Starred (cat ts) = AllStarred ts
-  Starred (alt ts) = AllStarred ts
-  Starred (rep x n m) = (n ≤ 1) × (m ≡ None) × Starred x
-  Starred line_start = Unit {0}
-  Starred line_end = Unit {0}
-  Starred word_edge = Unit {0}
-  Starred not_word_edge = Unit {0}
+  pub IsLooped : Tree → Type 0
+  IsLooped empty = Unit {0}
+  IsLooped (one_of set) = Unit {0}
+  IsLooped (cat ts) = AreLooped ts
+  IsLooped (alt ts) = AreLooped ts
+  IsLooped (rep x n m) = (n ≤ 1) × (m ≡ None) × IsLooped x
+  IsLooped line_start = Unit {0}
+  IsLooped line_end = Unit {0}
+  IsLooped word_edge = Unit {0}
+  IsLooped not_word_edge = Unit {0}
 
-  pub AllStarred : Trees → Type 0
-  AllStarred none = Unit {0}
-  AllStarred (more t ts) = Starred t × AllStarred ts
-
--- the test for `Starred`
-abbrev mutual
-  pub is_starred : Tree → Bool
-  is_starred empty = true
-  is_starred (one_of set) = true
-  is_starred (cat ts) = are_starred ts
-  is_starred (alt ts) = are_starred ts
-  is_starred (rep x n m) = nat_le n 1 && (is_none m && is_starred x)
-  is_starred line_start = true
-  is_starred line_end = true
-  is_starred word_edge = true
-  is_starred not_word_edge = true
-
-  pub are_starred : Trees → Bool
-  are_starred none = true
-  are_starred (more t ts) = is_starred t && are_starred ts
+  pub AreLooped : Trees → Type 0
+  AreLooped none = Unit {0}
+  AreLooped (more t ts) = IsLooped t × AreLooped ts

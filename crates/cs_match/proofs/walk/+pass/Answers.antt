@@ -1,12 +1,12 @@
-use Rattle.std.proofs.Common.{◌≡◌, ℕ, ◌+◌, ◌-◌, Bool, List, drop, length, sym, ◌∙◌, ap, arith}
+use Rattle.std.proofs.Common.{◌+◌, drop, arith}
 use Rattle.cs_syntax.specs.Node.{tree_of, trees_of}
-use Rattle.cs_match.specs.Places.{places, places_of, exits, step, step_all, step_each}
-use Rattle.cs_match.proofs.Passing.{one_more, all_more, some_more}
+use Rattle.cs_match.proofs.PassingLemmas.{all_more, some_more}
+use Rattle.cs_match.proofs.TreesLemmas.{trees_from}
 use Rattle.cs_match.proofs.walk.+pass.Goals as goal
 
 pub pass_all-loop-part-preserved : goal.pass_all-loop-part-preserved
 pass_all-loop-part-preserved t c =
-    let more = one_more c.args.parts.now c.loop-part.part-index c.part-item.result c.loop-part-test.true c.part-item.is in
+    let more = trees_from c.args.parts.now c.loop-part.part-index c.part-item.result c.loop-part-test.true c.part-item.is in
     let i = c.loop-part.invariant in
     rw c.pass-out.ensures.left
     (all_more (tree_of c.part-item.result) (trees_of (drop (c.loop-part.part-index + 1) c.args.parts.now)) c.args.marks.now c.loop-part.marks c.pass-out.new.marks c.loop-part.out c.args.here c.args.byte c.loop-part.at c.count-n.result _
@@ -14,7 +14,7 @@ pass_all-loop-part-preserved t c =
 
 pub pass_some-loop-part-preserved : goal.pass_some-loop-part-preserved
 pass_some-loop-part-preserved t c =
-    let more = one_more c.args.parts.now c.loop-part.part-index c.part-item.result c.loop-part-test.true c.part-item.is in
+    let more = trees_from c.args.parts.now c.loop-part.part-index c.part-item.result c.loop-part-test.true c.part-item.is in
     let i = c.loop-part.invariant in
     rw c.pass-left.ensures.left
     (some_more (tree_of c.part-item.result) (trees_of (drop (c.loop-part.part-index + 1) c.args.parts.now)) c.args.marks.now c.loop-part.marks c.pass-left.new.marks c.args.enter c.args.here c.args.byte c.loop-part.at c.count-n.result _

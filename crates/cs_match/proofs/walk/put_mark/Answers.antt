@@ -1,4 +1,4 @@
-use Rattle.cs_match.proofs.Marks.{one_mark}
+use Rattle.cs_match.proofs.MarksLemmas.{one_mark}
 use Rattle.cs_match.proofs.walk.put_mark.Goals as goal
 
 pub returns-clause-now : goal.returns-clause-now

@@ -1,12 +1,11 @@
 -- Lists of parts that are written out.
-use Rattle.std.proofs.Common.{◌≡◌, ℕ, zero, suc, ◌+◌, ◌-◌, ◌<◌, List, [], ◌∷◌, ◌++◌, refl, sym, ◌∙◌, ap, arith}
+use Rattle.std.proofs.Common.{◌≡◌, ℕ, zero, suc, ◌+◌, ◌-◌, ◌<◌, List, [], ◌∷◌, ◌++◌, refl, ◌∙◌, ap, arith}
 use Rattle.cs_syntax.specs.Matching.{Tree, Trees, cat, rep, none, more}
 use Rattle.cs_syntax.specs.Node.{tree_of, trees_of}
-use Rattle.cs_syntax.specs.Plug.{joined, last}
 use Rattle.cs_syntax.specs.declared.node.Node.{Node}
-use Rattle.cs_syntax.proofs.Trees.{trees_last}
+use Rattle.cs_match.proofs.TreesLemmas.{trees_last}
 use Rattle.std.specs.Prelude.{None}
-use Rattle.cs_match.specs.Expand.{copies, written_out}
+use Rattle.cs_match.specs.WrittenOut.{joined, copies, repeat_written_out}
 
 pub joined_assoc : (a b c : Trees) → joined (joined a b) c ≡ joined a (joined b c)
 joined_assoc none b c = refl
@@ -33,7 +32,7 @@ pushed_copy old xs x t k e is =
     ∙ ap (λ u. joined (trees_of old) (joined (copies k t none) (more u none))) is
     ∙ ap (joined (trees_of old)) (copies_joined k t (more t none) ∙ copies_last k t ∙ ap (λ n. copies n t none) next)
 
-pub looped : (t : Tree) (n : ℕ) → 0 < n → written_out t n None ≡ cat (copies (n - 1) t (more (rep t 1 None) none))
-looped t zero h = absurd (omega arith)
-looped t (suc n) h =
+pub counted_loop : (t : Tree) (n : ℕ) → 0 < n → repeat_written_out t n None ≡ cat (copies (n - 1) t (more (rep t 1 None) none))
+counted_loop t zero h = absurd (omega arith)
+counted_loop t (suc n) h =
     let one : n ≡ suc n - 1 = omega arith in ap (λ k. cat (copies k t (more (rep t 1 None) none))) one

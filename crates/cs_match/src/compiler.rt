@@ -3,8 +3,7 @@ ghost use Rattle.std.specs.Prelude.{◌≡◌, IfOk, OnOk};
 ghost use Rattle.std.specs.Prelude.{None};
 ghost use Rattle.cs_syntax.specs.Matching.{none, rep};
 ghost use Rattle.cs_syntax.specs.Node.{tree_of, trees_of};
-ghost use Rattle.cs_syntax.specs.Plug.{joined};
-ghost use Rattle.cs_match.specs.Expand.{expand, expand_all, copies, optional, written_out};
+ghost use Rattle.cs_match.specs.WrittenOut.{joined, written_out, all_written_out, copies, optional, repeat_written_out};
 
 use cs_syntax::Node;
 use std::alloc::{AllocError, Global};
@@ -12,7 +11,7 @@ use std::alloc::{AllocError, Global};
 /// The tree with its counted repeats written out.
 #[cycle(write_out)]
 pub fn write_out(alloc: Global, node: &Node) -> Result<Node, AllocError>
-    ensures { IfOk result (λ n. tree_of n ≡ expand (tree_of node.now)) }
+    ensures { IfOk result (λ n. tree_of n ≡ written_out (tree_of node.now)) }
 {
     match node {
         Node::Empty => Ok(Node::Empty),
@@ -35,8 +34,13 @@ pub fn write_out(alloc: Global, node: &Node) -> Result<Node, AllocError>
 
 /// The node so many times, and then a star of it or copies that may be left out.
 #[cycle(write_out)]
-fn write_repeat(alloc: Global, node: &Node, least: u32, most: Option<u32>) -> Result<Node, AllocError>
-    ensures { IfOk result (λ n. tree_of n ≡ written_out (expand (tree_of node.now)) least most) }
+fn write_repeat(
+    alloc: Global,
+    node: &Node,
+    least: u32,
+    most: Option<u32>,
+) -> Result<Node, AllocError>
+    ensures { IfOk result (λ n. tree_of n ≡ repeat_written_out (written_out (tree_of node.now)) least most) }
 {
     let mut parts = Vec::new(alloc);
     match most {
@@ -62,9 +66,9 @@ fn write_repeat(alloc: Global, node: &Node, least: u32, most: Option<u32>) -> Re
 }
 
 #[cycle(write_out)]
-#[tactic(auto, using(cs_syntax::proofs::Trees::trees_last, crate::proofs::Copies::joined_assoc, crate::proofs::Copies::joined_none))]
+#[tactic(auto, using(crate::proofs::TreesLemmas::trees_last, crate::proofs::CopiesLemmas::joined_assoc, crate::proofs::CopiesLemmas::joined_none))]
 fn write_out_all(alloc: Global, parts: &[Node]) -> Result<Vec<Node>, AllocError>
-    ensures { IfOk result (λ v. trees_of v.items ≡ expand_all (trees_of parts.now)) }
+    ensures { IfOk result (λ v. trees_of v.items ≡ all_written_out (trees_of parts.now)) }
 {
     let mut all = Vec::new(alloc);
     for part in parts {
@@ -75,9 +79,14 @@ fn write_out_all(alloc: Global, parts: &[Node]) -> Result<Vec<Node>, AllocError>
 }
 
 #[cycle(write_out)]
-#[tactic(auto, using(crate::proofs::Copies::pushed_copy, crate::proofs::Copies::joined_none))]
-fn add_copies(alloc: Global, node: &Node, count: u32, parts: &mut Vec<Node>) -> Result<(), AllocError>
-    ensures { OnOk result (trees_of parts.new.items ≡ joined (trees_of parts.old.items) (copies count (expand (tree_of node.now)) none)) }
+#[tactic(auto, using(crate::proofs::CopiesLemmas::pushed_copy, crate::proofs::CopiesLemmas::joined_none))]
+fn add_copies(
+    alloc: Global,
+    node: &Node,
+    count: u32,
+    parts: &mut Vec<Node>,
+) -> Result<(), AllocError>
+    ensures { OnOk result (trees_of parts.new.items ≡ joined (trees_of parts.old.items) (copies count (written_out (tree_of node.now)) none)) }
 {
     for k in 0..count {
         let copy = write_out(alloc, node)?;
@@ -87,9 +96,14 @@ fn add_copies(alloc: Global, node: &Node, count: u32, parts: &mut Vec<Node>) -> 
 }
 
 #[cycle(write_out)]
-#[tactic(auto, using(crate::proofs::Copies::pushed_copy, crate::proofs::Copies::joined_none))]
-fn add_optional(alloc: Global, node: &Node, count: u32, parts: &mut Vec<Node>) -> Result<(), AllocError>
-    ensures { OnOk result (trees_of parts.new.items ≡ joined (trees_of parts.old.items) (copies count (optional (expand (tree_of node.now))) none)) }
+#[tactic(auto, using(crate::proofs::CopiesLemmas::pushed_copy, crate::proofs::CopiesLemmas::joined_none))]
+fn add_optional(
+    alloc: Global,
+    node: &Node,
+    count: u32,
+    parts: &mut Vec<Node>,
+) -> Result<(), AllocError>
+    ensures { OnOk result (trees_of parts.new.items ≡ joined (trees_of parts.old.items) (copies count (optional (written_out (tree_of node.now))) none)) }
 {
     for k in 0..count {
         let copy = write_out(alloc, node)?;

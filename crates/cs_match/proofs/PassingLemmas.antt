@@ -1,20 +1,12 @@
 -- One part more of a sequence or a choice, where the marks are moved in place.
-use Rattle.std.proofs.Common.{◌≡◌, ℕ, suc, ◌+◌, ◌<◌, ◌≤◌, ◌++◌, ◌||◌, ◌&&◌, List, [], ◌∷◌, Bool, true, false, take, drop, length, map, get_or, refl, sym, ◌∙◌, ap, arith, append_assoc, length-append, length-drop, drop-cons, add-one}
+use Rattle.std.proofs.Common.{◌≡◌, ℕ, ◌+◌, ◌++◌, ◌||◌, List, Bool, true, false, take, drop, length, refl, sym, ◌∙◌, ap, arith, append_assoc, length-append, length-drop}
 use Rattle.std.proofs.lemmas.Slice.{take-put_mid, drop-put_mid}
 use Rattle.std.proofs.lemmas.List.{drop-drop, length-take}
-use borrow.Rule.Slice.PartMut.{put_mid, same_len_mid}
+use borrow.Rule.Slice.PartMut.{put_mid}
 use Rattle.cs_syntax.specs.Matching.{Tree, Trees, cat, alt, more}
-use Rattle.cs_syntax.specs.Node.{tree_of, trees_of}
-use Rattle.cs_syntax.specs.declared.node.Node.{Node}
 use Rattle.cs_match.specs.declared.around.Around.{Around}
 use Rattle.cs_match.specs.Places.{places, places_of, blank, blank_all, blank_some, leaves, leaves_all, leaves_some, exits, step, step_all, step_each}
-use Rattle.cs_match.proofs.Marks.{length-step, cat_bools, alt_bools}
-
-pub one_more : (parts : List Node) (i : ℕ) (part : Node) → i < length parts → part ≡ get_or parts i part →
-    trees_of (drop i parts) ≡ more (tree_of part) (trees_of (drop (i + 1) parts))
-one_more parts i part lt is =
-    let next : suc i ≡ i + 1 = omega arith in
-    ap trees_of (drop-cons parts i part lt ∙ ap (λ x. x ∷ drop (suc i) parts) (sym is) ∙ ap (λ n. part ∷ drop n parts) next)
+use Rattle.cs_match.proofs.MarksLemmas.{length-step, cat_bools, alt_bools}
 
 or_assoc : (a b c : Bool) → ((a || b) || c) ≡ (a || (b || c))
 or_assoc true b c = refl
@@ -33,7 +25,6 @@ exits_alt t ts out ms here =
 module _ (t : Tree) (old ms ys : List Bool) (out : Bool) (here : Around) (byte at n k m : ℕ)
     (is : n ≡ places t) (same : k ≡ n) (long : at + (places t + m) ≡ length ms) (rest : drop at ms ≡ drop at old)
     (y : ys ≡ step t out (take k (drop at ms)) here byte) where
-
   pub long_new : length ys ≡ n
   long_new = ap length y ∙ length-step t out (take k (drop at ms)) here byte ∙ sym is
 
@@ -60,7 +51,6 @@ module _ (t : Tree) (old ms ys : List Bool) (out : Bool) (here : Around) (byte a
 module _ (t : Tree) (ts : Trees) (old ms ys : List Bool) (out : Bool) (here : Around) (byte at n k : ℕ)
     (is : n ≡ places t) (same : k ≡ n) (long : at + places_of (more t ts) ≡ length ms) (rest : drop at ms ≡ drop at old)
     (y : ys ≡ step t out (take k (drop at ms)) here byte) where
-
   pub all_more : (left : Bool) (whole : List Bool) →
       exits (cat (more t ts)) out (drop at old) here ≡ left →
       take at ms ++ step_all (more t ts) out (drop at old) here byte ≡ whole →
@@ -70,13 +60,12 @@ module _ (t : Tree) (ts : Trees) (old ms ys : List Bool) (out : Bool) (here : Ar
       × (take (at + n) (put_mid at k ms ys) ++ step_all ts (exits t out (take k (drop at ms)) here) (drop (at + n) old) here byte ≡ whole)
   all_more left whole l w =
       let mid = mid_is t old ms ys out here byte at n k (places_of ts) is same long rest y in
-      let end = end_is t old ms ys out here byte at n k (places_of ts) is same long rest y in
-      (
+      let end = end_is t old ms ys out here byte at n k (places_of ts) is same long rest y in (
         put_long t old ms ys out here byte at n k (places_of ts) is same long rest y,
         rw (mid, end) (sym (exits_cat t ts out (drop at old) here) ∙ l),
         put_rest t old ms ys out here byte at n k (places_of ts) is same long rest y,
         rw (put_front t old ms ys out here byte at n k (places_of ts) is same long rest y, y, mid, end)
-        (append_assoc (take at ms) (step t out (take (places t) (drop at old)) here byte) (step_all ts (exits t out (take (places t) (drop at old)) here) (drop (places t) (drop at old)) here byte) ∙ w),
+            (append_assoc (take at ms) (step t out (take (places t) (drop at old)) here byte) (step_all ts (exits t out (take (places t) (drop at old)) here) (drop (places t) (drop at old)) here byte) ∙ w),
       )
 
   pub some_more : (left so_far : Bool) (whole : List Bool) →
@@ -90,11 +79,10 @@ module _ (t : Tree) (ts : Trees) (old ms ys : List Bool) (out : Bool) (here : Ar
       let mid = mid_is t old ms ys out here byte at n k (places_of ts) is same long rest y in
       let end = end_is t old ms ys out here byte at n k (places_of ts) is same long rest y in
       let first = exits t out (take (places t) (drop at old)) here in
-      let others = exits (alt ts) out (drop (places t) (drop at old)) here in
-      (
+      let others = exits (alt ts) out (drop (places t) (drop at old)) here in (
         put_long t old ms ys out here byte at n k (places_of ts) is same long rest y,
         rw (mid, end) (or_assoc so_far first others ∙ ap (λ b. so_far || b) (sym (exits_alt t ts out (drop at old) here)) ∙ l),
         put_rest t old ms ys out here byte at n k (places_of ts) is same long rest y,
         rw (put_front t old ms ys out here byte at n k (places_of ts) is same long rest y, y, mid, end)
-        (append_assoc (take at ms) (step t out (take (places t) (drop at old)) here byte) (step_each ts out (drop (places t) (drop at old)) here byte) ∙ w),
+            (append_assoc (take at ms) (step t out (take (places t) (drop at old)) here byte) (step_each ts out (drop (places t) (drop at old)) here byte) ∙ w),
       )

@@ -1,12 +1,12 @@
 -- Marks tell exactly the parts that a tree takes.
-use Rattle.std.proofs.Common.{◌≡◌, ℕ, zero, suc, ◌+◌, ◌<◌, ◌≤◌, ◌⊎◌, inl, inr, Bool, true, false, ◌&&◌, ◌||◌, not, List, [], ◌∷◌, ◌++◌, take, drop, set, length, replicate, refl, sym, ◌∙◌, ap, subst, arith, length-append}
-use Rattle.std.specs.Prelude.{slice_index, slice_index_or, nat_eq, Option, None, ◌↔◌}
+use Rattle.std.proofs.Common.{◌≡◌, ℕ, zero, suc, ◌<◌, ◌≤◌, inl, inr, Bool, true, false, ◌&&◌, ◌||◌, not, List, [], ◌∷◌, ◌++◌, take, drop, set, length, refl, sym, ◌∙◌, ap, subst, arith, length-append}
+use Rattle.std.specs.Prelude.{slice_index, nat_eq, Option, ◌↔◌}
 use Rattle.std.proofs.lemmas.List.{take_at, drop_at, length-replicate, replicate-append-replicate}
 use Rattle.std.proofs.lemmas.Bool.{and_parts, or_cases, and_from, or_left, or_right, eqb-true, eq-eqb, not-true}
 use Rattle.cs_syntax.specs.Matching.{Tree, Trees, empty, one_of, cat, alt, rep, line_start, line_end, word_edge, not_word_edge, none, more}
-use Rattle.cs_syntax.specs.Matching.{member, at_word_edge, Chain, IsAtMost, Takes, TakesAll, TakesSome, Found}
+use Rattle.cs_syntax.specs.Matching.{member, at_word_edge, Chain, Takes, TakesAll, TakesSome, Found}
 use Rattle.cs_match.specs.declared.around.Around.{Around}
-use Rattle.cs_match.specs.Places.{around, places, places_of, blank, blank_all, blank_some, leaves, leaves_all, leaves_some, exits, step, step_all, step_each, marks, exit_at, Starred, AllStarred}
+use Rattle.cs_match.specs.Places.{around, places, places_of, blank, blank_all, blank_some, leaves, leaves_all, leaves_some, exits, step, step_all, step_each, marks, exit_at, IsLooped, AreLooped}
 
 mutual
   pub length-step : (t : Tree) (enter : Bool) (ms : List Bool) (a : Around) (b : ℕ) → length (step t enter ms a b) ≡ places t
@@ -121,33 +121,33 @@ module _ (s : List ℕ) where
       (alt_bools (leaves t (marks s t enter i) (around s i)) (leaves_some ts (marks s (alt ts) enter i) (around s i)) (enter i) (blank t (around s i)) (blank_some ts (around s i)))
 
   mutual
-    pub blank_takes : (t : Tree) (i : ℕ) → Starred t → blank t (around s i) ≡ true → Takes s t i i
+    pub blank_takes : (t : Tree) (i : ℕ) → IsLooped t → blank t (around s i) ≡ true → Takes s t i i
     blank_takes empty i st h = refl
     blank_takes (one_of set) i st h = (cc)
     blank_takes (cat ts) i st h = blank_takes_all ts i st h
     blank_takes (alt ts) i st h = blank_takes_some ts i st h
     blank_takes (rep x n m) i st h =
         elim (or_cases (nat_eq n 0) (blank x (around s i)) h) [
-          inl zero_times ↦ let e = eqb-true n 0 zero_times in (0, omega arith, rw st.1 tt, refl)
-        | inr one ↦ (1, st.0, rw st.1 tt, (i, blank_takes x i st.2 one, refl))
+          | inl zero_times ↦ let e = eqb-true n 0 zero_times in (0, omega arith, rw st.1 tt, refl)
+          | inr one ↦ (1, st.0, rw st.1 tt, (i, blank_takes x i st.2 one, refl))
         ]
     blank_takes line_start i st h = let e = eqb-true i 0 h in (e, e)
     blank_takes line_end i st h = let e = eqb-true i (length s) h in (e, e)
     blank_takes word_edge i st h = (refl, h)
     blank_takes not_word_edge i st h = (refl, not-true (at_word_edge s i) h)
 
-    pub blank_takes_all : (ts : Trees) (i : ℕ) → AllStarred ts → blank_all ts (around s i) ≡ true → TakesAll s ts i i
+    pub blank_takes_all : (ts : Trees) (i : ℕ) → AreLooped ts → blank_all ts (around s i) ≡ true → TakesAll s ts i i
     blank_takes_all none i st h = refl
     blank_takes_all (more t ts) i st h =
         let p = and_parts (blank t (around s i)) (blank_all ts (around s i)) h in
         (i, blank_takes t i st.0 p.0, blank_takes_all ts i st.1 p.1)
 
-    pub blank_takes_some : (ts : Trees) (i : ℕ) → AllStarred ts → blank_some ts (around s i) ≡ true → TakesSome s ts i i
+    pub blank_takes_some : (ts : Trees) (i : ℕ) → AreLooped ts → blank_some ts (around s i) ≡ true → TakesSome s ts i i
     blank_takes_some none i st h = (cc)
     blank_takes_some (more t ts) i st h =
         elim (or_cases (blank t (around s i)) (blank_some ts (around s i)) h) [
-          inl p ↦ inl (blank_takes t i st.0 p)
-        | inr p ↦ inr (blank_takes_some ts i st.1 p)
+          | inl p ↦ inl (blank_takes t i st.0 p)
+          | inr p ↦ inr (blank_takes_some ts i st.1 p)
         ]
 
   -- t was entered before i, at a place from which it takes the part up to i
@@ -161,13 +161,13 @@ module _ (s : List ℕ) where
   abbrev pub IsSound : Tree → Type 0
   IsSound t = (enter : ℕ → Bool) (i : ℕ) → i ≤ length s → leaves t (marks s t enter i) (around s i) ≡ true → Came t enter i
 
-  pub exit_sound : (t : Tree) → Starred t → IsSound t → (enter : ℕ → Bool) (i : ℕ) → i ≤ length s → exit_at s t enter i ≡ true → Comes t enter i
+  pub exit_sound : (t : Tree) → IsLooped t → IsSound t → (enter : ℕ → Bool) (i : ℕ) → i ≤ length s → exit_at s t enter i ≡ true → Comes t enter i
   exit_sound t st sound enter i le h =
       elim (or_cases (leaves t (marks s t enter i) (around s i)) (enter i && blank t (around s i)) h) [
-        inl p ↦ let c = sound enter i le p in (c.0, omega (arith, c.1), c.2, c.3)
-      | inr p ↦
-        let q = and_parts (enter i) (blank t (around s i)) p in
-        (i, omega arith, q.0, blank_takes t i st q.1)
+        | inl p ↦ let c = sound enter i le p in (c.0, omega (arith, c.1), c.2, c.3)
+        | inr p ↦
+            let q = and_parts (enter i) (blank t (around s i)) p in
+            (i, omega arith, q.0, blank_takes t i st q.1)
       ]
 
   pub Chain_more : (R : ℕ → ℕ → Type 0) (c i j l : ℕ) → Chain R c i j → R j l → Chain R (suc c) i l
@@ -181,15 +181,15 @@ module _ (s : List ℕ) where
   star_sound x n m sound enter zero i lt le h = absurd (omega arith)
   star_sound x n m sound enter (suc room) i lt le h =
       elim (or_cases (enter i) (leaves x (marks s (rep x n m) enter i) (around s i)) h) [
-        inl p ↦ (i, omega arith, p, 0, refl)
-      | inr p ↦
-        let c = sound (again s x n m enter) i le (rw (marks_rep s x n m enter i) at p) in
-        let before = star_sound x n m sound enter room c.0 (omega (arith, c.1)) (omega (arith, c.1)) c.2 in
-        (before.0, omega (arith, before.1, c.1), before.2, suc before.3, Chain_more (Takes s x) before.3 before.0 c.0 i before.4 c.3)
+        | inl p ↦ (i, omega arith, p, 0, refl)
+        | inr p ↦
+            let c = sound (again s x n m enter) i le (rw (marks_rep s x n m enter i) at p) in
+            let before = star_sound x n m sound enter room c.0 (omega (arith, c.1)) (omega (arith, c.1)) c.2 in
+            (before.0, omega (arith, before.1, c.1), before.2, suc before.3, Chain_more (Takes s x) before.3 before.0 c.0 i before.4 c.3)
       ]
 
   mutual
-    pub sound : (t : Tree) → Starred t → IsSound t
+    pub sound : (t : Tree) → IsLooped t → IsSound t
     sound empty st enter i le h = (cc)
     sound (one_of set) st enter zero le h = (cc)
     sound (one_of set) st enter (suc i) le h =
@@ -206,26 +206,26 @@ module _ (s : List ℕ) where
     sound word_edge st enter i le h = (cc)
     sound not_word_edge st enter i le h = (cc)
 
-    pub sound_all : (ts : Trees) → AllStarred ts → IsSound (cat ts)
+    pub sound_all : (ts : Trees) → AreLooped ts → IsSound (cat ts)
     sound_all none st enter i le h = (cc)
     sound_all (more t ts) st enter i le h =
         elim (or_cases _ _ (rw (leaves_cat s t ts enter i) at h)) [
-          inl p ↦
-          let q = and_parts (leaves t (marks s t enter i) (around s i)) (blank_all ts (around s i)) p in
-          let c = sound t st.0 enter i le q.0 in
-          (c.0, c.1, c.2, (i, c.3, blank_takes_all ts i st.1 q.1))
-        | inr p ↦
-          let c = sound_all ts st.1 (exit_at s t enter) i le p in
-          let d = exit_sound t st.0 (sound t st.0) enter c.0 (omega (arith, c.1)) c.2 in
-          (d.0, omega (arith, d.1, c.1), d.2, (c.0, d.3, c.3))
+          | inl p ↦
+              let q = and_parts (leaves t (marks s t enter i) (around s i)) (blank_all ts (around s i)) p in
+              let c = sound t st.0 enter i le q.0 in
+              (c.0, c.1, c.2, (i, c.3, blank_takes_all ts i st.1 q.1))
+          | inr p ↦
+              let c = sound_all ts st.1 (exit_at s t enter) i le p in
+              let d = exit_sound t st.0 (sound t st.0) enter c.0 (omega (arith, c.1)) c.2 in
+              (d.0, omega (arith, d.1, c.1), d.2, (c.0, d.3, c.3))
         ]
 
-    pub sound_some : (ts : Trees) → AllStarred ts → IsSound (alt ts)
+    pub sound_some : (ts : Trees) → AreLooped ts → IsSound (alt ts)
     sound_some none st enter i le h = (cc)
     sound_some (more t ts) st enter i le h =
         elim (or_cases _ _ (rw (leaves_alt s t ts enter i) at h)) [
-          inl p ↦ let c = sound t st.0 enter i le p in (c.0, c.1, c.2, inl c.3)
-        | inr p ↦ let c = sound_some ts st.1 enter i le p in (c.0, c.1, c.2, inr c.3)
+          | inl p ↦ let c = sound t st.0 enter i le p in (c.0, c.1, c.2, inl c.3)
+          | inr p ↦ let c = sound_some ts st.1 enter i le p in (c.0, c.1, c.2, inr c.3)
         ]
 
   blank_exit : (t : Tree) (enter : ℕ → Bool) (k i : ℕ) → enter k ≡ true → k ≡ i → blank t (around s i) ≡ true → exit_at s t enter i ≡ true
@@ -240,8 +240,8 @@ module _ (s : List ℕ) where
   unfolding again
   again_round x n m enter i h =
       elim (or_cases (leaves x (marks s x (again s x n m enter) i) (around s i)) (again s x n m enter i && blank x (around s i)) h) [
-        inl p ↦ or_right (enter i) _ (rw (marks_rep s x n m enter i) p)
-      | inr p ↦ (and_parts (again s x n m enter i) (blank x (around s i)) p).0
+        | inl p ↦ or_right (enter i) _ (rw (marks_rep s x n m enter i) p)
+        | inr p ↦ (and_parts (again s x n m enter i) (blank x (around s i)) p).0
       ]
 
   again_from : (x : Tree) (n : ℕ) (m : Option ℕ) (enter : ℕ → Bool) (k : ℕ) → enter k ≡ true → again s x n m enter k ≡ true
@@ -254,13 +254,13 @@ module _ (s : List ℕ) where
   round_exit x n m enter i h =
       let left = leaves x (marks s (rep x n m) enter i) (around s i) in
       elim (or_cases (leaves x (marks s x (again s x n m enter) i) (around s i)) (again s x n m enter i && blank x (around s i)) h) [
-        inl p ↦ or_left left _ (rw (marks_rep s x n m enter i) p)
-      | inr p ↦
-        let q = and_parts (again s x n m enter i) (blank x (around s i)) p in
-        elim (or_cases (enter i) left q.0) [
-          inl e ↦ or_right left _ (and_from (enter i) _ e (or_right (nat_eq n 0) _ q.1))
-        | inr l ↦ or_left left _ l
-        ]
+        | inl p ↦ or_left left _ (rw (marks_rep s x n m enter i) p)
+        | inr p ↦
+            let q = and_parts (again s x n m enter i) (blank x (around s i)) p in
+            elim (or_cases (enter i) left q.0) [
+              | inl e ↦ or_right left _ (and_from (enter i) _ e (or_right (nat_eq n 0) _ q.1))
+              | inr l ↦ or_left left _ l
+            ]
       ]
 
   rounds_exit : (x : Tree) (n : ℕ) (m : Option ℕ) → IsComplete x → (enter : ℕ → Bool) (c k i : ℕ) →
@@ -305,18 +305,19 @@ module _ (s : List ℕ) where
     complete_some none enter k i e h = elim h [ ]
     complete_some (more t ts) enter k i e h =
         rw (exit_alt t ts enter i) (elim h [
-          inl p ↦ or_left (exit_at s t enter i) _ (complete t enter k i e p)
-        | inr p ↦ or_right (exit_at s t enter i) _ (complete_some ts enter k i e p)
+          | inl p ↦ or_left (exit_at s t enter i) _ (complete t enter k i e p)
+          | inr p ↦ or_right (exit_at s t enter i) _ (complete_some ts enter k i e p)
         ])
 
 anywhere : ℕ → Bool
 anywhere i = true
 
 -- a part of the line is taken exactly where the tree, entered everywhere, can be left somewhere
-pub found_where_left : (t : Tree) (s : List ℕ) → Starred t → Found t s ↔ ((i : ℕ) × (i ≤ length s) × (exit_at s t (λ _. true) i ≡ true))
-found_where_left t s st =
-    (λ f. (f.1, f.3, complete s t (λ _. true) f.0 f.1 refl f.4),
-     λ e. let c = exit_sound s t st (sound s t st) (λ _. true) e.0 e.1 e.2 in (c.0, e.0, c.1, e.1, c.3))
+pub found_where_left : (t : Tree) (s : List ℕ) → IsLooped t → Found t s ↔ ((i : ℕ) × (i ≤ length s) × (exit_at s t (λ _. true) i ≡ true))
+found_where_left t s st = (
+  λ f. (f.1, f.3, complete s t (λ _. true) f.0 f.1 refl f.4),
+  λ e. let c = exit_sound s t st (sound s t st) (λ _. true) e.0 e.1 e.2 in (c.0, e.0, c.1, e.1, c.3),
+)
 
 pub no_marks : (ms : List Bool) → length ms ≡ 0 → ms ≡ []
 no_marks [] h = refl

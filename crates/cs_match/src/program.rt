@@ -1,0 +1,62 @@
+// Programs: what a pattern is compiled to.
+ghost use Rattle.std.specs.Prelude.{◌≡◌, ◌↔◌, ℕ, List, IfOk};
+ghost use Rattle.cs_syntax.specs.Matching.{Found};
+ghost use Rattle.cs_syntax.specs.Node.{tree_of};
+ghost use Rattle.cs_match.specs.Places.{places, IsLooped};
+
+use crate::compiler::write_out;
+use crate::walk::count;
+use cs_syntax::{Node, Pattern};
+use std::alloc::{AllocError, Global};
+use std::marker::Model;
+
+/// A pattern made ready for matchers. Contracts see it as a tree, which takes what the pattern takes.
+#[derive(Drop)]
+pub struct Program {
+    root: Node,
+    count: usize,
+}
+
+impl Model for Program {
+    ghost use Rattle.std.specs.Prelude.{◌≡◌};
+    ghost use Rattle.cs_syntax.specs.Matching.{Tree};
+    ghost use Rattle.cs_syntax.specs.TreeCode.{tree_code};
+
+    ghost Value = { Tree };
+
+    ghost coded = { tree_code };
+
+    ghost use Rattle.cs_syntax.specs.Node.{tree_of};
+    ghost use Rattle.cs_match.specs.Places.{places, IsLooped};
+
+    ghost view = { λ program. tree_of program.root };
+
+    ghost invariant = { λ program. (program.count ≡ places (tree_of program.root)) × IsLooped (tree_of program.root) };
+}
+
+impl Program {
+    /// The program of a pattern: it finds something in the same lines. Counted repeats are written out, so that it
+    /// has at most as many places as the pattern weighs.
+    pub fn compile(alloc: Global, pattern: &Pattern) -> Result<Program, AllocError>
+        ensures { IfOk result (λ program. (line : List ℕ) → Found program line ↔ Found pattern.now line) }
+    {
+        let root = write_out(alloc, pattern.tree())?;
+        let count = count(&root);
+        Ok(Program { root, count })
+    }
+
+    /// The tree that is walked over.
+    pub(crate) fn root(&self) -> &Node
+        ensures tree { tree_of result.now ≡ self.now }
+        ensures looped { IsLooped self.now }
+    {
+        &self.root
+    }
+
+    /// How many places the tree has.
+    pub(crate) fn places(&self) -> usize
+        ensures { result ≡ places self.now }
+    {
+        self.count
+    }
+}

@@ -1,0 +1,102 @@
+use crate::{Matcher, Program, laws};
+use cs_syntax::parse;
+use std::test::Fail;
+
+fn found(rt: &HostRuntime, pattern: &str, line: &[u8]) -> Result<bool, Fail> {
+    let pattern = parse(rt.alloc(), pattern, false).ok().ok_or("pattern")?;
+    let program = Program::compile(rt.alloc(), &pattern)?;
+    let mut matcher = Matcher::new(rt.alloc(), &program)?;
+    Ok(matcher.is_match(line))
+}
+
+#[test]
+fn rows_of_patterns_and_lines(rt: HostRuntime) -> Result<(), Fail> {
+    laws::finding_is_decided();
+    for (pattern, line, want) in [
+        ("", "", true),
+        ("a||b", "x", true),
+        ("^(a|b)*c$", "ababc", true),
+        ("^(a|b)*c$", "abxbc", false),
+        ("a.c", "xxabcxx", true),
+        ("a.c", "xxac", false),
+        ("^b", "ab", false),
+        ("a$", "ab", false),
+        ("(^a|b$)*c", "cb", true),
+        ("^(a*)*$", "aaab", false),
+        ("a.c", "a\nc", false),
+    ] {
+        assert_eq!(rt;
+            found(&rt, pattern, line.as_bytes())?,
+            want,
+            "{pattern} in {line}"
+        );
+    }
+    Ok(())
+}
+
+/// One matcher answers for each line alone.
+#[test]
+fn lines_one_after_another(rt: HostRuntime) -> Result<(), Fail> {
+    let pattern = parse(rt.alloc(), "^ab*c", false).ok().ok_or("pattern")?;
+    let program = Program::compile(rt.alloc(), &pattern)?;
+    let mut matcher = Matcher::new(rt.alloc(), &program)?;
+    for (line, want) in [
+        ("ab", false),
+        ("c", false),
+        ("abbcx", true),
+        ("bc", false),
+        ("", false),
+        ("ac", true),
+    ] {
+        assert_eq!(rt; matcher.is_match(line.as_bytes()), want, "{line}");
+    }
+    Ok(())
+}
+
+fn repeated(
+    rt: &HostRuntime,
+    before: &str,
+    n: usize,
+    middle: &str,
+    after: &str,
+) -> Result<String, Fail> {
+    let mut text = String::new(rt.alloc());
+    for _i in 0..n {
+        text.push_str(before)?;
+    }
+    text.push_str(middle)?;
+    for _i in 0..n {
+        text.push_str(after)?;
+    }
+    Ok(text)
+}
+
+/// Loops in one another to the parser's depth, a pattern of the greatest weight, and many loops that stay open.
+#[test]
+fn large_patterns(rt: HostRuntime) -> Result<(), Fail> {
+    let nested = repeated(&rt, "(", 200, "a", ")*b")?;
+    assert!(rt;
+        found(
+            &rt,
+            nested.as_str(),
+            repeated(&rt, "a", 100, "", "b")?.as_bytes()
+        )?
+    );
+    let long = repeated(&rt, "a", 9998, "", "")?;
+    assert!(rt;
+        !found(
+            &rt,
+            long.as_str(),
+            repeated(&rt, "a", 100, "", "")?.as_bytes()
+        )?
+    );
+    let many = repeated(&rt, "(a|b)*c", 20, "x", "")?;
+    assert!(rt;
+        !found(
+            &rt,
+            many.as_str(),
+            repeated(&rt, "ab", 200, "", "cc")?.as_bytes()
+        )?
+    );
+    Ok(())
+}

@@ -2,7 +2,7 @@
 ghost use Rattle.std.specs.Prelude.{◌≡◌, ◌≢◌, ◌≤◌, ◌<◌, ℕ, List, [], Option, None, Err, IfOk, length};
 ghost use Rattle.cs_tree.specs.Told.{Told, Reads, Writes, Grows, counted};
 
-use crate::fault::IoFault;
+use crate::fault::{IoFault, io_failure};
 use crate::sink::Sink;
 use crate::source::Source;
 use std::io::{Read, Write};
@@ -36,10 +36,7 @@ impl<R: Read + Drop> Source for StdSource<R> {
     {
         match self.inner.read(buf) {
             Ok(n) => Ok(n),
-            Err(_) => {
-                self.failed = self.failed.saturating_add(1);
-                Err(IoFault::Failed)
-            }
+            Err(_) => Err(io_failure(&mut self.failed)),
         }
     }
 
@@ -75,10 +72,7 @@ impl<W: Write + Drop> Sink for StdSink<W> {
     {
         match self.inner.write(buf) {
             Ok(n) if n > 0 || buf.is_empty() => Ok(n),
-            _ => {
-                self.failed = self.failed.saturating_add(1);
-                Err(IoFault::Failed)
-            }
+            _ => Err(io_failure(&mut self.failed)),
         }
     }
 
@@ -88,10 +82,7 @@ impl<W: Write + Drop> Sink for StdSink<W> {
     {
         match self.inner.flush() {
             Ok(()) => Ok(()),
-            Err(_) => {
-                self.failed = self.failed.saturating_add(1);
-                Err(IoFault::Failed)
-            }
+            Err(_) => Err(io_failure(&mut self.failed)),
         }
     }
 

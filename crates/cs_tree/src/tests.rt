@@ -1,5 +1,7 @@
 // Each call once with ample memory, and readers and writers that fail in mid-stream.
-use crate::{IoFault, MemSink, MemSource, Sink, Source, StdSink, StdSource, read_all, write_all};
+use crate::{
+    IoFault, MemSink, MemSource, Sink, Source, StdSink, StdSource, covers, read_all, write_all,
+};
 use std::io;
 use std::io::{Read, Write};
 use std::test::*;
@@ -120,4 +122,18 @@ fn a_writer_fails_in_mid_stream(rt: HostRuntime) {
     assert_eq!(rt; sink.write(b""), Ok(0));
     assert_eq!(rt; sink.flush(), Ok(()));
     assert_eq!(rt; sink.failures(), 2);
+}
+
+#[test]
+fn covered_names(rt: HostRuntime) {
+    for (path, name, want) in [
+        ("/a/b", "/a/b", true),
+        ("/a/b", "/a/b/c", true),
+        ("/a/b", "/a/bc", false),
+        ("/a/b", "/a", false),
+        ("/", "/a", true),
+        ("/", "a", false),
+    ] {
+        assert_eq!(rt; covers(path, name), want, "{path} and {name}");
+    }
 }

@@ -1,0 +1,5 @@
+use Rattle.cs_tree.proofs.Covering.{covers_says, covers_from}
+use Rattle.cs_tree.proofs.laws.covering_is_tested.Goals as goal
+
+pub returns : goal.returns
+returns c = λ path name. (covers_says path name, covers_from path name)

@@ -1,0 +1,17 @@
+-- What is left of a text after its lines that have ended.
+use Rattle.std.specs.Prelude.{ℕ, nat_eq, false, ◌≡◌, if◌then◌else◌, List, [], ◌∷◌}
+use Rattle.cs_tools.specs.Lines.{newline, ended_lines}
+
+abbrev pub unless_ended : ℕ → List (List ℕ) → List ℕ → List ℕ
+unless_ended b [] rest = b ∷ rest
+unless_ended b (line ∷ lines) rest = rest
+
+-- what stands after the last newline
+unfoldable pub unended : List ℕ → List ℕ
+unended [] = []
+unended (b ∷ text) = if nat_eq b newline then unended text else unless_ended b (ended_lines text) (unended text)
+
+-- no newline stands in the text
+abbrev pub IsPart : List ℕ → Type 0
+IsPart [] = Unit {0}
+IsPart (b ∷ text) = (nat_eq b newline ≡ false) × IsPart text

@@ -1,0 +1,55 @@
+-- What is searched of an input that tells its bytes, and what a search of it prints and answers.
+-- README.md, "What is printed"; docs/FORMAT.md, "Limits".
+use Rattle.std.specs.Prelude.{ℕ, ◌≡◌, nat_lt, if◌then◌else◌, Bool, List, length, take, Option, Some, None, Result, Ok, Err}
+use Rattle.cs_tree.specs.Told.{Told, Ending, ends, fails, Grows, risen}
+use Rattle.cs_tree.specs.declared.fault.IoFault.{IoFault}
+use Rattle.cs_tree.specs.declared.fault.IoFault.TheVariants as io
+use Rattle.cs_tools.specs.declared.style.Style.{Style}
+use Rattle.cs_tools.specs.declared.fault.ReadFault.{ReadFault}
+use Rattle.cs_tools.specs.declared.fault.ReadFault.TheVariants.{Read, TooLong}
+use Rattle.cs_tools.specs.declared.fault.GrepFault.{GrepFault}
+use Rattle.cs_tools.specs.declared.fault.GrepFault.TheVariants.{Write, Memory}
+use Rattle.cs_tools.specs.declared.grepped.Grepped.{Grepped}
+use Rattle.cs_tools.specs.Report.{Report, report}
+
+abbrev pub fault_at : Ending → Option ReadFault
+fault_at ends = None
+fault_at fails = Some Read
+
+-- why an input is left before its end: it has more bytes than are searched, or it fails after them
+abbrev pub fault_within : ℕ → Told → Option ReadFault
+fault_within most told = if nat_lt most (length told.bytes) then Some TooLong else fault_at told.ending
+
+-- the report of an input, of which at most so many bytes are searched
+unfoldable pub told_report : ℕ → Style → List ℕ → (List ℕ → Bool) → Told → Report ReadFault
+told_report most style name finds told = report style name finds (take most told.bytes) (fault_within most told)
+
+-- The report's output was written, and the answer has its mark and its fault.
+abbrev pub IsReported : Report ReadFault → Option (List ℕ) → Option (List ℕ) → Grepped → Type 0
+IsReported report before after answer =
+    Grows before after report.output × (answer.matched ≡ report.matched) × (answer.fault ≡ report.fault)
+
+-- that, where the input tells its bytes
+abbrev pub Reports : Option Told → (Told → Report ReadFault) → Option (List ℕ) → Option (List ℕ) → Grepped → Type 0
+Reports None report before after answer = Unit {0}
+Reports (Some told) report before after answer = IsReported (report told) before after answer
+
+-- the failures of the input after an answer: one more where a read has failed
+abbrev pub counted_at : Option ReadFault → ℕ → ℕ
+counted_at None n = n
+counted_at (Some Read) n = risen n
+counted_at (Some TooLong) n = n
+
+abbrev pub read_counted : Result Grepped GrepFault → ℕ → ℕ
+read_counted (Ok answer) n = counted_at answer.fault n
+read_counted (Err fault) n = n
+
+-- the failures of the output after an answer: one more where a write has failed
+abbrev pub write_counted : {A : Type 0} → Result A GrepFault → ℕ → ℕ
+write_counted (Ok answer) n = n
+write_counted (Err Write) n = risen n
+write_counted (Err Memory) n = n
+
+abbrev pub write_fault : IoFault → GrepFault
+write_fault io.Failed = Write
+write_fault io.Memory = Memory

@@ -88,3 +88,9 @@ pub Reads_front : (told later : Option Told) (answer : Result ℕ IoFault) (buf 
 Reads_front told later (Ok n) buf rest within some r =
     (subst (Loses told later) (sym (take-append-le n buf rest within)) r.0, λ none room. r.1 none some)
 Reads_front told later (Err fault) buf rest within some r = r
+
+pub Gains-split : (old new : List ℕ) (n : ℕ) → Gains old new n → new ≡ old ++ drop (length old) new
+Gains-split old new n gains = sym (take-append-drop (length old) new) ∙ ap (λ f. f ++ drop (length old) new) gains.front
+
+pub Gains-size : (old new : List ℕ) (n : ℕ) → Gains old new n → length (drop (length old) new) ≡ n
+Gains-size old new n gains = omega (arith, length-drop (length old) new, gains.size)

@@ -2,7 +2,7 @@
 use Rattle.std.proofs.Common.{◌≡◌, ℕ, zero, suc, ◌+◌, ◌-◌, ◌<◌, ◌≤◌, Bool, true, false, cond, nat_eq, List, [], ◌∷◌, ◌++◌, length, take, drop, get_or, refl, sym, ap, subst, ◌∙◌, arith, append_assoc, length-append}
 use Rattle.std.proofs.lemmas.Bool.{false≢true}
 use Rattle.cs_tools.specs.Lines.{newline, lines, ended_lines, with_byte, with_byte_in_line}
-use Rattle.cs_tools.specs.Rest.{unended, unless_ended, IsPart}
+use Rattle.cs_tools.specs.Rest.{unended, unless_ended, IsPart, last_line}
 
 module _ (x : ℕ) (b : List ℕ) where
   ended-step : (t : Bool) → nat_eq x newline ≡ t → (ls : List (List ℕ)) (rest : List ℕ) (whole : List (List ℕ)) → whole ≡ ls ++ ended_lines (rest ++ b) → cond t ([] ∷ whole) (with_byte_in_line x whole) ≡ cond t ([] ∷ ls) (with_byte_in_line x ls) ++ ended_lines (cond t rest (unless_ended x ls rest) ++ b)
@@ -49,11 +49,6 @@ pub unended-line : (part more : List ℕ) → IsPart part → unended (part ++ n
 unfolding unended
 unended-line [] more p = refl
 unended-line (x ∷ part) more p = rw (p.0, ended_lines-line part more p.1, unended-line part more p.1) refl
-
--- a last part that is not empty is a line
-abbrev pub last_line : List ℕ → List (List ℕ)
-last_line [] = []
-last_line (b ∷ part) = (b ∷ part) ∷ []
 
 lines-step : (x : ℕ) (ls : List (List ℕ)) (rest : List ℕ) → with_byte x (ls ++ last_line rest) ≡ with_byte_in_line x ls ++ last_line (unless_ended x ls rest)
 lines-step x [] [] = refl

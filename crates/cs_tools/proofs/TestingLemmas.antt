@@ -69,7 +69,7 @@ module _ (style : Style) (name : List ℕ) (finds : List ℕ → Bool) where
   one_hit (hit ∷ []) taken later e low high g = (refl, subst (Grows taken later) (shown_listed e hit) g)
   one_hit (hit ∷ other ∷ hits) taken later e low high g = absurd (omega arith)
 
-  few_hits : (n : ℕ) (line : List ℕ) → length (hits_from n finds (line ∷ [])) ≤ 1
+  pub few_hits : (n : ℕ) (line : List ℕ) → length (hits_from n finds (line ∷ [])) ≤ 1
   few_hits n line = rw hits_from-one (elim (finds line) as (λ t. length {A = Hit} (cond t ((n, line) ∷ []) []) ≤ 1) [ true ↦ omega arith | false ↦ omega arith ])
 
   -- with `-l`, the first hit settles the search
@@ -91,4 +91,17 @@ module _ (style : Style) (name : List ℕ) (finds : List ℕ → Bool) where
         found = ap some_hit (hits_from-append finds first a b) ∙ some_hit-append _ _ s.found;
         hits = s.hits;
         written = s.written;
+      }
+
+  -- nothing was found in the lines before
+  pub Settles-after : (a b : List (List ℕ)) (before mid after : Tally) (taken now later : Option (List ℕ)) → mid.hits ≡ 0 → mid.lines ≡ before.lines + length a → Tests style name finds a before mid taken now → Settles style name finds b (mid.lines + 1) after now later → Settles style name finds (a ++ b) (before.lines + 1) after taken later
+  Settles-after a b before mid after taken now later none lines first s =
+      let none_before : hits_from (before.lines + 1) finds a ≡ [] = no_hits _ (omega (arith, first.hits)) in
+      let at : mid.lines + 1 ≡ before.lines + 1 + length a = omega arith in
+      let hits : hits_from (before.lines + 1) finds (a ++ b) ≡ hits_from (mid.lines + 1) finds b = hits_from-append finds (before.lines + 1) a b ∙ ap (λ hs. hs ++ hits_from (before.lines + 1 + length a) finds b) none_before ∙ ap (λ n. hits_from n finds b) (sym at) in
+      record {
+        listed = s.listed;
+        found = ap some_hit hits ∙ s.found;
+        hits = s.hits;
+        written = Grows-chain taken now later [] (name ++ newline ∷ []) (subst (λ (hs : List Hit). Grows taken now (flat_map (shown style name) hs)) none_before first.written) s.written;
       }

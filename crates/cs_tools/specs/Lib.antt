@@ -4,3 +4,4 @@ pub mod Searched
 pub mod Rest
 pub mod Testing
 pub mod Buffer
+pub mod Stops

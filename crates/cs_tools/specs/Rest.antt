@@ -15,3 +15,8 @@ unended (b ∷ text) = if nat_eq b newline then unended text else unless_ended b
 abbrev pub IsPart : List ℕ → Type 0
 IsPart [] = Unit {0}
 IsPart (b ∷ text) = (nat_eq b newline ≡ false) × IsPart text
+
+-- a last part that is not empty is a line
+abbrev pub last_line : List ℕ → List (List ℕ)
+last_line [] = []
+last_line (b ∷ part) = (b ∷ part) ∷ []

@@ -1,16 +1,11 @@
 -- What functions inside a search promise each other: which lines were tested, and what was printed of them.
-use Rattle.std.specs.Prelude.{ℕ, ◌+◌, ◌-◌, ◌<◌, ◌≤◌, ◌≡◌, nat_eq, true, if◌then◌else◌, Bool, List, [], ◌∷◌, ◌++◌, length, take, drop, Option, Some, None}
+use Rattle.std.specs.Prelude.{ℕ, ◌+◌, ◌<◌, ◌≡◌, nat_lt, true, if◌then◌else◌, Bool, List, [], ◌∷◌, ◌++◌, length, Option, codes, decimal}
 use Rattle.std.specs.List.{flat_map}
-use Rattle.cs_tree.specs.Told.{Told, Grows}
+use Rattle.cs_tree.specs.Told.{Grows}
 use Rattle.cs_tools.specs.declared.style.Style.{Style}
 use Rattle.cs_tools.specs.declared.tally.Tally.{Tally}
-use Rattle.cs_tools.specs.declared.fault.ReadFault.{ReadFault}
-use Rattle.cs_tools.specs.declared.stop.Stop.{Stop}
-use Rattle.cs_tools.specs.declared.stop.Stop.TheVariants.{Settled, End, Left}
-use Rattle.cs_tools.specs.Lines.{newline, ended_lines}
-use Rattle.cs_tools.specs.Rest.{unended}
+use Rattle.cs_tools.specs.Lines.{newline}
 use Rattle.cs_tools.specs.Report.{Hit, hits_from, hit_line, some_hit}
-use Rattle.cs_tools.specs.Searched.{fault_within}
 
 -- what is printed at a hit
 unfoldable pub shown : Style → List ℕ → Hit → List ℕ
@@ -22,9 +17,15 @@ pub record Tests (style : Style) (name : List ℕ) (finds : List ℕ → Bool) (
   pub hits : after.hits ≡ before.hits + length (hits_from (before.lines + 1) finds lines)
   pub written : Grows taken later (flat_map (shown style name) (hits_from (before.lines + 1) finds lines))
 
--- with `-l` something was found in one of these lines, and the name was written
+-- With `-l` something was found in one of these lines, and the name was written.
 pub record Settles (style : Style) (name : List ℕ) (finds : List ℕ → Bool) (lines : List (List ℕ)) (first : ℕ) (after : Tally) (taken later : Option (List ℕ)) : Type 0 where
   pub listed : style.list ≡ true
   pub found : some_hit (hits_from first finds lines) ≡ true
   pub hits : 0 < after.hits
   pub written : Grows taken later (name ++ newline ∷ [])
+
+-- `NAME: COUNT`, where that is what is printed at the end of an input
+unfoldable pub total : Style → List ℕ → ℕ → List ℕ
+total style name count =
+    if style.list then []
+    else (if style.count then (if nat_lt 0 count then name ++ (codes ": " ++ (decimal count ++ newline ∷ [])) else []) else [])

@@ -4,7 +4,7 @@ ghost use Rattle.cs_tree.specs.Told.{Grows};
 ghost use Rattle.cs_tools.specs.Lines.{newline};
 ghost use Rattle.cs_tools.specs.Report.{hit_line};
 ghost use Rattle.cs_tools.specs.Searched.{write_counted};
-ghost use Rattle.cs_tools.specs.Testing.{shown};
+ghost use Rattle.cs_tools.specs.Testing.{shown, total};
 
 use cs_tree::{Sink, write_all};
 use itoa::Buffer;
@@ -89,9 +89,28 @@ impl Form<'_> {
         Ok(())
     }
 
+    /// What is printed at the end of an input where so many lines matched: under `-c` without `-l` their number.
+    #[tactic(auto, using(crate::proofs::Printing::printing), unfolding(crate::specs::Testing::total))]
+    pub(crate) fn print_total<O: Sink>(&self, count: u64, out: &mut O) -> Result<(), GrepFault>
+        ensures written { OnOk result (Grows (O.taken out.old) (O.taken out.new) (total self.now.style self.now.name.now count)) }
+        ensures failed { O.failed out.new ≡ write_counted result (O.failed out.old) }
+    {
+        if self.style.list {
+            return Ok(());
+        }
+        if !self.style.count {
+            return Ok(());
+        }
+        if count == 0 {
+            return Ok(());
+        }
+        self.print_count(count, out)?;
+        Ok(())
+    }
+
     /// `NAME: COUNT` on a line.
     #[tactic(auto, using(crate::proofs::Printing::printing))]
-    pub(crate) fn print_count<O: Sink>(&self, count: u64, out: &mut O) -> Result<(), GrepFault>
+    fn print_count<O: Sink>(&self, count: u64, out: &mut O) -> Result<(), GrepFault>
         ensures written { OnOk result (Grows (O.taken out.old) (O.taken out.new) (self.now.name.now ++ (codes ": " ++ (decimal count ++ newline ∷ [])))) }
         ensures failed { O.failed out.new ≡ write_counted result (O.failed out.old) }
     {

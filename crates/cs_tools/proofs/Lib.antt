@@ -1,11 +1,14 @@
 mod Examples
+mod WordExamples
 pub mod BlockLemmas
 pub mod BufferLemmas
 pub mod LinesLemmas
+pub mod MessageLemmas
 pub mod NewlineLemmas
+pub mod PrintedLemmas
+pub mod Printing
 pub mod ReadingLemmas
 pub mod ReportLemmas
 pub mod ReportedLemmas
 pub mod TestingLemmas
-pub mod PrintedLemmas
-pub mod Printing
+pub mod WordsLemmas

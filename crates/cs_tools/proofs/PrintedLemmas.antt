@@ -5,9 +5,9 @@ use Rattle.std.specs.List.{flat_map}
 use Rattle.std.proofs.lemmas.Bool.{lt-ltb, cases_Bool}
 use Rattle.cs_tree.specs.Told.{Grows}
 use Rattle.cs_tree.proofs.Growing.{Grows-chain}
-use Rattle.cs_tools.specs.declared.style.Style.{Style}
+use Rattle.cs_tools.specs.declared.jobs.Style.{Style}
 use Rattle.cs_tools.specs.declared.tally.Tally.{Tally}
-use Rattle.cs_tools.specs.declared.fault.ReadFault.{ReadFault}
+use Rattle.cs_tools.specs.declared.grep_fault.ReadFault.{ReadFault}
 use Rattle.cs_tools.specs.declared.grepped.Grepped.{Grepped}
 use Rattle.cs_tools.specs.Lines.{newline, lines, ended_lines}
 use Rattle.cs_tools.specs.Rest.{unended, last_line}

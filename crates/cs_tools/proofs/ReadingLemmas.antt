@@ -5,9 +5,9 @@ use Rattle.std.proofs.lemmas.Bool.{le-ltb, lt-ltb}
 use Rattle.cs_tree.specs.Told.{Told, Loses, IsAt, Ending, ends, fails, LosesAtMost}
 use Rattle.cs_tree.proofs.Growing.{take_on}
 use Rattle.cs_tree.proofs.Losing.{Loses_few}
-use Rattle.cs_tools.specs.declared.style.Style.{Style}
+use Rattle.cs_tools.specs.declared.jobs.Style.{Style}
 use Rattle.cs_tools.specs.declared.tally.Tally.{Tally}
-use Rattle.cs_tools.specs.declared.fault.ReadFault.TheVariants.{Read, TooLong}
+use Rattle.cs_tools.specs.declared.grep_fault.ReadFault.TheVariants.{Read, TooLong}
 use Rattle.cs_tools.specs.declared.stop.Stop.{Stop}
 use Rattle.cs_tools.specs.declared.stop.Stop.TheVariants.{Settled, End, Left}
 use Rattle.cs_tools.specs.Lines.{ended_lines}

@@ -1,7 +1,13 @@
+-- What public contracts rest on.
 pub mod Lines
 pub mod Report
 pub mod Searched
+pub mod Words
+pub mod Jobs
+pub mod Messages
+-- What functions inside promise each other.
 pub mod Rest
 pub mod Testing
 pub mod Buffer
 pub mod Stops
+pub mod Settings

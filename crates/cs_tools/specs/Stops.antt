@@ -1,11 +1,11 @@
 -- How far the reading of an input has come, and where it stops.
 use Rattle.std.specs.Prelude.{ℕ, ◌+◌, ◌<◌, ◌≤◌, ◌≡◌, Bool, List, [], ◌++◌, length, take, Option, Some, None, Result, Ok, Err}
 use Rattle.cs_tree.specs.Told.{Told, ends, fails}
-use Rattle.cs_tools.specs.declared.style.Style.{Style}
+use Rattle.cs_tools.specs.declared.jobs.Style.{Style}
 use Rattle.cs_tools.specs.declared.tally.Tally.{Tally}
-use Rattle.cs_tools.specs.declared.fault.ReadFault.{ReadFault}
-use Rattle.cs_tools.specs.declared.fault.ReadFault.TheVariants.{Read, TooLong}
-use Rattle.cs_tools.specs.declared.fault.GrepFault.{GrepFault}
+use Rattle.cs_tools.specs.declared.grep_fault.ReadFault.{ReadFault}
+use Rattle.cs_tools.specs.declared.grep_fault.ReadFault.TheVariants.{Read, TooLong}
+use Rattle.cs_tools.specs.declared.grep_fault.GrepFault.{GrepFault}
 use Rattle.cs_tools.specs.declared.stop.Stop.{Stop}
 use Rattle.cs_tools.specs.declared.stop.Stop.TheVariants.{Settled, End, Left}
 use Rattle.cs_tools.specs.Lines.{ended_lines}

@@ -10,7 +10,7 @@ use cs_match::Matcher;
 use cs_tree::Sink;
 use memchr::memchr;
 
-use crate::fault::GrepFault;
+use crate::grep_fault::GrepFault;
 use crate::form::Form;
 use crate::tally::Tally;
 

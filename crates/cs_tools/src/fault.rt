@@ -1,52 +1,130 @@
-// Why searches are refused, and why inputs are left.
-ghost use Rattle.std.specs.Prelude.{◌≡◌};
-
-use cs_tree::IoFault;
-use std::alloc::AllocError;
+// Why a tool refuses.
+use crate::index_fault::IndexFault;
+use cs_syntax::PatternError;
+use std::alloc::{AllocError, AllocFailed};
 use thiserror::Error;
 
-/// Why an input is left before its end.
+/// Why the words of a command ask for nothing. A place counts the words from 0.
 #[derive(Clone, Copy, Debug, PartialEq, Eq, Drop, Error)]
-pub enum ReadFault {
-    /// A read has failed.
-    #[error("a read has failed")]
-    Read,
-    /// It has more than `MOST_SEARCHED` bytes.
-    #[error("the input is too long")]
-    TooLong,
-}
-
-/// Why a search of an input is refused.
-#[derive(Clone, Copy, Debug, PartialEq, Eq, Drop, Error)]
-pub enum GrepFault {
-    /// A write to the output has failed.
-    #[error("a write has failed")]
-    Write,
-    /// A growth was refused: for a longer line, or in a read or a write.
+pub enum WordFault {
+    /// The tool has no such option, as `-x`, `-cn`, `---c` or `-=v`. The place is that of the word.
+    #[error("unknown option")]
+    UnknownOption(usize),
+    /// An option that has to have a value is the last word, as `-f`. The place is that of the word.
+    #[error("an option needs a value")]
+    NoValue(usize),
+    /// The value of a switch is neither true nor false, as in `-n=yes` and `-n=`. The place is that
+    /// of the word.
+    #[error("bad truth value")]
+    BadTruth(usize),
+    /// No word is left for the pattern, as in `csearch -n`.
+    #[error("no pattern")]
+    NoPattern,
+    /// csearch has a word behind its pattern, as in `csearch x y`. The place is that of the first
+    /// such word.
+    #[error("extra word")]
+    ExtraWord(usize),
+    /// A growth was refused.
     #[error("out of memory")]
     Memory,
 }
 
-/// A refused write of the output.
-impl From<IoFault> for GrepFault {
-    ghost use Rattle.cs_tools.specs.Searched.{write_fault};
-
-    ghost from_gives = { λ io fault. fault ≡ write_fault io };
-
-    fn from(io: IoFault) -> GrepFault {
-        match io {
-            IoFault::Failed => GrepFault::Write,
-            IoFault::Memory => GrepFault::Memory,
-        }
-    }
-}
-
-impl From<AllocError> for GrepFault {
-    ghost use Rattle.cs_tools.specs.declared.fault.GrepFault.TheVariants.{Memory};
+impl From<AllocError> for WordFault {
+    ghost use Rattle.std.specs.Prelude.{◌≡◌};
+    ghost use Rattle.cs_tools.specs.declared.fault.WordFault.TheVariants.{Memory};
 
     ghost from_gives = { λ _ fault. fault ≡ Memory };
 
-    fn from(_e: AllocError) -> GrepFault {
-        GrepFault::Memory
+    fn from(_refused: AllocError) -> WordFault {
+        WordFault::Memory
     }
+}
+
+impl<T: Drop> From<AllocFailed<T>> for WordFault {
+    ghost use Rattle.std.specs.Prelude.{◌≡◌};
+    ghost use Rattle.cs_tools.specs.declared.fault.WordFault.TheVariants.{Memory};
+
+    ghost from_gives = { λ _ fault. fault ≡ Memory };
+
+    fn from(_refused: AllocFailed<T>) -> WordFault {
+        WordFault::Memory
+    }
+}
+
+/// Why `csearch` or `cgrep` refuses. The first four are found in this order, before any output.
+#[derive(Clone, Copy, Debug, PartialEq, Eq, Drop, Error)]
+pub enum ToolFault {
+    /// The pattern is none.
+    #[error("a fault of the pattern")]
+    Pattern(PatternError),
+    /// The pattern of `-f` is none.
+    #[error("a fault of the pattern for names")]
+    FilePattern(PatternError),
+    /// There is no index.
+    #[error("no index")]
+    NoIndex,
+    /// The index is damaged.
+    #[error("bad index: {0}")]
+    BadIndex(IndexFault),
+    /// Output failed.
+    #[error("output failed")]
+    Write,
+    /// A growth was refused.
+    #[error("out of memory")]
+    Memory,
+}
+
+/// Why `cindex` refuses a job. A refused job leaves the index as it was.
+#[derive(Clone, Copy, Debug, PartialEq, Eq, Drop, Error)]
+pub enum CindexFault {
+    /// There is no index, and the job has no path.
+    #[error("no index")]
+    NoIndex,
+    /// The old index is damaged, or has a path that is not clean.
+    #[error("bad index: {0}")]
+    BadIndex(IndexFault),
+    /// The names of the old index are not in order.
+    #[error("index names are not in order")]
+    Unsorted,
+    /// The new index would pass its limit.
+    #[error("index too large")]
+    TooLarge,
+    /// A path is empty, has a NUL or is too long. The place is that of the path among those of the
+    /// job.
+    #[error("bad path")]
+    BadPath(usize),
+    /// Output failed.
+    #[error("output failed")]
+    Write,
+    /// A growth was refused.
+    #[error("out of memory")]
+    Memory,
+}
+
+/// Why a tool refuses: for its words, or for what they ask.
+#[derive(Clone, Copy, Debug, PartialEq, Eq, Drop, Error)]
+pub enum Refusal {
+    #[error("{0}")]
+    Word(WordFault),
+    #[error("{0}")]
+    Tool(ToolFault),
+    #[error("{0}")]
+    Index(CindexFault),
+}
+
+/// Why a file or a path is left out, while the tool goes on.
+#[derive(Clone, Copy, Debug, PartialEq, Eq, Drop)]
+pub enum FileFault {
+    /// There is no such file.
+    Missing,
+    /// The system does not let the file be read.
+    Denied,
+    /// The file cannot be read, or not to its end.
+    Failed,
+    /// A folder has an entry whose name is not text. The name is that of the folder.
+    Unnamed,
+    /// A path that is walked has more than 4095 bytes.
+    PathTooLong,
+    /// An input that is searched has more than 2^30 bytes.
+    InputTooLong,
 }

@@ -9,8 +9,8 @@ ghost use Rattle.cs_tools.specs.Testing.{shown, total};
 use cs_tree::{Sink, write_all};
 use itoa::Buffer;
 
-use crate::fault::GrepFault;
-use crate::style::Style;
+use crate::grep_fault::GrepFault;
+use crate::jobs::Style;
 
 /// The name of an input, and what is printed of it.
 #[derive(Clone, Copy, Drop)]

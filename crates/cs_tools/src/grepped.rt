@@ -1,4 +1,4 @@
-use crate::fault::ReadFault;
+use crate::grep_fault::ReadFault;
 
 /// What a search of one input found.
 #[derive(Clone, Copy, Debug, PartialEq, Eq, Drop)]

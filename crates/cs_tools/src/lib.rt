@@ -1,21 +1,35 @@
-//! Searches of inputs, line by line, and the tools over them. Read `specs/Report.antt` first.
+//! The three tools: their words, the searches of inputs line by line, and what they print. Read
+//! `specs/Report.antt` first, which says what a search of one input prints, then `specs/Words.antt`
+//! and `specs/Messages.antt`.
 #![tactic(auto)]
 
 mod blocks;
 mod buffer;
 mod fault;
 mod form;
+mod grep_fault;
 mod grepped;
+mod index_fault;
+mod jobs;
+mod messages;
+mod options;
 mod reading;
+mod reason;
 mod report;
+mod settings;
 mod stop;
-mod style;
 mod tally;
+mod words;
 
-pub use fault::{GrepFault, ReadFault};
+pub use fault::{CindexFault, FileFault, Refusal, ToolFault, WordFault};
+pub use grep_fault::{GrepFault, ReadFault};
 pub use grepped::Grepped;
+pub use index_fault::IndexFault;
+pub use jobs::{GrepJob, IndexJob, Job, SearchJob, Style, Tool};
+pub use messages::{fault_line, message, skip_line};
+pub use reason::Reason;
 pub use report::{MOST_SEARCHED, grep};
-pub use style::Style;
+pub use words::read_words;
 
 #[cfg(test)]
 mod tests;

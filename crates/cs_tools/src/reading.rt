@@ -11,7 +11,7 @@ use cs_tree::{IoFault, Sink, Source};
 
 use crate::blocks::search_block;
 use crate::buffer::LineBuffer;
-use crate::fault::{GrepFault, ReadFault};
+use crate::grep_fault::{GrepFault, ReadFault};
 use crate::form::Form;
 use crate::stop::Stop;
 use crate::tally::Tally;

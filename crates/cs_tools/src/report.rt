@@ -12,12 +12,12 @@ use std::alloc::Global;
 
 use crate::blocks::search_line;
 use crate::buffer::LineBuffer;
-use crate::fault::GrepFault;
+use crate::grep_fault::GrepFault;
 use crate::form::Form;
 use crate::grepped::Grepped;
 use crate::reading::search_input;
 use crate::stop::Stop;
-use crate::style::Style;
+use crate::jobs::Style;
 use crate::tally::Tally;
 
 /// How many bytes of one input are searched: 2^30.

@@ -1,4 +1,4 @@
-use crate::fault::ReadFault;
+use crate::grep_fault::ReadFault;
 
 /// Where the reading of an input stops.
 #[derive(Clone, Copy, Drop)]

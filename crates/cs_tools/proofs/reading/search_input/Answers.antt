@@ -1,7 +1,7 @@
 use Rattle.std.proofs.Common.{◌≡◌, ◌+◌, ◌-◌, ◌≤◌, ◌∷◌, ◌++◌, [], Bool, List, ℕ, length, take, drop, refl, sym, ap, subst, ◌∙◌, inl, inr, arith}
 use Rattle.cs_match.specs.Finding.{Decides}
 use Rattle.cs_tree.specs.Told.{ends, fails, RefusedBy}
-use Rattle.cs_tools.specs.declared.fault.ReadFault.TheVariants.{Read}
+use Rattle.cs_tools.specs.declared.grep_fault.ReadFault.TheVariants.{Read}
 use Rattle.cs_tools.specs.declared.stop.Stop.TheVariants.{End, Left}
 use Rattle.cs_tree.proofs.Losing.{Loses_few}
 use Rattle.cs_tools.specs.Lines.{ended_lines}

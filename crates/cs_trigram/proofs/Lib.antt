@@ -1,0 +1,7 @@
+pub mod PlaceLemmas
+pub mod SetLemmas
+pub mod TrigramLemmas
+pub mod MarkLemmas
+pub mod SortLemmas
+pub mod TextLemmas
+pub mod ReadLemmas

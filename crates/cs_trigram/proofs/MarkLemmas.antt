@@ -1,0 +1,187 @@
+-- What a number more changes of what is kept.
+use Rattle.std.proofs.Common.{◌≡◌, ◌≢◌, ◌≤◌, ◌<◌, ℕ, zero, suc, ◌+◌, ◌-◌, ◌*◌, ◌/◌, ◌%◌, ◌^◌, min, Bool, true, false, ◌||◌, eqb, List, [], ◌∷◌, ◌++◌, length, take, get_or, set, refl, sym, ap, subst, ◌∙◌, inl, inr, ◌⊎◌, arith, length-append, length-take-le, drop, get_or-set_same, get_or-set_other, replicate, w64, bit_or}
+use Rattle.std.proofs.lemmas.Bool.{true≢false, false≢true, cases_Bool, cases_eq, cases_lt, eq-eqb, ne_eqb}
+use Rattle.std.proofs.lemmas.Nat.Bits.{bit_at_set_same, bit_at_set_other, bit_at-lt, bit_at-zero}
+use Rattle.std.proofs.lemmas.List.{take-set-le, take_more_set, get_or-replicate, length-replicate, get_or_past, drop_all, drop_more}
+use Rattle.std.proofs.lemmas.List.Folds.{list_any_at}
+use Rattle.std.specs.Int.{bit_at}
+use Rattle.cs_trigram.specs.Trigram.{Ascends, placed, ascending, has}
+use Rattle.cs_trigram.specs.Marks.{bit_of, as_bit, Marks, Holds, Gathers}
+use Rattle.cs_trigram.proofs.SetLemmas.{has-append, has-ascending, ascends_ascending, ascending-push, placed-member, length-placed, length-placed-ge}
+
+-- the cells with one more bit set
+abbrev pub marked : List ℕ → ℕ → List ℕ
+marked cells n = set cells (n / 64) (bit_or (get_or cells (n / 64) 0) (1 * 2 ^ (n % 64) % 2 ^ 64))
+
+has-push : (numbers : List ℕ) (w n : ℕ) → has (numbers ++ w ∷ []) n ≡ (has numbers n || (eqb w n || false))
+has-push numbers w n = has-append n numbers (w ∷ [])
+
+or_true : (a : Bool) → (a || (true || false)) ≡ true
+or_true true = refl
+or_true false = refl
+
+or_false : (a : Bool) → (a || (false || false)) ≡ a
+or_false true = refl
+or_false false = refl
+
+bit-marked_same : (cells : List ℕ) (w : ℕ) → w / 64 < length cells → bit_of (marked cells w) w ≡ 1
+bit-marked_same cells w within =
+    let low : w % 64 < 64 = omega arith in
+    rw get_or-set_same (bit_at_set_same w64 (get_or cells (w / 64) 0) (w % 64) low)
+
+bit-marked_other : (cells : List ℕ) (w n : ℕ) → w / 64 < length cells → (w ≡ n → ⊥) → bit_of (marked cells w) n ≡ bit_of cells n
+bit-marked_other cells w n within apart = at (cases_eq (n / 64) (w / 64))
+  where
+    at : ((n / 64 ≡ w / 64) ⊎ (n / 64 ≡ w / 64 → ⊥)) → bit_of (marked cells w) n ≡ bit_of cells n
+    at (inl cell) =
+        let low : w % 64 < 64 = omega arith in
+        let other : n % 64 ≢ w % 64 = λ e. apart (omega (arith, e, cell)) in
+        rw (cell, get_or-set_same) (bit_at_set_other w64 (get_or cells (w / 64) 0) (w % 64) low (n % 64) other)
+    at (inr cell) = rw get_or-set_other refl
+
+-- one more bit is set, and no other is changed
+pub Marks-push : (cells numbers : List ℕ) (w : ℕ) → w / 64 < length cells → Marks cells numbers → Marks (marked cells w) (numbers ++ w ∷ [])
+Marks-push cells numbers w within marks n = at (cases_eq w n)
+  where
+    at : ((w ≡ n) ⊎ (w ≡ n → ⊥)) → bit_of (marked cells w) n ≡ as_bit (has (numbers ++ w ∷ []) n)
+    at (inl same) =
+        ap (bit_of (marked cells w)) (sym same) ∙ bit-marked_same cells w within
+        ∙ ap as_bit (sym (has-push numbers w n ∙ ap (λ t. has numbers n || (t || false)) (eq-eqb w n same) ∙ or_true (has numbers n)))
+    at (inr apart) =
+        bit-marked_other cells w n within apart ∙ marks n
+        ∙ ap as_bit (sym (has-push numbers w n ∙ ap (λ t. has numbers n || (t || false)) (ne_eqb w n apart) ∙ or_false (has numbers n)))
+
+-- a bit that is set tells a member, and one that is not set tells that there is none
+has-bit : (cells numbers : List ℕ) (n : ℕ) → Marks cells numbers → bit_of cells n ≡ 1 → has numbers n ≡ true
+has-bit cells numbers n marks one = at (has numbers n) (sym (marks n) ∙ one)
+  where
+    at : (b : Bool) → as_bit b ≡ 1 → b ≡ true
+    at true h = refl
+    at false h = absurd (omega (arith, h))
+
+has-no_bit : (cells numbers : List ℕ) (n : ℕ) → Marks cells numbers → bit_of cells n ≡ 0 → has numbers n ≡ false
+has-no_bit cells numbers n marks none = at (has numbers n) (sym (marks n) ∙ none)
+  where
+    at : (b : Bool) → as_bit b ≡ 0 → b ≡ false
+    at true h = absurd (omega (arith, h))
+    at false h = refl
+
+-- a member put in once more
+Holds-again : (cells numbers set : List ℕ) (w : ℕ) → w / 64 < length cells → Holds cells numbers set → bit_of cells w ≡ 1 → Holds (marked cells w) numbers (placed w set)
+Holds-again cells numbers set w within holds one =
+    let member : has numbers w ≡ true = has-bit cells numbers w holds.marks one in
+    let in_set : has set w ≡ true = ap (λ s. has s w) (sym holds.same) ∙ has-ascending w numbers ∙ member in
+    let up : Ascends set = subst Ascends holds.same (ascends_ascending numbers) in
+    let stays : placed w set ≡ set = placed-member w set up in_set in
+    record {
+      same = holds.same ∙ sym stays;
+      once = holds.once ∙ ap length (sym stays);
+      marks = λ n. Marks-push cells numbers w within holds.marks n ∙ ap as_bit (has-push numbers w n ∙ at n (cases_eq w n) member);
+    }
+  where
+    at : (n : ℕ) → ((w ≡ n) ⊎ (w ≡ n → ⊥)) → has numbers w ≡ true → (has numbers n || (eqb w n || false)) ≡ has numbers n
+    at n (inl same) member = ap (λ t. t || (eqb w n || false)) (ap (has numbers) (sym same) ∙ member) ∙ sym (ap (has numbers) (sym same) ∙ member)
+    at n (inr apart) member = ap (λ t. has numbers n || (t || false)) (ne_eqb w n apart) ∙ or_false (has numbers n)
+
+-- a number put in for the first time
+Holds-new : (cells numbers set : List ℕ) (w : ℕ) → w / 64 < length cells → Holds cells numbers set → bit_of cells w ≡ 0 → Holds (marked cells w) (numbers ++ w ∷ []) (placed w set) × (length (placed w set) ≡ length set + 1)
+Holds-new cells numbers set w within holds none =
+    let new : has numbers w ≡ false = has-no_bit cells numbers w holds.marks none in
+    let not_in_set : has set w ≡ false = ap (λ s. has s w) (sym holds.same) ∙ has-ascending w numbers ∙ new in
+    let more : length (placed w set) ≡ length set + 1 = length-placed w set not_in_set in (
+      record {
+        same = ascending-push numbers w ∙ ap (placed w) holds.same;
+        once = omega (arith, length-append numbers (w ∷ []), more, holds.once);
+        marks = Marks-push cells numbers w within holds.marks;
+      },
+      more,
+    )
+
+-- A number put in: it is written behind the list, and the list grows where its bit was not set.
+pub Gathers-push : (most : ℕ) (cells list : List ℕ) (len : ℕ) (members : List ℕ) (w : ℕ) → w / 64 < length cells → len < length list → Gathers most cells list len members → Gathers most (marked cells w) (set list len w) (min (len + (1 - bit_of cells w)) (most + 1)) (placed w members)
+Gathers-push most cells list len members w within room gathers = record {
+  few = omega arith;
+  within = λ fits. at_within fits (cases_eq (bit_of cells w) 1);
+  beyond = λ full. at_beyond full (cases_lt most len) (cases_eq (bit_of cells w) 1);
+}
+  where
+    bit_small : bit_of cells w < 2
+    bit_small = bit_at-lt (get_or cells (w / 64) 0) (w % 64)
+    next : ℕ
+    next = min (len + (1 - bit_of cells w)) (most + 1)
+    at_within : next ≤ most → ((bit_of cells w ≡ 1) ⊎ (bit_of cells w ≡ 1 → ⊥)) → Holds (marked cells w) (take next (set list len w)) (placed w members)
+    at_within fits (inl one) =
+        let stays : next ≡ len = omega (arith, fits, one) in
+        let numbers : take next (set list len w) ≡ take len list = ap (λ n. take n (set list len w)) stays ∙ take-set-le len list len w (omega arith) in
+        rw numbers (Holds-again cells (take len list) members w within (gathers.within (omega (arith, fits, stays))) one)
+    at_within fits (inr not_one) =
+        let none : bit_of cells w ≡ 0 = omega (arith, not_one, bit_small) in
+        let longer : next ≡ len + 1 = omega (arith, fits, none) in
+        let numbers : take next (set list len w) ≡ take len list ++ w ∷ [] = ap (λ n. take n (set list len w)) longer ∙ take_more_set list len w room in
+        rw numbers (Holds-new cells (take len list) members w within (gathers.within (omega (arith, fits, longer))) none).0
+    at_beyond : most < next → ((most < len) ⊎ (len ≤ most)) → ((bit_of cells w ≡ 1) ⊎ (bit_of cells w ≡ 1 → ⊥)) → most < length (placed w members)
+    at_beyond full (inl over) bit = omega (arith, gathers.beyond over, length-placed-ge w members)
+    at_beyond full (inr under) (inl one) = absurd (omega (arith, full, under, one))
+    at_beyond full (inr under) (inr not_one) =
+        let none : bit_of cells w ≡ 0 = omega (arith, not_one, bit_small) in
+        let holds : Holds cells (take len list) members = gathers.within under in
+        let more : length (placed w members) ≡ length members + 1 = (Holds-new cells (take len list) members w within holds none).1 in
+        let count : length (take len list) ≡ len = length-take-le len list (omega (arith, room)) in
+        omega (arith, more, holds.once, count, full, none)
+
+-- ---- no bit is set
+
+pub Marks-clear : (n : ℕ) → Marks (replicate n 0) []
+Marks-clear n k = at (cases_lt (k / 64) n)
+  where
+    at : ((k / 64 < n) ⊎ (n ≤ k / 64)) → bit_of (replicate n 0) k ≡ 0
+    at (inl within) = rw get_or-replicate (bit_at-zero (k % 64))
+    at (inr over) =
+        let zeros : List ℕ = replicate n 0 in
+        let out : length zeros ≤ k / 64 = omega (arith, over, length-replicate n zero) in
+        rw (get_or_past (replicate n 0) (k / 64) 0 out) (bit_at-zero (k % 64))
+
+-- the bits that are left when those of the first i numbers are gone are bits of the others
+pub record Unmarks (cells numbers : List ℕ) (i : ℕ) : Type 0 where
+  pub left : (n : ℕ) → bit_of cells n ≡ 1 → has (drop i numbers) n ≡ true
+
+pub Unmarks-begin : (cells numbers : List ℕ) → Marks cells numbers → Unmarks cells numbers 0
+Unmarks-begin cells numbers marks = record { left = λ n one. has-bit cells numbers n marks one }
+
+pub Unmarks-end : (cells numbers : List ℕ) (i : ℕ) → length numbers ≤ i → Unmarks cells numbers i → Marks cells []
+Unmarks-end cells numbers i over unmarks n = at (cases_eq (bit_of cells n) 1)
+  where
+    nothing : drop i numbers ≡ []
+    nothing = drop_all i numbers over
+    at : ((bit_of cells n ≡ 1) ⊎ (bit_of cells n ≡ 1 → ⊥)) → bit_of cells n ≡ 0
+    at (inl one) = absurd (false≢true (ap (λ ns. has ns n) (sym nothing) ∙ unmarks.left n one))
+    at (inr not_one) = omega (arith, not_one, bit_at-lt (get_or cells (n / 64) 0) (n % 64))
+
+-- the number at i has its cell among the cells
+pub cell-within : (cells numbers : List ℕ) (i : ℕ) → i < length numbers → Marks cells numbers → get_or numbers i 0 / 64 < length cells
+cell-within cells numbers i within marks = at (cases_lt (n / 64) (length cells))
+  where
+    n : ℕ
+    n = get_or numbers i 0
+    member : has numbers n ≡ true
+    member = list_any_at (λ m. eqb m n) numbers i 0 within (eq-eqb n n refl)
+    one : bit_of cells n ≡ 1
+    one = marks n ∙ ap as_bit member
+    at : ((n / 64 < length cells) ⊎ (length cells ≤ n / 64)) → n / 64 < length cells
+    at (inl inside) = inside
+    at (inr out) =
+        let zero_bit : bit_of cells n ≡ 0 = ap (λ cell. bit_at cell (n % 64)) (get_or_past cells (n / 64) 0 out) ∙ bit_at-zero (n % 64) in
+        absurd (omega (arith, one, zero_bit))
+
+pub Unmarks-more : (cells numbers : List ℕ) (i : ℕ) → i < length numbers → get_or numbers i 0 / 64 < length cells → Unmarks cells numbers i → Unmarks (set cells (get_or numbers i 0 / 64) 0) numbers (i + 1)
+Unmarks-more cells numbers i within inside unmarks = record { left = λ n one. at n one (cases_eq (n / 64) (get_or numbers i 0 / 64)) }
+  where
+    at : (n : ℕ) → bit_of (set cells (get_or numbers i 0 / 64) 0) n ≡ 1 → ((n / 64 ≡ get_or numbers i 0 / 64) ⊎ (n / 64 ≡ get_or numbers i 0 / 64 → ⊥)) → has (drop (i + 1) numbers) n ≡ true
+    at n one (inl cell) =
+        let zero_bit : bit_of (set cells (get_or numbers i 0 / 64) 0) n ≡ 0 = rw (cell, get_or-set_same) (bit_at-zero (n % 64)) in
+        absurd (omega (arith, one, zero_bit))
+    at n one (inr other) =
+        let stays : bit_of (set cells (get_or numbers i 0 / 64) 0) n ≡ bit_of cells n = rw get_or-set_other refl in
+        let member : has (drop i numbers) n ≡ true = unmarks.left n (sym stays ∙ one) in
+        let apart : eqb (get_or numbers i 0) n ≡ false = ne_eqb (get_or numbers i 0) n (λ same. other (ap (λ k. k / 64) (sym same))) in
+        ap (λ t. t || has (drop (i + 1) numbers) n) (sym apart) ∙ ap (λ ns. has ns n) (sym (drop_more numbers i 0 within)) ∙ member

@@ -1,0 +1,14 @@
+use Rattle.std.proofs.Common.{◌≡◌, ◌+◌, ◌<◌, ◌≤◌, ℕ, List, [], length, ◌-◌}
+use Rattle.cs_trigram.specs.Scanning.{Reads}
+use Rattle.cs_trigram.proofs.bounded.read_through.Given as goal
+
+abbrev pub invariant-pieces : goal.invariant-pieces
+invariant-pieces g l = record {
+  reads : Reads l.limits (g.R.Source.told l.initial.source) (g.R.Source.told l.source) l.place l.found;
+  count : l.place.count ≤ l.limits.bytes;
+  failed : g.R.Source.failed l.source ≡ g.R.Source.failed l.initial.source;
+  keeps : g.R.Source.Keeps l.initial.source l.source;
+}
+
+abbrev pub decreases-pieces : goal.decreases-pieces
+decreases-pieces g l = l.limits.bytes - l.place.count

@@ -1,0 +1,16 @@
+use Rattle.std.proofs.Common.{◌≡◌, ◌≤◌, ◌∙◌, ap, take, arith, inl, inr}
+use Rattle.std.proofs.lemmas.Bool.{cases_lt}
+use Rattle.std.proofs.lemmas.Result.{IfOk-weaker}
+use Rattle.cs_trigram.specs.Trigram.{ascending}
+use Rattle.cs_trigram.proofs.found.Found.trigrams.Goals as goal
+
+pub returns : goal.returns
+returns c = IfOk-weaker c.set_of.result _ _ (λ set is most front knows few.
+    let len = c.args.self.now.tail.len in
+    let fits : len ≤ most =
+        elim (cases_lt most len) [
+          | inl over ↦ absurd (omega (arith, few, knows.gathers.beyond over))
+          | inr within ↦ within
+        ]
+    in
+    is ∙ ap (λ numbers. ascending (take len numbers)) c.deref.ensures.value ∙ (knows.gathers.within fits).same) c.set_of.ensures

@@ -1,0 +1,7 @@
+use Rattle.std.proofs.Common.{◌≡◌, length}
+use Rattle.cs_trigram.specs.Marks.{Marks}
+use Rattle.cs_trigram.proofs.MarkLemmas.{Unmarks}
+use Rattle.cs_trigram.proofs.found.unmark.Given as goal
+
+abbrev pub invariant-loop-number : goal.invariant-loop-number
+invariant-loop-number l = Unmarks l.cells l.numbers l.number-index

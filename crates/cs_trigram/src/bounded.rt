@@ -1,0 +1,121 @@
+// A scanner with limits of its own.
+ghost use Rattle.std.specs.Prelude.{◌≡◌, ◌+◌, ◌<◌, ◌≤◌, ℕ, List, [], None, length, IfOk};
+ghost use Rattle.cs_tree.specs.Told.{LosesAtMost, ends};
+ghost use Rattle.cs_trigram.specs.Text.{found_at, first_broken, Says, IsRight, HasTrigrams, read_counted};
+ghost use Rattle.cs_trigram.specs.Place.{IsSmall};
+ghost use Rattle.cs_trigram.specs.Found.{Knows, IsSound};
+
+use crate::found::Found;
+use crate::limits::Limits;
+use crate::place::{Place, pass};
+use crate::scan::{Reason, Scan, ScanFault};
+use cs_tree::{IoFault, Source};
+use std::alloc::{AllocError, Global};
+use std::marker::Model;
+
+/// What there is to say of a file that was read to its end.
+fn text(alloc: Global, found: &Found, bytes: u64) -> Result<Scan, ScanFault>
+    requires { IsSound found.now }
+    ensures says { (most : Limits) (front : List ℕ) → Knows most.trigrams found.now front → first_broken most [] front ≡ None →
+        bytes ≡ length front → Says result (found_at most front ends) }
+    ensures trigrams { (most : Limits) (front : List ℕ) → Knows most.trigrams found.now front → first_broken most [] front ≡ None →
+        IfOk result HasTrigrams }
+{
+    if found.is_over() {
+        return Ok(Scan::Skip(Reason::ManyTrigrams));
+    }
+    let trigrams = found.trigrams(alloc)?;
+    Ok(Scan::Text { trigrams, bytes })
+}
+
+/// Reads a file to its end, or to the first byte that breaks a rule.
+fn read_through<R: Source>(
+    alloc: Global,
+    limits: &Limits,
+    buffer: &mut [u8],
+    found: &mut Found,
+    source: &mut R,
+) -> Result<Scan, ScanFault>
+    requires small { IsSmall limits.now }
+    requires room { 0 < length buffer.old }
+    requires empty { Knows limits.now.trigrams found.old [] }
+    ensures told { IsRight limits.now (R.told source.old) result }
+    ensures trigrams { IfOk result HasTrigrams }
+    ensures failed { R.failed source.new ≡ read_counted result (R.failed source.old) }
+    ensures few { LosesAtMost (limits.now.bytes + 1) (R.told source.old) (R.told source.new) }
+    ensures keeps { R.Keeps source.old source.new }
+    ensures sound { IsSound found.new }
+    ensures list { length found.new.list.items ≡ limits.now.trigrams + 2 }
+{
+    let mut place = Place::START;
+    'pieces: loop {
+        let room = (limits.bytes + 1 - place.count).min(buffer.len() as u64) as usize;
+        let piece = &mut buffer[..room];
+        let n = match source.read(piece) {
+            Ok(n) => n,
+            Err(IoFault::Failed) => return Err(ScanFault::Read),
+            Err(IoFault::Memory) => return Err(ScanFault::Memory),
+        };
+        if n == 0 {
+            return text(alloc, found, place.count);
+        }
+        let block = &piece[..n];
+        match pass(limits, place, block) {
+            Ok(next) => {
+                found.take(place.count, block);
+                place = next;
+            }
+            Err(reason) => return Ok(Scan::Skip(reason)),
+        }
+    }
+}
+
+/// A scanner with limits of its own, which are all that a contract sees of it.
+#[derive(Drop)]
+pub struct BoundedScanner {
+    alloc: Global,
+    limits: Limits,
+    buffer: Vec<u8>,
+    found: Found,
+}
+
+impl Model for BoundedScanner {
+    ghost use Rattle.cs_trigram.specs.declared.limits.Limits.{Limits};
+
+    ghost Value = { Limits };
+
+    ghost use Rattle.cs_trigram.specs.Scanning.{IsReady};
+
+    ghost view = { λ s. s.limits };
+
+    ghost invariant = { λ s. IsReady s.limits s.buffer s.found };
+}
+
+impl BoundedScanner {
+    /// A scanner that has its buffer and its table, about 2.2 MB.
+    pub fn new(alloc: Global, limits: Limits) -> Result<BoundedScanner, AllocError>
+        requires { IsSmall limits }
+        ensures { IfOk result (λ scanner. scanner ≡ limits) }
+    {
+        Ok(BoundedScanner {
+            alloc,
+            limits,
+            buffer: vec![in alloc; 0u8; 65_536]?,
+            found: Found::new(alloc, limits.trigrams)?,
+        })
+    }
+
+    /// What the file is that the source gives.
+    pub fn scan<R: Source>(&mut self, source: &mut R) -> Result<Scan, ScanFault>
+        ensures told { IsRight self.old (R.told source.old) result }
+        ensures trigrams { IfOk result HasTrigrams }
+        ensures failed { R.failed source.new ≡ read_counted result (R.failed source.old) }
+        ensures few { LosesAtMost (self.old.bytes + 1) (R.told source.old) (R.told source.new) }
+        ensures keeps { R.Keeps source.old source.new }
+        ensures same { self.new ≡ self.old }
+    {
+        let answer = read_through(self.alloc, &self.limits, &mut self.buffer, &mut self.found, source);
+        self.found.clear();
+        answer
+    }
+}

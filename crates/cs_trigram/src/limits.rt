@@ -1,0 +1,16 @@
+// How much a scan takes.
+
+/// The most bytes of a file, the most bytes of a line with its newline, and the most trigrams.
+#[derive(Clone, Copy, Debug, PartialEq, Eq)]
+pub struct Limits {
+    pub bytes: u64,
+    pub line: usize,
+    pub trigrams: usize,
+}
+
+/// The limits of a file that is indexed.
+pub const LIMITS: Limits = Limits {
+    bytes: 1 << 30,
+    line: 2000,
+    trigrams: 20_000,
+};

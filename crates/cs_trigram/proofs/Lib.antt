@@ -5,3 +5,4 @@ pub mod MarkLemmas
 pub mod SortLemmas
 pub mod TextLemmas
 pub mod ReadLemmas
+mod Examples

@@ -107,8 +107,10 @@ Gathers-push most cells list len members w within room gathers = record {
   where
     bit_small : bit_of cells w < 2
     bit_small = bit_at-lt (get_or cells (w / 64) 0) (w % 64)
+
     next : ℕ
     next = min (len + (1 - bit_of cells w)) (most + 1)
+
     at_within : next ≤ most → ((bit_of cells w ≡ 1) ⊎ (bit_of cells w ≡ 1 → ⊥)) → Holds (marked cells w) (take next (set list len w)) (placed w members)
     at_within fits (inl one) =
         let stays : next ≡ len = omega (arith, fits, one) in
@@ -119,6 +121,7 @@ Gathers-push most cells list len members w within room gathers = record {
         let longer : next ≡ len + 1 = omega (arith, fits, none) in
         let numbers : take next (set list len w) ≡ take len list ++ w ∷ [] = ap (λ n. take n (set list len w)) longer ∙ take_more_set list len w room in
         rw numbers (Holds-new cells (take len list) members w within (gathers.within (omega (arith, fits, longer))) none).0
+
     at_beyond : most < next → ((most < len) ⊎ (len ≤ most)) → ((bit_of cells w ≡ 1) ⊎ (bit_of cells w ≡ 1 → ⊥)) → most < length (placed w members)
     at_beyond full (inl over) bit = omega (arith, gathers.beyond over, length-placed-ge w members)
     at_beyond full (inr under) (inl one) = absurd (omega (arith, full, under, one))
@@ -153,6 +156,7 @@ Unmarks-end cells numbers i over unmarks n = at (cases_eq (bit_of cells n) 1)
   where
     nothing : drop i numbers ≡ []
     nothing = drop_all i numbers over
+
     at : ((bit_of cells n ≡ 1) ⊎ (bit_of cells n ≡ 1 → ⊥)) → bit_of cells n ≡ 0
     at (inl one) = absurd (false≢true (ap (λ ns. has ns n) (sym nothing) ∙ unmarks.left n one))
     at (inr not_one) = omega (arith, not_one, bit_at-lt (get_or cells (n / 64) 0) (n % 64))
@@ -163,10 +167,13 @@ cell-within cells numbers i within marks = at (cases_lt (n / 64) (length cells))
   where
     n : ℕ
     n = get_or numbers i 0
+
     member : has numbers n ≡ true
     member = list_any_at (λ m. eqb m n) numbers i 0 within (eq-eqb n n refl)
+
     one : bit_of cells n ≡ 1
     one = marks n ∙ ap as_bit member
+
     at : ((n / 64 < length cells) ⊎ (length cells ≤ n / 64)) → n / 64 < length cells
     at (inl inside) = inside
     at (inr out) =

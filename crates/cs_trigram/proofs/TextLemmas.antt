@@ -30,6 +30,7 @@ unbroken_below most front b whole = at_zero (eqb b 0) (may_follow (last_byte fro
   where
     later : Option Reason
     later = cond (leb most.bytes (length front)) (Some TooLong) (cond (leb most.line (length (line_so_far front))) (Some LongLine) None)
+
     at_zero : (z f : Bool) → may_follow (last_byte front) b ≡ f → cond z (Some Nul) (cond (not f) (Some Utf8) later) ≡ None → b < 248
     at_zero true f is h = absurd (cc)
     at_zero false true is h = follower_below b (ltb (last_byte front) 128) (ltb (last_byte front) 192) (ltb (last_byte front) 248) is

@@ -40,8 +40,10 @@ EndsWith-push window front b fits ends = record {
   where
     pairs : byte_before_last (front ++ b ∷ []) ≡ last_byte front → last_byte (front ++ b ∷ []) ≡ b → (window % 65536 * 256 + b) % 65536 ≡ 256 * byte_before_last (front ++ b ∷ []) + last_byte (front ++ b ∷ [])
     pairs p q = omega (arith, p, q, ends.pair, ends.before, ends.last, fits)
+
     before_fits : byte_before_last (front ++ b ∷ []) ≡ last_byte front → byte_before_last (front ++ b ∷ []) < 256
     before_fits p = omega (arith, p, ends.last)
+
     last_fits : last_byte (front ++ b ∷ []) ≡ b → last_byte (front ++ b ∷ []) < 256
     last_fits q = omega (arith, q, fits)
 

@@ -114,7 +114,13 @@ impl BoundedScanner {
         ensures keeps { R.Keeps source.old source.new }
         ensures same { self.new ≡ self.old }
     {
-        let answer = read_through(self.alloc, &self.limits, &mut self.buffer, &mut self.found, source);
+        let answer = read_through(
+            self.alloc,
+            &self.limits,
+            &mut self.buffer,
+            &mut self.found,
+            source,
+        );
         self.found.clear();
         answer
     }

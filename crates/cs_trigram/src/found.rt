@@ -78,7 +78,15 @@ fn put_bytes(cells: &mut [u64], list: &mut [u32], tail: Tail, count: u64, bytes:
     let before = 2u64.saturating_sub(count) as usize;
     let (head, rest) = bytes.split_at(before.min(bytes.len()));
     let window = window_behind(tail.window, head);
-    put_windows(cells, list, Tail { window, len: tail.len }, rest)
+    put_windows(
+        cells,
+        list,
+        Tail {
+            window,
+            len: tail.len,
+        },
+        rest,
+    )
 }
 
 /// The trigrams of the bytes so far. Each has a bit among `cells`, and the first `len` numbers of

@@ -22,7 +22,7 @@ pub enum Reason {
 }
 
 /// What a file is.
-#[derive(Debug, Drop)]
+#[derive(Debug, Drop, PartialEq, Eq)]
 pub enum Scan {
     /// A text: its trigrams, each the number `65536 * a + 256 * b + c` of three bytes, strictly
     /// ascending, and how many bytes it has.

@@ -17,7 +17,7 @@ returns-in-Err-clause-told g c =
 pub returns-in-Err-clause-few : goal.returns-in-Err-clause-few
 returns-in-Err-clause-few g c =
     let few : c.pieces.place.count + length (take c.in-Ok.n c.read.new.buf) ≤ c.args.limits.now.bytes + 1 =
-        omega (arith, length-take c.in-Ok.n c.read.new.buf, c.read.auto.buf, length-take c.min-room.result c.pieces.buffer, c.min-room.ensures, c.pieces.invariant.count)
+    omega (arith, length-take c.in-Ok.n c.read.new.buf, c.read.auto.buf, length-take c.min-room.result c.pieces.buffer, c.min-room.ensures, c.pieces.invariant.count)
     in
     LosesAtMost-more c.args.limits.now (g.R.Source.told c.args.source.now) (g.R.Source.told c.pieces.source) (g.R.Source.told c.read.new.self) c.pieces.place c.pieces.found (take c.in-Ok.n c.read.new.buf) c.pieces.invariant.reads c.in-Ok.ensures.bytes.0 few
 

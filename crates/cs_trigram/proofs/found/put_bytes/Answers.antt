@@ -22,15 +22,15 @@ returns-clause-gathers c = λ front count ends gathers.
     let back_len = c.split_at.ensures.back_len in
     let parts : bytes ≡ head ++ rest = c.split_at.ensures.by_index.0 in
     let few : (head ≡ []) ⊎ (length front + length head < 3) =
-        elim (cases_lt (length front + length head) 3) [
-          | inl short ↦ inr short
-          | inr long ↦
-              let none : c.min.result ≡ 0 = omega (arith, long, count, front_len, c.min.ensures, c.saturating_sub-before.ensures) in
-              inl (c.split_at.ensures.front ∙ ap (λ n. take n bytes) none)
-        ]
+    elim (cases_lt (length front + length head) 3) [
+      | inl short ↦ inr short
+      | inr long ↦
+          let none : c.min.result ≡ 0 = omega (arith, long, count, front_len, c.min.ensures, c.saturating_sub-before.ensures) in
+          inl (c.split_at.ensures.front ∙ ap (λ n. take n bytes) none)
+    ]
     in
     let two : 0 < length rest → 2 ≤ length (front ++ head) =
-        λ some. omega (arith, some, count, front_len, back_len, c.min.ensures, c.saturating_sub-before.ensures, length-append front head)
+    λ some. omega (arith, some, count, front_len, back_len, c.min.ensures, c.saturating_sub-before.ensures, length-append front head)
     in
     rw (in_parts front bytes head rest parts)
     (c.put_windows.ensures.gathers (front ++ head) two (c.window_behind-window.ensures front ends) (rw (tri-head front head few) gathers))

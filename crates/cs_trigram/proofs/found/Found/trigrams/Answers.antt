@@ -8,9 +8,9 @@ pub returns : goal.returns
 returns c = IfOk-weaker c.set_of.result _ _ (λ set is most front knows few.
     let len = c.args.self.now.tail.len in
     let fits : len ≤ most =
-        elim (cases_lt most len) [
-          | inl over ↦ absurd (omega (arith, few, knows.gathers.beyond over))
-          | inr within ↦ within
-        ]
+    elim (cases_lt most len) [
+      | inl over ↦ absurd (omega (arith, few, knows.gathers.beyond over))
+      | inr within ↦ within
+    ]
     in
     is ∙ ap (λ numbers. ascending (take len numbers)) c.deref.ensures.value ∙ (knows.gathers.within fits).same) c.set_of.ensures

@@ -1,0 +1,68 @@
+-- Worked examples of the definitions.
+use Rattle.std.specs.Prelude.{◌≡◌, ℕ, true, false, refl, List, [], ◌∷◌, ◌++◌, codes, length, flat_map}
+use Rattle.cs_index.specs.Image.{Entry, deltas_from, ids_from, image_of, posting_list, varint}
+use Rattle.cs_index.specs.Built.{are_paths, is_above, is_storable}
+
+-- an empty folder at `/a`
+empty_folder : length (image_of (codes "/a" ∷ []) []) ≡ 65
+unfolding varint
+empty_folder = refl
+
+-- the file `/a/x` with `abcd` and a newline
+one_file : image_of (codes "/a" ∷ []) ((codes "/a/x", 0x616263 ∷ 0x626364 ∷ 0x63640a ∷ []) ∷ []) ≡
+    codes "csearch index 1" ++ 10 ∷ []
+    ++ 0x2f ∷ 0x61 ∷ 0x00 ∷ 0x00
+    ∷ 0x2f ∷ 0x61 ∷ 0x2f ∷ 0x78 ∷ 0x00 ∷ 0x00
+    ∷ 0x61 ∷ 0x62 ∷ 0x63 ∷ 0x01 ∷ 0x00 ∷ 0x62 ∷ 0x63 ∷ 0x64 ∷ 0x01 ∷ 0x00 ∷ 0x63 ∷ 0x64 ∷ 0x0a ∷ 0x01 ∷ 0x00 ∷ 0xff ∷ 0xff ∷ 0xff ∷ 0x00
+    ∷ 0x00 ∷ 0x00 ∷ 0x00 ∷ 0x00 ∷ 0x00 ∷ 0x00 ∷ 0x00 ∷ 0x05
+    ∷ 0x61 ∷ 0x62 ∷ 0x63 ∷ 0x00 ∷ 0x00 ∷ 0x00 ∷ 0x01 ∷ 0x00 ∷ 0x00 ∷ 0x00 ∷ 0x00
+    ∷ 0x62 ∷ 0x63 ∷ 0x64 ∷ 0x00 ∷ 0x00 ∷ 0x00 ∷ 0x01 ∷ 0x00 ∷ 0x00 ∷ 0x00 ∷ 0x05
+    ∷ 0x63 ∷ 0x64 ∷ 0x0a ∷ 0x00 ∷ 0x00 ∷ 0x00 ∷ 0x01 ∷ 0x00 ∷ 0x00 ∷ 0x00 ∷ 0x0a
+    ∷ 0x00 ∷ 0x00 ∷ 0x00 ∷ 0x10 ∷ 0x00 ∷ 0x00 ∷ 0x00 ∷ 0x14 ∷ 0x00 ∷ 0x00 ∷ 0x00 ∷ 0x1a ∷ 0x00 ∷ 0x00 ∷ 0x00 ∷ 0x2d ∷ 0x00 ∷ 0x00 ∷ 0x00 ∷ 0x35
+    ∷ 10 ∷ codes "csearch trailr" ++ 10 ∷ []
+unfolding varint
+one_file = refl
+
+-- nine names, of which those with the ids 1, 6, 7 and 8 have `abc`
+with_abc : List Entry
+with_abc =
+    (codes "/t/0", []) ∷ (codes "/t/1", 0x616263 ∷ []) ∷ (codes "/t/2", []) ∷ (codes "/t/3", []) ∷ (codes "/t/4", [])
+    ∷ (codes "/t/5", []) ∷ (codes "/t/6", 0x616263 ∷ []) ∷ (codes "/t/7", 0x616263 ∷ []) ∷ (codes "/t/8", 0x616263 ∷ []) ∷ []
+
+nine_names : posting_list (0x616263, ids_from 0 0x616263 with_abc) ≡ 0x61 ∷ 0x62 ∷ 0x63 ∷ 0x02 ∷ 0x05 ∷ 0x01 ∷ 0x01 ∷ 0x00 ∷ []
+unfolding varint with_abc
+nine_names = refl
+
+-- the ids 127 and 255
+two_bytes : flat_map varint (deltas_from 0 (127 ∷ 255 ∷ [])) ++ 0 ∷ [] ≡ 0x80 ∷ 0x01 ∷ 0x80 ∷ 0x01 ∷ 0x00 ∷ []
+unfolding varint
+two_bytes = refl
+
+-- two names of two trigrams each, below `/a/b` and `/a/bc`
+two_names : length (image_of (codes "/a/b" ∷ codes "/a/bc" ∷ []) ((codes "/a/b/f", 0x69780a ∷ 0x736978 ∷ []) ∷ (codes "/a/bc/y", 0x74776f ∷ 0x776f0a ∷ []) ∷ [])) ≡ 160
+unfolding varint
+two_names = refl
+
+-- three files of fewer than three bytes
+short_files : length (image_of (codes "/t" ∷ []) ((codes "/t/e", []) ∷ (codes "/t/f", []) ∷ (codes "/t/g", []) ∷ [])) ≡ 92
+unfolding varint
+short_files = refl
+
+-- what a builder takes
+covered_path : are_paths (codes "/a" ∷ codes "/a/b" ∷ []) ≡ false
+covered_path = refl
+
+apart_paths : are_paths (codes "/a/b" ∷ codes "/a/bc" ∷ []) ≡ true
+apart_paths = refl
+
+falling_paths : are_paths (codes "/b" ∷ codes "/a" ∷ []) ≡ false
+falling_paths = refl
+
+empty_name : is_storable [] ≡ false
+empty_name = refl
+
+equal_name : is_above (codes "/b" ∷ []) (codes "/b") ≡ false
+equal_name = refl
+
+later_name : is_above (codes "/b" ∷ []) (codes "/c") ≡ true
+later_name = refl

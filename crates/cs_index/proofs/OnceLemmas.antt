@@ -1,0 +1,139 @@
+-- Bytes spell one list of paths, one of names and one of entries.
+use Rattle.std.proofs.Common.{◌≡◌, ℕ, ◌+◌, ◌/◌, ◌%◌, ◌^◌, ◌<◌, List, [], ◌∷◌, ◌++◌, length, map, take, drop, get_or, refl, sym, ap, subst, ◌∙◌, ◌⊎◌, inl, inr, arith, append_assoc, length-append}
+use Rattle.std.proofs.lemmas.List.{take_at, drop_at, append_cancel_left, append-nil}
+use Rattle.std.proofs.lemmas.Nat.{from_be_bytes-to_be_bytes_4}
+use Rattle.std.specs.Prelude.{flat_map}
+use Rattle.std.specs.Int.{from_be_bytes, w32}
+use Rattle.std.specs.List.{AllByRecursion}
+use Rattle.cs_index.specs.Image.{three_bytes, four_bytes, joined, ended, starts_from, Sections, in_order, trailer, trailer_magic, magic, laid_out, strings_section, ListEntry, entry_bytes}
+use Rattle.cs_index.specs.Spelling.{IsString, IsEntry, Spells}
+
+pub apart : (a b c d : List ℕ) → length a ≡ length c → a ++ b ≡ c ++ d → (a ≡ c) × (b ≡ d)
+apart a b c d l e = (
+  sym (take_at a b (length a) refl) ∙ ap (take (length a)) e ∙ take_at c d (length a) (sym l),
+  sym (drop_at a b (length a) refl) ∙ ap (drop (length a)) e ∙ drop_at c d (length a) (sym l),
+)
+
+four_once : (n m : ℕ) → n < 2 ^ 32 → m < 2 ^ 32 → four_bytes n ≡ four_bytes m → n ≡ m
+four_once n m f g e = sym (from_be_bytes-to_be_bytes_4 n f) ∙ ap (from_be_bytes w32) e ∙ from_be_bytes-to_be_bytes_4 m g
+
+top_zero : (n : ℕ) → n < 2 ^ 24 → four_bytes n ≡ 0 ∷ three_bytes n
+top_zero n h = ap (λ b. b ∷ three_bytes n) (let z : n / 16777216 % 256 ≡ 0 = omega (arith, h) in z)
+
+three_once : (n m : ℕ) → n < 2 ^ 24 → m < 2 ^ 24 → three_bytes n ≡ three_bytes m → n ≡ m
+three_once n m f g e = four_once n m (omega (arith, f)) (omega (arith, g)) (top_zero n f ∙ ap (λ bs. 0 ∷ bs) e ∙ sym (top_zero m g))
+
+-- ---- strings
+text_once : (p q x y : List ℕ) → AllByRecursion (λ b. 0 < b) p → AllByRecursion (λ b. 0 < b) q → p ++ 0 ∷ x ≡ q ++ 0 ∷ y → (p ≡ q) × (x ≡ y)
+text_once [] [] x y a b e = (refl, cc)
+text_once [] (c ∷ q) x y a b e = let z : 0 ≡ c = cc in absurd (omega (arith, b.0, z))
+text_once (c ∷ p) [] x y a b e = let z : c ≡ 0 = cc in absurd (omega (arith, a.0, z))
+text_once (c ∷ p) (d ∷ q) x y a b e =
+    let head : c ≡ d = cc in
+    let rest : p ++ 0 ∷ x ≡ q ++ 0 ∷ y = cc in
+    let more = text_once p q x y a.1 b.1 rest in
+    (λ i. head i ∷ more.0 i, more.1)
+
+-- what may follow the last string
+abbrev IsTail : List ℕ → Type 0
+IsTail x = (x ≡ []) ⊎ (x ≡ 0 ∷ [])
+
+string_first : (p rest x : List ℕ) → IsString p → IsTail x → p ++ 0 ∷ rest ≡ x → ⊥
+string_first [] rest x is t e = is.0 refl
+string_first (b ∷ p) rest x is (inl z) e = let w : b ∷ (p ++ 0 ∷ rest) ≡ [] = e ∙ z in cc
+string_first (b ∷ p) rest x is (inr z) e = let w : b ∷ (p ++ 0 ∷ rest) ≡ 0 ∷ [] = e ∙ z in let head : b ≡ 0 = cc in omega (arith, is.1.0, head)
+
+regroup : (p rest : List ℕ) (more : List ℕ) → (ended p ++ rest) ++ more ≡ p ++ 0 ∷ (rest ++ more)
+regroup p rest more = append_assoc (ended p) rest more ∙ append_assoc p (0 ∷ []) (rest ++ more)
+
+pub strings_once : (ps qs : List (List ℕ)) (x y : List ℕ) → AllByRecursion IsString ps → AllByRecursion IsString qs → IsTail x → IsTail y → joined (map ended ps) ++ x ≡ joined (map ended qs) ++ y → ps ≡ qs
+strings_once [] [] x y a b t u e = refl
+strings_once [] (q ∷ qs) x y a b t u e = absurd (string_first q (joined (map ended qs) ++ y) x b.0 t (sym (regroup q (joined (map ended qs)) y) ∙ sym e))
+strings_once (p ∷ ps) [] x y a b t u e = absurd (string_first p (joined (map ended ps) ++ x) y a.0 u (sym (regroup p (joined (map ended ps)) x) ∙ e))
+strings_once (p ∷ ps) (q ∷ qs) x y a b t u e =
+    let both = text_once p q (joined (map ended ps) ++ x) (joined (map ended qs) ++ y) a.0.1 b.0.1 (sym (regroup p (joined (map ended ps)) x) ∙ e ∙ regroup q (joined (map ended qs)) y) in
+    let rest = strings_once ps qs x y a.1 b.1 t u both.1 in
+    λ i. both.0 i ∷ rest i
+
+-- ---- entries of the list index
+entry_once : (d e : ListEntry) (sd se : List ℕ) → IsEntry sd d → IsEntry se e → entry_bytes d ≡ entry_bytes e → d ≡ e
+entry_once d e sd se fd fe h =
+    let first = apart (three_bytes d.trigram) _ (three_bytes e.trigram) _ refl h in
+    let rest = apart (four_bytes d.count) (four_bytes d.offset) (four_bytes e.count) (four_bytes e.offset) refl first.1 in
+    let a = three_once d.trigram e.trigram fd.trigram fe.trigram first.0 in
+    let b = four_once d.count e.count fd.count fe.count rest.0 in
+    let c = four_once d.offset e.offset fd.offset fe.offset rest.1 in
+    λ i. record { trigram = a i; count = b i; offset = c i }
+
+pub entries_once : (ds es : List ListEntry) (sd se : List ℕ) → AllByRecursion (IsEntry sd) ds → AllByRecursion (IsEntry se) es → flat_map entry_bytes ds ≡ flat_map entry_bytes es → ds ≡ es
+entries_once [] [] sd se a b h = refl
+entries_once [] (e ∷ es) sd se a b h = absurd (let w : 0 ≡ length (flat_map entry_bytes (e ∷ es)) = ap length h in omega (arith, w))
+entries_once (d ∷ ds) [] sd se a b h = absurd (let w : length (flat_map entry_bytes (d ∷ ds)) ≡ 0 = ap length h in omega (arith, w))
+entries_once (d ∷ ds) (e ∷ es) sd se a b h =
+    let both = apart (entry_bytes d) (flat_map entry_bytes ds) (entry_bytes e) (flat_map entry_bytes es) refl h in
+    let head = entry_once d e sd se a.0 b.0 both.0 in
+    let rest = entries_once ds es sd se a.1 b.1 both.1 in
+    λ i. head i ∷ rest i
+
+-- ---- sections
+numbers_once : (xs ys : List ℕ) (x y : List ℕ) → AllByRecursion (λ n. n < 2 ^ 32) xs → AllByRecursion (λ n. n < 2 ^ 32) ys → length xs ≡ length ys → flat_map four_bytes xs ++ x ≡ flat_map four_bytes ys ++ y → xs ≡ ys
+numbers_once [] [] x y a b l e = refl
+numbers_once [] (m ∷ ys) x y a b l e = absurd (omega (arith, l))
+numbers_once (n ∷ xs) [] x y a b l e = absurd (omega (arith, l))
+numbers_once (n ∷ xs) (m ∷ ys) x y a b l e =
+    let both = apart (four_bytes n) (flat_map four_bytes xs ++ x) (four_bytes m) (flat_map four_bytes ys ++ y) refl (sym (append_assoc (four_bytes n) (flat_map four_bytes xs) x) ∙ e ∙ append_assoc (four_bytes m) (flat_map four_bytes ys) y) in
+    let head = four_once n m a.0 b.0 both.0 in
+    let rest = numbers_once xs ys x y a.1 b.1 (omega (arith, l)) both.1 in
+    λ i. head i ∷ rest i
+
+record Lengths (s : Sections) : Type 0 where
+  whole : length (joined (in_order s)) ≡ length s.paths + (length s.names + (length s.postings + (length s.name_index + length s.list_index)))
+  laid : length (laid_out s) ≡ 16 + (length (joined (in_order s)) + 36)
+
+lengths : (s : Sections) → Lengths s
+lengths s =
+    let c : length (joined (in_order s)) ≡ length s.paths + length (s.names ++ (s.postings ++ (s.name_index ++ (s.list_index ++ [])))) = length-append s.paths _ in
+    let d : length (s.names ++ (s.postings ++ (s.name_index ++ (s.list_index ++ [])))) ≡ length s.names + length (s.postings ++ (s.name_index ++ (s.list_index ++ []))) = length-append s.names _ in
+    let e : length (s.postings ++ (s.name_index ++ (s.list_index ++ []))) ≡ length s.postings + length (s.name_index ++ (s.list_index ++ [])) = length-append s.postings _ in
+    let f : length (s.name_index ++ (s.list_index ++ [])) ≡ length s.name_index + length (s.list_index ++ []) = length-append s.name_index _ in
+    let g : length (s.list_index ++ []) ≡ length s.list_index + 0 = length-append s.list_index [] in
+    let t : length (joined (in_order s) ++ trailer s) ≡ length (joined (in_order s)) + 36 = length-append (joined (in_order s)) (trailer s) in
+    record { whole = omega (arith, c, d, e, f, g); laid = omega (arith, t) }
+
+starts_fit : (s : Sections) → length (laid_out s) < 2 ^ 32 → AllByRecursion (λ n. n < 2 ^ 32) (starts_from 16 (in_order s))
+starts_fit s h =
+    let l = lengths s in
+    (omega arith, (omega (arith, l.whole, l.laid, h), (omega (arith, l.whole, l.laid, h), (omega (arith, l.whole, l.laid, h), (omega (arith, l.whole, l.laid, h), tt)))))
+
+pub sections_once : (s t : Sections) → length (laid_out s) < 2 ^ 32 → length (laid_out t) < 2 ^ 32 → laid_out s ≡ laid_out t → s ≡ t
+sections_once s t f g e =
+    let ls = lengths s in
+    let lt = lengths t in
+    let same : length (laid_out s) ≡ length (laid_out t) = ap length e in
+    let rest = append_cancel_left magic (joined (in_order s) ++ trailer s) (joined (in_order t) ++ trailer t) e in
+    let both = apart (joined (in_order s)) (trailer s) (joined (in_order t)) (trailer t) (omega (arith, ls.laid, lt.laid, same)) rest in
+    let starts = numbers_once (starts_from 16 (in_order s)) (starts_from 16 (in_order t)) trailer_magic trailer_magic (starts_fit s f) (starts_fit t g) refl both.1 in
+    let b : 16 + length s.paths ≡ 16 + length t.paths = ap (λ l. get_or l 1 0) starts in
+    let c : 16 + length s.paths + length s.names ≡ 16 + length t.paths + length t.names = ap (λ l. get_or l 2 0) starts in
+    let d : 16 + length s.paths + length s.names + length s.postings ≡ 16 + length t.paths + length t.names + length t.postings = ap (λ l. get_or l 3 0) starts in
+    let k : 16 + length s.paths + length s.names + length s.postings + length s.name_index ≡ 16 + length t.paths + length t.names + length t.postings + length t.name_index = ap (λ l. get_or l 4 0) starts in
+    let one = apart s.paths (s.names ++ (s.postings ++ (s.name_index ++ (s.list_index ++ [])))) t.paths (t.names ++ (t.postings ++ (t.name_index ++ (t.list_index ++ [])))) (omega (arith, b)) both.0 in
+    let two = apart s.names (s.postings ++ (s.name_index ++ (s.list_index ++ []))) t.names (t.postings ++ (t.name_index ++ (t.list_index ++ []))) (omega (arith, b, c)) one.1 in
+    let three = apart s.postings (s.name_index ++ (s.list_index ++ [])) t.postings (t.name_index ++ (t.list_index ++ [])) (omega (arith, c, d)) two.1 in
+    let four = apart s.name_index (s.list_index ++ []) t.name_index (t.list_index ++ []) (omega (arith, d, k)) three.1 in
+    let five : s.list_index ≡ t.list_index = sym (append-nil s.list_index) ∙ four.1 ∙ append-nil t.list_index in
+    λ i. record { paths = one.0 i; names = two.0 i; postings = three.0 i; name_index = four.0 i; list_index = five i }
+
+names_tail : (section : List ℕ) (names : List (List ℕ)) → (section ≡ strings_section names) ⊎ (section ≡ joined (map ended names)) → (x : List ℕ) × IsTail x × (section ≡ joined (map ended names) ++ x)
+names_tail section names (inl e) = (0 ∷ [], inr refl, e)
+names_tail section names (inr e) = ([], inl refl, e ∙ sym (append-nil (joined (map ended names))))
+
+pub spelled_once : (bytes : List ℕ) (p q n m : List (List ℕ)) (d e : List ListEntry) → Spells bytes p n d → Spells bytes q m e → (p ≡ q) × (n ≡ m) × (d ≡ e)
+spelled_once bytes p q n m d e g h =
+    let s = sections_once g.sections h.sections (subst (λ b. length b < 2 ^ 32) g.laid g.short) (subst (λ b. length b < 2 ^ 32) h.laid h.short) (sym g.laid ∙ h.laid) in
+    let a = names_tail g.sections.names n g.names_are in
+    let b = names_tail h.sections.names m h.names_are in (
+      strings_once p q (0 ∷ []) (0 ∷ []) g.each_path h.each_path (inr refl) (inr refl) (sym g.paths_are ∙ ap (λ (t : Sections). t.paths) s ∙ h.paths_are),
+      strings_once n m a.0 b.0 g.each_name h.each_name a.1 b.1 (sym a.2 ∙ ap (λ (t : Sections). t.names) s ∙ b.2),
+      entries_once d e g.sections.postings h.sections.postings g.each_entry h.each_entry (sym g.list_index_is ∙ ap (λ (t : Sections). t.list_index) s ∙ h.list_index_is),
+    )

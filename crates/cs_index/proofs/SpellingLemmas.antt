@@ -1,0 +1,152 @@
+-- What is written is spelled so.
+use Rattle.std.proofs.Common.{◌≡◌, ℕ, ◌+◌, ◌^◌, ◌<◌, ◌≤◌, cond, ltb, eqb, List, [], ◌∷◌, ◌++◌, length, map, refl, sym, ap, subst, ◌∙◌, inl, arith, length-append}
+use Rattle.std.proofs.lemmas.Bool.{cond_both, ltb-true, ltb-false, eqb-false}
+use Rattle.std.specs.Prelude.{flat_map}
+use Rattle.std.specs.List.{AllByRecursion}
+use Rattle.cs_index.specs.Image.{four_bytes, joined, ended, placed, ascending, has, Entry, ids_from, Posting, posting_list, postings_of, trigrams_of, closing_list, ListEntry, list_entries, Sections, sections_of, laid_out, names_of, image_of, in_order, trailer}
+use Rattle.cs_index.specs.Spelling.{Ascends, IsEntry, Spells, IsIndexable, RiseWithin}
+
+-- ---- ascending numbers
+
+-- every number of the list is above n
+abbrev pub Above : ℕ → List ℕ → Type 0
+Above n [] = Unit {0}
+Above n (m ∷ ms) = n < m
+
+pub ascends_cons : (n : ℕ) (ms : List ℕ) → Above n ms → Ascends ms → Ascends (n ∷ ms)
+ascends_cons n [] h up = tt
+ascends_cons n (m ∷ ms) h up = (h, up)
+
+pub ascends_tail : (n : ℕ) (ms : List ℕ) → Ascends (n ∷ ms) → Ascends ms
+ascends_tail n [] up = tt
+ascends_tail n (m ∷ ms) up = up.1
+
+pub ascends_head : (n : ℕ) (ms : List ℕ) → Ascends (n ∷ ms) → Above n ms
+ascends_head n [] up = tt
+ascends_head n (m ∷ ms) up = up.0
+
+above_placed : (k n : ℕ) (ms : List ℕ) → k < n → Above k ms → Above k (placed n ms)
+above_placed k n [] h g = h
+above_placed k n (m ∷ ms) h g =
+    cond_both (ltb n m) (n ∷ m ∷ ms) (cond (eqb n m) (m ∷ ms) (m ∷ placed n ms)) (Above k) (λ _. h)
+    (λ _. cond_both (eqb n m) (m ∷ ms) (m ∷ placed n ms) (Above k) (λ _. g) (λ _. g))
+
+ascends_placed : (n : ℕ) (ms : List ℕ) → Ascends ms → Ascends (placed n ms)
+ascends_placed n [] up = tt
+ascends_placed n (m ∷ ms) up =
+    cond_both (ltb n m) (n ∷ m ∷ ms) (cond (eqb n m) (m ∷ ms) (m ∷ placed n ms)) Ascends
+    (λ less. (ltb-true n m less, up))
+    (λ more. cond_both (eqb n m) (m ∷ ms) (m ∷ placed n ms) Ascends (λ _. up)
+    (λ apart.
+    let below : m < n = between n m (ltb-false n m more) (eqb-false n m apart) in
+    ascends_cons m (placed n ms) (above_placed m n ms below (ascends_head m ms up)) (ascends_placed n ms (ascends_tail m ms up))))
+  where
+    between : (n m : ℕ) → m ≤ n → (n ≡ m → ⊥) → m < n
+    between n m h g = omega (arith, h, g)
+
+pub ascends_ascending : (ns : List ℕ) → Ascends (ascending ns)
+ascends_ascending [] = tt
+ascends_ascending (n ∷ ns) = ascends_placed n (ascending ns) (ascends_ascending ns)
+
+module _ (P : ℕ → Type 0) where
+  all_placed : (n : ℕ) (ms : List ℕ) → P n → AllByRecursion P ms → AllByRecursion P (placed n ms)
+  all_placed n [] h all = (h, tt)
+  all_placed n (m ∷ ms) h all =
+      cond_both (ltb n m) (n ∷ m ∷ ms) (cond (eqb n m) (m ∷ ms) (m ∷ placed n ms)) (AllByRecursion P) (λ _. (h, all))
+      (λ _. cond_both (eqb n m) (m ∷ ms) (m ∷ placed n ms) (AllByRecursion P) (λ _. all) (λ _. (all.0, all_placed n ms h all.1)))
+
+  pub all_ascending : (ns : List ℕ) → AllByRecursion P ns → AllByRecursion P (ascending ns)
+  all_ascending [] all = tt
+  all_ascending (n ∷ ns) all = all_placed n (ascending ns) all.0 (all_ascending ns all.1)
+
+  all_append : (xs ys : List ℕ) → AllByRecursion P xs → AllByRecursion P ys → AllByRecursion P (xs ++ ys)
+  all_append [] ys a b = b
+  all_append (x ∷ xs) ys a b = (a.0, all_append xs ys a.1 b)
+
+  pub all_sets : (entries : List Entry) → AllByRecursion (λ (entry : Entry). AllByRecursion P entry.1) entries → AllByRecursion P (flat_map (λ (entry : Entry). entry.1) entries)
+  all_sets [] all = tt
+  all_sets (entry ∷ entries) all = all_append entry.1 _ all.0 (all_sets entries all.1)
+
+-- ---- ids
+
+rise_sooner : (names next later : ℕ) (ids : List ℕ) → next ≤ later → RiseWithin names later ids → RiseWithin names next ids
+rise_sooner names next later [] h up = tt
+rise_sooner names next later (id ∷ ids) h up = (omega (arith, h, up.0), up.1, up.2)
+
+pub ids_rise : (names first g : ℕ) (entries : List Entry) → first + length entries ≤ names → RiseWithin names first (ids_from first g entries)
+ids_rise names first g [] h = tt
+ids_rise names first g (entry ∷ entries) h =
+    let rest : RiseWithin names (first + 1) (ids_from (first + 1) g entries) = ids_rise names (first + 1) g entries (omega (arith, h)) in
+    cond_both (has entry.1 g) (first ∷ ids_from (first + 1) g entries) (ids_from (first + 1) g entries) (RiseWithin names first)
+    (λ _. (omega arith, omega (arith, h), rest))
+    (λ _. rise_sooner names first (first + 1) (ids_from (first + 1) g entries) (omega arith) rest)
+
+few_ids : (first g : ℕ) (entries : List Entry) → length (ids_from first g entries) ≤ length entries
+few_ids first g [] = omega arith
+few_ids first g (entry ∷ entries) =
+    let rest = few_ids (first + 1) g entries in
+    cond_both (has entry.1 g) (first ∷ ids_from (first + 1) g entries) (ids_from (first + 1) g entries) (λ ids. length ids ≤ length (entry ∷ entries))
+    (λ _. omega (arith, rest)) (λ _. omega (arith, rest))
+
+-- ---- entries of the list index
+
+-- the numbers of a posting fit
+abbrev Fit : Posting → Type 0
+Fit p = (p.0 < 16777215) × (length p.1 < 2 ^ 32)
+
+entries_fit : (section : List ℕ) (offset : ℕ) (ps : List Posting) → AllByRecursion Fit ps → offset + length (joined (map posting_list ps)) + 4 ≡ length section → length section < 2 ^ 32 → AllByRecursion (IsEntry section) (list_entries offset ps)
+entries_fit section offset [] fit whole short = tt
+entries_fit section offset (p ∷ ps) fit whole short =
+    let l : length (posting_list p ++ joined (map posting_list ps)) ≡ length (posting_list p) + length (joined (map posting_list ps)) = length-append (posting_list p) _ in (
+      record {
+        trigram = omega (arith, fit.0.0);
+        count = fit.0.1;
+        offset = omega (arith, whole, short);
+        closing = λ e. absurd (omega (arith, e, fit.0.0));
+        room = omega (arith, whole);
+      },
+      entries_fit section (offset + length (posting_list p)) ps fit.1 (omega (arith, whole, l)) short,
+    )
+
+entry_trigrams : (offset : ℕ) (ps : List Posting) → map (λ (e : ListEntry). e.trigram) (list_entries offset ps) ≡ map (λ (p : Posting). p.0) ps
+entry_trigrams offset [] = refl
+entry_trigrams offset (p ∷ ps) = ap (λ rest. p.0 ∷ rest) (entry_trigrams (offset + length (posting_list p)) ps)
+
+posting_trigrams : (entries : List Entry) (gs : List ℕ) → map (λ (p : Posting). p.0) (map (λ g. (g, ids_from 0 g entries)) gs) ≡ gs
+posting_trigrams entries [] = refl
+posting_trigrams entries (g ∷ gs) = ap (λ rest. g ∷ rest) (posting_trigrams entries gs)
+
+postings_fit : (entries : List Entry) (gs : List ℕ) → length entries < 2 ^ 31 → AllByRecursion (λ g. g < 16777215) gs → AllByRecursion Fit (map (λ g. (g, ids_from 0 g entries)) gs)
+postings_fit entries [] few all = tt
+postings_fit entries (g ∷ gs) few all = ((all.0, let n = few_ids 0 g entries in omega (arith, few, n)), postings_fit entries gs few all.1)
+
+-- a section is no longer than the whole
+postings_short : (s : Sections) → length s.postings ≤ length (laid_out s)
+postings_short s =
+    let a : length (laid_out s) ≡ 16 + length (joined (in_order s) ++ trailer s) = omega arith in
+    let b : length (joined (in_order s) ++ trailer s) ≡ length (joined (in_order s)) + length (trailer s) = length-append (joined (in_order s)) (trailer s) in
+    let c : length (joined (in_order s)) ≡ length s.paths + length (s.names ++ (s.postings ++ (s.name_index ++ (s.list_index ++ [])))) = length-append s.paths _ in
+    let d : length (s.names ++ (s.postings ++ (s.name_index ++ (s.list_index ++ [])))) ≡ length s.names + length (s.postings ++ (s.name_index ++ (s.list_index ++ []))) = length-append s.names _ in
+    let e : length (s.postings ++ (s.name_index ++ (s.list_index ++ []))) ≡ length s.postings + length (s.name_index ++ (s.list_index ++ [])) = length-append s.postings _ in
+    omega (arith, a, b, c, d, e)
+
+pub image_spelled : (paths : List (List ℕ)) (entries : List Entry) → IsIndexable paths entries → Spells (image_of paths entries) paths (names_of entries) (list_entries 0 (postings_of entries))
+image_spelled paths entries h =
+    let s : Sections = sections_of paths (names_of entries) (postings_of entries) in
+    let short : length s.postings < 2 ^ 32 = let p = postings_short s in omega (arith, p, h.short) in
+    let whole : 0 + length (joined (map posting_list (postings_of entries))) + 4 ≡ length s.postings = let l = length-append (joined (map posting_list (postings_of entries))) closing_list in omega (arith, l) in
+    record {
+      sections = s;
+      laid = refl;
+      short = h.short;
+      paths_are = refl;
+      each_path = h.each_path;
+      names_are = inl refl;
+      each_name = h.each_name;
+      last_offset = four_bytes (length (joined (map ended (names_of entries))));
+      last_is_four = refl;
+      name_index_is = refl;
+      list_index_is = refl;
+      each_entry = entries_fit s.postings 0 (postings_of entries) (postings_fit entries (trigrams_of entries) h.few (all_ascending (λ g. g < 16777215) _ (all_sets (λ g. g < 16777215) entries h.trigrams))) whole short;
+      ascending = subst Ascends (sym (entry_trigrams 0 (postings_of entries) ∙ posting_trigrams entries (trigrams_of entries))) (ascends_ascending (flat_map (λ (entry : Entry). entry.1) entries));
+    }

@@ -1,0 +1,50 @@
+use Rattle.std.proofs.Common.{◌≡◌, ◌∙◌, ◌-◌, ◌<◌, ap, sym, subst, refl, drop, length, List, ℕ, arith}
+use Rattle.std.proofs.lemmas.Result.{IfOk-weaker}
+use Rattle.std.specs.List.{AllByRecursion}
+use Rattle.cs_index.specs.Image.{Posting, image_of, laid_out, sections_of, names_of, postings_of}
+use Rattle.cs_index.specs.Spelling.{IsPosting, entries_of}
+use Rattle.cs_index.specs.Gathering.{in_order, gathered_all, AwaitLast}
+use Rattle.cs_index.specs.declared.builder.Builder.TheInside.{Inside}
+use Rattle.cs_index.specs.Building.{settled_lists, held}
+use Rattle.cs_index.specs.Built.{Built}
+use Rattle.cs_index.proofs.BuiltLemmas.{postings_in_order}
+use Rattle.cs_index.proofs.GatheredLemmas.{length-entries_of}
+use Rattle.cs_index.proofs.HeldLemmas.{names_entries, settled_is, each_later}
+use Rattle.cs_index.proofs.builder.Builder.finish_within.Goals as goal
+
+pub overflow_cast-names : goal.overflow_cast-names
+overflow_cast-names c =
+    let many = length-entries_of 0 c.self.inside.names (in_order (settled_lists c.self.inside)) in
+    omega (arith, many, c.len-names.ensures, c.self.invariant.built.few)
+
+pub settle-requires-clause-few : goal.settle-requires-clause-few
+settle-requires-clause-few c =
+    let many = length-entries_of 0 c.self.inside.names (in_order (settled_lists c.self.inside)) in
+    omega (arith, many, c.len-names.ensures, c.self.invariant.built.few)
+
+-- what is laid of the lists once nothing waits
+image_held : (b : Inside) (now : Built) (lists : List Posting) → held b ≡ now → AllByRecursion (IsPosting (length b.names)) lists → lists ≡ settled_lists b → laid_out (sections_of b.paths b.names (in_order lists)) ≡ image_of now.paths now.entries
+image_held b now lists is each done =
+    (λ i. laid_out (sections_of b.paths (names i) (postings i)))
+    ∙ ap (λ ps. image_of b.paths (entries_of 0 b.names (in_order ps))) done
+    ∙ ap (λ (built : Built). image_of built.paths built.entries) is
+  where
+    names : b.names ≡ names_of (entries_of 0 b.names (in_order lists))
+    names = sym (names_entries 0 b.names (in_order lists))
+
+    postings : in_order lists ≡ postings_of (entries_of 0 b.names (in_order lists))
+    postings = sym (postings_in_order b.names lists each)
+
+laid : (b : Inside) (now : Built) (lists : List Posting) (lent : List ℕ) (to id : ℕ) → held b ≡ now → id ≡ length b.names → to ≡ length lent → lent ≡ b.waiting.items → gathered_all lists (id - 1) (drop to lent) ≡ gathered_all b.lists (id - 1) (drop b.settled lent) → AwaitLast id lists (drop to lent) → laid_out (sections_of b.paths b.names (in_order lists)) ≡ image_of now.paths now.entries
+laid b now lists lent to id is at done taken kept waits =
+    image_held b now lists is (each_later id (length b.names) lists (drop to lent) at waits) (settled_is b.lists lists b.waiting.items lent b.settled to id (length b.names) done taken at kept)
+
+pub returns-clause-ok : goal.returns-clause-ok
+returns-clause-ok c =
+    let whole = laid c.self.inside c.args.self c.settle.new.lists c.deref.result.now c.settle.new.settled c.len-names.result c.self.view_is c.len-names.ensures c.in_ok-settle.ensures.done c.deref.ensures.value c.settle.ensures.kept c.settle.ensures.waits in
+    IfOk-weaker c.lay.result _ _ (λ index is. is ∙ whole) c.lay.ensures.ok
+
+pub returns-clause-too_large : goal.returns-clause-too_large
+returns-clause-too_large c =
+    let whole = laid c.self.inside c.args.self c.settle.new.lists c.deref.result.now c.settle.new.settled c.len-names.result c.self.view_is c.len-names.ensures c.in_ok-settle.ensures.done c.deref.ensures.value c.settle.ensures.kept c.settle.ensures.waits in
+    λ is. subst (λ (bs : List ℕ). c.args.most < length bs) whole (c.lay.ensures.too_large is)

@@ -1,0 +1,67 @@
+use Rattle.std.proofs.Common.{◌≡◌, ◌∙◌, ◌-◌, ◌<◌, ◌++◌, ◌∷◌, [], ap, sym, subst, refl, drop, length, List, ℕ, arith}
+use Rattle.std.specs.List.{AllByRecursion}
+use Rattle.cs_index.specs.Image.{Posting, names_of, Entry}
+use Rattle.cs_index.specs.Spelling.{Ascends, IsPosting, entries_of}
+use Rattle.cs_index.specs.Gathering.{in_order, gathered_all, AwaitLast}
+use Rattle.cs_index.specs.declared.builder.Builder.TheInside.{Inside}
+use Rattle.cs_index.specs.Building.{settled_lists, held, IsHeld}
+use Rattle.cs_index.specs.Built.{Built, IsBuilt, added, is_above}
+use Rattle.cs_index.proofs.GatheredLemmas.{length-entries_of}
+use Rattle.cs_index.proofs.HeldLemmas.{built_added, added_later, Later, settled_is, each_later}
+use Rattle.cs_index.proofs.builder.Builder.hold.Goals as goal
+
+many : (b : Inside) → length b.names ≡ length (held b).entries
+many b = sym (length-entries_of 0 b.names (in_order (settled_lists b)))
+
+-- the number of names, by the value
+counted : (b : Inside) (now : Built) (id : ℕ) → held b ≡ now → id ≡ length b.names → id ≡ length now.entries
+counted b now id is e = e ∙ many b ∙ ap (λ (built : Built). length built.entries) is
+
+pub overflow_cast-id : goal.overflow_cast-id
+overflow_cast-id c =
+    let count = counted c.self.inside c.args.self.now c.len-id.result c.self.view_is c.len-id.ensures in
+    omega (arith, count, c.requires.few)
+
+pub settle-requires-clause-few : goal.settle-requires-clause-few
+settle-requires-clause-few c =
+    let count = counted c.self.inside c.args.self.now c.len-id.result c.self.view_is c.len-id.ensures in
+    omega (arith, count, c.requires.few)
+
+-- the value once the name is held
+later : (b : Inside) (name : List ℕ) (lists : List Posting) (lent trigrams : List ℕ) (to id : ℕ) → id ≡ length b.names → to ≡ length lent → lent ≡ b.waiting.items → gathered_all lists (id - 1) (drop to lent) ≡ gathered_all b.lists (id - 1) (drop b.settled lent) → AwaitLast id lists (drop to lent) → Ascends trigrams → AllByRecursion (λ g. g < 16777215) trigrams → Later b.names name b.lists lists (drop b.settled b.waiting.items) trigrams
+later b name lists lent trigrams to id at done is kept waits up below =
+    added_later b.names name b.lists lists (drop b.settled b.waiting.items) trigrams (each_later id (length b.names) lists (drop to lent) at waits)
+    (settled_is b.lists lists b.waiting.items lent b.settled to id (length b.names) done is at kept) up below
+
+record Held (b : Inside) (names : List (List ℕ)) (lists : List Posting) (waiting : List ℕ) (more : Built) : Type 0 where
+  waits : AwaitLast (length names) lists waiting
+  is : ◌≡◌ {A = Built} (record { paths = b.paths; entries = entries_of 0 names (in_order (gathered_all lists (length names - 1) waiting)) }) more
+
+all_held : (b : Inside) (now : Built) (names : List (List ℕ)) (name : List ℕ) (lists : List Posting) (waiting trigrams : List ℕ) → held b ≡ now → names ≡ b.names ++ name ∷ [] → waiting ≡ trigrams → Later b.names name b.lists lists (drop b.settled b.waiting.items) trigrams → Held b names lists waiting (added now name trigrams)
+all_held b now names name lists waiting trigrams is named taken more = record {
+  waits = subst (λ (ns : List (List ℕ)). AwaitLast (length ns) lists waiting) (sym named) (subst (AwaitLast (length (b.names ++ name ∷ [])) lists) (sym taken) more.waits);
+  is =
+    (λ i. record { paths = b.paths; entries = entries_of 0 (named i) (in_order (gathered_all lists (length (named i) - 1) (taken i))) })
+    ∙ ap (λ (es : List Entry). let built : Built = record { paths = b.paths; entries = es } in built) more.entries
+    ∙ ap (λ (built : Built). added built name trigrams) is;
+}
+
+pub invariant_of-self-2 : goal.invariant_of-self-2
+invariant_of-self-2 c =
+    let b : Inside = c.self.inside in
+    let more = later b c.args.name.now c.settle.new.lists c.deref.result.now c.args.trigrams.now c.settle.new.settled c.len-id.result c.len-id.ensures c.in_ok-settle.ensures.done c.deref.ensures.value c.settle.ensures.kept c.settle.ensures.waits c.requires.ascending c.requires.below in
+    let all = all_held b c.args.self.now c.push.new.self c.args.name.now c.settle.new.lists c.in_ok-waiting.waiting.items c.args.trigrams.now c.self.view_is c.in_ok-push.ensures.ok c.in_ok-waiting.ensures.items more in
+    record {
+      within = omega arith;
+      waits = all.waits;
+      built = subst IsBuilt (sym all.is) (built_added c.args.self.now c.args.name.now c.args.trigrams.now (subst IsBuilt c.self.view_is c.self.invariant.built) c.in_ok-push.ensures.each c.requires.above c.requires.below c.requires.ascending c.requires.few);
+    }
+
+pub returns-clause-ok : goal.returns-clause-ok
+returns-clause-ok c =
+    let b : Inside = c.self.inside in
+    let more = later b c.args.name.now c.settle.new.lists c.deref.result.now c.args.trigrams.now c.settle.new.settled c.len-id.result c.len-id.ensures c.in_ok-settle.ensures.done c.deref.ensures.value c.settle.ensures.kept c.settle.ensures.waits c.requires.ascending c.requires.below in
+    (all_held b c.args.self.now c.push.new.self c.args.name.now c.settle.new.lists c.in_ok-waiting.waiting.items c.args.trigrams.now c.self.view_is c.in_ok-push.ensures.ok c.in_ok-waiting.ensures.items more).is
+
+pub returns-clause-id : goal.returns-clause-id
+returns-clause-id c = counted c.self.inside c.args.self.now c.len-id.result c.self.view_is c.len-id.ensures

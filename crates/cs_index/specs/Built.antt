@@ -1,0 +1,59 @@
+-- What a builder holds, and what it refuses.
+-- docs/FORMAT.md, "The index as it is written".
+use Rattle.std.specs.Prelude.{◌≡◌, ℕ, ◌-◌, ◌<◌, ◌≤◌, Bool, true, not, ◌&&◌, nat_eq, nat_lt, List, [], ◌∷◌, ◌++◌, length, slice_get}
+use Rattle.std.specs.Option.{option_map_or}
+use Rattle.std.specs.List.{list_all, AllByRecursion}
+use Rattle.std.specs.Ordering.{is_lt}
+use Rattle.std.specs.FinMap as map'
+use Rattle.cs_tree.specs.PathSet as set'
+use Rattle.cs_tree.specs.Paths.{bytes_cmp, covers, Paths}
+use Rattle.cs_index.specs.Image.{Entry, Files, names_of}
+use Rattle.cs_index.specs.Spelling.{IsString, Ascends}
+
+-- The paths, and the names that were added, each with its trigrams.
+pub record Built : Type 0 where
+  pub paths : List (List ℕ)
+  pub entries : List Entry
+
+-- with one more name
+abbrev pub added : Built → List ℕ → List ℕ → Built
+added built name trigrams = record { paths = built.paths; entries = built.entries ++ (name, trigrams) ∷ [] }
+
+-- the text is not empty and has no NUL
+abbrev pub is_storable : List ℕ → Bool
+is_storable text = not (nat_eq (length text) 0) && list_all (λ b. nat_lt 0 b) text
+
+-- the text is above the last one, if there is one
+abbrev pub is_above : List (List ℕ) → List ℕ → Bool
+is_above texts text = option_map_or (λ last. is_lt (bytes_cmp last text)) (slice_get texts (length texts - 1)) true
+
+-- the path is below the other and does not cover it; then neither does the other cover the path
+abbrev pub is_before : List ℕ → List ℕ → Bool
+is_before path other = is_lt (bytes_cmp path other) && not (covers path other)
+
+-- strictly ascending, and none covers another
+abbrev pub are_reduced : List (List ℕ) → Bool
+are_reduced [] = true
+are_reduced (path ∷ paths) = list_all (is_before path) paths && are_reduced paths
+
+-- paths that an index may be built of
+abbrev pub are_paths : List (List ℕ) → Bool
+are_paths paths = list_all is_storable paths && are_reduced paths
+
+-- the set of the paths, and the map from names to their trigrams
+abbrev pub paths_of : Built → Paths
+paths_of built = set'.from_list built.paths
+
+abbrev pub files_of : Built → Files
+files_of built = map'.from_entries built.entries
+
+-- What is true of whatever a builder holds.
+pub record IsBuilt (built : Built) : Type 0 where
+  pub paths : are_paths built.paths ≡ true
+  pub each_path : AllByRecursion IsString built.paths
+  pub each_name : AllByRecursion IsString (names_of built.entries)
+  -- names strictly ascend
+  pub ascend : map'.is_sorted bytes_cmp built.entries ≡ true
+  pub trigrams : AllByRecursion (λ (entry : Entry). AllByRecursion (λ g. g < 16777215) entry.1) built.entries
+  pub sets : AllByRecursion (λ (entry : Entry). Ascends entry.1) built.entries
+  pub few : length built.entries ≤ 1073741824

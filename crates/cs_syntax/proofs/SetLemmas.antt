@@ -30,3 +30,12 @@ set_from f xs e h = answers_from f 0 256 xs e (λ k lt. let s : k ≡ 0 + k = om
 pub set_of_at : (f : ℕ → Bool) (k : ℕ) → k < 256 → get_or (set_of f) k false ≡ f k
 unfolding set_of
 set_of_at f k lt = let s : 0 + k ≡ k = omega arith in answers_at f 0 256 k lt ∙ ap f s
+
+answers-same : (f g : ℕ → Bool) (from n : ℕ) → ((k : ℕ) → f k ≡ g k) → answers f from n ≡ answers g from n
+answers-same f g from zero h = refl
+answers-same f g from (suc n) h = let e = h from in let r = answers-same f g (suc from) n h in cc
+
+-- tests that agree have one set
+pub set_of-same : (f g : ℕ → Bool) → ((k : ℕ) → f k ≡ g k) → set_of f ≡ set_of g
+unfolding set_of
+set_of-same f g h = answers-same f g 0 256 h

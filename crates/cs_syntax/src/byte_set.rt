@@ -2,8 +2,11 @@
 ghost use Rattle.std.specs.Prelude.{◌≡◌, ◌≢◌, ℕ, List, Bool, true, Option, IfSome, IfNone, length};
 ghost use Rattle.cs_syntax.specs.Matching.{member};
 ghost use Rattle.std.specs.Prelude.{◌<◌};
-ghost use Rattle.cs_syntax.specs.ByteSet.{IsOnly, between, count, char_set, dot_set, is_letter, is_in_char, is_in_dot};
+ghost use Rattle.std.specs.Prelude.{Bool, false, not, ◌||◌};
+ghost use Rattle.cs_syntax.specs.ClassSets.{ranges_of, is_in_ranges, other_case, is_in_folded, is_in_item};
+ghost use Rattle.cs_syntax.specs.ByteSet.{IsOnly, set_of, count, char_set, dot_set, is_letter, is_in_char, is_in_dot};
 
+use crate::class_item::{ClassItem, NamedClass};
 use std::marker::Model;
 
 /// A set of bytes.
@@ -63,15 +66,40 @@ impl ByteSet {
         found
     }
 
-    /// The bytes from `low` to `high`.
-    pub fn between(low: u8, high: u8) -> ByteSet
-        ensures { result ≡ between low high }
+    /// No byte.
+    pub fn empty() -> ByteSet
+        ensures { result ≡ set_of (λ b. false) }
     {
-        let mut members = [false; 256];
-        for (b, m) in members.iter_mut().enumerate() {
-            *m = low as usize <= b && b <= high as usize;
+        ByteSet {
+            members: [false; 256],
         }
-        ByteSet { members }
+    }
+
+    /// The bytes of the item too.
+    pub fn add(&mut self, fold: bool, item: ClassItem)
+        ensures { (test : ℕ → Bool) → self.old ≡ set_of test → self.new ≡ set_of (λ b. test b || is_in_item fold item b) }
+    {
+        for (b, m) in self.members.iter_mut().enumerate() {
+            *m = *m || is_in_item(fold, item, b);
+        }
+    }
+
+    /// The bytes of the item, no letter folded.
+    pub fn of_item(item: ClassItem) -> ByteSet
+        ensures { result ≡ set_of (is_in_item false item) }
+    {
+        let mut set = ByteSet::empty();
+        set.add(false, item);
+        set
+    }
+
+    /// All other bytes.
+    pub fn complement(&mut self)
+        ensures { (test : ℕ → Bool) → self.old ≡ set_of test → self.new ≡ set_of (λ b. not (test b)) }
+    {
+        for m in self.members.iter_mut() {
+            *m = !*m;
+        }
     }
 
     /// A character's byte, and its other case where letters are folded.
@@ -98,7 +126,8 @@ impl ByteSet {
     }
 }
 
-fn is_letter(b: usize) -> bool
+/// Whether the byte is an ASCII letter.
+pub fn is_letter(b: usize) -> bool
     ensures { result ≡ is_letter b }
 {
     (65 <= b && b <= 90) || (97 <= b && b <= 122)
@@ -117,4 +146,63 @@ fn is_dot(dot_all: bool, b: usize) -> bool
     ensures { result ≡ is_in_dot dot_all b }
 {
     dot_all || b != 10
+}
+
+#[tactic(auto, unfolding(crate::specs::ClassSets::is_in_item))]
+fn is_in_item(fold: bool, item: ClassItem, byte: usize) -> bool
+    requires { byte < 256 }
+    ensures { result ≡ is_in_item fold item byte }
+{
+    match item {
+        ClassItem::Range(low, high) => is_in_folded(fold, &[(low, high)], byte),
+        ClassItem::Named(class, negated) => {
+            let is_in = is_in_folded(fold, ranges(class), byte);
+            if negated { !is_in } else { is_in }
+        }
+    }
+}
+
+fn is_in_folded(fold: bool, ranges: &[(u8, u8)], byte: usize) -> bool
+    requires { byte < 256 }
+    ensures { result ≡ is_in_folded fold ranges.now byte }
+{
+    is_in_ranges(ranges, byte)
+        || (fold && is_letter(byte) && is_in_ranges(ranges, other_case(byte)))
+}
+
+fn is_in_ranges(ranges: &[(u8, u8)], byte: usize) -> bool
+    ensures { result ≡ is_in_ranges ranges.now byte }
+{
+    ranges
+        .iter()
+        .any(|r| r.0 as usize <= byte && byte <= r.1 as usize)
+}
+
+fn other_case(byte: usize) -> usize
+    requires { byte < 256 }
+    ensures { result ≡ other_case byte }
+{
+    if 97 <= byte { byte - 32 } else { byte + 32 }
+}
+
+fn ranges(class: NamedClass) -> &'static [(u8, u8)]
+    ensures { result.now ≡ ranges_of class }
+{
+    match class {
+        NamedClass::Alnum => &[(b'0', b'9'), (b'A', b'Z'), (b'a', b'z')],
+        NamedClass::Alpha => &[(b'A', b'Z'), (b'a', b'z')],
+        NamedClass::Ascii => &[(0, 127)],
+        NamedClass::Blank => &[(b'\t', b'\t'), (b' ', b' ')],
+        NamedClass::Cntrl => &[(0, 31), (127, 127)],
+        NamedClass::Digit => &[(b'0', b'9')],
+        NamedClass::Graph => &[(b'!', b'~')],
+        NamedClass::Lower => &[(b'a', b'z')],
+        NamedClass::Print => &[(b' ', b'~')],
+        NamedClass::Punct => &[(b'!', b'/'), (b':', b'@'), (b'[', b'`'), (b'{', b'~')],
+        NamedClass::Space => &[(9, 13), (b' ', b' ')],
+        NamedClass::Upper => &[(b'A', b'Z')],
+        NamedClass::Word => &[(b'0', b'9'), (b'A', b'Z'), (b'_', b'_'), (b'a', b'z')],
+        NamedClass::Xdigit => &[(b'0', b'9'), (b'A', b'F'), (b'a', b'f')],
+        NamedClass::White => &[(9, 10), (12, 13), (b' ', b' ')],
+    }
 }

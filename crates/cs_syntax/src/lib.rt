@@ -4,12 +4,23 @@
 
 mod before;
 mod byte_set;
+mod class_chars;
+mod class_fronts;
+mod class_item;
+mod classes;
 mod draft;
+mod escapes;
 mod fault;
+mod flags;
+mod front;
+mod groups;
+mod item;
 pub mod laws;
 mod node;
+mod numbers;
 mod parser;
 mod pattern;
+mod repeats;
 mod sign;
 mod sign_type;
 mod weight;

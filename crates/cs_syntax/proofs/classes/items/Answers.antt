@@ -1,0 +1,66 @@
+use Rattle.std.proofs.Common.{◌≡◌, ◌≤◌, ◌<◌, ◌+◌, ◌-◌, ◌&&◌, List, ◌∷◌, ◌++◌, [], drop, get_or, length, true, false, not, refl, sym, ◌∙◌, ap, arith, drop_of_length-le}
+use Rattle.std.specs.Prelude.{nat_eq}
+use Rattle.std.proofs.lemmas.Bool.{ne_eqb}
+use Rattle.std.proofs.lemmas.List.{drop-drop}
+use Rattle.cs_syntax.specs.ByteSet.{set_of}
+use Rattle.cs_syntax.specs.ClassSets.{is_in_items}
+use Rattle.cs_syntax.specs.Classes.{items_from, closed, failed, class_front, piece, misread}
+use Rattle.cs_syntax.specs.ClassState.{with_items}
+use Rattle.cs_syntax.specs.declared.fault.PatternFault.TheVariants.{OpenClass}
+use Rattle.cs_syntax.proofs.ListLemmas.{here_is, tail_is, length-tail}
+use Rattle.cs_syntax.proofs.ClassLemmas.{with_items-last, with_items-closed, with_items-failed, items_from-item, items_from-fault, items_from-close, set_of-last}
+use Rattle.cs_syntax.proofs.classes.items.Goals as goal
+
+pub returns-then-closes-clause-value : goal.returns-then-closes-clause-value
+returns-then-closes-clause-value c =
+    let at = c.items.at in
+    let text = c.args.text.now in
+    let i = c.items.invariant.so_far in
+    let closes : (nat_eq (get_or text at 0) 93 && not (nat_eq at 0)) ≡ true = sym c.closes.ensures ∙ c.if-closes.true in
+    let now = items_from-close (drop at text) (drop (at + 1) text) (get_or text at 0) (c.args.behind + at) (nat_eq at 0) (here_is text at c.items-test.true) closes in
+    (i.0, sym i.2 ∙ ap (with_items i.0) now ∙ with_items-closed i.0 (c.args.behind + at), i.1)
+
+pub items-preserved : goal.items-preserved
+items-preserved c =
+    let at = c.items.at in
+    let len = c.in-Ok.len in
+    let text = c.args.text.now in
+    let i = c.items.invariant.so_far in
+    let item = c.in-Ok.item in
+    let b = get_or text at 0 in
+    let rest = drop (at + 1) text in
+    let open_still : (nat_eq b 93 && not (nat_eq at 0)) ≡ false = sym c.closes.ensures ∙ c.if-closes.false in
+    let found : class_front b rest ≡ piece item len = ap (class_front b) (sym (tail_is text (at + 1))) ∙ sym c.in-Ok.ensures.value in
+    let now = items_from-item (drop at text) rest b (c.args.behind + at) len (nat_eq at 0) item (here_is text at c.items-test.true) open_still found in
+    let place : c.args.behind + at + 1 + len ≡ c.args.behind + (at + (1 + len)) = omega arith in
+    let later : nat_eq (at + (1 + len)) 0 ≡ false = ne_eqb (at + (1 + len)) 0 (λ e. omega arith) in
+    let tail : drop len rest ≡ drop (at + (1 + len)) text =
+    let e : at + 1 + len ≡ at + (1 + len) = omega arith in drop-drop len (at + 1) text ∙ ap (λ n. drop n text) e in
+    record {
+      so_far = (
+        i.0 ++ item ∷ [],
+        c.add.ensures (is_in_items c.args.fold i.0) i.1 ∙ set_of-last c.args.fold i.0 item,
+        with_items-last i.0 item _
+            ∙ ap (λ r. with_items i.0 r) (rw (← place, later, ← tail) (sym now))
+            ∙ i.2,
+      );
+      within = omega (arith, c.in-Ok.ensures.within, length-tail text (at + 1));
+    }
+
+pub returns-in-Err-clause-value : goal.returns-in-Err-clause-value
+returns-in-Err-clause-value c =
+    let at = c.items.at in
+    let text = c.args.text.now in
+    let i = c.items.invariant.so_far in
+    let b = get_or text at 0 in
+    let rest = drop (at + 1) text in
+    let open_still : (nat_eq b 93 && not (nat_eq at 0)) ≡ false = sym c.closes.ensures ∙ c.if-closes.false in
+    let found : class_front b rest ≡ misread c.in-Err.m.fault c.in-Err.m.behind = ap (class_front b) (sym (tail_is text (at + 1))) ∙ sym c.in-Err.ensures.value in
+    let now = items_from-fault (drop at text) rest b (c.args.behind + at) c.in-Err.m.behind (nat_eq at 0) c.in-Err.m.fault (here_is text at c.items-test.true) open_still found in
+    sym i.2 ∙ ap (with_items i.0) now ∙ with_items-failed i.0 c.in-Err.m.fault (c.args.behind + at + c.in-Err.m.behind)
+
+pub returns-clause-value : goal.returns-clause-value
+returns-clause-value c =
+    let i = c.items.invariant.so_far in
+    let none = drop_of_length-le c.args.text.now {i = c.items.at} c.items-test.false in
+    sym i.2 ∙ ap (λ t. with_items i.0 (items_from 0 (c.args.behind + c.items.at) (nat_eq c.items.at 0) t)) none ∙ with_items-failed i.0 OpenClass 0

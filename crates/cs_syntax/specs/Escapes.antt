@@ -1,0 +1,100 @@
+-- Escapes: what a backslash makes of what follows it.
+-- docs/PATTERNS.md, "Escapes"; the RE2 syntax page, "Escape sequences".
+use Rattle.std.specs.Prelude.{ℕ, ◌+◌, Bool, true, false, ◌&&◌, ◌||◌, not, min, List, [], ◌∷◌, Option, Some, None, nat_lt, nat_le, nat_eq, take, drop, if◌then◌else◌}
+use Rattle.std.specs.Option.{option_map}
+use Rattle.cs_syntax.specs.Matching.{Tree, one_of, word_edge, not_word_edge}
+use Rattle.cs_syntax.specs.ByteSet.{set_of, is_letter, dot_set}
+use Rattle.cs_syntax.specs.ClassSets.{is_in_item}
+use Rattle.cs_syntax.specs.Numbers.{is_digit, count_digits, value_in}
+use Rattle.cs_syntax.specs.Fronts.{Front, item, fault, unit, is_front, char_tree}
+use Rattle.cs_syntax.specs.declared.class_item.NamedClass.TheVariants.{Digit, White, Word}
+use Rattle.cs_syntax.specs.declared.class_item.ClassItem.{ClassItem}
+use Rattle.cs_syntax.specs.declared.class_item.ClassItem.TheVariants.{Named}
+use Rattle.cs_syntax.specs.declared.escapes.Escaped.{Escaped}
+use Rattle.cs_syntax.specs.declared.flags.Flags.{Flags}
+use Rattle.cs_syntax.specs.declared.fault.PatternFault.TheVariants.{BadEscape, LoneBackslash, NotInProfile}
+
+-- the number is that of a character: at most 10ffff, and not from d800 to dfff
+abbrev pub is_scalar : ℕ → Bool
+is_scalar c = nat_lt c 55296 || (nat_le 57344 c && nat_le c 1114111)
+
+-- a character by its number, in so many bytes behind the backslash
+abbrev pub numbered : ℕ → ℕ → Option Escaped
+numbered c len = if is_scalar c then Some (record { char = c; len = len }) else None
+
+-- `0` and up to two more octal digits, or another octal digit and one or two more
+abbrev pub octal : List ℕ → Option Escaped
+octal text =
+    let len = min (count_digits 8 text) 3 in
+    if is_front 48 text || nat_lt 1 len then numbered (value_in 8 (take len text)) len else None
+
+-- behind `x{`: hexadecimal digits and a `}`
+abbrev pub hex_in_braces : List ℕ → Option Escaped
+hex_in_braces text =
+    let len = count_digits 16 text in
+    if nat_lt 0 len && is_front 125 (drop len text) then numbered (value_in 16 (take len text)) (len + 3) else None
+
+-- behind `x`: two hexadecimal digits, or some in braces
+abbrev pub hex : List ℕ → Option Escaped
+hex text =
+    if is_front 123 text then hex_in_braces (drop 1 text)
+    else if nat_lt 1 (count_digits 16 text) then numbered (value_in 16 (take 2 text)) 3
+    else None
+
+-- `\a`, `\f`, `\t`, `\n`, `\r` and `\v`
+abbrev pub control : ℕ → Option ℕ
+control e =
+    if nat_eq e 97 then Some 7
+    else if nat_eq e 102 then Some 12
+    else if nat_eq e 116 then Some 9
+    else if nat_eq e 110 then Some 10
+    else if nat_eq e 114 then Some 13
+    else if nat_eq e 118 then Some 11
+    else None
+
+-- behind a backslash: an escape that gives a character, in a class and outside
+abbrev pub escaped_char : List ℕ → Option Escaped
+escaped_char [] = None
+escaped_char (e ∷ rest) =
+    elim (control e) [
+      | Some c ↦ Some (record { char = c; len = 1 })
+      | None ↦
+          if nat_eq e 120 then hex rest
+          else if is_digit 8 e then octal (e ∷ rest)
+          else if nat_lt e 128 && not (is_letter e || is_digit 10 e) then Some (record { char = e; len = 1 })
+          else None
+    ]
+
+-- `\d`, `\s`, `\w` and their complements, in a class and outside
+unfoldable pub escaped_class : ℕ → Option ClassItem
+escaped_class e =
+    if nat_eq e 100 then Some (Named Digit false)
+    else if nat_eq e 68 then Some (Named Digit true)
+    else if nat_eq e 115 then Some (Named White false)
+    else if nat_eq e 83 then Some (Named White true)
+    else if nat_eq e 119 then Some (Named Word false)
+    else if nat_eq e 87 then Some (Named Word true)
+    else None
+
+-- `\A`, `\z`, `\Q`, `\p` and `\P`, which are left out
+abbrev pub is_left_out : ℕ → Bool
+is_left_out e = nat_eq e 65 || nat_eq e 122 || nat_eq e 81 || nat_eq e 112 || nat_eq e 80
+
+-- behind a backslash outside a class, where it gives a character or nothing
+unfoldable pub char_front : Bool → List ℕ → Front
+char_front fold text = elim (escaped_char text) [ None ↦ fault BadEscape 0 | Some c ↦ item (unit (char_tree fold c.char)) c.len ]
+
+-- `\b`, `\B`, `\C` and the classes
+unfoldable pub escaped_tree : ℕ → Option Tree
+escaped_tree e =
+    if nat_eq e 98 then Some word_edge
+    else if nat_eq e 66 then Some not_word_edge
+    else if nat_eq e 67 then Some (one_of (dot_set true))
+    else option_map (λ i. one_of (set_of (is_in_item false i))) (escaped_class e)
+
+-- behind a backslash outside a class
+abbrev pub escape : Bool → List ℕ → Front
+escape fold [] = fault LoneBackslash 0
+escape fold (e ∷ rest) =
+    if is_left_out e then fault NotInProfile 0
+    else elim (escaped_tree e) [ Some t ↦ item (unit t) 1 | None ↦ char_front fold (e ∷ rest) ]

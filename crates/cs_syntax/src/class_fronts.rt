@@ -1,0 +1,123 @@
+// Items of a class.
+ghost use Rattle.std.specs.Prelude.{◌≡◌, ◌+◌, ◌≤◌, ◌<◌, ◌^◌, ℕ, length, drop, take, MatchResult, IfSome};
+ghost use Rattle.std.specs.Option.{option_map};
+ghost use Rattle.cs_syntax.specs.Classes.{name_length, named, bracketed, after_colon, after_backslash, class_front};
+ghost use Rattle.cs_syntax.specs.Seen.{class_front_seen};
+
+use crate::class_chars::{class_char, class_escape, span};
+use crate::class_item::{ClassItem, NamedClass};
+use crate::escapes::escaped_class;
+use crate::fault::PatternFault;
+use crate::front::is_front;
+use crate::item::Misread;
+
+/// How many bytes stand before the first `:]`, where there is one.
+fn name_length(text: &[u8]) -> Option<usize>
+    ensures value { result ≡ name_length text.now }
+    ensures within { IfSome result (λ n. n + 2 ≤ length text.now) }
+{
+    for at in 0..text.len() {
+        if text[at..].starts_with(b":]") {
+            return Some(at);
+        }
+    }
+    None
+}
+
+/// The class of a name.
+#[tactic(auto, unfolding(crate::specs::Classes::named))]
+fn named(name: &[u8]) -> Option<NamedClass>
+    ensures { result ≡ named name.now }
+{
+    if name == b"alnum".as_slice() {
+        Some(NamedClass::Alnum)
+    } else if name == b"alpha".as_slice() {
+        Some(NamedClass::Alpha)
+    } else if name == b"ascii".as_slice() {
+        Some(NamedClass::Ascii)
+    } else if name == b"blank".as_slice() {
+        Some(NamedClass::Blank)
+    } else if name == b"cntrl".as_slice() {
+        Some(NamedClass::Cntrl)
+    } else if name == b"digit".as_slice() {
+        Some(NamedClass::Digit)
+    } else if name == b"graph".as_slice() {
+        Some(NamedClass::Graph)
+    } else if name == b"lower".as_slice() {
+        Some(NamedClass::Lower)
+    } else if name == b"print".as_slice() {
+        Some(NamedClass::Print)
+    } else if name == b"punct".as_slice() {
+        Some(NamedClass::Punct)
+    } else if name == b"space".as_slice() {
+        Some(NamedClass::Space)
+    } else if name == b"upper".as_slice() {
+        Some(NamedClass::Upper)
+    } else if name == b"word".as_slice() {
+        Some(NamedClass::Word)
+    } else if name == b"xdigit".as_slice() {
+        Some(NamedClass::Xdigit)
+    } else {
+        None
+    }
+}
+
+/// An item by its name, with its `^`.
+fn bracketed(name: &[u8]) -> Result<(ClassItem, usize), Misread>
+    requires { length name.now + 3 < 2 ^ 64 }
+    ensures value { class_front_seen result ≡ bracketed name.now }
+    ensures within { MatchResult result (λ r. r.1 ≤ length name.now + 3) (λ m. m.behind ≡ 0) }
+{
+    let negated = is_front(b'^', name);
+    let word = if negated { &name[1..] } else { name };
+    match named(word) {
+        Some(class) => Ok((ClassItem::Named(class, negated), name.len() + 3)),
+        None => Err(Misread {
+            fault: PatternFault::BadRange,
+            behind: 0,
+        }),
+    }
+}
+
+/// Behind `[:`.
+fn after_colon(text: &[u8]) -> Result<(ClassItem, usize), Misread>
+    requires { length text.now + 1 < 2 ^ 63 }
+    ensures value { class_front_seen result ≡ after_colon text.now }
+    ensures within { MatchResult result (λ r. r.1 ≤ length text.now + 1) (λ m. m.behind ≤ length text.now + 1) }
+{
+    match name_length(text) {
+        Some(n) => bracketed(&text[..n]),
+        None => Ok((ClassItem::Range(b'[', b'['), 0)),
+    }
+}
+
+/// Behind a backslash.
+fn after_backslash(rest: &[u8]) -> Result<(ClassItem, usize), Misread>
+    ensures value { class_front_seen result ≡ after_backslash rest.now }
+    ensures within { MatchResult result (λ r. r.1 ≤ length rest.now) (λ m. m.behind ≤ length rest.now) }
+{
+    let Some((&letter, _)) = rest.split_first() else {
+        return Err(Misread {
+            fault: PatternFault::LoneBackslash,
+            behind: 0,
+        });
+    };
+    match escaped_class(letter) {
+        Some(item) => Ok((item, 1)),
+        None => span(class_escape(rest), rest),
+    }
+}
+
+/// The item that begins with the byte.
+pub fn class_front(byte: u8, rest: &[u8]) -> Result<(ClassItem, usize), Misread>
+    ensures value { class_front_seen result ≡ class_front byte rest.now }
+    ensures within { MatchResult result (λ r. r.1 ≤ length rest.now) (λ m. m.behind ≤ length rest.now) }
+{
+    if byte == b'[' && is_front(b':', rest) {
+        return after_colon(&rest[1..]);
+    }
+    if byte == b'\\' {
+        return after_backslash(rest);
+    }
+    span(class_char(byte, rest), rest)
+}

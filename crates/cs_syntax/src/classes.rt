@@ -1,0 +1,65 @@
+// Classes.
+ghost use Rattle.std.specs.Prelude.{◌≡◌, ◌+◌, ◌≤◌, ◌<◌, ◌^◌, ◌&&◌, not, nat_eq, ℕ, List, true, length, drop, MatchResult};
+ghost use Rattle.cs_syntax.specs.ByteSet.{set_of};
+ghost use Rattle.cs_syntax.specs.ClassSets.{is_in_items};
+ghost use Rattle.cs_syntax.specs.Classes.{items_from, closed, failed, class};
+ghost use Rattle.cs_syntax.specs.Seen.{front_seen};
+ghost use Rattle.cs_syntax.specs.declared.class_item.ClassItem.{ClassItem};
+
+use crate::byte_set::ByteSet;
+use crate::class_fronts::class_front;
+use crate::fault::PatternFault;
+use crate::front::is_front;
+use crate::item::{Item, Misread, Unit};
+
+/// Whether the byte closes the class; at its start it does not.
+fn closes(byte: u8, start: bool) -> bool
+    ensures { result ≡ (nat_eq byte 93 && not start) }
+{
+    byte == b']' && !start
+}
+
+/// The items up to the `]`, and how many bytes behind the `[` that stands; the text begins `behind` bytes behind the `[`.
+fn items(fold: bool, behind: usize, text: &[u8]) -> Result<(ByteSet, usize), Misread>
+    requires { behind + length text.now < 2 ^ 64 }
+    ensures value { MatchResult result (λ r. (items : List ClassItem) × (items_from 0 behind true text.now ≡ closed items r.1) × (r.0 ≡ set_of (is_in_items fold items))) (λ m. items_from 0 behind true text.now ≡ failed m.fault m.behind) }
+    ensures within { MatchResult result (λ r. r.1 < behind + length text.now) (λ m. m.behind ≤ behind + length text.now) }
+{
+    let mut set = ByteSet::empty();
+    let mut at = 0;
+    'items: while at < text.len() {
+        if closes(text[at], at == 0) {
+            return Ok((set, behind + at));
+        }
+        match class_front(text[at], &text[at + 1..]) {
+            Ok((item, len)) => {
+                set.add(fold, item);
+                at += 1 + len;
+            }
+            Err(m) => {
+                return Err(Misread {
+                    fault: m.fault,
+                    behind: behind + at + m.behind,
+                });
+            }
+        }
+    }
+    Err(Misread {
+        fault: PatternFault::OpenClass,
+        behind: 0,
+    })
+}
+
+/// Behind `[`.
+pub fn class(fold: bool, rest: &[u8]) -> Result<(Item, usize), Misread>
+    ensures value { (front : List ℕ) → front_seen front result ≡ class fold rest.now }
+    ensures within { MatchResult result (λ r. r.1 ≤ length rest.now) (λ m. m.behind ≤ length rest.now + 1) }
+{
+    if is_front(b'^', rest) {
+        let (mut set, len) = items(fold, 2, &rest[1..])?;
+        set.complement();
+        return Ok((Item::Unit(Unit::Set(set)), len));
+    }
+    let (set, len) = items(fold, 1, rest)?;
+    Ok((Item::Unit(Unit::Set(set)), len))
+}

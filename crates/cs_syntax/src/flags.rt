@@ -1,0 +1,10 @@
+// Flags of a pattern.
+
+/// The flags that are on at a place of a pattern. The flags `m` and `U` change nothing.
+#[derive(Clone, Copy, Drop)]
+pub struct Flags {
+    /// `i`: a letter stands for both of its cases.
+    pub fold: bool,
+    /// `s`: a dot takes newlines too.
+    pub dot_all: bool,
+}

@@ -1,9 +1,10 @@
 -- Each item moves from the rest into the half.
 use Rattle.std.proofs.Common.{◌≡◌, ℕ, List, [], ◌∷◌, refl, sym, ◌∙◌, ap}
 use Rattle.std.specs.Prelude.{Option}
-use Rattle.cs_syntax.specs.Matching.{Tree, Trees, empty, one_of, cat, alt, rep, none, more}
-use Rattle.cs_syntax.specs.Reading.{sequence, choice, Level, blank, whole, with_unit, with_repeat, with_bar, Rest, levels, broken, inside, closed, opened, Reading, tree, refused, answer}
-use Rattle.cs_syntax.specs.Begun.{Begun, with_units, choice_after, completed, continued, with_last_unit, with_last_branch, finished, just_begun}
+use Rattle.cs_syntax.specs.Matching.{Tree, Trees, alt, rep, none, more}
+use Rattle.cs_syntax.specs.Fronts.{sequence}
+use Rattle.cs_syntax.specs.Reading.{Level, blank, with_unit, with_repeat, with_bar, Rest, levels, broken, inside, closed, opened, tree, answer}
+use Rattle.cs_syntax.specs.Begun.{Begun, with_units, choice_after, completed, continued, with_last_unit, with_last_branch, finished, just_begun, repeated_last}
 use Rattle.cs_syntax.specs.TreeList.{joined, last}
 
 with_units_last : (us : Trees) (t : Tree) (l : Level) → with_units (last us t) l ≡ with_units us (with_unit t l)
@@ -25,7 +26,7 @@ with_units_blank : (us : Trees) → with_units us blank ≡ record { units = us;
 with_units_blank none = refl
 with_units_blank (more t us) = ap (with_unit t) (with_units_blank us)
 
-joined_last : (ts us : Trees) (t : Tree) → joined (last ts t) us ≡ joined ts (more t us)
+pub joined_last : (ts us : Trees) (t : Tree) → joined (last ts t) us ≡ joined ts (more t us)
 joined_last none us t = refl
 joined_last (more u ts) us t = ap (more u) (joined_last ts us t)
 
@@ -80,3 +81,8 @@ continued_end h = ap tree (completed_blank h)
 pub continued_start : (r : Rest) → continued [] just_begun r ≡ answer r
 continued_start (broken k at) = refl
 continued_start (levels l ls) = refl
+
+pub repeated_last-last : (n : ℕ) (m : Option ℕ) (ts : Trees) (t : Tree) → repeated_last n m (last ts t) ≡ last ts (rep t n m)
+repeated_last-last n m none t = refl
+repeated_last-last n m (more u none) t = refl
+repeated_last-last n m (more u (more v vs)) t = ap (more u) (repeated_last-last n m (more v vs) t)

@@ -1,93 +1,184 @@
--- One item of the first profile, at a place of the text.
-use Rattle.std.proofs.lemmas.Bool.{cases_lt}
-use Rattle.std.proofs.Common.{◌≡◌, ℕ, zero, suc, ◌+◌, ◌<◌, ◌≤◌, ◌⊎◌, inl, inr, drop_of_length-le, List, [], ◌∷◌, Bool, true, false, length, drop, get_or, refl, sym, ◌∙◌, ap, arith, drop-cons}
-use Rattle.std.specs.Prelude.{None, nat_eq, if◌then◌else◌}
-use Rattle.cs_syntax.specs.Matching.{Tree, Trees, one_of, rep, line_start, line_end}
-use Rattle.cs_syntax.specs.ByteSet.{char_set, dot_set}
-use Rattle.cs_syntax.specs.Signs.{sign_of}
-use Rattle.cs_syntax.specs.declared.sign_type.Sign.{Sign}
-use Rattle.cs_syntax.specs.declared.sign_type.Sign.TheVariants.{Star, Plus, Question, Brace, Dot, Caret, Dollar, Bar, Open, Close, Class, Backslash, Wide, Plain}
+-- What an item does to the state is what it does to the reading.
+use Rattle.std.proofs.Common.{◌≡◌, ℕ, zero, suc, ◌+◌, List, [], ◌∷◌, Bool, true, false, map, length, drop, refl, sym, ◌∙◌, ap, subst, arith, inl, inr}
+use Rattle.std.specs.Prelude.{Option, nat_eq}
+use Rattle.std.proofs.lemmas.List.{length-map}
+use Rattle.cs_syntax.specs.Matching.{Tree, Trees, rep, none, more}
+use Rattle.cs_syntax.specs.TreeList.{last}
+use Rattle.cs_syntax.specs.Fronts.{Item, unit, repeat, bar, group_start, group_end, flags_from_here, item, fault}
+use Rattle.cs_syntax.specs.Items.{front}
+use Rattle.cs_syntax.specs.Reading.{Reading, refused, Group, Rest, rest, inside, with_repeat}
+use Rattle.cs_syntax.specs.Begun.{Begun, continued, with_last_unit, repeated_last, with_last_repeated, with_last_branch, finished, just_begun}
+use Rattle.cs_syntax.specs.ParserState.{Waiting, State, group_of, reading_on, goes_on, stops, step_repeat, step_open, step_close, step, IsOperand, HasOperand, IsStop, IsRefusal}
 use Rattle.cs_syntax.specs.declared.before.Before.{Before}
 use Rattle.cs_syntax.specs.declared.before.Before.TheVariants.{Start, Operand, Counted}
-use Rattle.cs_syntax.specs.declared.fault.PatternFault.TheVariants.{NoOperand, StackedRepeat, NotInProfile, TooDeep, StrayClose}
-use Rattle.cs_syntax.specs.Items.{Flags, front, item_of, is_question, same_flags, item, fault, group_start}
-use Rattle.cs_syntax.specs.Reading.{Reading, tree, refused, Group, Rest, rest, set_flags}
-use Rattle.cs_syntax.specs.Begun.{Begun, continued, with_last_unit, with_last_branch, finished, just_begun}
+use Rattle.cs_syntax.specs.declared.flags.Flags.{Flags}
+use Rattle.cs_syntax.specs.declared.fault.PatternFault.{PatternFault}
+use Rattle.cs_syntax.specs.declared.fault.PatternError.{PatternError}
 use Rattle.cs_syntax.proofs.BegunLemmas.{continued_unit, continued_repeat, continued_bar, continued_open, continued_close}
 
-module _ (hs : List Begun) (gs : List Group) (h : Begun) (flags : Flags) (text : List ℕ) (at b : ℕ) (here : drop at text ≡ b ∷ drop (at + 1) text) where
-  -- what the text reads as, from the place on
-  abbrev pub From : Begun → List Begun → List Group → Before → ℕ → Reading
-  From half halves groups before place = continued halves half (rest 0 place before groups flags (drop place text))
+-- the bytes of an item are passed over
+rest_skip : (skip at : ℕ) (before : Before) (groups : List Group) (flags : Flags) (text : List ℕ) → rest skip at before groups flags text ≡ rest 0 (at + skip) before groups flags (drop skip text)
+rest_skip zero at before groups flags text = let e : at ≡ at + zero = omega arith in ap (λ n. rest 0 n before groups flags text) e
+rest_skip (suc skip) at before groups flags [] = refl
+rest_skip (suc skip) at before groups flags (b ∷ text) =
+    let e : (at + 1) + skip ≡ at + suc skip = omega arith in
+    rest_skip skip (at + 1) before groups flags text ∙ ap (λ n. rest 0 n before groups flags (drop skip text)) e
 
-  front_is : (s : Sign) → sign_of b ≡ s → front b (drop (at + 1) text) ≡ item_of s b (drop (at + 1) text)
-  unfolding front
-  front_is s e = ap (λ x. item_of x b (drop (at + 1) text)) e
+pub reading_on-skip : (s : State) (skip at : ℕ) (text : List ℕ) → reading_on s skip at text ≡ reading_on s 0 (at + skip) (drop skip text)
+unfolding reading_on
+reading_on-skip s skip at text = ap (λ r. continued (map (λ w. w.begun) s.waiting) s.begun r) (rest_skip skip at s.before (map group_of s.waiting) s.flags text)
 
-  pub moved : (new next : Begun) (before : Before) (r : Reading) → new ≡ next → From next hs gs before (at + 1) ≡ r → From new hs gs before (at + 1) ≡ r
-  moved new next before r e f = ap (λ (x : Begun). From x hs gs before (at + 1)) e ∙ f
+-- the trees have a last one, and that one is repeated
+last_of : (n : ℕ) (m : Option ℕ) (u : Tree) (us : Trees) → (ts : Trees) × (t : Tree) × (more u us ≡ last ts t) × (repeated_last n m (more u us) ≡ last ts (rep t n m))
+last_of n m u none = (none, u, refl, refl)
+last_of n m u (more v vs) = let r = last_of n m v vs in (more u r.0, r.1, ap (more u) r.2, ap (more u) r.3)
 
-  pub step_plain : (before : Before) → sign_of b ≡ Plain → From (with_last_unit h (one_of (char_set flags.fold b))) hs gs Operand (at + 1) ≡ From h hs gs before at
-  step_plain before e = rw (here, rest, front_is Plain e) (sym (continued_unit hs h (one_of (char_set flags.fold b)) (rest 0 (at + 1) Operand gs flags (drop (at + 1) text))))
+repeat_on : (hs : List Begun) (bs us : Trees) (n : ℕ) (m : Option ℕ) (r : Rest) → IsOperand Operand us →
+    continued hs (record { branches = bs; units = us }) (inside (with_repeat n m) r) ≡ continued hs (record { branches = bs; units = repeated_last n m us }) r
+repeat_on hs bs none n m r some = absurd some
+repeat_on hs bs (more u us) n m r some =
+    let l = last_of n m u us in
+    let before : Begun = record { branches = bs; units = l.0 } in
+    let f = λ (x : Trees). (let h : Begun = record { branches = bs; units = x } in h) in
+    ap (λ (x : Trees). continued hs (f x) (inside (with_repeat n m) r)) l.2
+    ∙ continued_repeat hs before l.1 n m r
+    ∙ sym (ap (λ (x : Trees). continued hs (f x) r) l.3)
 
-  pub step_dot : (before : Before) → sign_of b ≡ Dot → From (with_last_unit h (one_of (dot_set flags.dot_all))) hs gs Operand (at + 1) ≡ From h hs gs before at
-  step_dot before e = rw (here, rest, front_is Dot e) (sym (continued_unit hs h (one_of (dot_set flags.dot_all)) (rest 0 (at + 1) Operand gs flags (drop (at + 1) text))))
+same_state : (s t : State) → goes_on s ≡ goes_on t → s ≡ t
+same_state s t e = (cc)
 
-  pub step_caret : (before : Before) → sign_of b ≡ Caret → From (with_last_unit h line_start) hs gs Operand (at + 1) ≡ From h hs gs before at
-  step_caret before e = rw (here, rest, front_is Caret e) (sym (continued_unit hs h line_start (rest 0 (at + 1) Operand gs flags (drop (at + 1) text))))
+same_fault : (j k : PatternFault) → stops j ≡ stops k → j ≡ k
+same_fault j k e = (cc)
 
-  pub step_dollar : (before : Before) → sign_of b ≡ Dollar → From (with_last_unit h line_end) hs gs Operand (at + 1) ≡ From h hs gs before at
-  step_dollar before e = rw (here, rest, front_is Dollar e) (sym (continued_unit hs h line_end (rest 0 (at + 1) Operand gs flags (drop (at + 1) text))))
+on : List Waiting → Begun → Before → Flags → State
+on ws h before flags = record { waiting = ws; begun = h; before = before; flags = flags }
 
-  pub step_star : (g : Begun) (t : Tree) → h ≡ with_last_unit g t → sign_of b ≡ Star → From (with_last_unit g (rep t 0 None)) hs gs Counted (at + 1) ≡ From h hs gs Operand at
-  step_star g t same e =
-      rw (here, rest, front_is Star e, same) (sym (continued_repeat hs g t 0 None (rest 0 (at + 1) Counted gs flags (drop (at + 1) text))))
+module _ (len at b : ℕ) (text : List ℕ) where
+  -- what the text reads as after the item
+  abbrev After : State → Reading
+  After s = reading_on s len (at + 1) text
 
-  pub step_bar : (before : Before) → sign_of b ≡ Bar → From (with_last_branch h) hs gs Start (at + 1) ≡ From h hs gs before at
-  step_bar before e = rw (here, rest, front_is Bar e) (sym (continued_bar hs h (rest 0 (at + 1) Start gs flags (drop (at + 1) text))))
+  abbrev Before_item : State → Reading
+  Before_item s = reading_on s 0 at (b ∷ text)
 
-  pub step_open : (before : Before) → sign_of b ≡ Open → is_question (drop (at + 1) text) ≡ false → nat_eq (length gs) 200 ≡ false →
-      From just_begun (h ∷ hs) (record { at = at; flags = flags } ∷ gs) Start (at + 1) ≡ From h hs gs before at
-  step_open before e plain room =
-      let g : Group = record { at = at; flags = flags } in
-      rw (here, rest, front_is Open e, plain, room) (sym (continued_open hs h (rest 0 (at + 1) Start (g ∷ gs) flags (drop (at + 1) text))))
+  moved : (s t : State) (r : Reading) → goes_on s ≡ goes_on t → After s ≡ r → After t ≡ r
+  moved s t r e f = ap After (sym (same_state s t e)) ∙ f
 
-  zero_behind : at + 0 ≡ at
-  zero_behind = omega arith
+  on_repeat : (ws : List Waiting) (h : Begun) (before : Before) (flags : Flags) (new : State) (n : ℕ) (m : Option ℕ) → IsOperand before h.units → front flags b text ≡ item (repeat n m) len →
+      step_repeat before n m (on ws h before flags) ≡ goes_on new → After new ≡ Before_item (on ws h before flags)
+  unfolding reading_on on
+  on_repeat ws h Start flags new n m some f e = cc
+  on_repeat ws h Counted flags new n m some f e = cc
+  on_repeat ws h Operand flags new n m some f e =
+      moved (on ws (with_last_repeated n m h) Counted flags) new _ e
+      (rw (rest, f) (sym (repeat_on (map (λ w. w.begun) ws) h.branches h.units n m (rest len (at + 1) Counted (map group_of ws) flags text) some)))
 
-  pub star_at_start : sign_of b ≡ Star → From h hs gs Start at ≡ refused NoOperand at
-  star_at_start e = rw (here, rest, front_is Star e) refl
+  on_open : (ws : List Waiting) (h : Begun) (before : Before) (flags inner : Flags) (new : State) (full : Bool) → nat_eq (length ws) 200 ≡ full → front flags b text ≡ item (group_start inner) len →
+      step_open full inner at (on ws h before flags) ≡ goes_on new → After new ≡ Before_item (on ws h before flags)
+  unfolding reading_on on
+  on_open ws h before flags inner new true deep f e = cc
+  on_open ws h before flags inner new false deep f e =
+      let room : nat_eq (length (map group_of ws)) 200 ≡ false = simp length-map deep in
+      let w : Waiting = record { at = at; flags = flags; begun = h } in
+      moved (on (w ∷ ws) just_begun Start inner) new _ e
+      (rw (rest, f, room) (sym (continued_open (map (λ x. x.begun) ws) h (rest len (at + 1) Start (group_of w ∷ map group_of ws) inner text))))
 
-  pub star_on_star : sign_of b ≡ Star → From h hs gs Counted at ≡ refused StackedRepeat at
-  star_on_star e = rw (here, rest, front_is Star e) refl
+  on_close : (ws : List Waiting) (h : Begun) (before : Before) (flags : Flags) (new : State) → front flags b text ≡ item group_end len →
+      step_close ws (on ws h before flags) ≡ goes_on new → After new ≡ Before_item (on ws h before flags)
+  unfolding reading_on on
+  on_close [] h before flags new f e = cc
+  on_close (w ∷ ws) h before flags new f e =
+      moved (on ws (with_last_unit w.begun (finished h)) Operand w.flags) new _ e
+      (rw (rest, f) (sym (continued_close (map (λ x. x.begun) ws) w.begun h (rest len (at + 1) Operand (map group_of ws) w.flags text))))
 
-  pub outside : (before : Before) → front b (drop (at + 1) text) ≡ fault NotInProfile 0 → From h hs gs before at ≡ refused NotInProfile at
-  outside before e = rw (here, rest, e, zero_behind) refl
+  after_item : (x : Item) (ws : List Waiting) (h : Begun) (before : Before) (flags : Flags) (new : State) → IsOperand before h.units → front flags b text ≡ item x len →
+      step x at (on ws h before flags) ≡ goes_on new → After new ≡ Before_item (on ws h before flags)
+  unfolding reading_on on
+  after_item (unit t) ws h before flags new some f e =
+      moved (on ws (with_last_unit h t) Operand flags) new _ e
+      (rw (rest, f) (sym (continued_unit (map (λ x. x.begun) ws) h t (rest len (at + 1) Operand (map group_of ws) flags text))))
+  after_item (repeat n m) ws h before flags new some f e = on_repeat ws h before flags new n m some f e
+  after_item bar ws h before flags new some f e =
+      moved (on ws (with_last_branch h) Start flags) new _ e
+      (rw (rest, f) (sym (continued_bar (map (λ x. x.begun) ws) h (rest len (at + 1) Start (map group_of ws) flags text))))
+  after_item (group_start inner) ws h before flags new some f e = on_open ws h before flags inner new (nat_eq (length ws) 200) refl f e
+  after_item group_end ws h before flags new some f e = on_close ws h before flags new f e
+  after_item (flags_from_here inner) ws h before flags new some f e = moved (on ws h Start inner) new _ e (rw (rest, f) refl)
 
-  pub outside_sign : (before : Before) (s : Sign) → sign_of b ≡ s → item_of s b (drop (at + 1) text) ≡ fault NotInProfile 0 → From h hs gs before at ≡ refused NotInProfile at
-  outside_sign before s e f = outside before (front_is s e ∙ f)
+  -- after an item that goes on the text reads as before it
+  pub goes_on-reads : (x : Item) (s new : State) → HasOperand s → front s.flags b text ≡ item x len → step x at s ≡ goes_on new → reading_on new len (at + 1) text ≡ reading_on s 0 at (b ∷ text)
+  unfolding on
+  goes_on-reads x s new some f e = after_item x s.waiting s.begun s.before s.flags new some f e
 
-  pub too_deep : (before : Before) → sign_of b ≡ Open → is_question (drop (at + 1) text) ≡ false → nat_eq (length gs) 200 ≡ true →
-      From h hs gs before at ≡ refused TooDeep at
-  too_deep before e plain full = rw (here, rest, front_is Open e, plain, full) refl
+  stopped_repeat : (ws : List Waiting) (h : Begun) (before : Before) (flags : Flags) (k : PatternFault) (n : ℕ) (m : Option ℕ) → front flags b text ≡ item (repeat n m) len →
+      step_repeat before n m (on ws h before flags) ≡ stops k → Before_item (on ws h before flags) ≡ refused k at
+  unfolding reading_on on
+  stopped_repeat ws h Start flags k n m f e = rw (rest, f) (ap (λ j. refused j at) (same_fault _ _ e))
+  stopped_repeat ws h Counted flags k n m f e = rw (rest, f) (ap (λ j. refused j at) (same_fault _ _ e))
+  stopped_repeat ws h Operand flags k n m f e = cc
 
-module _ (hs : List Begun) (gs : List Group) (outer h : Begun) (flags : Flags) (text : List ℕ) (place at b : ℕ) (here : drop at text ≡ b ∷ drop (at + 1) text) where
-  pub step_close : (before : Before) → sign_of b ≡ Close →
-      From hs gs h flags text at b here (with_last_unit outer (finished h)) hs gs Operand (at + 1) ≡
-      From hs gs h flags text at b here h (outer ∷ hs) (record { at = place; flags = flags } ∷ gs) before at
-  step_close before e =
-      rw (here, rest, front_is hs gs h flags text at b here Close e) (sym (continued_close hs outer h (rest 0 (at + 1) Operand gs flags (drop (at + 1) text))))
+  stopped_open : (ws : List Waiting) (h : Begun) (before : Before) (flags inner : Flags) (k : PatternFault) (full : Bool) → nat_eq (length ws) 200 ≡ full → front flags b text ≡ item (group_start inner) len →
+      step_open full inner at (on ws h before flags) ≡ stops k → Before_item (on ws h before flags) ≡ refused k at
+  unfolding reading_on on
+  stopped_open ws h before flags inner k true deep f e =
+      let room : nat_eq (length (map group_of ws)) 200 ≡ true = simp length-map deep in
+      rw (rest, f, room) (ap (λ j. refused j at) (same_fault _ _ e))
+  stopped_open ws h before flags inner k false deep f e = cc
 
-  pub stray : (before : Before) → sign_of b ≡ Close → From hs [] h flags text at b here h hs [] before at ≡ refused StrayClose at
-  stray before e = rw (here, rest, front_is hs [] h flags text at b here Close e) refl
+  stopped_close : (ws : List Waiting) (h : Begun) (before : Before) (flags : Flags) (k : PatternFault) → front flags b text ≡ item group_end len →
+      step_close ws (on ws h before flags) ≡ stops k → Before_item (on ws h before flags) ≡ refused k at
+  unfolding reading_on on
+  stopped_close [] h before flags k f e = rw (rest, f) (ap (λ j. refused j at) (same_fault _ _ e))
+  stopped_close (w ∷ ws) h before flags k f e = cc
 
-pub is_question_at : (text : List ℕ) (at : ℕ) → at < length text → is_question (drop at text) ≡ nat_eq (get_or text at 0) 63
-is_question_at text at lt = ap is_question (drop-cons text at 0 lt)
+  stopped : (x : Item) (ws : List Waiting) (h : Begun) (before : Before) (flags : Flags) (k : PatternFault) → front flags b text ≡ item x len →
+      step x at (on ws h before flags) ≡ stops k → Before_item (on ws h before flags) ≡ refused k at
+  unfolding on
+  stopped (unit t) ws h before flags k f e = cc
+  stopped (repeat n m) ws h before flags k f e = stopped_repeat ws h before flags k n m f e
+  stopped bar ws h before flags k f e = cc
+  stopped (group_start inner) ws h before flags k f e = stopped_open ws h before flags inner k (nat_eq (length ws) 200) refl f e
+  stopped group_end ws h before flags k f e = stopped_close ws h before flags k f e
+  stopped (flags_from_here new) ws h before flags k f e = cc
 
-pub no_question : (text : List ℕ) (at : ℕ) → length text ≤ at → is_question (drop at text) ≡ false
-no_question text at le = ap is_question (drop_of_length-le text {i = at} le)
+  -- an item that stops is the fault of the reading
+  pub stops-reads : (x : Item) (s : State) (k : PatternFault) → front s.flags b text ≡ item x len → step x at s ≡ stops k → reading_on s 0 at (b ∷ text) ≡ refused k at
+  unfolding on
+  stops-reads x s k f e = stopped x s.waiting s.begun s.before s.flags k f e
 
-pub here_is : (text : List ℕ) (at : ℕ) → at < length text → drop at text ≡ get_or text at 0 ∷ drop (at + 1) text
-here_is text at lt =
-    let next : suc at ≡ at + 1 = omega arith in
-    drop-cons text at 0 lt ∙ ap (λ n. get_or text at 0 ∷ drop n text) next
+-- what is no item is the fault of the reading
+pub fault-reads : (at b behind : ℕ) (text : List ℕ) (s : State) (k : PatternFault) → front s.flags b text ≡ fault k behind → reading_on s 0 at (b ∷ text) ≡ refused k (at + behind)
+unfolding reading_on
+fault-reads at b behind text s k f = rw (rest, f) refl
+
+last_is_some : (us : Trees) (t : Tree) → IsOperand Operand (last us t)
+last_is_some none t = tt
+last_is_some (more u us) t = tt
+
+still_repeat : (before : Before) (n : ℕ) (m : Option ℕ) (s new : State) → step_repeat before n m s ≡ goes_on new → IsOperand new.before new.begun.units
+still_repeat Start n m s new e = cc
+still_repeat Counted n m s new e = cc
+still_repeat Operand n m s new e = subst HasOperand (same_state _ new e) tt
+
+still_open : (full : Bool) (inner : Flags) (at : ℕ) (s new : State) → step_open full inner at s ≡ goes_on new → HasOperand new
+still_open true inner at s new e = cc
+still_open false inner at s new e = subst HasOperand (same_state _ new e) tt
+
+still_close : (ws : List Waiting) (s new : State) → step_close ws s ≡ goes_on new → HasOperand new
+still_close [] s new e = cc
+still_close (w ∷ ws) s new e = subst HasOperand (same_state _ new e) (last_is_some w.begun.units (finished s.begun))
+
+-- after each item an operand is a unit
+pub still-operand : (x : Item) (at : ℕ) (s new : State) → step x at s ≡ goes_on new → HasOperand new
+still-operand (unit t) at s new e = subst HasOperand (same_state _ new e) (last_is_some s.begun.units t)
+still-operand (repeat n m) at s new e = still_repeat s.before n m s new e
+still-operand bar at s new e = subst HasOperand (same_state _ new e) tt
+still-operand (group_start inner) at s new e = still_open (nat_eq (length s.waiting) 200) inner at s new e
+still-operand group_end at s new e = still_close s.waiting s new e
+still-operand (flags_from_here inner) at s new e = subst HasOperand (same_state _ new e) tt
+
+-- where an item stops, the error is the refusal of the reading
+pub stop_is_refusal : (x : Item) (s : State) (at b len : ℕ) (text tail : List ℕ) (e : PatternError) → drop at text ≡ b ∷ tail → front s.flags b tail ≡ item x len → IsStop (step x at s) at e →
+    IsRefusal (reading_on s 0 at (drop at text)) e
+stop_is_refusal x s at b len text tail e here f (inl m) = inl m
+stop_is_refusal x s at b len text tail e here f (inr k) = inr (ap (reading_on s 0 at) here ∙ stops-reads len at b tail x s e.fault f k.0 ∙ ap (refused e.fault) (sym k.1))

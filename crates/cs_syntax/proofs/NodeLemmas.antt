@@ -1,5 +1,5 @@
 -- The equations of `tree_of`, one for each variant.
-use Rattle.std.proofs.Common.{◌≡◌, ℕ, Bool, List, map, Option, Vec, Box, Global, sym, ap, ◌∙◌}
+use Rattle.std.proofs.Common.{◌≡◌, ℕ, Bool, List, Option, Vec, Box, Global, sym, ap, ◌∙◌}
 use Rattle.cs_syntax.specs.Matching.{Tree, empty, one_of, cat, alt, rep, line_start, line_end, word_edge, not_word_edge}
 use Rattle.cs_syntax.specs.Node.{tree_of, tree_step, trees_of}
 use Rattle.cs_syntax.specs.declared.node.Node.{Node, Node-F, fold-roll-Node}

@@ -1,7 +1,7 @@
 -- Numbers that are too large for the code are as large as the largest.
-use Rattle.std.proofs.Common.{◌≡◌, ℕ, zero, suc, ◌+◌, ◌*◌, ◌<◌, ◌≤◌, ◌⊎◌, inl, inr, min, List, [], ◌∷◌, refl, sym, ◌∙◌, ap, arith}
+use Rattle.std.proofs.Common.{◌≡◌, ℕ, zero, suc, ◌+◌, ◌*◌, ◌≤◌, ◌⊎◌, inl, inr, min, List, [], ◌∷◌, ap, arith}
 use Rattle.std.proofs.lemmas.Bool.{cases_lt}
-use Rattle.cs_syntax.specs.Numbers.{digit_value, value_after, value_in}
+use Rattle.cs_syntax.specs.Numbers.{digit_value, value_after}
 
 -- the two numbers are one, up to the largest
 same_or_large : (m n k : ℕ) → min n m ≡ min k m → (n ≡ k) ⊎ ((m ≤ n) × (m ≤ k))

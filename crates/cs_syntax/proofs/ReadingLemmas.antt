@@ -1,7 +1,6 @@
-use Rattle.std.proofs.Common.{◌≡◌, ℕ, Bool, List, refl, sym, ◌∙◌, inl, inr}
+use Rattle.std.proofs.Common.{◌≡◌, ℕ, Bool, List, refl, inl, inr}
 use Rattle.cs_syntax.specs.Matching.{Tree}
-use Rattle.cs_syntax.specs.Reading.{Reading, tree, refused, reading, IsDecided, Reads, Breaks}
-use Rattle.cs_syntax.specs.declared.fault.PatternFault.{PatternFault}
+use Rattle.cs_syntax.specs.Reading.{Reading, tree, refused, reading, IsDecided}
 
 tree_is : (t u : Tree) → tree t ≡ tree u → t ≡ u
 tree_is t u h = (cc)

@@ -1,5 +1,5 @@
 -- Lists of answers.
-use Rattle.std.proofs.Common.{◌≡◌, ℕ, zero, suc, ◌+◌, ◌<◌, ◌≤◌, Bool, true, false, List, [], ◌∷◌, length, get_or, refl, sym, ◌∙◌, ap, subst, arith}
+use Rattle.std.proofs.Common.{◌≡◌, ℕ, zero, suc, ◌+◌, ◌<◌, Bool, false, List, [], ◌∷◌, length, get_or, refl, ◌∙◌, ap, arith}
 use Rattle.cs_syntax.specs.ByteSet.{answers, set_of}
 
 pub length-answers : (f : ℕ → Bool) (from n : ℕ) → length (answers f from n) ≡ n

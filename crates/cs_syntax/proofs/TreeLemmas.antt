@@ -1,7 +1,7 @@
 -- Lists of nodes as trees.
-use Rattle.std.proofs.Common.{◌≡◌, ℕ, ◌<◌, ◌≤◌, List, [], ◌∷◌, ◌++◌, length, refl, sym, ◌∙◌, ap, arith}
-use Rattle.cs_syntax.specs.Matching.{Tree, Trees, cat, alt, more, none}
-use Rattle.cs_syntax.specs.Reading.{sequence}
+use Rattle.std.proofs.Common.{◌≡◌, ◌<◌, ◌≤◌, List, [], ◌∷◌, ◌++◌, length, refl, sym, ap, arith}
+use Rattle.cs_syntax.specs.Matching.{cat, alt, more, none}
+use Rattle.cs_syntax.specs.Fronts.{sequence}
 use Rattle.cs_syntax.specs.Node.{tree_of, trees_of}
 use Rattle.cs_syntax.specs.Begun.{choice_after}
 use Rattle.cs_syntax.specs.TreeList.{last}

@@ -1,8 +1,7 @@
 -- Weights are positive, and many rounds are heavy.
-use Rattle.std.proofs.Common.{◌≡◌, ℕ, zero, suc, ◌+◌, ◌*◌, ◌<◌, ◌≤◌, arith}
-use Rattle.std.specs.Prelude.{Option}
+use Rattle.std.proofs.Common.{ℕ, ◌+◌, ◌*◌, ◌<◌, ◌≤◌, arith}
 use Rattle.cs_syntax.specs.Matching.{Tree, empty, one_of, cat, alt, rep, line_start, line_end, word_edge, not_word_edge}
-use Rattle.cs_syntax.specs.Weight.{weight, weights, times}
+use Rattle.cs_syntax.specs.Weight.{weight}
 
 pub weight_pos : (t : Tree) → 1 ≤ weight t
 weight_pos empty = omega arith

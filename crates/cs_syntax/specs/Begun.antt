@@ -1,9 +1,10 @@
 -- A text that is read in part: the groups that have begun, each with what it has so far.
 use Rattle.std.specs.Prelude.{ℕ, List, [], ◌∷◌, Option}
-use Rattle.cs_syntax.specs.Matching.{Tree, Trees, empty, one_of, cat, alt, rep, none, more}
+use Rattle.cs_syntax.specs.Matching.{Tree, Trees, alt, rep, none, more}
 use Rattle.cs_syntax.specs.TreeList.{joined, last}
 use Rattle.cs_syntax.specs.declared.fault.PatternFault.TheVariants.{OpenGroup}
-use Rattle.cs_syntax.specs.Reading.{sequence, choice, Level, blank, whole, with_unit, Rest, levels, broken, Reading, tree, refused}
+use Rattle.cs_syntax.specs.Fronts.{sequence}
+use Rattle.cs_syntax.specs.Reading.{choice, Level, with_unit, Rest, levels, broken, Reading, tree, refused}
 
 -- the branches of a group that are done, and the units of the one that is not
 pub record Begun : Type 0 where
@@ -33,6 +34,16 @@ continued (outer ∷ hs) h (levels l (next ∷ ls)) = continued hs outer (levels
 
 abbrev pub with_last_unit : Begun → Tree → Begun
 with_last_unit h t = record h { units = last h.units t }
+
+-- the last of the trees repeated
+abbrev pub repeated_last : ℕ → Option ℕ → Trees → Trees
+repeated_last n m none = none
+repeated_last n m (more t none) = more (rep t n m) none
+repeated_last n m (more t (more u us)) = more t (repeated_last n m (more u us))
+
+-- the last unit is repeated
+abbrev pub with_last_repeated : ℕ → Option ℕ → Begun → Begun
+with_last_repeated n m h = record h { units = repeated_last n m h.units }
 
 -- a branch is done at a bar
 abbrev pub with_last_branch : Begun → Begun

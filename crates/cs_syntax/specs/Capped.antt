@@ -1,5 +1,5 @@
 -- Numbers as the code has them: what passes a `u32` is the largest one.
-use Rattle.std.specs.Prelude.{ℕ, min, Option}
+use Rattle.std.specs.Prelude.{min}
 use Rattle.std.specs.Option.{option_map}
 use Rattle.cs_syntax.specs.declared.repeats.Number.{Number}
 use Rattle.cs_syntax.specs.declared.repeats.Counts.{Counts}

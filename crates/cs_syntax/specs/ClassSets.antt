@@ -1,6 +1,6 @@
 -- The sets of bytes that classes stand for.
 -- docs/PATTERNS.md, "Classes"; the RE2 syntax page, "Character classes".
-use Rattle.std.specs.Prelude.{ℕ, ◌+◌, ◌-◌, Bool, true, false, ◌&&◌, ◌||◌, List, [], ◌∷◌, nat_le, nat_eq, if◌then◌else◌}
+use Rattle.std.specs.Prelude.{ℕ, ◌+◌, ◌-◌, Bool, ◌&&◌, ◌||◌, List, [], ◌∷◌, nat_le, if◌then◌else◌}
 use Rattle.std.specs.List.{list_any}
 use Rattle.cs_syntax.specs.Matching.{differ}
 use Rattle.cs_syntax.specs.ByteSet.{set_of, is_letter}

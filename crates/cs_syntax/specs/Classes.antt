@@ -1,6 +1,6 @@
 -- Classes: what stands between `[` and `]`.
 -- docs/PATTERNS.md, "Classes"; the RE2 syntax page, "Character classes".
-use Rattle.std.specs.Prelude.{ℕ, zero, suc, ◌+◌, Bool, true, false, ◌&&◌, not, List, [], ◌∷◌, Option, Some, None, codes, length, take, nat_lt, nat_le, nat_eq, drop, if◌then◌else◌}
+use Rattle.std.specs.Prelude.{ℕ, zero, suc, ◌+◌, Bool, true, false, ◌&&◌, not, List, [], ◌∷◌, Option, Some, None, codes, length, take, nat_lt, nat_eq, drop, if◌then◌else◌}
 use Rattle.std.specs.Option.{option_map}
 use Rattle.std.specs.List.{starts_with}
 use Rattle.std.specs.Cmp.Lexicographic.{pointwise}

@@ -11,7 +11,6 @@ use Rattle.cs_syntax.specs.declared.class_item.NamedClass.TheVariants.{Digit, Wh
 use Rattle.cs_syntax.specs.declared.class_item.ClassItem.{ClassItem}
 use Rattle.cs_syntax.specs.declared.class_item.ClassItem.TheVariants.{Named}
 use Rattle.cs_syntax.specs.declared.escapes.Escaped.{Escaped}
-use Rattle.cs_syntax.specs.declared.flags.Flags.{Flags}
 use Rattle.cs_syntax.specs.declared.fault.PatternFault.TheVariants.{BadEscape, LoneBackslash, NotInProfile}
 
 -- the number is that of a character: at most 10ffff, and not from d800 to dfff

@@ -1,60 +1,44 @@
--- The items of a pattern's text.
-use Rattle.std.specs.Prelude.{ℕ, zero, suc, ◌+◌, ◌-◌, ◌*◌, Bool, true, false, ◌&&◌, ◌||◌, List, [], ◌∷◌, Option, Some, None, nat_le, nat_lt, nat_eq, if◌then◌else◌}
-use Rattle.cs_syntax.specs.Matching.{Tree, line_start, line_end}
+-- The items of a pattern's text: what each first byte begins.
+-- docs/PATTERNS.md, "Items"; the RE2 syntax page.
+use Rattle.std.specs.Prelude.{ℕ, Bool, ◌&&◌, List, ◌∷◌, Some, None, nat_le, nat_lt, take}
+use Rattle.std.specs.List.{prefix_len}
+use Rattle.cs_syntax.specs.Matching.{one_of, line_start, line_end}
+use Rattle.cs_syntax.specs.ByteSet.{char_set, dot_set}
 use Rattle.cs_syntax.specs.Signs.{sign_of}
+use Rattle.cs_syntax.specs.Fronts.{Front, item, unit, bar, group_end, bytes_tree}
+use Rattle.cs_syntax.specs.Repeats.{lazy, brace}
+use Rattle.cs_syntax.specs.Groups.{group}
+use Rattle.cs_syntax.specs.Escapes.{escape}
+use Rattle.cs_syntax.specs.Classes.{class}
+use Rattle.cs_syntax.specs.declared.flags.Flags.{Flags}
 use Rattle.cs_syntax.specs.declared.sign_type.Sign.{Sign}
 use Rattle.cs_syntax.specs.declared.sign_type.Sign.TheVariants.{Star, Plus, Question, Brace, Dot, Caret, Dollar, Bar, Open, Close, Class, Backslash, Wide, Plain}
-use Rattle.cs_syntax.specs.declared.fault.PatternFault.{PatternFault}
-use Rattle.cs_syntax.specs.declared.fault.PatternFault.TheVariants.{BadRepeat, BadGroup, NotInProfile}
 
--- the flags that are on
-pub record Flags : Type 0 where
-  pub fold : Bool
-  pub dot_all : Bool
+-- the byte stands behind the first one of a character past ASCII
+abbrev pub is_continuation : ℕ → Bool
+is_continuation b = nat_le 128 b && nat_lt b 192
 
--- the flags that a head sets, or leaves as they are
-pub record Setting : Type 0 where
-  pub fold : Option Bool
-  pub dot_all : Option Bool
+-- a character past ASCII is one unit, the bytes of its UTF-8 form in order
+abbrev pub written : ℕ → List ℕ → Front
+written b rest = let n = prefix_len is_continuation rest in item (unit (bytes_tree (b ∷ take n rest))) n
 
-pub data Item : Type 0 where
-  -- a character, by its number
-  char : ℕ → Item
-  dot : Item
-  -- the edges of a line or a word
-  edge : Tree → Item
-  bar : Item
-  group_start : Setting → Item
-  group_end : Item
-  setting : Setting → Item
-  -- at least n, and at most m where it is given
-  repeat : ℕ → Option ℕ → Item
+-- what stands at the front, by what its first byte means
+abbrev pub item_by : Sign → Flags → ℕ → List ℕ → Front
+item_by Star flags b rest = lazy 0 None 0 rest
+item_by Plus flags b rest = lazy 1 None 0 rest
+item_by Question flags b rest = lazy 0 (Some 1) 0 rest
+item_by Brace flags b rest = brace rest
+item_by Dot flags b rest = item (unit (one_of (dot_set flags.dot_all))) 0
+item_by Caret flags b rest = item (unit line_start) 0
+item_by Dollar flags b rest = item (unit line_end) 0
+item_by Bar flags b rest = item bar 0
+item_by Open flags b rest = group flags rest
+item_by Close flags b rest = item group_end 0
+item_by Class flags b rest = class flags.fold rest
+item_by Backslash flags b rest = escape flags.fold rest
+item_by Wide flags b rest = written b rest
+item_by Plain flags b rest = item (unit (one_of (char_set flags.fold b))) 0
 
--- What stands at the front of a text: an item and the number of its bytes after the first, or a fault
--- and how far behind the front it lies.
-pub data Front : Type 0 where
-  item : Item → ℕ → Front
-  fault : PatternFault → ℕ → Front
-
-abbrev pub same_flags : Setting
-same_flags = record { fold = None; dot_all = None }
-
--- a `?` stands at the front
-abbrev pub is_question : List ℕ → Bool
-is_question [] = false
-is_question (c ∷ rest) = nat_eq c 63
-
-abbrev pub item_of : Sign → ℕ → List ℕ → Front
-item_of Star b rest = item (repeat 0 None) 0
-item_of Dot b rest = item dot 0
-item_of Caret b rest = item (edge line_start) 0
-item_of Dollar b rest = item (edge line_end) 0
-item_of Bar b rest = item bar 0
-item_of Open b rest = if is_question rest then fault NotInProfile 0 else item (group_start same_flags) 0
-item_of Close b rest = item group_end 0
-item_of Plain b rest = item (char b) 0
-item_of _ b rest = fault NotInProfile 0
-
--- What stands at the front: so far literals, `.`, bars, groups, stars and the edges of a line.
-unfoldable pub front : ℕ → List ℕ → Front
-front b rest = item_of (sign_of b) b rest
+-- what stands at the front of a text whose first byte is b, under these flags
+unfoldable pub front : Flags → ℕ → List ℕ → Front
+front flags b rest = item_by (sign_of b) flags b rest

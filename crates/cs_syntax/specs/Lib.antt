@@ -10,8 +10,8 @@ pub mod Repeats
 pub mod Groups
 pub mod Escapes
 pub mod Classes
-pub mod Items
 pub mod Signs
+pub mod Items
 pub mod Reading
 pub mod Refusal
 -- What functions inside promise each other.

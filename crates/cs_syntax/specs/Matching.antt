@@ -1,5 +1,5 @@
 -- The tree of a pattern, and what part of a line it takes.
-use Rattle.std.specs.Prelude.{ℕ, zero, suc, ◌≡◌, ◌+◌, ◌-◌, ◌<◌, ◌≤◌, ◌⊎◌, ◌&&◌, ◌||◌, not, Bool, true, false, List, length, slice_index, slice_index_or, nat_le, nat_lt, nat_eq, Option, Some, None}
+use Rattle.std.specs.Prelude.{ℕ, zero, suc, ◌≡◌, ◌-◌, ◌<◌, ◌≤◌, ◌⊎◌, ◌&&◌, ◌||◌, not, Bool, true, false, List, length, slice_index, slice_index_or, nat_le, nat_lt, nat_eq, Option, Some, None}
 
 mutual
   pub data Tree : Type 0 where

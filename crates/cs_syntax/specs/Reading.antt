@@ -1,19 +1,14 @@
 -- What a pattern's text reads as: one tree, or the first fault.
-use Rattle.std.specs.Prelude.{ℕ, zero, suc, ◌+◌, ◌≡◌, ◌⊎◌, Bool, true, false, ◌&&◌, ◌||◌, List, [], ◌∷◌, ◌++◌, length, Option, Some, None, nat_le, nat_eq, not, if◌then◌else◌}
-use Rattle.std.specs.Option.{option_or}
-use Rattle.cs_syntax.specs.Matching.{Tree, Trees, empty, one_of, cat, alt, rep, none, more}
-use Rattle.cs_syntax.specs.ByteSet.{char_set, dot_set}
-use Rattle.cs_syntax.specs.Items.{Flags, Setting, Item, char, dot, edge, bar, group_start, group_end, setting, repeat, Front, item, fault, front}
+-- docs/PATTERNS.md, "Patterns" and "Faults".
+use Rattle.std.specs.Prelude.{ℕ, zero, suc, ◌+◌, ◌≡◌, ◌⊎◌, Bool, false, List, [], ◌∷◌, length, Option, nat_eq, if◌then◌else◌}
+use Rattle.cs_syntax.specs.Matching.{Tree, Trees, alt, rep, none, more}
+use Rattle.cs_syntax.specs.Fronts.{sequence, unit, repeat, bar, group_start, group_end, flags_from_here, item, fault}
+use Rattle.cs_syntax.specs.Items.{front}
+use Rattle.cs_syntax.specs.declared.flags.Flags.{Flags}
 use Rattle.cs_syntax.specs.declared.before.Before.{Before}
 use Rattle.cs_syntax.specs.declared.before.Before.TheVariants.{Start, Operand, Counted}
 use Rattle.cs_syntax.specs.declared.fault.PatternFault.{PatternFault}
 use Rattle.cs_syntax.specs.declared.fault.PatternFault.TheVariants.{NoOperand, StackedRepeat, OpenGroup, StrayClose, TooDeep}
-
--- a sequence of units
-abbrev pub sequence : Trees → Tree
-sequence none = empty
-sequence (more t none) = t
-sequence (more t (more u us)) = cat (more t (more u us))
 
 -- A group from some place in it up to its `)`: the units up to the next bar, the branches after that bar,
 -- and the repeats that stand at the front, for what goes before them.
@@ -72,13 +67,6 @@ pub record Group : Type 0 where
   pub at : ℕ
   pub flags : Flags
 
-abbrev pub chosen : Option Bool → Bool → Bool
-chosen None old = old
-chosen (Some new) old = new
-
-abbrev pub set_flags : Setting → Flags → Flags
-set_flags s f = record { fold = chosen s.fold f.fold; dot_all = chosen s.dot_all f.dot_all }
-
 abbrev pub at_end : List Group → Rest
 at_end [] = levels blank []
 at_end (g ∷ gs) = broken OpenGroup g.at
@@ -88,23 +76,23 @@ abbrev pub rest : ℕ → ℕ → Before → List Group → Flags → List ℕ �
 rest skip at before groups flags [] = at_end groups
 rest (suc skip) at before groups flags (b ∷ text) = rest skip (at + 1) before groups flags text
 rest zero at before groups flags (b ∷ text) =
-    elim (front b text) [
+    elim (front flags b text) [
       | fault k behind ↦ broken k (at + behind)
       | item x len ↦
           elim x [
-            | char c ↦ inside (with_unit (one_of (char_set flags.fold c))) (rest len (at + 1) Operand groups flags text)
-            | dot ↦ inside (with_unit (one_of (dot_set flags.dot_all))) (rest len (at + 1) Operand groups flags text)
-            | edge t ↦ inside (with_unit t) (rest len (at + 1) Operand groups flags text)
-            | bar ↦ inside with_bar (rest len (at + 1) Start groups flags text)
-            | setting s ↦ rest len (at + 1) Start groups (set_flags s flags) text
-            | group_start s ↦ if nat_eq (length groups) 200 then broken TooDeep at else opened (rest len (at + 1) Start (record { at = at; flags = flags } ∷ groups) (set_flags s flags) text)
-            | group_end ↦ elim groups [ [] ↦ broken StrayClose at | g ∷ gs ↦ closed (rest len (at + 1) Operand gs g.flags text) ]
+            | unit t ↦ inside (with_unit t) (rest len (at + 1) Operand groups flags text)
             | repeat n m ↦
                 elim before [
                   | Start ↦ broken NoOperand at
                   | Counted ↦ broken StackedRepeat at
                   | Operand ↦ inside (with_repeat n m) (rest len (at + 1) Counted groups flags text)
                 ]
+            | bar ↦ inside with_bar (rest len (at + 1) Start groups flags text)
+            | group_start inner ↦
+                if nat_eq (length groups) 200 then broken TooDeep at
+                else opened (rest len (at + 1) Start (record { at = at; flags = flags } ∷ groups) inner text)
+            | group_end ↦ elim groups [ [] ↦ broken StrayClose at | g ∷ gs ↦ closed (rest len (at + 1) Operand gs g.flags text) ]
+            | flags_from_here new ↦ rest len (at + 1) Start groups new text
           ]
     ]
 

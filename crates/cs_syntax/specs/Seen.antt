@@ -1,5 +1,5 @@
 -- What the code's items stand for.
-use Rattle.std.specs.Prelude.{ℕ, ◌+◌, Option, List, take, Result, Ok, Err, encode_utf8}
+use Rattle.std.specs.Prelude.{ℕ, suc, List, take, Result, Ok, Err, encode_utf8}
 use Rattle.cs_syntax.specs.Matching.{Tree, one_of, line_start, line_end, word_edge, not_word_edge}
 use Rattle.cs_syntax.specs.Fronts.{Item, Front, unit, repeat, bar, group_start, group_end, flags_from_here, item, fault, bytes_tree}
 use Rattle.cs_syntax.specs.declared.item.Unit as units
@@ -11,11 +11,11 @@ use Rattle.cs_syntax.specs.declared.fault.PatternFault.{PatternFault}
 use Rattle.cs_syntax.specs.declared.class_item.ClassItem.{ClassItem}
 use Rattle.cs_syntax.specs.Classes.{ClassFront, piece, misread, ClassChar, one, wrong}
 
--- the tree of a unit whose text begins so
+-- the tree of a unit, from its own text
 abbrev pub unit_tree : List ℕ → units.Unit → Tree
 unit_tree text (unit_of.Set set) = one_of set
 unit_tree text (unit_of.Char c) = bytes_tree (encode_utf8 c)
-unit_tree text (unit_of.Written len) = bytes_tree (take len text)
+unit_tree text unit_of.Written = bytes_tree text
 unit_tree text unit_of.LineStart = line_start
 unit_tree text unit_of.LineEnd = line_end
 unit_tree text unit_of.WordEdge = word_edge
@@ -29,9 +29,9 @@ item_seen text (item_of.GroupStart flags) = group_start flags
 item_seen text item_of.GroupEnd = group_end
 item_seen text (item_of.FlagsFromHere flags) = flags_from_here flags
 
--- what a reader of items has found at the front of the text
+-- what a reader of items has found at the front of the text; an item's own text is its first byte and those behind it
 abbrev pub front_seen : List ℕ → Result (items.Item × ℕ) Misread → Front
-front_seen text (Ok r) = item (item_seen text r.0) r.1
+front_seen text (Ok r) = item (item_seen (take (suc r.1) text) r.0) r.1
 front_seen text (Err m) = fault m.fault m.behind
 
 -- what a reader of a class has found at the front of the class's text

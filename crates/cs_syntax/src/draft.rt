@@ -1,9 +1,8 @@
 // A group that is read in part.
 ghost use Rattle.std.specs.Prelude.{◌≡◌, ◌<◌, ℕ, OnOk, IfOk, length, Option};
-ghost use Rattle.cs_syntax.specs.Matching.{rep};
-ghost use Rattle.cs_syntax.specs.Reading.{sequence};
+ghost use Rattle.cs_syntax.specs.Fronts.{sequence};
 ghost use Rattle.cs_syntax.specs.Node.{tree_of, trees_of};
-ghost use Rattle.cs_syntax.specs.Begun.{Begun, with_last_unit, with_last_branch, finished, just_begun};
+ghost use Rattle.cs_syntax.specs.Begun.{with_last_unit, with_last_repeated, with_last_branch, finished, just_begun};
 
 use crate::node::Node;
 use std::alloc::{AllocError, Global};
@@ -60,7 +59,7 @@ impl Draft {
     #[tactic(auto, using(crate::proofs::TreeLemmas::trees_last))]
     pub fn repeat(&mut self, alloc: Global, least: u32, most: Option<u32>) -> Result<(), AllocError>
         requires { 0 < length self.old.units.items }
-        ensures { OnOk result ((t : _) × (h : Begun) × (begun_of self.old ≡ with_last_unit h t) × (begun_of self.new ≡ with_last_unit h (rep t least most))) }
+        ensures { OnOk result (begun_of self.new ≡ with_last_repeated least most (begun_of self.old)) }
     {
         let unit = match self.units.pop() {
             Some(unit) => unit,

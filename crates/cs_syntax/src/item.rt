@@ -9,8 +9,8 @@ pub enum Unit {
     Set(ByteSet),
     /// A character past ASCII that an escape gives.
     Char(char),
-    /// A character past ASCII that is written in so many bytes.
-    Written(usize),
+    /// A character past ASCII, which is the item's own text.
+    Written,
     LineStart,
     LineEnd,
     WordEdge,

@@ -15,6 +15,7 @@ mod flags;
 mod front;
 mod groups;
 mod item;
+mod items;
 pub mod laws;
 mod node;
 mod numbers;
@@ -23,6 +24,7 @@ mod pattern;
 mod repeats;
 mod sign;
 mod sign_type;
+mod units;
 mod weight;
 
 pub use byte_set::ByteSet;

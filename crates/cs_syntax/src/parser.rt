@@ -1,26 +1,32 @@
 // Patterns read from text.
-ghost use Rattle.std.specs.Prelude.{◌≡◌, ◌⊎◌, ◌+◌, ◌++◌, ◌∷◌, [], ◌<◌, ◌≤◌, ℕ, OnOk, IfOk, IfErr, length, string_bytes, drop};
-ghost use Rattle.cs_syntax.specs.Items.{is_question};
-ghost use Rattle.cs_syntax.specs.Reading.{Reads, Breaks};
+ghost use Rattle.std.specs.Prelude.{◌≡◌, ◌+◌, ◌<◌, ◌≤◌, ℕ, OnOk, IfOk, IfErr, length, take, drop};
+ghost use Rattle.cs_syntax.specs.Fronts.{unit, repeat, bar, group_start, group_end, flags_from_here};
 ghost use Rattle.cs_syntax.specs.Node.{tree_of};
-ghost use Rattle.cs_syntax.specs.ParserState.{begun_of};
-ghost use Rattle.cs_syntax.specs.Begun.{just_begun};
+ghost use Rattle.cs_syntax.specs.Reading.{Reads, reading, tree};
+ghost use Rattle.cs_syntax.specs.Refusal.{IsRefused};
+ghost use Rattle.cs_syntax.specs.Seen.{unit_tree, item_seen};
+ghost use Rattle.cs_syntax.specs.Weight.{weight};
 
 use crate::before::Before;
-use crate::byte_set::ByteSet;
 use crate::draft::Draft;
 use crate::fault::{PatternError, PatternFault};
+use crate::flags::Flags;
+use crate::item::{Item, Unit};
+use crate::items::front_item;
 use crate::node::Node;
 use crate::pattern::Pattern;
-use crate::sign::sign;
-use crate::sign_type::Sign;
+use crate::units::unit_node;
 use std::alloc::{AllocError, Global};
 use std::mem;
 
-/// A group that is open: where its `(` stands, and what goes before it in the group around it.
+/// How many groups may be open at one time.
+const MOST_OPEN: usize = 200;
+
+/// A group that waits for the one in it: where its inner group begins, the flags before that, and what it has so far.
 #[derive(Drop)]
 pub struct Open {
     at: usize,
+    flags: Flags,
     outer: Draft,
 }
 
@@ -30,113 +36,183 @@ pub struct Parser {
     open: Vec<Open>,
     draft: Draft,
     before: Before,
-    fold: bool,
+    flags: Flags,
 }
 
 impl Parser {
-    ghost use Rattle.cs_syntax.specs.ParserState.{reading_from, reading_at_end, HasOperand, IsRefusal};
-    ghost use Rattle.cs_syntax.specs.Reading.{tree};
+    ghost use Rattle.cs_syntax.specs.ParserState.{reading_from, reading_at_end, state_of, at_start, HasOperand, IsRefusal, IsStop, step, goes_on};
 
-    /// Reads the item at the place, which is one byte long.
-    pub fn read_item(&mut self, alloc: Global, text: &[u8], at: usize) -> Result<(), PatternError>
-        requires inside { at < length text.now }
-        requires kept { HasOperand self.old }
-        ensures same { OnOk result (reading_from self.new text.now (at + 1) ≡ reading_from self.old text.now at) }
-        ensures still { OnOk result (HasOperand self.new) }
-        ensures refused { IfErr result (IsRefusal (reading_from self.old text.now at)) }
+    /// Nothing is read yet.
+    #[tactic(auto, unfolding(crate::specs::ParserState::state_of))]
+    fn new(alloc: Global, fold: bool) -> Parser
+        ensures { state_of result ≡ at_start fold }
     {
-        match sign(text[at]) {
-            Sign::Plain => {
-                self.draft
-                    .add(Node::Set(ByteSet::of_char(self.fold, text[at])))?;
-                self.before = Before::Operand;
-            }
-            Sign::Dot => {
-                self.draft.add(Node::Set(ByteSet::of_dot(false)))?;
-                self.before = Before::Operand;
-            }
-            Sign::Caret => {
-                self.draft.add(Node::LineStart)?;
-                self.before = Before::Operand;
-            }
-            Sign::Dollar => {
-                self.draft.add(Node::LineEnd)?;
-                self.before = Before::Operand;
-            }
-            Sign::Star => match self.before {
-                Before::Start => {
-                    return Err(PatternError {
-                        fault: PatternFault::NoOperand,
-                        at,
-                    });
-                }
-                Before::Counted => {
-                    return Err(PatternError {
-                        fault: PatternFault::StackedRepeat,
-                        at,
-                    });
-                }
-                Before::Operand => {
-                    self.draft.repeat(alloc, 0, None)?;
-                    self.before = Before::Counted;
-                }
+        Parser {
+            open: Vec::new(alloc),
+            draft: Draft::new(alloc),
+            before: Before::Start,
+            flags: Flags {
+                fold,
+                dot_all: false,
             },
-            Sign::Bar => {
-                self.draft.bar(alloc)?;
-                self.before = Before::Start;
-            }
-            Sign::Open => {
-                if is_head(text, at + 1) {
-                    return Err(PatternError {
-                        fault: PatternFault::NotInProfile,
-                        at,
-                    });
-                }
-                if self.open.len() == 200 {
-                    return Err(PatternError {
-                        fault: PatternFault::TooDeep,
-                        at,
-                    });
-                }
-                open_group(alloc, &mut self.open, &mut self.draft, at)?;
-                self.before = Before::Start;
-            }
-            Sign::Close => {
-                let Some(Open { at: _, outer }) = self.open.pop() else {
-                    return Err(PatternError {
-                        fault: PatternFault::StrayClose,
-                        at,
-                    });
-                };
-                let group = mem::replace(&mut self.draft, outer).finish()?;
-                self.draft.add(group)?;
-                self.before = Before::Operand;
-            }
-            Sign::Plus
-            | Sign::Question
-            | Sign::Brace
-            | Sign::Class
-            | Sign::Backslash
-            | Sign::Wide => {
-                return Err(PatternError {
-                    fault: PatternFault::NotInProfile,
-                    at,
-                });
+        }
+    }
+
+    #[tactic(auto, unfolding(crate::specs::ParserState::state_of))]
+    fn unit(&mut self, alloc: Global, found: Unit, own: &[u8], at: usize) -> Result<(), AllocError>
+        ensures { OnOk result (step (unit (unit_tree own.now found)) at (state_of self.old) ≡ goes_on (state_of self.new)) }
+    {
+        let node = unit_node(alloc, found, own)?;
+        self.draft.add(node)?;
+        self.before = Before::Operand;
+        Ok(())
+    }
+
+    #[tactic(auto, unfolding(crate::specs::ParserState::state_of))]
+    fn repeat(
+        &mut self,
+        alloc: Global,
+        least: u32,
+        most: Option<u32>,
+        at: usize,
+    ) -> Result<(), PatternError>
+        requires { HasOperand (state_of self.old) }
+        ensures goes_on { OnOk result (step (repeat least most) at (state_of self.old) ≡ goes_on (state_of self.new)) }
+        ensures refused { IfErr result (IsStop (step (repeat least most) at (state_of self.old)) at) }
+    {
+        match self.before {
+            Before::Start => Err(PatternError {
+                fault: PatternFault::NoOperand,
+                at,
+            }),
+            Before::Counted => Err(PatternError {
+                fault: PatternFault::StackedRepeat,
+                at,
+            }),
+            Before::Operand => {
+                self.draft.repeat(alloc, least, most)?;
+                self.before = Before::Counted;
+                Ok(())
             }
         }
+    }
+
+    #[tactic(auto, unfolding(crate::specs::ParserState::state_of))]
+    fn bar(&mut self, alloc: Global, at: usize) -> Result<(), AllocError>
+        ensures { OnOk result (step bar at (state_of self.old) ≡ goes_on (state_of self.new)) }
+    {
+        self.draft.bar(alloc)?;
+        self.before = Before::Start;
         Ok(())
+    }
+
+    /// What is read of a group waits while a group in it is read.
+    #[tactic(auto, unfolding(crate::specs::ParserState::state_of))]
+    fn open_group(&mut self, alloc: Global, flags: Flags, at: usize) -> Result<(), PatternError>
+        ensures goes_on { OnOk result (step (group_start flags) at (state_of self.old) ≡ goes_on (state_of self.new)) }
+        ensures refused { IfErr result (IsStop (step (group_start flags) at (state_of self.old)) at) }
+    {
+        if self.open.len() == MOST_OPEN {
+            return Err(PatternError {
+                fault: PatternFault::TooDeep,
+                at,
+            });
+        }
+        let outer = mem::replace(&mut self.draft, Draft::new(alloc));
+        self.open.push(Open {
+            at,
+            flags: self.flags,
+            outer,
+        })?;
+        self.before = Before::Start;
+        self.flags = flags;
+        Ok(())
+    }
+
+    #[tactic(auto, unfolding(crate::specs::ParserState::state_of))]
+    fn close_group(&mut self, at: usize) -> Result<(), PatternError>
+        ensures goes_on { OnOk result (step group_end at (state_of self.old) ≡ goes_on (state_of self.new)) }
+        ensures refused { IfErr result (IsStop (step group_end at (state_of self.old)) at) }
+    {
+        let Some(
+            Open {
+                at: _,
+                flags,
+                outer,
+            },
+        ) = self.open.pop()
+        else {
+            return Err(PatternError {
+                fault: PatternFault::StrayClose,
+                at,
+            });
+        };
+        let group = mem::replace(&mut self.draft, outer).finish()?;
+        self.draft.add(group)?;
+        self.before = Before::Operand;
+        self.flags = flags;
+        Ok(())
+    }
+
+    #[tactic(auto, unfolding(crate::specs::ParserState::state_of))]
+    fn set_flags(&mut self, flags: Flags, at: usize)
+        ensures { step (flags_from_here flags) at (state_of self.old) ≡ goes_on (state_of self.new) }
+    {
+        self.before = Before::Start;
+        self.flags = flags;
+    }
+
+    /// Takes the item at the place, whose own text is `own`.
+    fn take(&mut self, alloc: Global, item: Item, own: &[u8], at: usize) -> Result<(), PatternError>
+        requires { HasOperand (state_of self.old) }
+        ensures goes_on { OnOk result (step (item_seen own.now item) at (state_of self.old) ≡ goes_on (state_of self.new)) }
+        ensures refused { IfErr result (IsStop (step (item_seen own.now item) at (state_of self.old)) at) }
+    {
+        match item {
+            Item::Unit(found) => Ok(self.unit(alloc, found, own, at)?),
+            Item::Repeat(least, most) => self.repeat(alloc, least, most, at),
+            Item::Bar => Ok(self.bar(alloc, at)?),
+            Item::GroupStart(flags) => self.open_group(alloc, flags, at),
+            Item::GroupEnd => self.close_group(at),
+            Item::FlagsFromHere(flags) => {
+                self.set_flags(flags, at);
+                Ok(())
+            }
+        }
+    }
+
+    /// Reads the item at the place, and answers the place of the next one.
+    fn read_item(&mut self, alloc: Global, text: &[u8], at: usize) -> Result<usize, PatternError>
+        requires inside { at < length text.now }
+        requires kept { HasOperand (state_of self.old) }
+        ensures same { IfOk result (λ next. reading_from self.new text.now next ≡ reading_from self.old text.now at) }
+        ensures onward { IfOk result (λ next. (at < next) × (next ≤ length text.now)) }
+        ensures still { OnOk result (HasOperand (state_of self.new)) }
+        ensures refused { IfErr result (IsRefusal (reading_from self.old text.now at)) }
+    {
+        match front_item(self.flags, text[at], &text[at + 1..]) {
+            Ok((item, len)) => {
+                let next = at + 1 + len;
+                self.take(alloc, item, &text[at..next], at)?;
+                Ok(next)
+            }
+            Err(m) => Err(PatternError {
+                fault: m.fault,
+                at: at + m.behind,
+            }),
+        }
     }
 
     /// The pattern, where the text ends here.
     fn end(self) -> Result<Node, PatternError>
-        ensures reads { IfOk result (λ n. reading_at_end self ≡ tree (tree_of n)) }
-        ensures breaks { IfErr result (IsRefusal (reading_at_end self)) }
+        ensures reads { IfOk result (λ n. reading_at_end (state_of self) ≡ tree (tree_of n)) }
+        ensures breaks { IfErr result (IsRefusal (reading_at_end (state_of self))) }
     {
         let Parser {
             mut open,
             draft,
             before: _,
-            fold: _,
+            flags: _,
         } = self;
         if let Some(group) = open.pop() {
             return Err(PatternError {
@@ -148,36 +224,9 @@ impl Parser {
     }
 }
 
-/// Whether what follows a `(` is the head of a group.
-fn is_head(text: &[u8], after: usize) -> bool
-    ensures { result ≡ is_question (drop after text.now) }
-{
-    after < text.len() && text[after] == b'?'
-}
-
-/// What is read of a group waits while a group in it is read.
-fn open_group(
-    alloc: Global,
-    open: &mut Vec<Open>,
-    draft: &mut Draft,
-    at: usize,
-) -> Result<(), AllocError>
-    ensures waits { OnOk result (open.new.items ≡ open.old.items ++ record { at = at; outer = draft.old } ∷ []) }
-    ensures fresh { OnOk result (begun_of draft.new ≡ just_begun) }
-{
-    let outer = mem::replace(draft, Draft::new(alloc));
-    open.push(Open { at, outer })?;
-    Ok(())
-}
-
 ghost use Rattle.cs_syntax.specs.ParserState.{IsRefusal};
-ghost use Rattle.cs_syntax.specs.Reading.{reading};
-ghost use Rattle.cs_syntax.specs.Refusal.{IsRefused};
-ghost use Rattle.cs_syntax.specs.Weight.{weight};
 
 /// Reads a pattern. With `fold` a letter stands for both of its cases, until a flag says otherwise.
-///
-/// So far it takes ASCII literals, `.`, `|`, `(re)`, `*`, `^` and `$`; all else is `NotInProfile`.
 pub fn parse(alloc: Global, text: &str, fold: bool) -> Result<Pattern, PatternError>
     ensures reads { IfOk result (λ p. Reads text.now fold p) }
     ensures light { IfOk result (λ p. weight p ≤ 10000) }
@@ -198,14 +247,10 @@ fn read(alloc: Global, text: &str, fold: bool) -> Result<Node, PatternError>
     ensures breaks { IfErr result (IsRefusal (reading text.now fold)) }
 {
     let bytes = text.as_bytes();
-    let mut parser = Parser {
-        open: Vec::new(alloc),
-        draft: Draft::new(alloc),
-        before: Before::Start,
-        fold,
-    };
-    for at in 0..bytes.len() {
-        parser.read_item(alloc, bytes, at)?;
+    let mut parser = Parser::new(alloc, fold);
+    let mut at = 0;
+    'text: while at < bytes.len() {
+        at = parser.read_item(alloc, bytes, at)?;
     }
     parser.end()
 }

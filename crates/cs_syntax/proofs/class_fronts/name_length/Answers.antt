@@ -1,4 +1,4 @@
-use Rattle.std.proofs.Common.{◌≡◌, ◌+◌, false, drop, get_or, sym, ◌∙◌, ap, length, ◌-◌, arith, length-drop}
+use Rattle.std.proofs.Common.{◌≡◌, ◌+◌, false, drop, get_or, sym, ◌∙◌, ap}
 use Rattle.std.specs.Option.{option_map}
 use Rattle.std.specs.Prelude.{codes, nat_eq}
 use Rattle.std.specs.List.{starts_with}

@@ -1,4 +1,4 @@
-use Rattle.std.proofs.Common.{◌≡◌, true, false, drop, sym, ◌∙◌, ap}
+use Rattle.std.proofs.Common.{◌≡◌, true, false, sym, ◌∙◌, ap}
 use Rattle.cs_syntax.specs.ClassSets.{is_in_items}
 use Rattle.cs_syntax.specs.Classes.{items_from}
 use Rattle.cs_syntax.specs.Fronts.{is_front}

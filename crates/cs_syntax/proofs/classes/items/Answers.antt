@@ -1,10 +1,9 @@
-use Rattle.std.proofs.Common.{◌≡◌, ◌≤◌, ◌<◌, ◌+◌, ◌-◌, ◌&&◌, List, ◌∷◌, ◌++◌, [], drop, get_or, length, true, false, not, refl, sym, ◌∙◌, ap, arith, drop_of_length-le}
+use Rattle.std.proofs.Common.{◌≡◌, ◌+◌, ◌&&◌, ◌∷◌, ◌++◌, [], drop, get_or, true, false, not, sym, ◌∙◌, ap, arith, drop_of_length-le}
 use Rattle.std.specs.Prelude.{nat_eq}
 use Rattle.std.proofs.lemmas.Bool.{ne_eqb}
 use Rattle.std.proofs.lemmas.List.{drop-drop}
-use Rattle.cs_syntax.specs.ByteSet.{set_of}
 use Rattle.cs_syntax.specs.ClassSets.{is_in_items}
-use Rattle.cs_syntax.specs.Classes.{items_from, closed, failed, class_front, piece, misread}
+use Rattle.cs_syntax.specs.Classes.{items_from, class_front, piece, misread}
 use Rattle.cs_syntax.specs.ClassState.{with_items}
 use Rattle.cs_syntax.specs.declared.fault.PatternFault.TheVariants.{OpenClass}
 use Rattle.cs_syntax.proofs.ListLemmas.{here_is, tail_is, length-tail}

@@ -1,4 +1,4 @@
-use Rattle.std.proofs.Common.{◌≡◌, ◌≤◌, length, sym, ◌∙◌, arith}
+use Rattle.std.proofs.Common.{◌≤◌, length, sym, ◌∙◌, arith}
 use Rattle.cs_syntax.proofs.NodeLemmas.{tree_of-Cat}
 use Rattle.cs_syntax.proofs.TreeLemmas.{several}
 use Rattle.cs_syntax.proofs.draft.in_order.Goals as goal

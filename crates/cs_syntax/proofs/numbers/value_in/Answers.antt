@@ -1,5 +1,5 @@
 use Rattle.std.proofs.Common.{◌≡◌, ◌+◌, ◌*◌, min, drop, get_or, sym, ◌∙◌, ap, arith, drop_of_length-le}
-use Rattle.cs_syntax.specs.Numbers.{digit_value, value_after, value_in}
+use Rattle.cs_syntax.specs.Numbers.{digit_value, value_after}
 use Rattle.cs_syntax.proofs.ListLemmas.{here_is}
 use Rattle.cs_syntax.proofs.NumberLemmas.{grown_once, value_after-capped}
 use Rattle.cs_syntax.proofs.numbers.value_in.Goals as goal

@@ -1,4 +1,4 @@
-use Rattle.std.proofs.Common.{◌≡◌, ◌<◌, ◌≤◌, sym, ◌∙◌, ap, arith}
+use Rattle.std.proofs.Common.{◌≡◌, ◌≤◌, ◌∙◌, ap, arith}
 use Rattle.cs_syntax.specs.Matching.{rep}
 use Rattle.cs_syntax.specs.Node.{tree_of}
 use Rattle.cs_syntax.specs.Weight.{weight, times}

@@ -1,6 +1,5 @@
-use Rattle.std.proofs.Common.{◌≡◌, ◌||◌, ℕ, false, get_or, sym, ◌∙◌, ap, arith}
+use Rattle.std.proofs.Common.{◌||◌, false, get_or, ◌∙◌, ap, arith}
 use Rattle.cs_syntax.specs.ClassSets.{is_in_item}
-use Rattle.cs_syntax.specs.ByteSet.{set_of}
 use Rattle.cs_syntax.proofs.SetLemmas.{set_from, set_of_at}
 use Rattle.cs_syntax.proofs.byte_set.ByteSet.add.Goals as goal
 

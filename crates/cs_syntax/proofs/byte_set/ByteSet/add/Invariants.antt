@@ -1,4 +1,4 @@
-use Rattle.std.proofs.Common.{◌≡◌, ◌≤◌, ℕ, ◌<◌, ◌||◌, Bool, false, get_or}
+use Rattle.std.proofs.Common.{◌≡◌, ◌≤◌, ℕ, ◌<◌, ◌||◌, false, get_or}
 use Rattle.cs_syntax.specs.ClassSets.{is_in_item}
 use Rattle.cs_syntax.proofs.byte_set.ByteSet.add.Given as goal
 

@@ -1,5 +1,4 @@
-use Rattle.std.proofs.Common.{◌≡◌, ℕ, not, false, get_or, sym, ◌∙◌, ap, arith}
-use Rattle.cs_syntax.specs.ByteSet.{set_of}
+use Rattle.std.proofs.Common.{not, false, get_or, ◌∙◌, ap, arith}
 use Rattle.cs_syntax.proofs.SetLemmas.{set_from, set_of_at}
 use Rattle.cs_syntax.proofs.byte_set.ByteSet.complement.Goals as goal
 

@@ -1,4 +1,4 @@
-use Rattle.std.proofs.Common.{◌≡◌, ℕ, ◌<◌, Bool, false, get_or}
+use Rattle.std.proofs.Common.{◌≡◌, ℕ, ◌<◌, false, get_or}
 use Rattle.cs_syntax.specs.ByteSet.{is_in_char}
 use Rattle.cs_syntax.proofs.byte_set.ByteSet.of_char.Given as goal
 

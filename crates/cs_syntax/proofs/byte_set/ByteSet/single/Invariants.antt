@@ -1,4 +1,4 @@
-use Rattle.std.proofs.Common.{◌≡◌, ℕ, ◌<◌, Bool, false, get_or}
+use Rattle.std.proofs.Common.{◌≡◌, ℕ, ◌<◌, false}
 use Rattle.std.specs.Prelude.{MatchOption}
 use Rattle.cs_syntax.specs.Matching.{member}
 use Rattle.cs_syntax.specs.ByteSet.{IsOnlyBelow}

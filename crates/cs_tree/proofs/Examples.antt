@@ -3,7 +3,7 @@ use Rattle.std.proofs.Common.{◌≡◌, true, false, [], ◌∷◌, refl}
 use Rattle.std.specs.Prelude.{codes}
 use Rattle.cs_tree.specs.Clean.{cleaned}
 use Rattle.cs_tree.specs.Cover.{covers}
-use Rattle.cs_tree.specs.Snapshot.{elements_under}
+use Rattle.cs_tree.specs.Reached.{elements_under}
 
 dots_go : cleaned (codes "/w") (codes "a/./b/../c/") ≡ codes "/w/a/c"
 dots_go = refl

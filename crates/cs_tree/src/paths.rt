@@ -1,6 +1,8 @@
-// What a path covers.
-ghost use Rattle.std.specs.Prelude.{◌≡◌};
-ghost use Rattle.cs_tree.specs.Cover.{covers as covers', ends_element as ends_element'};
+// What a path covers, and the elements of a path.
+ghost use Rattle.std.specs.Prelude.{◌≡◌, ◌≢◌, ◌++◌, ◌∷◌, [], true, false, MatchOption, IsTrue, ◌↔◌, List, ℕ, length, ◌<◌, ◌&&◌, not};
+ghost use Rattle.cs_tree.specs.Cover.{covers as covers', ends_element as ends_element', same, slash};
+ghost use Rattle.cs_tree.specs.Snapshot.{child, stem_of, name_of, parent_of};
+ghost use Rattle.cs_tree.specs.Clean.{is_clean as is_clean', is_proper as is_proper', has_nul as has_nul'};
 
 /// Whether the path covers the name: it is the name, the name lies below it, or it is the root and
 /// the name begins with `/`. Both are compared by their bytes. Takes no memory.
@@ -21,4 +23,69 @@ fn ends_element(rest: &[u8]) -> bool
         None => true,
         Some(byte) => *byte == b'/',
     }
+}
+
+/// Whether the path is that of what the folder lists under the name.
+pub(crate) fn is_child(path: &str, folder: &str, name: &str) -> bool
+    ensures { result ≡ same (child folder.now name.now) path.now }
+{
+    let Some(rest) = after_folder(path, folder) else {
+        return false;
+    };
+    match rest.split_first() {
+        Some((first, last)) => *first == b'/' && last == name.as_bytes(),
+        None => false,
+    }
+}
+
+/// The path without the folder's text at its front, where the root has none.
+fn after_folder<'a>(path: &'a str, folder: &str) -> Option<&'a [u8]>
+    ensures { MatchOption result ((rest : List ℕ) → path.now ≢ stem_of folder.now ++ rest) (λ rest. path.now ≡ stem_of folder.now ++ rest.now) }
+{
+    if folder == "/" {
+        return Some(path.as_bytes());
+    }
+    path.as_bytes().strip_prefix(folder.as_bytes())
+}
+
+/// Whether the element is not empty, and neither `.` nor `..`.
+pub(crate) fn is_proper(element: &str) -> bool
+    ensures { result ≡ is_proper' element.now }
+{
+    !(element.is_empty() || element == ".") && element != ".."
+}
+
+/// Whether the path is absolute and below the root, and each of its elements is proper.
+pub(crate) fn is_clean(path: &str) -> bool
+    ensures { result ≡ is_clean' path.now }
+{
+    let Some(mut rest) = path.strip_prefix('/') else {
+        return false;
+    };
+    'elements: while let Some((element, later)) = rest.split_once('/') {
+        if !is_proper(element) {
+            return false;
+        }
+        rest = later;
+    }
+    is_proper(rest)
+}
+
+pub(crate) fn has_nul(text: &str) -> bool
+    ensures { result ≡ has_nul' text.now }
+{
+    text.as_bytes().iter().any(|byte| *byte == 0)
+}
+
+/// The folder that a path stands in, and its name there.
+pub(crate) fn split_name(path: &str) -> Option<(&str, &str)>
+    ensures { MatchOption result (is_clean' path.now ≡ false) (λ parts. (parts.0.now ≡ parent_of path.now) × (parts.1.now ≡ name_of path.now)) }
+{
+    let Some((front, name)) = path.rsplit_once('/') else {
+        return None;
+    };
+    if front.is_empty() {
+        return Some(("/", name));
+    }
+    Some((front, name))
 }

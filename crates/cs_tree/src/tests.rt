@@ -1,10 +1,12 @@
 // Each call once with ample memory, and readers and writers that fail in mid-stream.
 use crate::{
-    IoFault, MemSink, MemSource, Sink, Source, StdSink, StdSource, covers, read_all, write_all,
+    DiskTree, IoFault, Item, Kind, MemSink, MemSource, MemTree, PutFault, Sink, Source, StdSink,
+    StdSource, Tree, TreeFault, TreeReader, covers, read_all, write_all,
 };
-use std::io;
+use std::alloc::{AllocError, Global};
 use std::io::{Read, Write};
 use std::test::*;
+use std::{fs, io};
 
 #[test]
 fn sources_in_memory(rt: HostRuntime) {
@@ -136,4 +138,121 @@ fn covered_names(rt: HostRuntime) {
     ] {
         assert_eq!(rt; covers(path, name), want, "{path} and {name}");
     }
+}
+
+fn bytes_of(alloc: Global, text: &str) -> Result<Vec<u8>, AllocError> {
+    Vec::from_slice(alloc, text.as_bytes())
+}
+
+/// Reads the open file to its end, by a reader over the tree.
+fn rest_of<T: Tree>(alloc: Global, tree: &mut T) -> Result<Vec<u8>, IoFault> {
+    let mut reader = TreeReader::new(tree);
+    read_all(alloc, &mut reader, 100)
+}
+
+#[test]
+fn items_are_put_and_removed(rt: HostRuntime) -> Result<(), Fail> {
+    let mut tree = MemTree::new(rt.alloc(), 1)?;
+    for (path, item, answer) in [
+        ("/a", Item::Folder, Ok(())),
+        ("/b/c", Item::Folder, Err(PutFault::NoFolder)),
+        ("a", Item::Folder, Err(PutFault::BadPath)),
+        ("/", Item::Folder, Err(PutFault::BadPath)),
+        ("/a/", Item::Folder, Err(PutFault::BadPath)),
+        ("/a/../b", Item::Folder, Err(PutFault::BadPath)),
+        ("/a\0", Item::Other, Err(PutFault::BadPath)),
+        ("/a/x", Item::File(bytes_of(rt.alloc(), "one\n")?), Ok(())),
+        ("/a", Item::Other, Err(PutFault::HasEntries)),
+        ("/a", Item::Folder, Ok(())),
+        ("/a/x/y", Item::Other, Err(PutFault::NoFolder)),
+        ("/d", Item::Denied, Ok(())),
+        ("/o", Item::Other, Ok(())),
+    ] {
+        assert_eq!(rt; tree.put(path, item), answer, "{path}");
+    }
+    assert_eq!(rt; names_in(&rt, &mut tree, "/a")?.as_str(), "x ");
+    assert_eq!(rt; names_in(&rt, &mut tree, "/")?.as_str(), "a d o ");
+    assert_eq!(rt;
+        tree.entries(rt.alloc(), "/b").err(),
+        Some(TreeFault::Missing)
+    );
+    assert_eq!(rt; tree.kind("/a"), Ok(Kind::Folder));
+    assert_eq!(rt; tree.kind("/a/x"), Ok(Kind::File));
+    assert_eq!(rt; tree.kind("/o"), Ok(Kind::Other));
+    assert_eq!(rt; tree.kind("/d"), Err(TreeFault::Denied));
+    assert_eq!(rt; tree.failures(), 2);
+    assert!(rt; tree.remove("/a"));
+    assert!(rt; !tree.remove("/a"));
+    assert_eq!(rt; tree.kind("/a/x"), Err(TreeFault::Missing));
+    assert_eq!(rt; names_in(&rt, &mut tree, "/")?.as_str(), "d o ");
+    assert!(rt; tree.remove("/"));
+    assert_eq!(rt; names_in(&rt, &mut tree, "/")?.as_str(), "");
+    Ok(())
+}
+
+fn names_in<T: Tree>(rt: &HostRuntime, tree: &mut T, path: &str) -> Result<String, Fail> {
+    let listing = tree
+        .entries(rt.alloc(), path)
+        .map_err(|_| "entries was refused")?;
+    let mut names = listing.names;
+    names.sort()?;
+    let mut text = String::new(rt.alloc());
+    for name in &names {
+        text.push_str(name.as_str())?;
+        text.push(' ')?;
+    }
+    Ok(text)
+}
+
+#[test]
+fn files_are_read(rt: HostRuntime) -> Result<(), Fail> {
+    let mut tree = MemTree::new(rt.alloc(), 3)?;
+    tree.put("/f", Item::File(bytes_of(rt.alloc(), "one\n")?))?;
+    tree.put("/c", Item::Cut(bytes_of(rt.alloc(), "two\n")?))?;
+    let mut buf = [0u8; 8];
+    assert_eq!(rt; tree.read(&mut buf), Err(TreeFault::Failed));
+    assert_eq!(rt; tree.open("/f"), Ok(()));
+    assert_eq!(rt;
+        rest_of(rt.alloc(), &mut tree)?.as_slice(),
+        b"one\n".as_slice()
+    );
+    assert_eq!(rt; tree.open("/c"), Ok(()));
+    assert_eq!(rt; tree.read(&mut buf), Ok(3));
+    assert_eq!(rt; tree.kind("/f"), Ok(Kind::File));
+    assert_eq!(rt; tree.read(&mut buf), Ok(1));
+    assert_eq!(rt; &buf[..1], b"\n".as_slice());
+    assert_eq!(rt; rest_of(rt.alloc(), &mut tree).err(), Some(IoFault::Failed));
+    assert_eq!(rt; tree.open("/"), Err(TreeFault::Failed));
+    assert_eq!(rt; tree.read(&mut buf), Err(TreeFault::Failed));
+    assert_eq!(rt; tree.open("/f"), Ok(()));
+    assert!(rt; !tree.remove("/g"));
+    assert_eq!(rt; tree.read(&mut buf), Err(TreeFault::Failed));
+    Ok(())
+}
+
+#[test]
+fn the_real_disk(rt: HostRuntime) -> Result<(), Fail> {
+    let folder = "cs_tree_disk_test";
+    let file = "cs_tree_disk_test/x";
+    let _absent = fs::remove_dir_all(&rt, folder);
+    fs::create_dir(&rt, folder)?;
+    fs::create_dir(&rt, "cs_tree_disk_test/d")?;
+    fs::write(&rt, file, "abcd\n")?;
+    let mut tree = DiskTree::new(rt.clone()?);
+    assert_eq!(rt; tree.kind(folder), Ok(Kind::Folder));
+    assert_eq!(rt; tree.kind(file), Ok(Kind::File));
+    assert_eq!(rt; names_in(&rt, &mut tree, folder)?.as_str(), "d x ");
+    assert_eq!(rt; tree.open(file), Ok(()));
+    assert_eq!(rt;
+        rest_of(rt.alloc(), &mut tree)?.as_slice(),
+        b"abcd\n".as_slice()
+    );
+    assert_eq!(rt; tree.failures(), 0);
+    assert_eq!(rt; tree.kind("cs_tree_disk_test/y"), Err(TreeFault::Missing));
+    assert_eq!(rt; tree.kind("cs_tree_disk_test/x/y"), Err(TreeFault::Missing));
+    assert_eq!(rt; tree.open("cs_tree_disk_test/y"), Err(TreeFault::Missing));
+    assert_eq!(rt; tree.open(folder), Err(TreeFault::Failed));
+    assert_eq!(rt; tree.failures(), 4);
+    fs::remove_dir_all(&rt, folder)?;
+    Ok(())
 }

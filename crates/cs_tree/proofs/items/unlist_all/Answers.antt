@@ -1,0 +1,14 @@
+use Rattle.std.proofs.Common.{rules, ◌≡◌, ap, sym, map, ◌∙◌, arith}
+use Rattle.std.proofs.lemmas.List.{length-set}
+use Rattle.std.specs.Prelude.{string_bytes}
+use Rattle.cs_tree.specs.Snapshot.{unlisting}
+use Rattle.cs_tree.specs.Stored.{pair_of, unlisted_pair, item_of}
+use Rattle.cs_tree.proofs.PlaceLemmas.{changed_more}
+use Rattle.cs_tree.proofs.items.unlist_all.Goals as goal
+
+pub loop-i-preserved : goal.loop-i-preserved
+loop-i-preserved c = record {
+  whole = search rules;
+  left = let here : pair_of c.unlist.new.self ≡ unlisted_pair c.args.path.now (pair_of c.index_mut.result.now) = cc (c.unlist.ensures.path, c.unlist.ensures.item) in
+      changed_more pair_of (unlisted_pair c.args.path.now) (map pair_of c.args.items.now.items) c.loop-i.items.items c.loop-i.i c.unlist.new.self c.index_mut.result.now (omega arith) c.loop-i.invariant.left (here ∙ ap (λ s. unlisted_pair c.args.path.now (pair_of s)) c.index_mut.ensures.value);
+}

@@ -1,0 +1,57 @@
+-- What a walk of a tree finds: what it comes to from the paths that it is given, by names that are
+-- listed and not left out. docs/FORMAT.md, "Paths and names".
+use Rattle.std.specs.Prelude.{ℕ, ◌+◌, Bool, true, false, not, ◌&&◌, ◌||◌, nat_eq, nat_le, cond, if◌then◌else◌, List, [], ◌∷◌, ◌++◌, length, drop, Option, None, option_map, filter_map}
+use Rattle.std.specs.List.{list_any}
+use Rattle.std.specs.FinMap as map
+use Rattle.cs_tree.specs.PathSet as set
+use Rattle.cs_tree.specs.Cover.{bytes_cmp, Paths, slash, same, covers}
+use Rattle.cs_tree.specs.Clean.{elements}
+use Rattle.cs_tree.specs.Snapshot.{Snapshot, Item, file, item_at, child, lists, name_of}
+
+-- ---- what is left out: a name that begins with `.`, `#` or `~`, or ends with `~`
+
+abbrev pub ends_in_tilde : List ℕ → Bool
+ends_in_tilde [] = false
+ends_in_tilde (b ∷ []) = nat_eq b 126
+ends_in_tilde (b ∷ c ∷ rest) = ends_in_tilde (c ∷ rest)
+
+abbrev pub is_left_out : List ℕ → Bool
+is_left_out [] = false
+is_left_out (b ∷ rest) = nat_eq b 46 || (nat_eq b 35 || (nat_eq b 126 || ends_in_tilde (b ∷ rest)))
+
+-- the elements of a name after those of a path that covers it
+abbrev pub elements_under : List ℕ → List ℕ → List (List ℕ)
+elements_under path name =
+    if same path name then [] else elements (drop (if same path (slash ∷ []) then 1 else length path + 1) name)
+
+-- ---- what is reached
+
+-- the longest path that is looked at
+abbrev pub longest_path : ℕ
+longest_path = 4095
+
+-- each element is listed in the folder that it stands in, and not left out
+abbrev pub leads : Snapshot → List ℕ → List (List ℕ) → Bool
+leads tree at [] = true
+leads tree at (name ∷ names) =
+    not (is_left_out name) && (nat_le (length at) longest_path && (lists (item_at tree at) name && leads tree (child at name) names))
+
+abbrev pub reaches : Snapshot → List ℕ → List ℕ → Bool
+reaches tree path name = covers path name && (not (is_left_out (name_of path)) && leads tree path (elements_under path name))
+
+-- whether a walk from the paths comes to the name
+abbrev pub is_reached : Snapshot → Paths → List ℕ → Bool
+is_reached tree paths name = list_any (λ path. reaches tree path name) (set.items paths)
+
+module _ {X : Type 0} (read : List ℕ → Option X) where
+  abbrev pub read_item : Item → Option X
+  read_item (file bytes) = read bytes
+  read_item _ = None
+
+  -- what is read of a file that a walk comes to
+  abbrev pub found_at : Snapshot → Paths → List ℕ → Option X
+  found_at tree paths name = cond (is_reached tree paths name && nat_le (length name) longest_path) (read_item (item_at tree name)) None
+
+  -- the files that a walk comes to and that can be read, with what is read of them
+  abbrev pub found : Snapshot → Paths → map.FinMap bytes_cmp X
+  found tree paths = map.from_entries (filter_map (λ name. option_map (λ (x : X). (name, x)) (found_at tree paths name)) (map.keys tree))

@@ -10,5 +10,6 @@ pub mod Printing
 pub mod ReadingLemmas
 pub mod ReportLemmas
 pub mod ReportedLemmas
+pub mod SearchesLemmas
 pub mod TestingLemmas
 pub mod WordsLemmas

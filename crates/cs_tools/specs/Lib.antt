@@ -2,6 +2,8 @@
 pub mod Lines
 pub mod Report
 pub mod Searched
+pub mod Searches
+pub mod Cgrep
 pub mod Words
 pub mod Jobs
 pub mod Messages
@@ -10,4 +12,5 @@ pub mod Rest
 pub mod Testing
 pub mod Buffer
 pub mod Stops
+pub mod Searching
 pub mod Settings

@@ -1,6 +1,8 @@
 // Why a tool refuses.
+use crate::grep_fault::GrepFault;
 use crate::index_fault::IndexFault;
-use cs_syntax::PatternError;
+use cs_syntax::{PatternError, PatternFault};
+use cs_tree::IoFault;
 use std::alloc::{AllocError, AllocFailed};
 use thiserror::Error;
 
@@ -72,6 +74,61 @@ pub enum ToolFault {
     /// A growth was refused.
     #[error("out of memory")]
     Memory,
+}
+
+/// A refused write, and want of memory in one.
+impl From<IoFault> for ToolFault {
+    ghost use Rattle.std.specs.Prelude.{◌≡◌};
+    ghost use Rattle.cs_tools.specs.Cgrep.{written_fault};
+
+    ghost from_gives = { λ io fault. fault ≡ written_fault io };
+
+    fn from(io: IoFault) -> ToolFault {
+        match io {
+            IoFault::Failed => ToolFault::Write,
+            IoFault::Memory => ToolFault::Memory,
+        }
+    }
+}
+
+impl From<GrepFault> for ToolFault {
+    ghost use Rattle.std.specs.Prelude.{◌≡◌};
+    ghost use Rattle.cs_tools.specs.Cgrep.{searched_fault};
+
+    ghost from_gives = { λ grep fault. fault ≡ searched_fault grep };
+
+    fn from(grep: GrepFault) -> ToolFault {
+        match grep {
+            GrepFault::Write => ToolFault::Write,
+            GrepFault::Memory => ToolFault::Memory,
+        }
+    }
+}
+
+impl From<AllocError> for ToolFault {
+    ghost use Rattle.std.specs.Prelude.{◌≡◌};
+    ghost use Rattle.cs_tools.specs.declared.fault.ToolFault.TheVariants.{Memory};
+
+    ghost from_gives = { λ _ fault. fault ≡ Memory };
+
+    fn from(_refused: AllocError) -> ToolFault {
+        ToolFault::Memory
+    }
+}
+
+/// A pattern that is refused. Want of memory is its own fault.
+impl From<PatternError> for ToolFault {
+    ghost use Rattle.std.specs.Prelude.{◌≡◌};
+    ghost use Rattle.cs_tools.specs.Cgrep.{pattern_fault};
+
+    ghost from_gives = { λ error fault. fault ≡ pattern_fault error };
+
+    fn from(error: PatternError) -> ToolFault {
+        match error.fault {
+            PatternFault::Memory => ToolFault::Memory,
+            _ => ToolFault::Pattern(error),
+        }
+    }
 }
 
 /// Why `cindex` refuses a job. A refused job leaves the index as it was.

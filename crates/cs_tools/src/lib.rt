@@ -16,7 +16,9 @@ mod options;
 mod reading;
 mod reason;
 mod report;
+mod searcher;
 mod settings;
+mod status;
 mod stop;
 mod tally;
 mod words;
@@ -29,6 +31,7 @@ pub use jobs::{GrepJob, IndexJob, Job, SearchJob, Style, Tool};
 pub use messages::{fault_line, message, skip_line};
 pub use reason::Reason;
 pub use report::{MOST_SEARCHED, grep};
+pub use status::Status;
 pub use words::read_words;
 
 #[cfg(test)]

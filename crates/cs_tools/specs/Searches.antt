@@ -1,0 +1,87 @@
+-- What a tool prints and answers of the inputs that it searches, one after another.
+-- README.md, "What is printed".
+use Rattle.std.specs.Prelude.{ℕ, ◌≡◌, Bool, true, false, ◌||◌, List, [], ◌∷◌, ◌++◌, codes, Option, Some, None, option_map, Result, Ok, Err}
+use Rattle.cs_tree.specs.Told.{Told, Grows}
+use Rattle.cs_tree.specs.Snapshot.{Snapshot, item_at}
+use Rattle.cs_tree.specs.Trees.{opening_of}
+use Rattle.cs_tree.specs.declared.fault.TreeFault.{TreeFault}
+use Rattle.cs_tree.specs.declared.fault.TreeFault.TheVariants as tree
+use Rattle.cs_tools.specs.declared.jobs.Tool.{Tool}
+use Rattle.cs_tools.specs.declared.jobs.Style.{Style}
+use Rattle.cs_tools.specs.declared.fault.FileFault.{FileFault}
+use Rattle.cs_tools.specs.declared.fault.FileFault.TheVariants.{Missing, Denied, Failed, InputTooLong}
+use Rattle.cs_tools.specs.declared.grep_fault.ReadFault.{ReadFault}
+use Rattle.cs_tools.specs.declared.grep_fault.ReadFault.TheVariants.{Read, TooLong}
+use Rattle.cs_tools.specs.Report.{Report}
+use Rattle.cs_tools.specs.Searched.{told_report}
+use Rattle.cs_tools.specs.Messages.{fault_line_of}
+
+-- the fault of an input as that of a file
+abbrev pub left_fault : ReadFault → FileFault
+left_fault Read = Failed
+left_fault TooLong = InputTooLong
+
+-- the fault of a file that is not opened
+abbrev pub open_fault : TreeFault → FileFault
+open_fault tree.Missing = Missing
+open_fault tree.Denied = Denied
+open_fault tree.Failed = Failed
+open_fault tree.Memory = Failed -- never: a tree does not hold this fault
+
+-- what is printed on both outputs, and whether some line matched
+pub record Printed : Type 0 where
+  pub output : List ℕ
+  pub errors : List ℕ
+  pub matched : Bool
+
+abbrev pub fault_text : Tool → List ℕ → Option FileFault → List ℕ
+fault_text tool name None = []
+fault_text tool name (Some fault) = fault_line_of tool name fault
+
+-- the report of an input with this name, and the line of its fault
+abbrev pub printed_of : Tool → List ℕ → Report ReadFault → Printed
+printed_of tool name report = record {
+  output = report.output;
+  errors = fault_text tool name (option_map left_fault report.fault);
+  matched = report.matched;
+}
+
+module _ (most : ℕ) (tool : Tool) (style : Style) (finds : List ℕ → Bool) where
+  -- of an input that tells this
+  unfoldable pub input_printed : List ℕ → Told → Printed
+  input_printed name told = printed_of tool name (told_report most style name finds told)
+
+  -- of what was opened, or refused, at this name
+  abbrev pub opened_printed : List ℕ → Result Told TreeFault → Printed
+  opened_printed name (Ok told) = input_printed name told
+  opened_printed name (Err fault) = record { output = []; errors = fault_line_of tool name (open_fault fault); matched = false }
+
+  -- of what stands in the tree at this name
+  unfoldable pub file_printed : Snapshot → List ℕ → Printed
+  file_printed tree name = opened_printed name (opening_of (item_at tree name))
+
+-- one after the other
+abbrev pub then : Printed → Printed → Printed
+then first next = record {
+  output = first.output ++ next.output;
+  errors = first.errors ++ next.errors;
+  matched = first.matched || next.matched;
+}
+
+abbrev pub nothing : Printed
+nothing = record { output = []; errors = []; matched = false }
+
+-- of inputs with these names, in their order
+unfoldable pub all_printed : (List ℕ → Printed) → List (List ℕ) → Printed
+all_printed printed [] = nothing
+all_printed printed (name ∷ names) = then (printed name) (all_printed printed names)
+
+-- this was printed, and the answer is its mark
+abbrev pub IsPrinted : Printed → Option (List ℕ) → Option (List ℕ) → Option (List ℕ) → Option (List ℕ) → Bool → Type 0
+IsPrinted printed out out' err err' matched =
+    Grows out out' printed.output × Grows err err' printed.errors × (matched ≡ printed.matched)
+
+-- that, where what was searched tells its bytes
+abbrev pub Prints : Option Printed → Option (List ℕ) → Option (List ℕ) → Option (List ℕ) → Option (List ℕ) → Bool → Type 0
+Prints None out out' err err' matched = Unit {0}
+Prints (Some printed) out out' err err' matched = IsPrinted printed out out' err err' matched

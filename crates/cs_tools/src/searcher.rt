@@ -1,0 +1,160 @@
+// What a tool searches its inputs with.
+ghost use Rattle.std.specs.Prelude.{◌≡◌, ◌≢◌, ℕ, Bool, List, IfOk, OnOk, IsOkUnless, option_map, map, string_bytes};
+ghost use Rattle.cs_match.specs.Finding.{Decides};
+ghost use Rattle.cs_tree.specs.Told.{Grows};
+ghost use Rattle.cs_tools.specs.Cgrep.{WritesCounted, failures_after};
+ghost use Rattle.cs_tools.specs.Messages.{fault_line_of};
+ghost use Rattle.cs_tools.specs.Searches.{Prints, input_printed, file_printed, all_printed, left_fault, open_fault};
+
+use cs_match::{Matcher, Program};
+use cs_tree::{Sink, Source, Tree, TreeFault, TreeReader, write_all};
+use std::alloc::{AllocError, Global};
+
+use crate::buffer::LineBuffer;
+use crate::fault::{FileFault, ToolFault};
+use crate::form::Form;
+use crate::grep_fault::ReadFault;
+use crate::jobs::{Style, Tool};
+use crate::messages::fault_line;
+use crate::report::{MOST_SEARCHED, grep_within};
+
+/// A tool's matcher and read buffer, which serve for one input after another.
+#[derive(Drop)]
+pub(crate) struct Searcher<'p> {
+    alloc: Global,
+    tool: Tool,
+    style: Style,
+    matcher: Matcher<'p>,
+    buffer: LineBuffer,
+}
+
+impl<'p> Searcher<'p> {
+    ghost use Rattle.cs_tools.specs.Searching.{IsKept};
+
+    pub(crate) fn new(
+        alloc: Global,
+        tool: Tool,
+        style: Style,
+        program: &'p Program,
+    ) -> Result<Searcher<'p>, AllocError>
+        ensures tool { IfOk result (λ searcher. searcher.tool ≡ tool) }
+        ensures style { IfOk result (λ searcher. searcher.style ≡ style) }
+        ensures matcher { IfOk result (λ searcher. searcher.matcher ≡ program.now) }
+    {
+        let matcher = Matcher::new(alloc, program)?;
+        let buffer = LineBuffer::new(alloc)?;
+        Ok(Searcher {
+            alloc,
+            tool,
+            style,
+            matcher,
+            buffer,
+        })
+    }
+
+    /// Prints what is found in an input, and the line of its fault. Answers whether some line matched.
+    pub(crate) fn search<R: Source, O: Sink, E: Sink>(
+        &mut self,
+        name: &str,
+        input: &mut R,
+        out: &mut O,
+        err: &mut E,
+    ) -> Result<bool, ToolFault>
+        ensures prints { IfOk result (λ matched. (finds : List ℕ → Bool) → Decides finds self.old.matcher →
+            Prints (option_map (input_printed MOST_SEARCHED self.old.tool self.old.style finds name.now) (R.told input.old))
+                (O.taken out.old) (O.taken out.new) (E.taken err.old) (E.taken err.new) matched) }
+        ensures writes { WritesCounted result (O.failed out.old) (O.failed out.new) (E.failed err.old) (E.failed err.new) }
+        ensures kept { IsKept self.old self.new }
+        ensures keeps { R.Keeps input.old input.new }
+    {
+        let form = Form {
+            name,
+            style: self.style,
+        };
+        let answer = grep_within(&form, input, MOST_SEARCHED, &mut self.buffer, &mut self.matcher, out)?;
+        if let Some(fault) = answer.fault {
+            self.print_fault(name, of_input(fault), err)?;
+        }
+        Ok(answer.matched)
+    }
+
+    /// Prints what is found in what stands in the tree at the name, and the line of its fault.
+    pub(crate) fn search_file<T: Tree, O: Sink, E: Sink>(
+        &mut self,
+        tree: &mut T,
+        name: &str,
+        out: &mut O,
+        err: &mut E,
+    ) -> Result<bool, ToolFault>
+        ensures prints { IfOk result (λ matched. (finds : List ℕ → Bool) → Decides finds self.old.matcher →
+            Prints (option_map (λ tree. file_printed MOST_SEARCHED self.old.tool self.old.style finds tree name.now) (T.snapshot tree.old))
+                (O.taken out.old) (O.taken out.new) (E.taken err.old) (E.taken err.new) matched) }
+        ensures writes { WritesCounted result (O.failed out.old) (O.failed out.new) (E.failed err.old) (E.failed err.new) }
+        ensures kept { IsKept self.old self.new }
+        ensures keeps { T.snapshot tree.new ≡ T.snapshot tree.old }
+    {
+        if let Err(fault) = tree.open(name) {
+            let fault = of_tree(fault)?;
+            self.print_fault(name, fault, err)?;
+            return Ok(false);
+        }
+        let mut reader = TreeReader::new(tree);
+        let matched = self.search(name, &mut reader, out, err)?;
+        Ok(matched)
+    }
+
+    /// The same for one name after the other. Answers whether some line of some file matched.
+    pub(crate) fn search_files<T: Tree, O: Sink, E: Sink>(
+        &mut self,
+        tree: &mut T,
+        names: &[String],
+        out: &mut O,
+        err: &mut E,
+    ) -> Result<bool, ToolFault>
+        ensures prints { IfOk result (λ matched. (finds : List ℕ → Bool) → Decides finds self.old.matcher →
+            Prints (option_map (λ tree. all_printed (file_printed MOST_SEARCHED self.old.tool self.old.style finds tree) (map string_bytes names.now)) (T.snapshot tree.old))
+                (O.taken out.old) (O.taken out.new) (E.taken err.old) (E.taken err.new) matched) }
+        ensures writes { WritesCounted result (O.failed out.old) (O.failed out.new) (E.failed err.old) (E.failed err.new) }
+        ensures kept { IsKept self.old self.new }
+        ensures keeps { T.snapshot tree.new ≡ T.snapshot tree.old }
+    {
+        let mut matched = false;
+        for name in names {
+            matched |= self.search_file(tree, name.as_str(), out, err)?;
+        }
+        Ok(matched)
+    }
+
+    /// The line of a fault.
+    fn print_fault<E: Sink>(&self, name: &str, fault: FileFault, err: &mut E) -> Result<(), ToolFault>
+        ensures written { OnOk result (Grows (E.taken err.old) (E.taken err.new) (fault_line_of self.now.tool name.now fault)) }
+        ensures failed { E.failed err.new ≡ failures_after result (E.failed err.old) }
+    {
+        let line = fault_line(self.alloc, self.tool, name, fault)?;
+        write_all(err, line.as_bytes())?;
+        Ok(())
+    }
+}
+
+/// The fault of an input as that of a file.
+fn of_input(fault: ReadFault) -> FileFault
+    ensures { result ≡ left_fault fault }
+{
+    match fault {
+        ReadFault::Read => FileFault::Failed,
+        ReadFault::TooLong => FileFault::InputTooLong,
+    }
+}
+
+/// The fault of a file that is not opened. Want of memory is the tool's.
+fn of_tree(fault: TreeFault) -> Result<FileFault, ToolFault>
+    ensures file { IfOk result (λ file. (file ≡ open_fault fault) × (fault ≢ TreeFault.Memory)) }
+    ensures memory { IsOkUnless result ToolFault.Memory }
+{
+    match fault {
+        TreeFault::Missing => Ok(FileFault::Missing),
+        TreeFault::Denied => Ok(FileFault::Denied),
+        TreeFault::Failed => Ok(FileFault::Failed),
+        TreeFault::Memory => Err(ToolFault::Memory),
+    }
+}

@@ -11,8 +11,8 @@ use Rattle.cs_syntax.specs.Groups.{group}
 use Rattle.cs_syntax.specs.Escapes.{escape}
 use Rattle.cs_syntax.specs.Classes.{class}
 use Rattle.cs_syntax.specs.declared.flags.Flags.{Flags}
-use Rattle.cs_syntax.specs.declared.sign_type.Sign.{Sign}
-use Rattle.cs_syntax.specs.declared.sign_type.Sign.TheVariants.{Star, Plus, Question, Brace, Dot, Caret, Dollar, Bar, Open, Close, Class, Backslash, Wide, Plain}
+use Rattle.cs_syntax.specs.declared.sign.Sign.{Sign}
+use Rattle.cs_syntax.specs.declared.sign.Sign.TheVariants.{Star, Plus, Question, Brace, Dot, Caret, Dollar, Bar, Open, Close, Class, Backslash, Wide, Plain}
 
 -- the byte stands behind the first one of a character past ASCII
 abbrev pub is_continuation : ℕ → Bool

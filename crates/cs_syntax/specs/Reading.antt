@@ -8,7 +8,7 @@ use Rattle.cs_syntax.specs.declared.flags.Flags.{Flags}
 use Rattle.cs_syntax.specs.declared.before.Before.{Before}
 use Rattle.cs_syntax.specs.declared.before.Before.TheVariants.{Start, Operand, Counted}
 use Rattle.cs_syntax.specs.declared.fault.PatternFault.{PatternFault}
-use Rattle.cs_syntax.specs.declared.fault.PatternFault.TheVariants.{NoOperand, StackedRepeat, OpenGroup, StrayClose, TooDeep}
+use Rattle.cs_syntax.specs.declared.fault.PatternFault.TheVariants.{NoOperand, StackedRepeat, OpenGroup, StrayClose, TooDeep, TooLarge, Memory}
 
 -- A group from some place in it up to its `)`: the units up to the next bar, the branches after that bar,
 -- and the repeats that stand at the front, for what goes before them.
@@ -127,3 +127,9 @@ IsDecided text fold =
     × ((t u : Tree) → Reads text fold t → Reads text fold u → t ≡ u)
     × ((k j : PatternFault) (at by : ℕ) → Breaks text fold k at → Breaks text fold j by → (k ≡ j) × (at ≡ by))
     × ((t : Tree) (k : PatternFault) (at : ℕ) → Reads text fold t → Breaks text fold k at → ⊥)
+
+-- the faults that a text can have: all but those of the weight and of memory
+abbrev pub IsTextFault : PatternFault → Type 0
+IsTextFault TooLarge = ⊥
+IsTextFault Memory = ⊥
+IsTextFault _ = Unit {0}

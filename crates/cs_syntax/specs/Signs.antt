@@ -1,7 +1,7 @@
 -- What a byte means at the front of an item.
 use Rattle.std.specs.Prelude.{ℕ, nat_eq, nat_le, if◌then◌else◌}
-use Rattle.cs_syntax.specs.declared.sign_type.Sign.{Sign}
-use Rattle.cs_syntax.specs.declared.sign_type.Sign.TheVariants.{Star, Plus, Question, Brace, Dot, Caret, Dollar, Bar, Open, Close, Class, Backslash, Wide, Plain}
+use Rattle.cs_syntax.specs.declared.sign.Sign.{Sign}
+use Rattle.cs_syntax.specs.declared.sign.Sign.TheVariants.{Star, Plus, Question, Brace, Dot, Caret, Dollar, Bar, Open, Close, Class, Backslash, Wide, Plain}
 
 unfoldable pub sign_of : ℕ → Sign
 sign_of b =

@@ -1,5 +1,5 @@
 // Sets of bytes.
-ghost use Rattle.std.specs.Prelude.{◌≡◌, ◌≢◌, ℕ, List, Bool, true, Option, IfSome, IfNone, length};
+ghost use Rattle.std.specs.Prelude.{⊤, ◌≡◌, ◌≢◌, ℕ, List, Bool, true, Option, IfSome, IfNone, length};
 ghost use Rattle.cs_syntax.specs.Matching.{member};
 ghost use Rattle.std.specs.Prelude.{◌<◌};
 ghost use Rattle.std.specs.Prelude.{Bool, false, not, ◌||◌};
@@ -26,6 +26,10 @@ impl Model for ByteSet {
 }
 
 impl Clone for ByteSet {
+    ghost is_clone = { λ set copy. copy ≡ set };
+
+    ghost is_infallible = { λ _. ⊤ };
+
     fn clone(&self) -> Result<Self, std::alloc::AllocError> {
         Ok(*self)
     }

@@ -11,8 +11,7 @@ use crate::flags::Flags;
 use crate::groups::group;
 use crate::item::{Item, Misread, Unit};
 use crate::repeats::{brace, lazy};
-use crate::sign::sign;
-use crate::sign_type::Sign;
+use crate::sign::Sign;
 
 /// Whether the byte stands behind the first one of a character past ASCII.
 fn is_continuation(byte: u8) -> bool
@@ -35,7 +34,7 @@ pub fn front_item(flags: Flags, byte: u8, rest: &[u8]) -> Result<(Item, usize), 
     ensures value { front_seen (byte ∷ rest.now) result ≡ front flags byte rest.now }
     ensures within { MatchResult result (λ r. r.1 ≤ length rest.now) (λ m. m.behind ≤ length rest.now + 1) }
 {
-    match sign(byte) {
+    match Sign::of(byte) {
         Sign::Star => Ok(lazy(0, None, 0, rest)),
         Sign::Plus => Ok(lazy(1, None, 0, rest)),
         Sign::Question => Ok(lazy(0, Some(1), 0, rest)),

@@ -23,7 +23,6 @@ mod parser;
 mod pattern;
 mod repeats;
 mod sign;
-mod sign_type;
 mod units;
 mod weight;
 
@@ -32,3 +31,6 @@ pub use fault::{PatternError, PatternFault};
 pub use node::Node;
 pub use parser::parse;
 pub use pattern::Pattern;
+
+#[cfg(test)]
+mod tests;

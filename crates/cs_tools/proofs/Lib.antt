@@ -2,6 +2,7 @@ mod Examples
 mod WordExamples
 pub mod BlockLemmas
 pub mod BufferLemmas
+pub mod CgrepLemmas
 pub mod LinesLemmas
 pub mod MessageLemmas
 pub mod NewlineLemmas

@@ -15,8 +15,6 @@ use Rattle.cs_tree.specs.Told.{Told, risen}
 use Rattle.cs_tree.specs.Snapshot.{Snapshot}
 use Rattle.cs_tools.specs.declared.jobs.Tool.TheVariants.{Cgrep}
 use Rattle.cs_tools.specs.declared.jobs.GrepJob.{GrepJob}
-use Rattle.cs_tools.specs.declared.status.Status.{Status}
-use Rattle.cs_tools.specs.declared.status.Status.TheVariants.{Matched, NoMatch}
 use Rattle.cs_tools.specs.declared.fault.ToolFault.{ToolFault}
 use Rattle.cs_tools.specs.declared.fault.ToolFault.TheVariants.{Pattern, FilePattern, NoIndex, BadIndex, Write, Memory}
 use Rattle.cs_tools.specs.Searches.{Printed, input_printed, file_printed, all_printed}
@@ -29,10 +27,6 @@ unfoldable pub cgrep_printed : ℕ → GrepJob → (List ℕ → Bool) → Optio
 cgrep_printed most job finds tree input =
     if job.standard then option_map (input_printed most Cgrep job.style finds standard_name) input
     else option_map (λ (tree : Snapshot). all_printed (file_printed most Cgrep job.style finds tree) (map string_bytes job.files.items)) tree
-
-abbrev pub status_of : Bool → Status
-status_of true = Matched
-status_of false = NoMatch
 
 -- the text reads as a tree that is not too heavy
 abbrev pub IsAccepted : List ℕ → Bool → Type 0
@@ -71,6 +65,13 @@ refused_at fault error = Pattern error
 -- want of memory is a fault of its own
 abbrev pub pattern_fault : PatternError → ToolFault
 pattern_fault error = refused_at error.fault error
+
+-- A search is refused for a write that has failed, or for want of memory.
+abbrev pub IsSearchFault : {A : Type 0} → Result A ToolFault → Type 0
+IsSearchFault (Ok answer) = Unit {0}
+IsSearchFault (Err Write) = Unit {0}
+IsSearchFault (Err Memory) = Unit {0}
+IsSearchFault (Err fault) = ⊥
 
 -- the failures of an output after an answer: one more where it is that a write has failed
 abbrev pub failures_after : {A : Type 0} → Result A ToolFault → ℕ → ℕ

@@ -12,6 +12,8 @@ use Rattle.cs_tools.specs.declared.fault.FileFault.{FileFault}
 use Rattle.cs_tools.specs.declared.fault.FileFault.TheVariants.{Missing, Denied, Failed, InputTooLong}
 use Rattle.cs_tools.specs.declared.grep_fault.ReadFault.{ReadFault}
 use Rattle.cs_tools.specs.declared.grep_fault.ReadFault.TheVariants.{Read, TooLong}
+use Rattle.cs_tools.specs.declared.status.Status.{Status}
+use Rattle.cs_tools.specs.declared.status.Status.TheVariants.{Matched, NoMatch}
 use Rattle.cs_tools.specs.Report.{Report}
 use Rattle.cs_tools.specs.Searched.{told_report}
 use Rattle.cs_tools.specs.Messages.{fault_line_of}
@@ -85,3 +87,13 @@ IsPrinted printed out out' err err' matched =
 abbrev pub Prints : Option Printed → Option (List ℕ) → Option (List ℕ) → Option (List ℕ) → Option (List ℕ) → Bool → Type 0
 Prints None out out' err err' matched = Unit {0}
 Prints (Some printed) out out' err err' matched = IsPrinted printed out out' err err' matched
+
+abbrev pub status_of : Bool → Status
+status_of true = Matched
+status_of false = NoMatch
+
+-- that, with the mark as a status
+abbrev pub PrintsStatus : Option Printed → Option (List ℕ) → Option (List ℕ) → Option (List ℕ) → Option (List ℕ) → Status → Type 0
+PrintsStatus None out out' err err' status = Unit {0}
+PrintsStatus (Some printed) out out' err err' status =
+    Grows out out' printed.output × Grows err err' printed.errors × (status ≡ status_of printed.matched)

@@ -17,6 +17,7 @@ mod reading;
 mod reason;
 mod report;
 mod searcher;
+mod searching;
 mod settings;
 mod status;
 mod stop;
@@ -31,6 +32,7 @@ pub use jobs::{GrepJob, IndexJob, Job, SearchJob, Style, Tool};
 pub use messages::{fault_line, message, skip_line};
 pub use reason::Reason;
 pub use report::{MOST_SEARCHED, grep};
+pub use searching::cgrep;
 pub use status::Status;
 pub use words::read_words;
 

@@ -2,7 +2,7 @@
 ghost use Rattle.std.specs.Prelude.{◌≡◌, ◌≢◌, ℕ, Bool, List, IfOk, OnOk, IsOkUnless, option_map, map, string_bytes};
 ghost use Rattle.cs_match.specs.Finding.{Decides};
 ghost use Rattle.cs_tree.specs.Told.{Grows};
-ghost use Rattle.cs_tools.specs.Cgrep.{WritesCounted, failures_after};
+ghost use Rattle.cs_tools.specs.Cgrep.{WritesCounted, IsSearchFault, failures_after};
 ghost use Rattle.cs_tools.specs.Messages.{fault_line_of};
 ghost use Rattle.cs_tools.specs.Searches.{Prints, input_printed, file_printed, all_printed, left_fault, open_fault};
 
@@ -64,6 +64,7 @@ impl<'p> Searcher<'p> {
             Prints (option_map (input_printed MOST_SEARCHED self.old.tool self.old.style finds name.now) (R.told input.old))
                 (O.taken out.old) (O.taken out.new) (E.taken err.old) (E.taken err.new) matched) }
         ensures writes { WritesCounted result (O.failed out.old) (O.failed out.new) (E.failed err.old) (E.failed err.new) }
+        ensures only { IsSearchFault result }
         ensures kept { IsKept self.old self.new }
         ensures keeps { R.Keeps input.old input.new }
     {
@@ -90,6 +91,7 @@ impl<'p> Searcher<'p> {
             Prints (option_map (λ tree. file_printed MOST_SEARCHED self.old.tool self.old.style finds tree name.now) (T.snapshot tree.old))
                 (O.taken out.old) (O.taken out.new) (E.taken err.old) (E.taken err.new) matched) }
         ensures writes { WritesCounted result (O.failed out.old) (O.failed out.new) (E.failed err.old) (E.failed err.new) }
+        ensures only { IsSearchFault result }
         ensures kept { IsKept self.old self.new }
         ensures keeps { T.snapshot tree.new ≡ T.snapshot tree.old }
     {
@@ -115,6 +117,7 @@ impl<'p> Searcher<'p> {
             Prints (option_map (λ tree. all_printed (file_printed MOST_SEARCHED self.old.tool self.old.style finds tree) (map string_bytes names.now)) (T.snapshot tree.old))
                 (O.taken out.old) (O.taken out.new) (E.taken err.old) (E.taken err.new) matched) }
         ensures writes { WritesCounted result (O.failed out.old) (O.failed out.new) (E.failed err.old) (E.failed err.new) }
+        ensures only { IsSearchFault result }
         ensures kept { IsKept self.old self.new }
         ensures keeps { T.snapshot tree.new ≡ T.snapshot tree.old }
     {
@@ -129,6 +132,7 @@ impl<'p> Searcher<'p> {
     fn print_fault<E: Sink>(&self, name: &str, fault: FileFault, err: &mut E) -> Result<(), ToolFault>
         ensures written { OnOk result (Grows (E.taken err.old) (E.taken err.new) (fault_line_of self.now.tool name.now fault)) }
         ensures failed { E.failed err.new ≡ failures_after result (E.failed err.old) }
+        ensures only { IsSearchFault result }
     {
         let line = fault_line(self.alloc, self.tool, name, fault)?;
         write_all(err, line.as_bytes())?;

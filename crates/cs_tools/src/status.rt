@@ -1,3 +1,5 @@
+ghost use Rattle.std.specs.Prelude.{◌≡◌};
+
 /// How a search ends.
 #[derive(Clone, Copy, Debug, PartialEq, Eq, Drop)]
 pub enum Status {
@@ -5,4 +7,19 @@ pub enum Status {
     Matched,
     /// None did.
     NoMatch,
+}
+
+impl Status {
+    ghost use Rattle.cs_tools.specs.Searches.{status_of};
+
+    /// How a search ends in which some line matched, or none.
+    pub(crate) fn of(matched: bool) -> Status
+        ensures { result ≡ status_of matched }
+    {
+        if matched {
+            Status::Matched
+        } else {
+            Status::NoMatch
+        }
+    }
 }

@@ -2,17 +2,21 @@
 use Rattle.std.proofs.Common.{◌≡◌, ℕ, Bool, true, false, List, [], ◌∷◌, ◌++◌, refl, sym, ap, subst, ◌∙◌, Option, Some, None, Result, Ok, Err, ◌≢◌, ◌||◌, append_assoc, append-nil, ◌+◌, ◌<◌, length, take, get_or}
 use Rattle.std.specs.Prelude.{option_map, map}
 use Rattle.std.proofs.lemmas.List.{take_more, map-append}
+use Rattle.std.proofs.lemmas.List.Concat.{flat_map-append}
 use Rattle.cs_tree.specs.Told.{Told, Grows}
 use Rattle.cs_tree.specs.Snapshot.{Snapshot, item_at}
-use Rattle.cs_tree.specs.Trees.{Opens, OpensAs, OpenedAs, opening_of, told_by}
+use Rattle.cs_tree.specs.Trees.{Opens, OpensAs, OpenedAs, opening_of, told_by, tree_counted}
 use Rattle.cs_tree.specs.declared.fault.TreeFault.{TreeFault}
 use Rattle.cs_tree.specs.declared.fault.TreeFault.TheVariants as tree
 use Rattle.cs_tools.specs.declared.jobs.Tool.{Tool}
 use Rattle.cs_tools.specs.declared.jobs.Style.{Style}
+use Rattle.cs_tools.specs.declared.fault.FileFault.{FileFault}
+use Rattle.cs_tools.specs.declared.grep_fault.ReadFault.{ReadFault}
+use Rattle.cs_tools.specs.declared.grep_fault.ReadFault.TheVariants.{Read, TooLong}
 use Rattle.cs_tools.specs.declared.grepped.Grepped.{Grepped}
-use Rattle.cs_tools.specs.Searched.{Reports, told_report}
+use Rattle.cs_tools.specs.Searched.{Reports, told_report, counted_at}
 use Rattle.cs_tools.specs.Messages.{fault_line_of}
-use Rattle.cs_tools.specs.Searches.{left_fault, open_fault, fault_text, Prints, IsPrinted, Printed, then, all_printed, input_printed, opened_printed, file_printed}
+use Rattle.cs_tools.specs.Searches.{left_fault, open_fault, fault_text, Prints, IsPrinted, Printed, then, all_printed, input_printed, opened_printed, file_printed, NamedFault, fault_lines, failures_at, failures_of, TellsFaults}
 use Rattle.cs_tree.proofs.Growing.{Grows-chain}
 use Rattle.cs_tools.proofs.Printing.{Grows-same}
 
@@ -81,3 +85,42 @@ Prints-none (Some s) printed out err = (Grows-same out, Grows-same err, refl)
 
 pub mapped_more : {X : Type 0} (f : X → List ℕ) (xs : List X) (i : ℕ) (x : X) → i < length xs → x ≡ get_or xs i x → map f (take (i + 1) xs) ≡ map f (take i xs) ++ f x ∷ []
 mapped_more f xs i x low is = ap (map f) (take_more xs i x low ∙ ap (λ y. take i xs ++ y ∷ []) (sym is)) ∙ map-append f (take i xs) (x ∷ [])
+
+-- ---- faults
+
+module _ (tool : Tool) where
+  left_counted : (fault : ReadFault) (n : ℕ) → counted_at (Some fault) n ≡ failures_at (left_fault fault) n
+  left_counted Read n = refl
+  left_counted TooLong n = refl
+
+  open_counted : (fault : TreeFault) (n : ℕ) → fault ≢ tree.Memory → tree_counted {A = Unit {0}} (Err fault) n ≡ failures_at (open_fault fault) n
+  open_counted tree.Missing n not = refl
+  open_counted tree.Denied n not = refl
+  open_counted tree.Failed n not = refl
+  open_counted tree.Memory n not = absurd (not refl)
+
+  one-line : (name : List ℕ) (fault : FileFault) → fault_lines tool ((name, fault) ∷ []) ≡ fault_line_of tool name fault
+  one-line name fault = append-nil (fault_line_of tool name fault)
+
+  pub Tells-none : (failed failed' : ℕ) (err err' : Option (List ℕ)) → failed' ≡ failed → err' ≡ err → TellsFaults tool failed failed' err err'
+  Tells-none failed failed' err err' same is = ([], same, subst (λ (e : Option (List ℕ)). Grows err e []) (sym is) (Grows-same err))
+
+  pub Tells-left : (fault : ReadFault) (name : List ℕ) (failed failed' : ℕ) (err err' : Option (List ℕ)) → failed' ≡ counted_at (Some fault) failed → Grows err err' (fault_line_of tool name (left_fault fault)) → TellsFaults tool failed failed' err err'
+  Tells-left fault name failed failed' err err' count grows =
+      ((name, left_fault fault) ∷ [], count ∙ left_counted fault failed, subst (Grows err err') (sym (one-line name (left_fault fault))) grows)
+
+  pub Tells-open : (fault : TreeFault) (name : List ℕ) (failed failed' : ℕ) (err err' : Option (List ℕ)) → fault ≢ tree.Memory → failed' ≡ tree_counted {A = Unit {0}} (Err fault) failed → Grows err err' (fault_line_of tool name (open_fault fault)) → TellsFaults tool failed failed' err err'
+  Tells-open fault name failed failed' err err' not count grows =
+      ((name, open_fault fault) ∷ [], count ∙ open_counted fault failed not, subst (Grows err err') (sym (one-line name (open_fault fault))) grows)
+
+  failures_of-append : (a b : List NamedFault) (n : ℕ) → failures_of (a ++ b) n ≡ failures_of b (failures_of a n)
+  failures_of-append [] b n = refl
+  failures_of-append (fault ∷ a) b n = failures_of-append a b (failures_at fault.1 n)
+
+  pub Tells-more : (failed now later : ℕ) (err err-now err-later : Option (List ℕ)) → TellsFaults tool failed now err err-now → TellsFaults tool now later err-now err-later → TellsFaults tool failed later err err-later
+  Tells-more failed now later err err-now err-later first next =
+      (
+        first.0 ++ next.0,
+        next.1 ∙ ap (failures_of next.0) first.1 ∙ sym (failures_of-append first.0 next.0 failed),
+        subst (Grows err err-later) (sym (flat_map-append (λ (fault : NamedFault). fault_line_of tool fault.0 fault.1) first.0 next.0)) (Grows-chain err err-now err-later _ _ first.2 next.2),
+      )

@@ -17,7 +17,7 @@ use Rattle.cs_tools.specs.declared.jobs.Tool.TheVariants.{Cgrep}
 use Rattle.cs_tools.specs.declared.jobs.GrepJob.{GrepJob}
 use Rattle.cs_tools.specs.declared.fault.ToolFault.{ToolFault}
 use Rattle.cs_tools.specs.declared.fault.ToolFault.TheVariants.{Pattern, FilePattern, NoIndex, BadIndex, Write, Memory}
-use Rattle.cs_tools.specs.Searches.{Printed, input_printed, file_printed, all_printed}
+use Rattle.cs_tools.specs.Searches.{Printed, input_printed, file_printed, all_printed, TellsFaults}
 
 abbrev pub standard_name : List ℕ
 standard_name = codes "<standard input>"
@@ -72,6 +72,12 @@ IsSearchFault (Ok answer) = Unit {0}
 IsSearchFault (Err Write) = Unit {0}
 IsSearchFault (Err Memory) = Unit {0}
 IsSearchFault (Err fault) = ⊥
+
+-- The lines of some faults were printed and no other, and each that is a failure was counted: by the input where
+-- standard input is searched, and else by the tree.
+abbrev pub TellsFaultsOf : Bool → ℕ → ℕ → ℕ → ℕ → Option (List ℕ) → Option (List ℕ) → Type 0
+TellsFaultsOf true tree tree' input input' err err' = (tree' ≡ tree) × TellsFaults Cgrep input input' err err'
+TellsFaultsOf false tree tree' input input' err err' = (input' ≡ input) × TellsFaults Cgrep tree tree' err err'
 
 -- the failures of an output after an answer: one more where it is that a write has failed
 abbrev pub failures_after : {A : Type 0} → Result A ToolFault → ℕ → ℕ

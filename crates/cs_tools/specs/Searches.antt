@@ -1,7 +1,8 @@
 -- What a tool prints and answers of the inputs that it searches, one after another.
 -- README.md, "What is printed".
 use Rattle.std.specs.Prelude.{ℕ, ◌≡◌, Bool, true, false, ◌||◌, List, [], ◌∷◌, ◌++◌, codes, Option, Some, None, option_map, Result, Ok, Err}
-use Rattle.cs_tree.specs.Told.{Told, Grows}
+use Rattle.std.specs.List.{flat_map}
+use Rattle.cs_tree.specs.Told.{Told, Grows, risen}
 use Rattle.cs_tree.specs.Snapshot.{Snapshot, item_at}
 use Rattle.cs_tree.specs.Trees.{opening_of}
 use Rattle.cs_tree.specs.declared.fault.TreeFault.{TreeFault}
@@ -97,3 +98,26 @@ abbrev pub PrintsStatus : Option Printed → Option (List ℕ) → Option (List 
 PrintsStatus None out out' err err' status = Unit {0}
 PrintsStatus (Some printed) out out' err err' status =
     Grows out out' printed.output × Grows err err' printed.errors × (status ≡ status_of printed.matched)
+
+-- ---- faults that are printed, and failures that are counted
+
+-- a name, and why it was not searched to its end
+abbrev pub NamedFault : Type 0
+NamedFault = List ℕ × FileFault
+
+abbrev pub fault_lines : Tool → List NamedFault → List ℕ
+fault_lines tool faults = flat_map (λ (fault : NamedFault). fault_line_of tool fault.0 fault.1) faults
+
+-- the failures after a fault: one more, unless the input is only too long
+abbrev pub failures_at : FileFault → ℕ → ℕ
+failures_at InputTooLong n = n
+failures_at fault n = risen n
+
+abbrev pub failures_of : List NamedFault → ℕ → ℕ
+failures_of [] n = n
+failures_of (fault ∷ faults) n = failures_of faults (failures_at fault.1 n)
+
+-- The lines of some faults were printed and no other, and each that is a failure was counted.
+abbrev pub TellsFaults : Tool → ℕ → ℕ → Option (List ℕ) → Option (List ℕ) → Type 0
+TellsFaults tool failed failed' err err' =
+    (faults : List NamedFault) × (failed' ≡ failures_of faults failed) × Grows err err' (fault_lines tool faults)

@@ -44,7 +44,7 @@ impl Form<'_> {
         ensures failed { O.failed out.new ≡ write_counted result (O.failed out.old) }
     {
         write_all(out, self.name.as_bytes())?;
-        write_all(out, b"\n")?;
+        end_line(out)?;
         Ok(())
     }
 
@@ -57,7 +57,7 @@ impl Form<'_> {
         self.print_front(out)?;
         self.print_number(number, out)?;
         write_all(out, line)?;
-        write_all(out, b"\n")?;
+        end_line(out)?;
         Ok(())
     }
 
@@ -95,13 +95,7 @@ impl Form<'_> {
         ensures written { OnOk result (Grows (O.taken out.old) (O.taken out.new) (total self.now.style self.now.name.now count)) }
         ensures failed { O.failed out.new ≡ write_counted result (O.failed out.old) }
     {
-        if self.style.list {
-            return Ok(());
-        }
-        if !self.style.count {
-            return Ok(());
-        }
-        if count == 0 {
+        if self.style.list || !self.style.count || count == 0 {
             return Ok(());
         }
         self.print_count(count, out)?;
@@ -117,7 +111,7 @@ impl Form<'_> {
         write_all(out, self.name.as_bytes())?;
         write_all(out, b": ")?;
         write_number(count, out)?;
-        write_all(out, b"\n")?;
+        end_line(out)?;
         Ok(())
     }
 }
@@ -129,5 +123,14 @@ fn write_number<O: Sink>(number: u64, out: &mut O) -> Result<(), GrepFault>
 {
     let mut digits = Buffer::new();
     write_all(out, digits.format(number).as_bytes())?;
+    Ok(())
+}
+
+/// A newline.
+fn end_line<O: Sink>(out: &mut O) -> Result<(), GrepFault>
+    ensures written { OnOk result (Grows (O.taken out.old) (O.taken out.new) (newline ∷ [])) }
+    ensures failed { O.failed out.new ≡ write_counted result (O.failed out.old) }
+{
+    write_all(out, b"\n")?;
     Ok(())
 }

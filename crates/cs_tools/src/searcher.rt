@@ -4,7 +4,7 @@ ghost use Rattle.cs_match.specs.Finding.{Decides};
 ghost use Rattle.cs_tree.specs.Told.{Grows};
 ghost use Rattle.cs_tools.specs.Cgrep.{WritesCounted, IsSearchFault, failures_after};
 ghost use Rattle.cs_tools.specs.Messages.{fault_line_of};
-ghost use Rattle.cs_tools.specs.Searches.{Prints, input_printed, file_printed, all_printed, left_fault, open_fault};
+ghost use Rattle.cs_tools.specs.Searches.{Prints, input_printed, file_printed, all_printed, left_fault, open_fault, TellsFaults};
 
 use cs_match::{Matcher, Program};
 use cs_tree::{Sink, Source, Tree, TreeFault, TreeReader, write_all};
@@ -63,6 +63,7 @@ impl<'p> Searcher<'p> {
         ensures prints { IfOk result (λ matched. (finds : List ℕ → Bool) → Decides finds self.old.matcher →
             Prints (option_map (input_printed MOST_SEARCHED self.old.tool self.old.style finds name.now) (R.told input.old))
                 (O.taken out.old) (O.taken out.new) (E.taken err.old) (E.taken err.new) matched) }
+        ensures faults { IfOk result (λ _. TellsFaults self.old.tool (R.failed input.old) (R.failed input.new) (E.taken err.old) (E.taken err.new)) }
         ensures writes { WritesCounted result (O.failed out.old) (O.failed out.new) (E.failed err.old) (E.failed err.new) }
         ensures only { IsSearchFault result }
         ensures kept { IsKept self.old self.new }
@@ -90,6 +91,7 @@ impl<'p> Searcher<'p> {
         ensures prints { IfOk result (λ matched. (finds : List ℕ → Bool) → Decides finds self.old.matcher →
             Prints (option_map (λ tree. file_printed MOST_SEARCHED self.old.tool self.old.style finds tree name.now) (T.snapshot tree.old))
                 (O.taken out.old) (O.taken out.new) (E.taken err.old) (E.taken err.new) matched) }
+        ensures faults { IfOk result (λ _. TellsFaults self.old.tool (T.failed tree.old) (T.failed tree.new) (E.taken err.old) (E.taken err.new)) }
         ensures writes { WritesCounted result (O.failed out.old) (O.failed out.new) (E.failed err.old) (E.failed err.new) }
         ensures only { IsSearchFault result }
         ensures kept { IsKept self.old self.new }
@@ -116,6 +118,7 @@ impl<'p> Searcher<'p> {
         ensures prints { IfOk result (λ matched. (finds : List ℕ → Bool) → Decides finds self.old.matcher →
             Prints (option_map (λ tree. all_printed (file_printed MOST_SEARCHED self.old.tool self.old.style finds tree) (map string_bytes names.now)) (T.snapshot tree.old))
                 (O.taken out.old) (O.taken out.new) (E.taken err.old) (E.taken err.new) matched) }
+        ensures faults { IfOk result (λ _. TellsFaults self.old.tool (T.failed tree.old) (T.failed tree.new) (E.taken err.old) (E.taken err.new)) }
         ensures writes { WritesCounted result (O.failed out.old) (O.failed out.new) (E.failed err.old) (E.failed err.new) }
         ensures only { IsSearchFault result }
         ensures kept { IsKept self.old self.new }

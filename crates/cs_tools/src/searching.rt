@@ -4,7 +4,7 @@ ghost use Rattle.cs_syntax.specs.Matching.{Tree as PatternTree};
 ghost use Rattle.cs_syntax.specs.Reading.{Reads};
 ghost use Rattle.cs_match.specs.Finding.{Decides};
 ghost use Rattle.cs_tree.specs.Told.{Grows};
-ghost use Rattle.cs_tools.specs.Cgrep.{cgrep_printed, PatternFirst, QuietAtPattern, WritesCounted, IsSearchFault};
+ghost use Rattle.cs_tools.specs.Cgrep.{cgrep_printed, PatternFirst, QuietAtPattern, WritesCounted, IsSearchFault, TellsFaultsOf};
 ghost use Rattle.cs_tools.specs.Searches.{Prints, PrintsStatus};
 
 use cs_match::Program;
@@ -35,6 +35,8 @@ pub fn cgrep<T: Tree, R: Source, O: Sink, E: Sink>(
             (O.taken out.old) (O.taken out.new) (E.taken err.old) (E.taken err.new) status) }
     ensures pattern { PatternFirst (string_bytes job.now.pattern) job.now.fold result }
     ensures quiet { QuietAtPattern result (Grows (O.taken out.old) (O.taken out.new) [] × Grows (E.taken err.old) (E.taken err.new) []) }
+    ensures faults { IfOk result (λ _. TellsFaultsOf job.now.standard (T.failed tree.old) (T.failed tree.new) (R.failed input.old) (R.failed input.new)
+        (E.taken err.old) (E.taken err.new)) }
     ensures writes { WritesCounted result (O.failed out.old) (O.failed out.new) (E.failed err.old) (E.failed err.new) }
     ensures tree_keeps { T.snapshot tree.new ≡ T.snapshot tree.old }
     ensures input_keeps { R.Keeps input.old input.new }
@@ -62,6 +64,8 @@ fn search_job<T: Tree, R: Source, O: Sink, E: Sink>(
     ensures prints { IfOk result (λ matched. (finds : List ℕ → Bool) → Decides finds searcher.old.matcher →
         Prints (cgrep_printed MOST_SEARCHED job.now finds (T.snapshot tree.old) (R.told input.old))
             (O.taken out.old) (O.taken out.new) (E.taken err.old) (E.taken err.new) matched) }
+    ensures faults { IfOk result (λ _. TellsFaultsOf job.now.standard (T.failed tree.old) (T.failed tree.new) (R.failed input.old) (R.failed input.new)
+        (E.taken err.old) (E.taken err.new)) }
     ensures writes { WritesCounted result (O.failed out.old) (O.failed out.new) (E.failed err.old) (E.failed err.new) }
     ensures only { IsSearchFault result }
     ensures tree_keeps { T.snapshot tree.new ≡ T.snapshot tree.old }

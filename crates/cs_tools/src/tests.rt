@@ -1,3 +1,4 @@
 // What no clause says, and rows from outside.
 mod reports;
+mod tools;
 mod words;

@@ -1,0 +1,154 @@
+// Whole runs of the tools over inputs and trees in memory.
+use crate::fault::ToolFault;
+use crate::jobs::{GrepJob, Job, Tool};
+use crate::searching::cgrep;
+use crate::status::Status;
+use crate::words::read_words;
+use cs_syntax::{PatternError, PatternFault};
+use cs_tree::{IoFault, Item, MemSink, MemSource, MemTree, Sink};
+use std::alloc::{AllocError, Global};
+use std::process::Abort;
+use std::test::Fail;
+
+/// The job of the words of cgrep, between spaces.
+fn job_of(alloc: Global, text: &str) -> Result<GrepJob, Fail> {
+    let mut words = Vec::new(alloc);
+    for word in text.split(' ') {
+        words.push(String::from_str(alloc, word)?)?;
+    }
+    match read_words(alloc, Tool::Cgrep, "/w", &words) {
+        Ok(Job::Grep(job)) => Ok(job),
+        _ => Err(Fail::from("words")),
+    }
+}
+
+/// A file with three lines, one that fails after two, and a folder.
+fn tree_of(alloc: Global) -> Result<MemTree, Fail> {
+    let mut tree = MemTree::new(alloc, 4)?;
+    tree.put("/t", Item::Folder).ok().ok_or("put")?;
+    let whole = Vec::from_slice(alloc, b"one\ntwo\none\n")?;
+    tree.put("/t/p", Item::File(whole)).ok().ok_or("put")?;
+    let cut = Vec::from_slice(alloc, b"one\ntwo\non")?;
+    tree.put("/t/c", Item::Cut(cut)).ok().ok_or("put")?;
+    tree.put("/t/d", Item::Denied).ok().ok_or("put")?;
+    Ok(tree)
+}
+
+type Wanted<'a> = (&'a str, &'a str, Result<Status, ToolFault>);
+
+/// A run of cgrep over the text as standard input and the tree of `tree_of`.
+fn run(rt: &impl Abort, alloc: Global, words: &str, text: &[u8], wanted: Wanted<'_>) -> Result<(), Fail> {
+    let job = job_of(alloc, words)?;
+    let mut tree = tree_of(alloc)?;
+    let mut input = MemSource::new(text, 3, false);
+    let mut out = MemSink::new(alloc, 1000);
+    let mut err = MemSink::new(alloc, 1000);
+    let status = cgrep(alloc, &job, &mut tree, &mut input, &mut out, &mut err);
+    assert_eq!(rt; out.bytes(), wanted.0.as_bytes(), "of {words:?}");
+    assert_eq!(rt; err.bytes(), wanted.1.as_bytes(), "of {words:?}");
+    assert_eq!(rt; status, wanted.2, "of {words:?}");
+    Ok(())
+}
+
+#[test]
+fn cgrep_of_standard_input(rt: HostRuntime) -> Result<(), Fail> {
+    let matched = Ok(Status::Matched);
+    let text = b"ab\nxacb\nabd";
+    run(&rt, rt.alloc(), "-n a(b|c)*$", text, ("<standard input>:1:ab\n<standard input>:2:xacb\n", "", matched))?;
+    run(&rt, rt.alloc(), "^abd", text, ("<standard input>:abd\n", "", matched))?;
+    run(&rt, rt.alloc(), "-i éa", "ÉA\néA\n".as_bytes(), ("<standard input>:éA\n", "", matched))?;
+    run(&rt, rt.alloc(), "xyz", text, ("", "", Ok(Status::NoMatch)))
+}
+
+#[test]
+fn cgrep_of_files(rt: HostRuntime) -> Result<(), Fail> {
+    let matched = Ok(Status::Matched);
+    let cut = "cgrep: /t/c: cannot be read\n";
+    let missing = "cgrep: /t/x: no such file\n";
+    run(&rt, rt.alloc(), "-c one /t/p", b"", ("/t/p: 2\n", "", matched))?;
+    run(&rt, rt.alloc(), "-c -h one /t/p", b"", ("/t/p: 2\n", "", matched))?;
+    run(&rt, rt.alloc(), "-l -c one /t/p", b"", ("/t/p\n", "", matched))?;
+    run(&rt, rt.alloc(), "-n -h one /t/p", b"", ("1:one\n3:one\n", "", matched))?;
+    run(&rt, rt.alloc(), "-c six /t/p", b"six\n", ("", "", Ok(Status::NoMatch)))?;
+    run(&rt, rt.alloc(), "one /t/c", b"", ("/t/c:one\n", cut, matched))?;
+    run(&rt, rt.alloc(), "-c one /t/c", b"", ("", cut, matched))?;
+    run(&rt, rt.alloc(), "-l one /t/c", b"", ("/t/c\n", "", matched))?;
+    run(&rt, rt.alloc(), "two /t/x /t/p", b"", ("/t/p:two\n", missing, matched))?;
+    run(&rt, rt.alloc(), "two /t/d", b"", ("", "cgrep: /t/d: permission denied\n", Ok(Status::NoMatch)))?;
+    run(&rt, rt.alloc(), "two /t", b"", ("", "cgrep: /t: cannot be read\n", Ok(Status::NoMatch)))
+}
+
+#[test]
+fn cgrep_of_a_broken_pattern(rt: HostRuntime) -> Result<(), Fail> {
+    let refused = PatternError {
+        fault: PatternFault::StackedRepeat,
+        at: 2,
+    };
+    run(&rt, rt.alloc(), "a** /t/x", b"a\n", ("", "", Err(ToolFault::Pattern(refused))))
+}
+
+#[test]
+fn cgrep_into_little_room(rt: HostRuntime) -> Result<(), Fail> {
+    let job = job_of(rt.alloc(), "one /t/c /t/p")?;
+    let whole = b"/t/c:one\n/t/p:one\n/t/p:one\n";
+    for room in 0..whole.len() {
+        let mut tree = tree_of(rt.alloc())?;
+        let mut input = MemSource::new(b"", 1, false);
+        let mut out = MemSink::new(rt.alloc(), room);
+        let mut err = MemSink::new(rt.alloc(), 1000);
+        let status = cgrep(rt.alloc(), &job, &mut tree, &mut input, &mut out, &mut err);
+        assert_eq!(rt; status, Err(ToolFault::Write), "with room for {room} bytes");
+        assert_eq!(rt; out.bytes(), &whole[..room], "with room for {room} bytes");
+    }
+    Ok(())
+}
+
+/// An output that takes all bytes, and fails at its flush.
+#[derive(Drop)]
+struct Stuck {
+    taken: Vec<u8>,
+    failed: u64,
+}
+
+impl Sink for Stuck {
+    ghost failed = { λ s. s.failed };
+
+    fn write(&mut self, buf: &[u8]) -> Result<usize, IoFault> {
+        match self.taken.extend_from_slice(buf) {
+            Ok(()) => Ok(buf.len()),
+            Err(_) => Err(IoFault::Memory),
+        }
+    }
+
+    fn flush(&mut self) -> Result<(), IoFault> {
+        self.failed = self.failed.saturating_add(1);
+        Err(IoFault::Failed)
+    }
+
+    fn failures(&self) -> u64 {
+        self.failed
+    }
+}
+
+#[test]
+fn cgrep_whose_flush_fails(rt: HostRuntime) -> Result<(), Fail> {
+    let job = job_of(rt.alloc(), "one /t/p")?;
+    for stuck in [true, false] {
+        let mut tree = tree_of(rt.alloc())?;
+        let mut input = MemSource::new(b"", 1, false);
+        let mut bad = Stuck {
+            taken: Vec::new(rt.alloc()),
+            failed: 0,
+        };
+        let mut good = MemSink::new(rt.alloc(), 1000);
+        let status = if stuck {
+            cgrep(rt.alloc(), &job, &mut tree, &mut input, &mut bad, &mut good)
+        } else {
+            cgrep(rt.alloc(), &job, &mut tree, &mut input, &mut good, &mut bad)
+        };
+        assert_eq!(rt; status, Err(ToolFault::Write));
+        let written = if stuck { bad.taken.as_slice() } else { good.bytes() };
+        assert_eq!(rt; written, b"/t/p:one\n/t/p:one\n".as_slice());
+    }
+    Ok(())
+}

@@ -5,7 +5,7 @@ use Rattle.cs_tree.specs.Trees.{told_by}
 use Rattle.cs_tools.specs.declared.report.TheConstants.{MOST_SEARCHED}
 use Rattle.cs_tools.specs.Messages.{fault_line_of}
 use Rattle.cs_tools.specs.Searches.{Prints, input_printed}
-use Rattle.cs_tools.proofs.SearchesLemmas.{Prints-opened, Prints-refused}
+use Rattle.cs_tools.proofs.SearchesLemmas.{Prints-opened, Prints-refused, Tells-open}
 use Rattle.cs_tools.proofs.searcher.Searcher.search_file.Goals as goal
 
 pub returns-in-Err-clause-prints : goal.returns-in-Err-clause-prints
@@ -24,3 +24,11 @@ returns-clause-prints g c = λ finds decides.
     let told = ap (λ t. told_by (g.T.Tree.snapshot t) (g.T.Tree.opened t)) c.new-reader.ensures.same_tree ∙ ap (λ s. told_by s (g.T.Tree.opened c.open.new.self)) c.open.ensures.keeps in
     Prints-opened MOST_SEARCHED tool style finds name (g.T.Tree.snapshot c.args.tree.now) (g.T.Tree.opened c.open.new.self) (g.O.Sink.taken c.args.out.now) (g.O.Sink.taken c.search.new.out) (g.E.Sink.taken c.args.err.now) (g.E.Sink.taken c.search.new.err) c.in_ok-matched.matched c.in_default.ensures.answer
     (subst (λ input. Prints (option_map (input_printed MOST_SEARCHED tool style finds name) input) (g.O.Sink.taken c.args.out.now) (g.O.Sink.taken c.search.new.out) (g.E.Sink.taken c.args.err.now) (g.E.Sink.taken c.search.new.err) c.in_ok-matched.matched) told (c.in_ok-matched.ensures.prints finds decides))
+
+pub returns-in-Err-clause-faults : goal.returns-in-Err-clause-faults
+returns-in-Err-clause-faults g c =
+    let tool = c.args.self.now.tool in
+    let name = c.args.name.now in
+    let file = c.in_ok-fault.ensures.file in
+    Tells-open tool c.in-Err.fault name (g.T.Tree.failed c.args.tree.now) (g.T.Tree.failed c.open.new.self) (g.E.Sink.taken c.args.err.now) (g.E.Sink.taken c.print_fault.new.err) file.1 c.in-Err.ensures.failed
+    (subst (λ fault. Grows (g.E.Sink.taken c.args.err.now) (g.E.Sink.taken c.print_fault.new.err) (fault_line_of tool name fault)) file.0 c.in_ok-print_fault.ensures.written)

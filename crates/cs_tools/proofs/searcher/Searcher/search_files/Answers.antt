@@ -4,14 +4,15 @@ use Rattle.std.proofs.lemmas.List.{take_more, take_all}
 use Rattle.cs_match.specs.Finding.{Decides}
 use Rattle.cs_tree.specs.Snapshot.{Snapshot}
 use Rattle.cs_tools.specs.declared.report.TheConstants.{MOST_SEARCHED}
-use Rattle.cs_tools.specs.Searches.{Prints, file_printed, all_printed, then}
+use Rattle.cs_tools.specs.Searches.{Prints, file_printed, all_printed, then, TellsFaults}
 use Rattle.cs_tools.specs.Searching.{IsKept}
-use Rattle.cs_tools.proofs.SearchesLemmas.{Prints-none, Prints-then, all_more, mapped_more}
+use Rattle.cs_tools.proofs.SearchesLemmas.{Prints-none, Prints-then, all_more, mapped_more, Tells-none, Tells-more}
 use Rattle.cs_tools.proofs.searcher.Searcher.search_files.Goals as goal
 
 pub loop-name-init : goal.loop-name-init
 loop-name-init g c = record {
   prints = λ finds decides. Prints-none (g.T.Tree.snapshot c.args.tree.now) (file_printed MOST_SEARCHED c.args.self.now.tool c.args.self.now.style finds) (g.O.Sink.taken c.args.out.now) (g.E.Sink.taken c.args.err.now);
+  faults = Tells-none c.args.self.now.tool _ _ _ _ refl refl;
   out_failed = refl;
   err_failed = refl;
   kept = record { tool = refl; style = refl; matcher = refl };
@@ -37,6 +38,8 @@ loop-name-preserved g c =
         Prints-then (g.T.Tree.snapshot c.args.tree.now) (λ s. all_printed (file s) (map string_bytes (take at names))) (λ s. file s (string_bytes item)) (λ s. all_printed (file s) (map string_bytes (take (at + 1) names))) _ _ _ _ _ _ c.loop-name.matched c.in_ok-matched.field-0
         (λ s. ap (all_printed (file s)) (mapped_more string_bytes names at item c.loop-name-test.true c.name-item.is) ∙ all_more (file s) (map string_bytes (take at names)) (string_bytes item))
         (i.prints finds decides) last;
+      faults = Tells-more c.args.self.now.tool _ (g.T.Tree.failed c.loop-name.tree) _ _ (g.E.Sink.taken c.loop-name.err) _ i.faults
+        (subst (λ t. TellsFaults t (g.T.Tree.failed c.loop-name.tree) (g.T.Tree.failed c.search_file.new.tree) (g.E.Sink.taken c.loop-name.err) (g.E.Sink.taken c.search_file.new.err)) i.kept.tool s.faults);
       out_failed = s.writes.0 ∙ i.out_failed;
       err_failed = s.writes.1 ∙ i.err_failed;
       kept = record { tool = s.kept.tool ∙ i.kept.tool; style = s.kept.style ∙ i.kept.style; matcher = s.kept.matcher ∙ i.kept.matcher };

@@ -3,7 +3,7 @@ use Rattle.std.proofs.Common.{◌≡◌, true, false, refl, [], ◌∷◌, ◌++
 use Rattle.std.specs.Prelude.{codes, Some, None}
 use Rattle.std.specs.Char.{encode_utf8}
 use Rattle.cs_syntax.specs.Matching.{empty, one_of, cat, alt, rep, line_start, line_end, word_edge, not_word_edge, none, more, member}
-use Rattle.cs_syntax.specs.ByteSet.{set_of, char_set, dot_set, is_in_char}
+use Rattle.cs_syntax.specs.ByteSet.{set_of, char_set, dot_set}
 use Rattle.cs_syntax.specs.ClassSets.{class_set, is_in_item}
 use Rattle.cs_syntax.specs.Classes.{named}
 use Rattle.cs_syntax.specs.Escapes.{char_front, escaped_class, escaped_tree}
@@ -363,41 +363,41 @@ light : weight (cat (more (rep (one_of (char_set false 97)) 0 (Some 9998)) none)
 light = refl
 
 folded_has_upper : member (char_set true 97) 65 ≡ true
-unfolding class_set set_of is_in_item char_set is_in_char dot_set
+unfolding class_set set_of is_in_item char_set dot_set
 folded_has_upper = refl
 
 folded_has_no_other : member (char_set true 97) 66 ≡ false
-unfolding class_set set_of is_in_item char_set is_in_char dot_set
+unfolding class_set set_of is_in_item char_set dot_set
 folded_has_no_other = refl
 
 dot_has_no_newline : member (dot_set false) 10 ≡ false
-unfolding class_set set_of is_in_item char_set is_in_char dot_set
+unfolding class_set set_of is_in_item char_set dot_set
 dot_has_no_newline = refl
 
 dot_all_has_newline : member (dot_set true) 10 ≡ true
-unfolding class_set set_of is_in_item char_set is_in_char dot_set
+unfolding class_set set_of is_in_item char_set dot_set
 dot_all_has_newline = refl
 
 others_have_newline : member (class_set false true (Range 97 97 ∷ [])) 10 ≡ true
-unfolding class_set set_of is_in_item char_set is_in_char dot_set
+unfolding class_set set_of is_in_item char_set dot_set
 others_have_newline = refl
 
 others_have_past_ascii : member (class_set false true (Range 97 97 ∷ [])) 255 ≡ true
-unfolding class_set set_of is_in_item char_set is_in_char dot_set
+unfolding class_set set_of is_in_item char_set dot_set
 others_have_past_ascii = refl
 
 item_is_folded_before_it_is_negated : member (class_set true false (Named Lower true ∷ [])) 65 ≡ false
-unfolding class_set set_of is_in_item char_set is_in_char dot_set
+unfolding class_set set_of is_in_item char_set dot_set
 item_is_folded_before_it_is_negated = refl
 
 range_is_folded : member (class_set true false (Range 97 122 ∷ [])) 90 ≡ true
-unfolding class_set set_of is_in_item char_set is_in_char dot_set
+unfolding class_set set_of is_in_item char_set dot_set
 range_is_folded = refl
 
 item_then_class_negated : member (class_set false true (Named Digit true ∷ [])) 53 ≡ true
-unfolding class_set set_of is_in_item char_set is_in_char dot_set
+unfolding class_set set_of is_in_item char_set dot_set
 item_then_class_negated = refl
 
 word_has_underscore : member (class_set false false (Named Word false ∷ [])) 95 ≡ true
-unfolding class_set set_of is_in_item char_set is_in_char dot_set
+unfolding class_set set_of is_in_item char_set dot_set
 word_has_underscore = refl

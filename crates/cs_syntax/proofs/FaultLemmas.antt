@@ -239,13 +239,13 @@ close_next (g ∷ gs) at r p = closed-of (r Operand gs g.flags) (p Operand gs g.
 item_next : (x : Item) (at : ℕ) (before : Before) (groups : List Group) (flags : Flags) (r : Before → List Group → Flags → Rest) → ((b : Before) (gs : List Group) (f : Flags) → OfReading (r b gs f)) →
     OfReading
     (elim x [
-        unit t ↦ inside (with_unit t) (r Operand groups flags)
+      | unit t ↦ inside (with_unit t) (r Operand groups flags)
       | repeat n m ↦ elim before [ Start ↦ broken NoOperand at | Counted ↦ broken StackedRepeat at | Operand ↦ inside (with_repeat n m) (r Counted groups flags) ]
       | bar ↦ inside with_bar (r Start groups flags)
       | group_start inner ↦ if nat_eq (length groups) 200 then broken TooDeep at else opened (r Start (record { at = at; flags = flags } ∷ groups) inner)
       | group_end ↦ elim groups [ [] ↦ broken StrayClose at | g ∷ gs ↦ closed_group (r Operand gs g.flags) ]
       | flags_from_here new ↦ r Start groups new
-      ])
+    ])
 item_next (unit t) at before groups flags r p = inside-of (with_unit t) (r Operand groups flags) (p Operand groups flags)
 item_next (repeat n m) at before groups flags r p = repeat_next before at n m (r Counted groups flags) (p Counted groups flags)
 item_next bar at before groups flags r p = inside-of with_bar (r Start groups flags) (p Start groups flags)
@@ -258,16 +258,16 @@ item_next (flags_from_here new) at before groups flags r p = p Start groups new
 front_next : (f : Front) (at : ℕ) (before : Before) (groups : List Group) (flags : Flags) (r : ℕ → Before → List Group → Flags → Rest) → OfText f → ((len : ℕ) (b : Before) (gs : List Group) (f : Flags) → OfReading (r len b gs f)) →
     OfReading
     (elim f [
-      fault k behind ↦ broken k (at + behind)
-    | item x len ↦
-      elim x [
-        unit t ↦ inside (with_unit t) (r len Operand groups flags)
-      | repeat n m ↦ elim before [ Start ↦ broken NoOperand at | Counted ↦ broken StackedRepeat at | Operand ↦ inside (with_repeat n m) (r len Counted groups flags) ]
-      | bar ↦ inside with_bar (r len Start groups flags)
-      | group_start inner ↦ if nat_eq (length groups) 200 then broken TooDeep at else opened (r len Start (record { at = at; flags = flags } ∷ groups) inner)
-      | group_end ↦ elim groups [ [] ↦ broken StrayClose at | g ∷ gs ↦ closed_group (r len Operand gs g.flags) ]
-      | flags_from_here new ↦ r len Start groups new
-      ]
+      | fault k behind ↦ broken k (at + behind)
+      | item x len ↦
+          elim x [
+            | unit t ↦ inside (with_unit t) (r len Operand groups flags)
+            | repeat n m ↦ elim before [ Start ↦ broken NoOperand at | Counted ↦ broken StackedRepeat at | Operand ↦ inside (with_repeat n m) (r len Counted groups flags) ]
+            | bar ↦ inside with_bar (r len Start groups flags)
+            | group_start inner ↦ if nat_eq (length groups) 200 then broken TooDeep at else opened (r len Start (record { at = at; flags = flags } ∷ groups) inner)
+            | group_end ↦ elim groups [ [] ↦ broken StrayClose at | g ∷ gs ↦ closed_group (r len Operand gs g.flags) ]
+            | flags_from_here new ↦ r len Start groups new
+          ]
     ])
 front_next (fault k behind) at before groups flags r f p = f
 front_next (item x len) at before groups flags r f p = item_next x at before groups flags (r len) (p len)

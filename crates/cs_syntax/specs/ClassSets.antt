@@ -1,9 +1,9 @@
 -- The sets of bytes that classes stand for.
 -- docs/PATTERNS.md, "Classes"; the RE2 syntax page, "Character classes".
-use Rattle.std.specs.Prelude.{ℕ, ◌+◌, ◌-◌, Bool, ◌&&◌, ◌||◌, List, [], ◌∷◌, nat_le, if◌then◌else◌}
+use Rattle.std.specs.Prelude.{ℕ, Bool, List, [], ◌∷◌}
 use Rattle.std.specs.List.{list_any}
 use Rattle.cs_syntax.specs.Matching.{differ}
-use Rattle.cs_syntax.specs.ByteSet.{set_of, is_letter}
+use Rattle.cs_syntax.specs.ByteSet.{set_of, is_in_folded}
 use Rattle.cs_syntax.specs.declared.class_item.NamedClass.{NamedClass}
 use Rattle.cs_syntax.specs.declared.class_item.NamedClass.TheVariants.{Alnum, Alpha, Ascii, Blank, Cntrl, Digit, Graph, Lower, Print, Punct, Space, Upper, Word, Xdigit, White}
 use Rattle.cs_syntax.specs.declared.class_item.ClassItem.{ClassItem}
@@ -27,22 +27,12 @@ ranges_of Word = (48, 57) ∷ (65, 90) ∷ (95, 95) ∷ (97, 122) ∷ []
 ranges_of Xdigit = (48, 57) ∷ (65, 70) ∷ (97, 102) ∷ []
 ranges_of White = (9, 10) ∷ (12, 13) ∷ (32, 32) ∷ []
 
-abbrev pub is_in_ranges : List (ℕ × ℕ) → ℕ → Bool
-is_in_ranges ranges b = list_any (λ r. nat_le r.0 b && nat_le b r.1) ranges
-
--- the other case of a letter
-abbrev pub other_case : ℕ → ℕ
-other_case b = if nat_le 97 b then b - 32 else b + 32
-
--- with `fold`, a letter is in the ranges also where its other case is
-abbrev pub is_in_folded : Bool → List (ℕ × ℕ) → ℕ → Bool
-is_in_folded fold ranges b = is_in_ranges ranges b || (fold && (is_letter b && is_in_ranges ranges (other_case b)))
-
 -- the byte is in the item: the item is folded first, and then complemented where it is negated
 unfoldable pub is_in_item : Bool → ClassItem → ℕ → Bool
 is_in_item fold (Range low high) b = is_in_folded fold ((low, high) ∷ []) b
 is_in_item fold (Named class negated) b = differ negated (is_in_folded fold (ranges_of class) b)
 
+-- the byte is in one of the items
 abbrev pub is_in_items : Bool → List ClassItem → ℕ → Bool
 is_in_items fold items b = list_any (λ i. is_in_item fold i b) items
 

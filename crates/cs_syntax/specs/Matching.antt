@@ -1,4 +1,5 @@
 -- The tree of a pattern, and what part of a line it takes.
+-- docs/PATTERNS.md, "Lines and matching"; the RE2 syntax page.
 use Rattle.std.specs.Prelude.{ℕ, zero, suc, ◌≡◌, ◌-◌, ◌<◌, ◌≤◌, ◌⊎◌, ◌&&◌, ◌||◌, not, Bool, true, false, List, length, slice_index, slice_index_or, nat_le, nat_lt, nat_eq, Option, Some, None}
 
 mutual
@@ -35,10 +36,12 @@ word_before s i = nat_lt 0 i && nat_le i (length s) && is_word (slice_index s (i
 unfoldable pub word_after : List ℕ → ℕ → Bool
 word_after s i = nat_lt i (length s) && is_word (slice_index s i)
 
+-- exactly one of the two
 abbrev pub differ : Bool → Bool → Bool
 differ true b = not b
 differ false b = b
 
+-- exactly one of the bytes around the place is a word byte
 unfoldable pub at_word_edge : List ℕ → ℕ → Bool
 at_word_edge s i = differ (word_before s i) (word_after s i)
 
@@ -47,6 +50,7 @@ abbrev pub Chain : (ℕ → ℕ → Type 0) → ℕ → ℕ → ℕ → Type 0
 Chain R zero i j = i ≡ j
 Chain R (suc k) i j = (l : ℕ) × R i l × Chain R k l j
 
+-- k rounds are not too many
 abbrev pub IsAtMost : ℕ → Option ℕ → Type 0
 IsAtMost k None = Unit {0}
 IsAtMost k (Some m) = k ≤ m
@@ -69,6 +73,7 @@ abbrev mutual
   TakesAll s none i j = i ≡ j
   TakesAll s (more t ts) i j = (l : ℕ) × Takes s t i l × TakesAll s ts l j
 
+  -- some member takes the part
   pub TakesSome : List ℕ → Trees → ℕ → ℕ → Type 0
   TakesSome s none i j = ⊥
   TakesSome s (more t ts) i j = Takes s t i j ⊎ TakesSome s ts i j

@@ -5,6 +5,7 @@ use Rattle.cs_syntax.specs.declared.node.Node.{Node}
 use Rattle.cs_syntax.specs.declared.node.Node.TheOpen.{Node-F}
 use Rattle.cs_syntax.specs.declared.node.Node.TheFolds.{fold-Node}
 
+-- a list of trees
 abbrev pub trees : List Tree → Trees
 trees [] = none
 trees (t ∷ ts) = more t (trees ts)
@@ -21,8 +22,10 @@ tree_step Node-F.LineEnd = line_end
 tree_step Node-F.WordEdge = word_edge
 tree_step Node-F.NotWordEdge = not_word_edge
 
+-- the tree of a node
 abbrev pub tree_of : Node → Tree
 tree_of = fold-Node Tree tree_step
 
+-- the trees of some nodes
 abbrev pub trees_of : List Node → Trees
 trees_of ns = trees (map tree_of ns)

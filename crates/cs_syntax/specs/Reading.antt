@@ -17,16 +17,20 @@ pub record Level : Type 0 where
   pub branches : Trees
   pub repeats : List (ℕ × Option ℕ)
 
+-- nothing stands up to the end
 abbrev pub blank : Level
 blank = record { units = none; branches = none; repeats = [] }
 
+-- one branch is itself, more are a choice
 abbrev pub choice : Tree → Trees → Tree
 choice t none = t
 choice t (more u us) = alt (more t (more u us))
 
+-- the whole group
 abbrev pub whole : Level → Tree
 whole l = choice (sequence l.units) l.branches
 
+-- the repeats of a unit, the first innermost
 abbrev pub repeated : Tree → List (ℕ × Option ℕ) → Tree
 repeated t [] = t
 repeated t (r ∷ rs) = repeated (rep t r.0 r.1) rs
@@ -35,9 +39,11 @@ repeated t (r ∷ rs) = repeated (rep t r.0 r.1) rs
 abbrev pub with_unit : Tree → Level → Level
 with_unit t l = record { units = more (repeated t l.repeats) l.units; branches = l.branches; repeats = [] }
 
+-- one repeat, for the unit that comes before it
 abbrev pub with_repeat : ℕ → Option ℕ → Level → Level
 with_repeat n m l = record l { repeats = (n, m) ∷ l.repeats }
 
+-- a bar: what stands up to the next one is a branch
 abbrev pub with_bar : Level → Level
 with_bar l = record { units = none; branches = more (sequence l.units) l.branches; repeats = [] }
 
@@ -52,6 +58,7 @@ abbrev pub inside : (Level → Level) → Rest → Rest
 inside f (levels l ls) = levels (f l) ls
 inside f (broken k at) = broken k at
 
+-- a `)`: the group that it closes ends here, and the group around it goes on
 abbrev pub closed : Rest → Rest
 closed (levels l ls) = levels blank (l ∷ ls)
 closed (broken k at) = broken k at
@@ -67,6 +74,7 @@ pub record Group : Type 0 where
   pub at : ℕ
   pub flags : Flags
 
+-- at the end of the text no group may be open
 abbrev pub at_end : List Group → Rest
 at_end [] = levels blank []
 at_end (g ∷ gs) = broken OpenGroup g.at
@@ -96,15 +104,17 @@ rest zero at before groups flags (b ∷ text) =
           ]
     ]
 
--- what a text reads as
+-- what a text reads as: a tree, or a fault at an offset
 pub data Reading : Type 0 where
   tree : Tree → Reading
   refused : PatternFault → ℕ → Reading
 
+-- at the start of the text there is one group
 abbrev pub answer : Rest → Reading
 answer (levels l ls) = tree (whole l)
 answer (broken k at) = refused k at
 
+-- the flags at the start
 abbrev pub at_first : Bool → Flags
 at_first fold = record { fold = fold; dot_all = false }
 

@@ -7,7 +7,8 @@ use Rattle.cs_syntax.specs.Reading.{Reads, Breaks, IsTextFault}
 use Rattle.cs_syntax.specs.declared.fault.PatternFault.TheVariants.{TooLarge, Memory}
 use Rattle.cs_syntax.specs.declared.fault.PatternError.{PatternError}
 
--- The text breaks by the error's fault, which is one of the first twelve, at its offset; or it reads as a tree that weighs too much; or a growth was refused.
+-- The text breaks by the error's fault, which is one of the first twelve, at its offset;
+-- or it reads as a tree that weighs too much; or a growth was refused.
 pub data IsRefused (text : List ℕ) (fold : Bool) (e : PatternError) : Type 0 where
   breaks : IsTextFault e.fault → Breaks text fold e.fault e.at → IsRefused text fold e
   too_large : e.fault ≡ TooLarge → e.at ≡ 0 → (t : Tree) → Reads text fold t → 10000 < weight t → IsRefused text fold e

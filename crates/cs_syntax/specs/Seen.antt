@@ -21,6 +21,7 @@ unit_tree text unit_of.LineEnd = line_end
 unit_tree text unit_of.WordEdge = word_edge
 unit_tree text unit_of.NotWordEdge = not_word_edge
 
+-- the item, from its own text
 abbrev pub item_seen : List ℕ → items.Item → Item
 item_seen text (item_of.Unit u) = unit (unit_tree text u)
 item_seen text (item_of.Repeat n m) = repeat n m
@@ -39,6 +40,7 @@ abbrev pub class_front_seen : Result (ClassItem × ℕ) Misread → ClassFront
 class_front_seen (Ok r) = piece r.0 r.1
 class_front_seen (Err m) = misread m.fault m.behind
 
+-- what a reader of a class has found as a character of it
 abbrev pub class_char_seen : Result (ℕ × ℕ) PatternFault → ClassChar
 class_char_seen (Ok r) = one r.0 r.1
 class_char_seen (Err k) = wrong k

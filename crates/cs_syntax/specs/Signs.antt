@@ -3,6 +3,7 @@ use Rattle.std.specs.Prelude.{ℕ, nat_eq, nat_le, if◌then◌else◌}
 use Rattle.cs_syntax.specs.declared.sign.Sign.{Sign}
 use Rattle.cs_syntax.specs.declared.sign.Sign.TheVariants.{Star, Plus, Question, Brace, Dot, Caret, Dollar, Bar, Open, Close, Class, Backslash, Wide, Plain}
 
+-- by the byte; one past ASCII begins a longer character
 unfoldable pub sign_of : ℕ → Sign
 sign_of b =
     if nat_eq b 42 then Star

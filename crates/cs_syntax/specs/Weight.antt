@@ -1,4 +1,5 @@
--- The weight of a tree.
+-- The weight of a tree, which is at most 10000 in a pattern.
+-- docs/PATTERNS.md, "Weight".
 use Rattle.std.specs.Prelude.{ℕ, ◌+◌, ◌*◌, max, Option, Some, None}
 use Rattle.cs_syntax.specs.Matching.{Tree, Trees, empty, one_of, cat, alt, rep, line_start, line_end, word_edge, not_word_edge, none, more}
 
@@ -7,6 +8,7 @@ abbrev pub times : ℕ → Option ℕ → ℕ
 times n None = max n 1
 times n (Some m) = max m 1
 
+-- a repeat weighs as often as it may come
 abbrev mutual
   pub weight : Tree → ℕ
   weight empty = 1

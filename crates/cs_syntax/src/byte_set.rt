@@ -1,10 +1,8 @@
 // Sets of bytes.
-ghost use Rattle.std.specs.Prelude.{⊤, ◌≡◌, ◌≢◌, ℕ, List, Bool, true, Option, IfSome, IfNone, length};
+ghost use Rattle.std.specs.Prelude.{⊤, ◌≡◌, ◌<◌, ◌||◌, ℕ, List, Bool, false, not, Option, IfSome, IfNone, length};
 ghost use Rattle.cs_syntax.specs.Matching.{member};
-ghost use Rattle.std.specs.Prelude.{◌<◌};
-ghost use Rattle.std.specs.Prelude.{Bool, false, not, ◌||◌};
-ghost use Rattle.cs_syntax.specs.ClassSets.{ranges_of, is_in_ranges, other_case, is_in_folded, is_in_item};
-ghost use Rattle.cs_syntax.specs.ByteSet.{IsOnly, set_of, count, char_set, dot_set, is_letter, is_in_char, is_in_dot};
+ghost use Rattle.cs_syntax.specs.ByteSet.{set_of, count, is_letter, other_case, is_in_ranges, is_in_folded, char_set, is_in_dot, dot_set, IsOnly};
+ghost use Rattle.cs_syntax.specs.ClassSets.{ranges_of, is_in_item};
 
 use crate::class_item::{ClassItem, NamedClass};
 use std::marker::Model;
@@ -71,7 +69,7 @@ impl ByteSet {
     }
 
     /// No byte.
-    pub fn empty() -> ByteSet
+    pub(crate) fn empty() -> ByteSet
         ensures { result ≡ set_of (λ b. false) }
     {
         ByteSet {
@@ -80,7 +78,7 @@ impl ByteSet {
     }
 
     /// The bytes of the item too.
-    pub fn add(&mut self, fold: bool, item: ClassItem)
+    pub(crate) fn add(&mut self, fold: bool, item: ClassItem)
         ensures { (test : ℕ → Bool) → self.old ≡ set_of test → self.new ≡ set_of (λ b. test b || is_in_item fold item b) }
     {
         for (b, m) in self.members.iter_mut().enumerate() {
@@ -89,7 +87,7 @@ impl ByteSet {
     }
 
     /// The bytes of the item, no letter folded.
-    pub fn of_item(item: ClassItem) -> ByteSet
+    pub(crate) fn of_item(item: ClassItem) -> ByteSet
         ensures { result ≡ set_of (is_in_item false item) }
     {
         let mut set = ByteSet::empty();
@@ -98,7 +96,7 @@ impl ByteSet {
     }
 
     /// All other bytes.
-    pub fn complement(&mut self)
+    pub(crate) fn complement(&mut self)
         ensures { (test : ℕ → Bool) → self.old ≡ set_of test → self.new ≡ set_of (λ b. not (test b)) }
     {
         for m in self.members.iter_mut() {
@@ -106,20 +104,18 @@ impl ByteSet {
         }
     }
 
-    /// A character's byte, and its other case where letters are folded.
-    pub fn of_char(fold: bool, char: u8) -> ByteSet
+    /// An ASCII character, and its other case where letters are folded.
+    #[tactic(auto, unfolding(crate::specs::ByteSet::char_set, crate::specs::ClassSets::is_in_item))]
+    pub(crate) fn of_char(fold: bool, char: u8) -> ByteSet
         ensures { result ≡ char_set fold char }
     {
-        let mut members = [false; 256];
-        let c = char as usize;
-        for (b, m) in members.iter_mut().enumerate() {
-            *m = is_char(fold, c, b);
-        }
-        ByteSet { members }
+        let mut set = ByteSet::empty();
+        set.add(fold, ClassItem::Range(char, char));
+        set
     }
 
     /// All bytes, or all but the newline.
-    pub fn of_dot(dot_all: bool) -> ByteSet
+    pub(crate) fn of_dot(dot_all: bool) -> ByteSet
         ensures { result ≡ dot_set dot_all }
     {
         let mut members = [false; 256];
@@ -131,19 +127,10 @@ impl ByteSet {
 }
 
 /// Whether the byte is an ASCII letter.
-pub fn is_letter(b: usize) -> bool
+pub(crate) fn is_letter(b: usize) -> bool
     ensures { result ≡ is_letter b }
 {
     (65 <= b && b <= 90) || (97 <= b && b <= 122)
-}
-
-#[tactic(auto, unfolding(crate::specs::ByteSet::is_in_char))]
-fn is_char(fold: bool, c: usize, b: usize) -> bool
-    requires c { c < 256 }
-    requires b { b < 256 }
-    ensures { result ≡ is_in_char fold c b }
-{
-    b == c || (fold && is_letter(c) && is_letter(b) && (b == c + 32 || c == b + 32))
 }
 
 fn is_dot(dot_all: bool, b: usize) -> bool

@@ -70,7 +70,13 @@ fn accepts_the_largest(rt: HostRuntime) -> Result<(), Fail> {
     assert!(rt; parse(rt.alloc(), letters.as_str(), false).is_ok());
     let letters = repeated(rt.alloc(), "a", 10000)?;
     let error = parse(rt.alloc(), letters.as_str(), false).err();
-    assert_eq!(rt; error, Some(PatternError { fault: PatternFault::TooLarge, at: 0 }));
+    assert_eq!(rt;
+        error,
+        Some(PatternError {
+            fault: PatternFault::TooLarge,
+            at: 0
+        })
+    );
 
     let mut groups = repeated(rt.alloc(), "(", 200)?;
     groups.push_str("(?i)a{1000}")?;
@@ -79,7 +85,13 @@ fn accepts_the_largest(rt: HostRuntime) -> Result<(), Fail> {
     assert!(rt; parse(rt.alloc(), groups.as_str(), false).is_ok());
     let groups = repeated(rt.alloc(), "(", 201)?;
     let error = parse(rt.alloc(), groups.as_str(), false).err();
-    assert_eq!(rt; error, Some(PatternError { fault: PatternFault::TooDeep, at: 200 }));
+    assert_eq!(rt;
+        error,
+        Some(PatternError {
+            fault: PatternFault::TooDeep,
+            at: 200
+        })
+    );
     Ok(())
 }
 

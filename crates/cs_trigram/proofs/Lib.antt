@@ -6,3 +6,6 @@ pub mod SortLemmas
 pub mod TextLemmas
 pub mod ReadLemmas
 mod Examples
+pub mod PlainLemmas
+pub mod OrderLemmas
+pub mod SorterLemmas

@@ -5,6 +5,7 @@ use Rattle.std.proofs.lemmas.Nat.Bits.{bit_at_set_same, bit_at_set_other, bit_at
 use Rattle.std.proofs.lemmas.List.{take-set-le, take_more_set, get_or-replicate, length-replicate, get_or_past, drop_all, drop_more}
 use Rattle.std.proofs.lemmas.List.Folds.{list_any_at}
 use Rattle.std.specs.Int.{bit_at}
+use Rattle.std.specs.List.{AllByRecursion}
 use Rattle.cs_trigram.specs.Trigram.{Ascends, placed, ascending, has}
 use Rattle.cs_trigram.specs.Marks.{bit_of, as_bit, Marks, Holds, Gathers}
 use Rattle.cs_trigram.proofs.SetLemmas.{has-append, has-ascending, ascends_ascending, ascending-push, placed-member, length-placed, length-placed-ge}
@@ -192,3 +193,15 @@ Unmarks-more cells numbers i within inside unmarks = record { left = λ n one. a
         let member : has (drop i numbers) n ≡ true = unmarks.left n (sym stays ∙ one) in
         let apart : eqb (get_or numbers i 0) n ≡ false = ne_eqb (get_or numbers i 0) n (λ same. other (ap (λ k. k / 64) (sym same))) in
         ap (λ t. t || has (drop (i + 1) numbers) n) (sym apart) ∙ ap (λ ns. has ns n) (sym (drop_more numbers i 0 within)) ∙ member
+
+-- ---- numbers that have a bit are small
+
+all_by_index : (P : ℕ → Type 0) (xs : List ℕ) → ((i : ℕ) → i < length xs → P (get_or xs i 0)) → AllByRecursion P xs
+all_by_index P [] each = tt
+all_by_index P (x ∷ xs) each = (each 0 (omega arith), all_by_index P xs (λ i within. each (suc i) (omega (arith, within))))
+
+pub marked_below : (cells numbers : List ℕ) → length cells ≡ 262144 → Marks cells numbers → AllByRecursion (λ n. n < 2 ^ 24) numbers
+marked_below cells numbers whole marks = all_by_index (λ n. n < 2 ^ 24) numbers (λ i within. small (get_or numbers i 0) (cell-within cells numbers i within marks))
+  where
+    small : (n : ℕ) → n / 64 < length cells → n < 2 ^ 24
+    small n inside = omega (arith, inside, whole)

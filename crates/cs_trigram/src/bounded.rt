@@ -7,14 +7,16 @@ ghost use Rattle.cs_trigram.specs.Found.{Knows, IsSound};
 
 use crate::found::Found;
 use crate::limits::Limits;
-use crate::place::{Place, pass};
+use crate::place::Place;
+use crate::plain::pass;
+use crate::sorter::Sorter;
 use crate::scan::{Reason, Scan, ScanFault};
 use cs_tree::{IoFault, Source};
 use std::alloc::{AllocError, Global};
 use std::marker::Model;
 
 /// What there is to say of a file that was read to its end.
-fn text(alloc: Global, found: &Found, bytes: u64) -> Result<Scan, ScanFault>
+fn text(alloc: Global, sorter: &mut Sorter, found: &Found, bytes: u64) -> Result<Scan, ScanFault>
     requires { IsSound found.now }
     ensures says { (most : Limits) (front : List ℕ) → Knows most.trigrams found.now front → first_broken most [] front ≡ None →
         bytes ≡ length front → Says result (found_at most front ends) }
@@ -24,7 +26,7 @@ fn text(alloc: Global, found: &Found, bytes: u64) -> Result<Scan, ScanFault>
     if found.is_over() {
         return Ok(Scan::Skip(Reason::ManyTrigrams));
     }
-    let trigrams = found.trigrams(alloc)?;
+    let trigrams = found.trigrams(alloc, sorter)?;
     Ok(Scan::Text { trigrams, bytes })
 }
 
@@ -32,6 +34,7 @@ fn text(alloc: Global, found: &Found, bytes: u64) -> Result<Scan, ScanFault>
 fn read_through<R: Source>(
     alloc: Global,
     limits: &Limits,
+    sorter: &mut Sorter,
     buffer: &mut [u8],
     found: &mut Found,
     source: &mut R,
@@ -57,7 +60,7 @@ fn read_through<R: Source>(
             Err(IoFault::Memory) => return Err(ScanFault::Memory),
         };
         if n == 0 {
-            return text(alloc, found, place.count);
+            return text(alloc, sorter, found, place.count);
         }
         let block = &piece[..n];
         match pass(limits, place, block) {
@@ -75,6 +78,7 @@ fn read_through<R: Source>(
 pub struct BoundedScanner {
     alloc: Global,
     limits: Limits,
+    sorter: Sorter,
     buffer: Vec<u8>,
     found: Found,
 }
@@ -100,6 +104,7 @@ impl BoundedScanner {
         Ok(BoundedScanner {
             alloc,
             limits,
+            sorter: Sorter::new(alloc, limits.trigrams)?,
             buffer: vec![in alloc; 0u8; 65_536]?,
             found: Found::new(alloc, limits.trigrams)?,
         })
@@ -117,6 +122,7 @@ impl BoundedScanner {
         let answer = read_through(
             self.alloc,
             &self.limits,
+            &mut self.sorter,
             &mut self.buffer,
             &mut self.found,
             source,

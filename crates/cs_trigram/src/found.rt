@@ -1,8 +1,10 @@
 // The trigrams that were found in a file.
 ghost use Rattle.std.specs.Prelude.{◌≡◌, ◌+◌, ◌-◌, ◌<◌, ◌≤◌, ◌^◌, ℕ, List, [], ◌++◌, length, vec_len, IfOk, IsTrue, ◌↔◌};
+ghost use Rattle.std.specs.List.{AllByRecursion};
 ghost use Rattle.cs_trigram.specs.Trigram.{ascending, placed, tri};
 ghost use Rattle.cs_trigram.specs.Marks.{Marks, Gathers, EndsWith};
 
+use crate::sorter::Sorter;
 use std::alloc::{AllocError, Global};
 
 /// Puts a number in, and answers how long the list is then.
@@ -100,6 +102,7 @@ pub struct Found {
     ghost all_numbers: { vec_len cells ≡ 262144 },
     ghost room: { 2 ≤ vec_len list },
     ghost within: { tail.len < vec_len list },
+    ghost few: { vec_len list < 2 ^ 32 + 2 },
 }
 
 /// So many cells without a bit set.
@@ -127,12 +130,14 @@ fn unmark(cells: &mut [u64], numbers: &[u32])
 }
 
 /// The set of some numbers, of which no two are equal.
-fn set_of(alloc: Global, numbers: &[u32]) -> Result<Vec<u32>, AllocError>
-    requires { length numbers.now ≡ length (ascending numbers.now) }
+fn set_of(alloc: Global, sorter: &mut Sorter, numbers: &[u32]) -> Result<Vec<u32>, AllocError>
+    requires few { length numbers.now < 2 ^ 32 }
+    requires below { AllByRecursion (λ n. n < 2 ^ 24) numbers.now }
+    requires once { length numbers.now ≡ length (ascending numbers.now) }
     ensures { IfOk result (λ set. set.items ≡ ascending numbers.now) }
 {
     let mut set = Vec::from_slice(alloc, numbers)?;
-    set.sort_unstable();
+    sorter.sort(&mut set);
     Ok(set)
 }
 
@@ -167,12 +172,12 @@ impl Found {
     }
 
     /// The trigrams, ascending, where there are not too many.
-    pub fn trigrams(&self, alloc: Global) -> Result<Vec<u32>, AllocError>
+    pub fn trigrams(&self, alloc: Global, sorter: &mut Sorter) -> Result<Vec<u32>, AllocError>
         requires all { HasAll self.now }
         requires sound { IsSound self.now }
         ensures { IfOk result (λ trigrams. (most : ℕ) (front : List ℕ) → Knows most self.now front → length (tri front) ≤ most → trigrams.items ≡ tri front) }
     {
-        set_of(alloc, &self.list[..self.tail.len])
+        set_of(alloc, sorter, &self.list[..self.tail.len])
     }
 
     /// Forgets all.

@@ -70,6 +70,7 @@ fn behind(place: Place, byte: u8) -> Place
     requires column { place.column < 2 ^ 32 }
     ensures stands { (front : List ℕ) → Stands place front → Stands result (front ++ byte ∷ []) }
     ensures count { result.count ≡ place.count + 1 }
+    ensures column { result.column ≤ place.column + 1 }
 {
     Place {
         count: place.count + 1,
@@ -83,6 +84,7 @@ fn step(limits: &Limits, place: Place, byte: u8) -> Result<Place, Reason>
     requires { IsSmall limits.now }
     ensures rule { (front : List ℕ) → Stands place front → Passes limits.now front (byte ∷ []) result }
     ensures count { IfOk result (λ next. (next.count ≡ place.count + 1) × (next.count ≤ limits.now.bytes)) }
+    ensures column { IfOk result (λ next. next.column ≤ limits.now.line) }
 {
     match rule_broken(limits, place, byte) {
         Some(reason) => Err(reason),
@@ -90,12 +92,14 @@ fn step(limits: &Limits, place: Place, byte: u8) -> Result<Place, Reason>
     }
 }
 
-/// The place behind some more bytes, or the rule that is broken first.
-pub fn pass(limits: &Limits, place: Place, bytes: &[u8]) -> Result<Place, Reason>
+/// The place behind some more bytes, or the rule that is broken first, byte by byte.
+pub fn pass_each(limits: &Limits, place: Place, bytes: &[u8]) -> Result<Place, Reason>
     requires small { IsSmall limits.now }
     requires count { place.count ≤ limits.now.bytes }
+    requires column { place.column ≤ limits.now.line }
     ensures rule { (front : List ℕ) → Stands place front → Passes limits.now front bytes.now result }
     ensures count { IfOk result (λ next. (next.count ≡ place.count + length bytes.now) × (next.count ≤ limits.now.bytes)) }
+    ensures column { IfOk result (λ next. next.column ≤ limits.now.line) }
 {
     let mut place = place;
     for byte in bytes {

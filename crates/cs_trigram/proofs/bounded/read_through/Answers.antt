@@ -6,6 +6,7 @@ pub pieces-preserved : goal.pieces-preserved
 pieces-preserved g c = record {
   reads = Reads-more c.args.limits.now (g.R.Source.told c.args.source.now) (g.R.Source.told c.pieces.source) (g.R.Source.told c.read.new.self) c.pieces.place c.in-Ok-pass.next c.pieces.found c.take.new.self (take c.in-Ok.n c.read.new.buf) c.pieces.invariant.reads c.in-Ok.ensures.bytes.0 c.in-Ok-pass.ensures.rule c.take.ensures;
   count = c.in-Ok-pass.ensures.count.1;
+  column = c.in-Ok-pass.ensures.column;
   failed = c.in-Ok.ensures.failed ∙ c.pieces.invariant.failed;
   keeps = g.met.R.Source.keeps_chain _ _ _ c.pieces.invariant.keeps c.in-Ok.ensures.keeps;
 }

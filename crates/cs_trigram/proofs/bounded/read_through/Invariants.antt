@@ -6,6 +6,7 @@ abbrev pub invariant-pieces : goal.invariant-pieces
 invariant-pieces g l = record {
   reads : Reads l.limits (g.R.Source.told l.initial.source) (g.R.Source.told l.source) l.place l.found;
   count : l.place.count ≤ l.limits.bytes;
+  column : l.place.column ≤ l.limits.line;
   failed : g.R.Source.failed l.source ≡ g.R.Source.failed l.initial.source;
   keeps : g.R.Source.Keeps l.initial.source l.source;
 }

@@ -1,8 +1,16 @@
-use Rattle.std.proofs.Common.{◌≡◌, ◌≤◌, ◌∙◌, ap, take, arith, inl, inr}
+use Rattle.std.proofs.Common.{◌≡◌, ◌≤◌, ◌∙◌, ap, take, length, arith, inl, inr}
 use Rattle.std.proofs.lemmas.Bool.{cases_lt}
 use Rattle.std.proofs.lemmas.Result.{IfOk-weaker}
 use Rattle.cs_trigram.specs.Trigram.{ascending}
+use Rattle.cs_trigram.proofs.MarkLemmas.{marked_below}
 use Rattle.cs_trigram.proofs.found.Found.trigrams.Goals as goal
+
+pub set_of-requires-clause-below : goal.set_of-requires-clause-below
+set_of-requires-clause-below c =
+    let self = c.args.self.now in
+    let whole : length self.cells.items ≡ 262144 = omega (arith, self.all_numbers, self.cells.ok.0) in
+    let holds = c.requires.sound c.requires.all in
+    rw c.deref.ensures.value (marked_below self.cells.items (take self.tail.len self.list.items) whole holds.marks)
 
 pub returns : goal.returns
 returns c = IfOk-weaker c.set_of.result _ _ (λ set is most front knows few.

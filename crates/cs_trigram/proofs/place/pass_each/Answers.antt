@@ -2,7 +2,7 @@ use Rattle.std.proofs.Common.{◌+◌, Ok, Err, take, length, take_all, arith, s
 use Rattle.std.proofs.lemmas.Result.{err_from_is_err_and}
 use Rattle.cs_trigram.specs.Place.{Passes}
 use Rattle.cs_trigram.proofs.PlaceLemmas.{Passes-more, first_broken-on_the_way}
-use Rattle.cs_trigram.proofs.place.pass.Goals as goal
+use Rattle.cs_trigram.proofs.place.pass_each.Goals as goal
 
 pub returns-in_err-place-clause-rule : goal.returns-in_err-place-clause-rule
 returns-in_err-place-clause-rule c = λ front stands.
@@ -19,6 +19,7 @@ loop-byte-preserved c = record {
       Passes-more c.args.limits.now front c.args.bytes.now c.loop-byte.byte-index (Ok c.in_ok-place.place) c.loop-byte-test.true passed.0 (c.in_ok-place.ensures.rule _ passed.1);
   counted = omega (arith, c.in_ok-place.ensures.count);
   within = c.in_ok-place.ensures.count.1;
+  column = c.in_ok-place.ensures.column;
 }
 
 pub returns-clause-rule : goal.returns-clause-rule

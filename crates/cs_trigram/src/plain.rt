@@ -1,0 +1,86 @@
+// A quick test for bytes that break no rule, as most files have them.
+ghost use Rattle.std.specs.Prelude.{◌≡◌, ◌+◌, ◌-◌, ◌<◌, ◌≤◌, ◌^◌, ℕ, List, [], ◌++◌, length, IsTrue, IfSome, IfOk, Ok};
+ghost use Rattle.std.specs.List.{AllByRecursion};
+ghost use Rattle.cs_trigram.specs.Place.{IsSmall, Stands, Passes};
+ghost use Rattle.cs_trigram.specs.Plain.{LinesFit, column_behind, IsPlainByte};
+
+use crate::limits::Limits;
+use crate::place::{Place, pass_each};
+use crate::scan::Reason;
+use memchr::{memchr, memrchr};
+
+/// Whether all bytes are ASCII, and none is 00.
+fn is_plain(bytes: &[u8]) -> bool
+    ensures { IsTrue result → AllByRecursion IsPlainByte bytes.now }
+{
+    bytes.is_ascii() && memchr(0, bytes).is_none()
+}
+
+/// How many bytes of its line stand before the end of the bytes, where no line is too long.
+fn column_behind(most: usize, column: usize, bytes: &[u8]) -> Option<usize>
+    requires most { most < 2 ^ 32 }
+    requires column { column ≤ most }
+    ensures fit { IfSome result (λ behind. LinesFit most column bytes.now × (behind ≡ column_behind column bytes.now)) }
+    ensures within { IfSome result (λ behind. behind ≤ most) }
+{
+    let mut column = column;
+    let mut rest = bytes;
+    // A newline that is as far off as it may be spares the search for those before it.
+    'lines: while most - column < rest.len() {
+        let (near, _) = rest.split_at(most - column);
+        let at = memrchr(b'\n', near)?;
+        let (_, behind) = rest.split_at(at + 1);
+        rest = behind;
+        column = 0;
+    }
+    Some(last_column(column, rest))
+}
+
+/// How many bytes of its line stand before the end of the bytes.
+fn last_column(column: usize, bytes: &[u8]) -> usize
+    requires { column + length bytes.now < 2 ^ 33 }
+    ensures behind { result ≡ column_behind column bytes.now }
+    ensures within { result ≤ column + length bytes.now }
+{
+    match memrchr(b'\n', bytes) {
+        Some(at) => bytes.len() - (at + 1),
+        None => column + bytes.len(),
+    }
+}
+
+/// The place behind bytes of which it is plain to see that they break no rule.
+fn pass_plain(limits: &Limits, place: Place, bytes: &[u8]) -> Option<Place>
+    requires small { IsSmall limits.now }
+    requires count { place.count ≤ limits.now.bytes }
+    requires column { place.column ≤ limits.now.line }
+    ensures rule { IfSome result (λ next. (front : List ℕ) → Stands place front → Passes limits.now front bytes.now (Ok next)) }
+    ensures count { IfSome result (λ next. (next.count ≡ place.count + length bytes.now) × (next.count ≤ limits.now.bytes)) }
+    ensures column { IfSome result (λ next. next.column ≤ limits.now.line) }
+{
+    let last = bytes.last()?;
+    let count = place.count + bytes.len() as u64;
+    if limits.bytes < count || 0xc0 <= place.before || !is_plain(bytes) {
+        return None;
+    }
+    let column = column_behind(limits.line, place.column, bytes)?;
+    Some(Place {
+        count,
+        column,
+        before: *last,
+    })
+}
+
+/// The place behind some more bytes, or the rule that is broken first.
+pub fn pass(limits: &Limits, place: Place, bytes: &[u8]) -> Result<Place, Reason>
+    requires small { IsSmall limits.now }
+    requires count { place.count ≤ limits.now.bytes }
+    requires column { place.column ≤ limits.now.line }
+    ensures rule { (front : List ℕ) → Stands place front → Passes limits.now front bytes.now result }
+    ensures count { IfOk result (λ next. (next.count ≡ place.count + length bytes.now) × (next.count ≤ limits.now.bytes)) }
+    ensures column { IfOk result (λ next. next.column ≤ limits.now.line) }
+{
+    match pass_plain(limits, place, bytes) {
+        Some(next) => Ok(next),
+        None => pass_each(limits, place, bytes),
+    }
+}

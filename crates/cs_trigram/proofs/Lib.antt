@@ -9,3 +9,4 @@ mod Examples
 pub mod PlainLemmas
 pub mod OrderLemmas
 pub mod SorterLemmas
+pub mod LawLemmas

@@ -3,6 +3,7 @@ use Rattle.std.proofs.Common.{◌≡◌, ◌≤◌, ◌<◌, ℕ, zero, suc, ◌
 use Rattle.std.specs.List.{prefix_len, suffix_len}
 use Rattle.std.specs.Prelude.{nat_eq}
 use Rattle.std.proofs.lemmas.List.{reverse-append, append-nil, take_more, take-append-drop}
+use Rattle.std.proofs.Math.Seq.{take-add}
 use Rattle.std.proofs.lemmas.List.Sums.{suffix_len-le-length}
 use Rattle.cs_trigram.specs.declared.limits.Limits.{Limits}
 use Rattle.cs_trigram.specs.declared.scan.Reason.{Reason}
@@ -71,3 +72,12 @@ Passes-more most front bytes i answer within first then =
 pub first_broken-on_the_way : (most : Limits) (front bytes : List ℕ) (i : ℕ) (reason : Reason) → first_broken most front (take i bytes) ≡ Some reason → first_broken most front bytes ≡ Some reason
 first_broken-on_the_way most front bytes i reason first =
     ap (first_broken most front) (sym (take-append-drop i bytes)) ∙ Passes-stop most front (take i bytes) (drop i bytes) reason first
+
+-- the bytes up to a place, with a piece behind it
+pub Passes-piece : (most : Limits) (front bytes : List ℕ) (at end : ℕ) (answer : Result Place Reason) → at ≤ end → first_broken most front (take at bytes) ≡ None → Passes most (front ++ take at bytes) (take (end - at) (drop at bytes)) answer → Passes most front (take end bytes) answer
+Passes-piece most front bytes at end answer order first then =
+    let split : end ≡ at + (end - at) = omega (arith, order) in
+    let whole : take end bytes ≡ take at bytes ++ take (end - at) (drop at bytes) =
+    ap (λ n. take n bytes) split ∙ take-add at (end - at) bytes
+    in
+    rw whole (Passes-append most front (take at bytes) (take (end - at) (drop at bytes)) answer first then)

@@ -70,8 +70,8 @@ fn pass_plain(limits: &Limits, place: Place, bytes: &[u8]) -> Option<Place>
     })
 }
 
-/// The place behind some more bytes, or the rule that is broken first.
-pub fn pass(limits: &Limits, place: Place, bytes: &[u8]) -> Result<Place, Reason>
+/// The place behind a piece, or the rule that is broken first.
+fn pass_piece(limits: &Limits, place: Place, bytes: &[u8]) -> Result<Place, Reason>
     requires small { IsSmall limits.now }
     requires count { place.count ≤ limits.now.bytes }
     requires column { place.column ≤ limits.now.line }
@@ -83,4 +83,26 @@ pub fn pass(limits: &Limits, place: Place, bytes: &[u8]) -> Result<Place, Reason
         Some(next) => Ok(next),
         None => pass_each(limits, place, bytes),
     }
+}
+
+/// So many bytes are tested at a time. Where one of them is not plain, all are tested one by one.
+const PIECE: usize = 1024;
+
+/// The place behind some more bytes, or the rule that is broken first.
+pub fn pass(limits: &Limits, place: Place, bytes: &[u8]) -> Result<Place, Reason>
+    requires small { IsSmall limits.now }
+    requires count { place.count ≤ limits.now.bytes }
+    requires column { place.column ≤ limits.now.line }
+    ensures rule { (front : List ℕ) → Stands place front → Passes limits.now front bytes.now result }
+    ensures count { IfOk result (λ next. (next.count ≡ place.count + length bytes.now) × (next.count ≤ limits.now.bytes)) }
+    ensures column { IfOk result (λ next. next.column ≤ limits.now.line) }
+{
+    let mut place = place;
+    let mut at = 0;
+    'pieces: while at < bytes.len() {
+        let end = at + PIECE.min(bytes.len() - at);
+        place = pass_piece(limits, place, &bytes[at..end])?;
+        at = end;
+    }
+    Ok(place)
 }

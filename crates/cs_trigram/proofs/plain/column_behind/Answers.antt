@@ -17,7 +17,7 @@ lines-preserved c =
     let within : at < length rest = omega (arith, inside, front, c.lines-test.true) in
     let close : at < most - column = omega (arith, inside, front) in
     let newline : get_or rest at 0 ≡ 10 =
-        sym (ap (λ xs. get_or xs at 0) c.split_at.ensures.front ∙ get_or-take (most - column) rest at 0 close) ∙ eqb-true (get_or near at 0) 10 last.1
+    sym (ap (λ xs. get_or xs at 0) c.split_at.ensures.front ∙ get_or-take (most - column) rest at 0 close) ∙ eqb-true (get_or near at 0) 10 last.1
     in
     record {
       within = omega arith;

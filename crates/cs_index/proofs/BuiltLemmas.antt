@@ -1,9 +1,9 @@
 -- What lists give of each name, before they are in order and after.
-use Rattle.std.proofs.Common.{◌≡◌, ◌≢◌, ℕ, zero, suc, ◌+◌, ◌-◌, ◌<◌, ◌≤◌, Bool, true, false, cond, eqb, ◌||◌, ◌&&◌, List, [], ◌∷◌, ◌++◌, length, map, get_or, refl, sym, ap, subst, ◌∙◌, inl, inr, arith}
-use Rattle.std.proofs.lemmas.Bool.{true≢false, cases_Bool, cases_order, cases_lt, cond_both, eqb-true, eq-eqb, ne_eqb, or_cases, or_left, or_right}
+use Rattle.std.proofs.Common.{◌≡◌, ℕ, ◌+◌, ◌-◌, ◌<◌, ◌≤◌, Bool, true, false, cond, eqb, ◌||◌, ◌&&◌, List, [], ◌∷◌, ◌++◌, length, map, refl, sym, ap, subst, ◌∙◌, inl, inr, arith}
+use Rattle.std.proofs.lemmas.Bool.{true≢false, cases_Bool, eqb-true, eq-eqb, ne_eqb, or_left, or_right}
 use Rattle.std.specs.List.{AllByRecursion}
 use Rattle.cs_index.specs.Image.{Posting, Entry, has, ascending, postings_of}
-use Rattle.cs_index.specs.Spelling.{Ascends, RiseWithin, IsPosting, ArePostings, set_at, entries_of}
+use Rattle.cs_index.specs.Spelling.{Ascends, RiseWithin, IsPosting, set_at, entries_of}
 use Rattle.cs_index.specs.IdStream.{next_after}
 use Rattle.cs_index.specs.Gathering.{keys, ids_of, gathered, gathered_all, in_order, AwaitLast}
 use Rattle.cs_index.proofs.SpellingLemmas.{Above, ascends_head, ascends_tail, ascends_ascending}

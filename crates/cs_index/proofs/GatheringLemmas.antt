@@ -1,12 +1,9 @@
 -- Lists after a trigram was given one more id.
-use Rattle.std.proofs.Common.{◌≡◌, ◌≢◌, ℕ, zero, suc, ◌+◌, ◌<◌, ◌≤◌, ◌^◌, Bool, true, false, cond, eqb, ltb, ◌||◌, List, [], ◌∷◌, ◌++◌, length, map, set, get_or, refl, sym, ap, subst, ◌∙◌, inl, inr, arith, length-append}
-use Rattle.std.proofs.lemmas.Bool.{true≢false, cases_Bool, cases_order, cond_both, eqb-true, eq-eqb, ne_eqb, or_cases, or_left, or_right}
-use Rattle.std.proofs.lemmas.List.{append-nil}
-use Rattle.std.specs.List.{AllByRecursion}
+use Rattle.std.proofs.Common.{◌≡◌, ℕ, zero, suc, ◌<◌, Bool, true, false, cond, eqb, ltb, ◌||◌, List, [], ◌∷◌, ◌++◌, length, set, get_or, refl, sym, ap, ◌∙◌, inl, inr, arith}
+use Rattle.std.proofs.lemmas.Bool.{true≢false, cond_both, eqb-true, eq-eqb, ne_eqb, or_cases, or_left, or_right}
 use Rattle.cs_index.specs.Image.{Posting, has, ascending, placed}
-use Rattle.cs_index.specs.Spelling.{Ascends}
-use Rattle.cs_index.specs.Gathering.{keys, ids_of, gathered, gathered_all, in_order, AreDistinct}
-use Rattle.cs_index.proofs.TransposeLemmas.{has-placed, has-ascending, has-append}
+use Rattle.cs_index.specs.Gathering.{keys, ids_of, gathered, AreDistinct}
+use Rattle.cs_index.proofs.TransposeLemmas.{has-ascending, has-append}
 
 -- the trigram of the list at a place
 pub key_at : List Posting → ℕ → ℕ

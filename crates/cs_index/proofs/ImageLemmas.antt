@@ -1,5 +1,5 @@
 -- The image of lists that are in order is that of their set and their map.
-use Rattle.std.proofs.Common.{◌≡◌, ℕ, Bool, true, false, ◌&&◌, not, List, [], ◌∷◌, map, refl, sym, ap, subst, ◌∙◌}
+use Rattle.std.proofs.Common.{◌≡◌, ℕ, Bool, true, false, ◌&&◌, not, List, [], ◌∷◌, map, refl, sym, ap, ◌∙◌}
 use Rattle.std.specs.Prelude.{T}
 use Rattle.std.proofs.lemmas.Bool.{true≢false, and_parts, and_from}
 use Rattle.std.specs.List.{list_all}
@@ -8,9 +8,9 @@ use Rattle.std.specs.Cmp.Lexicographic.{nat_list_cmp_total}
 use Rattle.std.specs.FinMap as map'
 use Rattle.std.specs.FinMap.{slice_cmp-IsAntisymmetric, nat_cmp-IsAntisymmetric}
 use Rattle.cs_tree.specs.PathSet as set'
-use Rattle.cs_tree.specs.Paths.{bytes_cmp, covers}
-use Rattle.cs_index.specs.Image.{Entry, image, image_of}
-use Rattle.cs_index.specs.Built.{Built, IsBuilt, are_paths, are_reduced, is_before, is_storable, paths_of, files_of}
+use Rattle.cs_tree.specs.Cover.{bytes_cmp, covers}
+use Rattle.cs_index.specs.Image.{image, image_of}
+use Rattle.cs_index.specs.Built.{Built, IsBuilt, are_reduced, is_before, is_storable, paths_of, files_of}
 
 true_T : (b : Bool) → b ≡ true → T b
 true_T true h = tt

@@ -1,5 +1,5 @@
 -- The sections in a row.
-use Rattle.std.proofs.Common.{◌≡◌, ℕ, ◌+◌, ◌<◌, List, [], ◌∷◌, ◌++◌, length, refl, sym, ap, ◌∙◌, arith, append_assoc, length-append}
+use Rattle.std.proofs.Common.{◌≡◌, ℕ, ◌+◌, ◌<◌, List, [], ◌∷◌, ◌++◌, length, sym, ap, ◌∙◌, arith, append_assoc, length-append}
 use Rattle.std.proofs.lemmas.List.{append-nil}
 use Rattle.std.specs.Prelude.{flat_map}
 use Rattle.std.specs.List.{AllByRecursion}
@@ -44,14 +44,14 @@ front_is s =
     ∙ ap (λ f. f ++ s.list_index) (append_assoc magic ((s.paths ++ s.names) ++ s.postings) s.name_index)
     ∙ append_assoc magic (((s.paths ++ s.names) ++ s.postings) ++ s.name_index) s.list_index
     ∙ ap (λ b. magic ++ b) (
-      ap (λ f. ((f ++ s.name_index) ++ s.list_index)) (append_assoc s.paths s.names s.postings)
-      ∙ ap (λ f. f ++ s.list_index) (append_assoc s.paths (s.names ++ s.postings) s.name_index)
-      ∙ append_assoc s.paths ((s.names ++ s.postings) ++ s.name_index) s.list_index
-      ∙ ap (λ b. s.paths ++ b) (
-        ap (λ f. f ++ s.list_index) (append_assoc s.names s.postings s.name_index)
-        ∙ append_assoc s.names (s.postings ++ s.name_index) s.list_index
-        ∙ ap (λ b. s.names ++ b) (append_assoc s.postings s.name_index s.list_index ∙ ap (λ b. s.postings ++ (s.name_index ++ b)) (sym (append-nil s.list_index)))
-      )
+    ap (λ f. ((f ++ s.name_index) ++ s.list_index)) (append_assoc s.paths s.names s.postings)
+    ∙ ap (λ f. f ++ s.list_index) (append_assoc s.paths (s.names ++ s.postings) s.name_index)
+    ∙ append_assoc s.paths ((s.names ++ s.postings) ++ s.name_index) s.list_index
+    ∙ ap (λ b. s.paths ++ b) (
+    ap (λ f. f ++ s.list_index) (append_assoc s.names s.postings s.name_index)
+    ∙ append_assoc s.names (s.postings ++ s.name_index) s.list_index
+    ∙ ap (λ b. s.names ++ b) (append_assoc s.postings s.name_index s.list_index ∙ ap (λ b. s.postings ++ (s.name_index ++ b)) (sym (append-nil s.list_index)))
+    )
     )
 
 pub laid_is : (s : Sections) (first second third fourth fifth out starts : List ℕ) → LaidInTurn s first second third fourth fifth out starts → out ≡ laid_out s

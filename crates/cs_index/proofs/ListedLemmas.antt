@@ -4,7 +4,7 @@ use Rattle.std.proofs.lemmas.List.{drop_at, drop-drop}
 use Rattle.std.specs.Prelude.{flat_map}
 use Rattle.std.specs.List.{AllByRecursion, AllZip}
 use Rattle.std.specs.Cmp.Lexicographic.{bytes_decides}
-use Rattle.cs_tree.specs.Paths.{same}
+use Rattle.cs_tree.specs.Cover.{same}
 use Rattle.cs_index.specs.Image.{three_bytes, varint, joined, Posting, posting_list, deltas_from, ListEntry, list_entries, Entry, ids_from, postings_of, trigrams_of, closing_list}
 use Rattle.cs_index.specs.Spelling.{RiseWithin, IsList, read_ids, damaged}
 use Rattle.cs_index.proofs.VarintLemmas.{ids_read}

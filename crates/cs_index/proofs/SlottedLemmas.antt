@@ -1,6 +1,6 @@
 -- Lists that are found by their slots.
-use Rattle.std.proofs.Common.{◌≡◌, ◌≢◌, ℕ, zero, suc, ◌+◌, ◌-◌, ◌<◌, ◌≤◌, ◌^◌, Bool, true, false, cond, eqb, List, [], ◌∷◌, ◌++◌, length, set, get_or, refl, sym, ap, subst, ◌∙◌, inl, inr, arith, length-set}
-use Rattle.std.proofs.lemmas.Bool.{true≢false, cases_Bool, cases_order, eqb-true, eq-eqb, ne_eqb}
+use Rattle.std.proofs.Common.{◌≡◌, ◌≢◌, ℕ, zero, suc, ◌+◌, ◌-◌, ◌<◌, ◌≤◌, ◌^◌, true, false, cond, eqb, List, [], ◌∷◌, ◌++◌, length, set, get_or, refl, sym, ap, subst, ◌∙◌, inl, inr, arith, length-set}
+use Rattle.std.proofs.lemmas.Bool.{true≢false, cases_Bool, cases_order, eqb-true, eq-eqb}
 use Rattle.std.proofs.lemmas.List.{length_push, length-map, get_or-set_same, get_or-set_other}
 use Rattle.std.proofs.Math.ListN.{get_or-append}
 use Rattle.std.proofs.Math.Seq.{get_or-append_seam}
@@ -9,9 +9,9 @@ use Rattle.cs_index.specs.declared.slots.Slots.{Slots}
 use Rattle.cs_index.specs.Image.{Posting, has, ascending}
 use Rattle.cs_index.specs.Spelling.{Ascends}
 use Rattle.cs_index.specs.Slots.{slot_of, AreSlotted}
-use Rattle.cs_index.specs.Gathering.{keys, ids_of, gathered, AreDistinct}
+use Rattle.cs_index.specs.Gathering.{keys, AreDistinct}
 use Rattle.cs_index.proofs.SpellingLemmas.{all_ascending, Above, ascends_head, ascends_tail, ascends_ascending}
-use Rattle.cs_index.proofs.GatheringLemmas.{key_place, has-key_at, keys_push, distinct_push, keys_set, length-ascending, ids_at, gathered_at, gathered_new}
+use Rattle.cs_index.proofs.GatheringLemmas.{key_place, has-key_at, keys_push, distinct_push, keys_set, length-ascending}
 
 pub slot_absent : (slots : Slots) (lists : List Posting) (g : ℕ) → AreSlotted slots lists → slot_of slots g ≡ 0 → has (keys lists) g ≡ false
 slot_absent slots lists g are none =

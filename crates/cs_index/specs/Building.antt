@@ -1,5 +1,5 @@
 -- What the fields of a builder hold.
-use Rattle.std.specs.Prelude.{◌≡◌, ℕ, ◌-◌, ◌≤◌, List, length, drop}
+use Rattle.std.specs.Prelude.{◌-◌, ◌≤◌, List, length, drop}
 use Rattle.cs_index.specs.declared.builder.Builder.TheInside.{Inside}
 use Rattle.cs_index.specs.Image.{Posting}
 use Rattle.cs_index.specs.Spelling.{entries_of}

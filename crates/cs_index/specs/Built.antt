@@ -6,7 +6,7 @@ use Rattle.std.specs.List.{list_all, AllByRecursion}
 use Rattle.std.specs.Ordering.{is_lt}
 use Rattle.std.specs.FinMap as map'
 use Rattle.cs_tree.specs.PathSet as set'
-use Rattle.cs_tree.specs.Paths.{bytes_cmp, covers, Paths}
+use Rattle.cs_tree.specs.Cover.{bytes_cmp, covers, Paths}
 use Rattle.cs_index.specs.Image.{Entry, Files, names_of}
 use Rattle.cs_index.specs.Spelling.{IsString, Ascends}
 

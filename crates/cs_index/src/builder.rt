@@ -102,11 +102,23 @@ impl Builder {
         let names = self.names.len() as u32;
         settle(&mut self.lists, &self.waiting, &mut self.settled, names)?;
         let trigrams = self.lists.trigrams()?;
-        lay(self.alloc, &self.paths, &self.names, &self.lists, &trigrams, most)
+        lay(
+            self.alloc,
+            &self.paths,
+            &self.names,
+            &self.lists,
+            &trigrams,
+            most,
+        )
     }
 
     // Adds a name where there are fewer than a number of them.
-    pub(crate) fn add_within(&mut self, most: u32, name: &str, trigrams: &[u32]) -> Result<u32, BuildFault>
+    pub(crate) fn add_within(
+        &mut self,
+        most: u32,
+        name: &str,
+        trigrams: &[u32],
+    ) -> Result<u32, BuildFault>
         requires ascending { Ascends trigrams.now }
         requires below { AllByRecursion (λ g. g < 16777215) trigrams.now }
         requires few { most ≤ 2 ^ 30 }

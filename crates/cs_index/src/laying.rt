@@ -12,7 +12,9 @@ use crate::strings::Strings;
 use std::alloc::{AllocError, Global};
 
 const MAGIC: &[u8; 16] = b"csearch index 1\n";
+
 const TRAILER_MAGIC: &[u8; 16] = b"\ncsearch trailr\n";
+
 const TRAILER_LEN: usize = 36;
 
 /// The index of paths, names and lists, unless it has more than a number of bytes.
@@ -47,7 +49,10 @@ pub fn lay(
     if out.len() + TRAILER_LEN > most as usize {
         return Err(BuildFault::TooLarge);
     }
-    lay_trailer(&mut out, &[16, names_at, lists_at, name_index_at, list_index_at])?;
+    lay_trailer(
+        &mut out,
+        &[16, names_at, lists_at, name_index_at, list_index_at],
+    )?;
     Ok(out)
 }
 

@@ -1,10 +1,11 @@
 // Which texts, and which paths, an index may hold.
-ghost use Rattle.std.specs.Prelude.{◌≡◌, ◌++◌, ◌∷◌, [], List, ℕ, map, nat_lt, string_bytes};
+ghost use Rattle.std.specs.Prelude.{◌≡◌, List, ℕ, map, nat_lt, string_bytes};
 ghost use Rattle.std.specs.List.{list_all};
 ghost use Rattle.std.specs.declared.string.String.{String};
 ghost use Rattle.std.specs.declared.alloc.Global.{Global};
-ghost use Rattle.cs_tree.specs.Paths.{begins, covers, slash};
 ghost use Rattle.cs_index.specs.Built.{are_paths, are_reduced, is_before, is_storable};
+
+use cs_tree::covers;
 
 /// Whether the text is not empty and has no NUL.
 pub fn is_text(text: &str) -> bool
@@ -48,34 +49,5 @@ fn ascend_apart(paths: &[String]) -> bool
 fn is_apart(path: &str, others: &[String]) -> bool
     ensures { result ≡ list_all (λ (other : String Global). is_before path.now (string_bytes other)) others.now }
 {
-    others
-        .iter()
-        .all(|other| path.cmp(&other.as_str()).is_lt() && !has_below(path, other.as_str()))
-}
-
-// Whether the path covers the name.
-fn has_below(path: &str, name: &str) -> bool
-    ensures { result ≡ covers path.now name.now }
-{
-    path == name || is_under(path.as_bytes(), name.as_bytes()) || (path == "/" && is_rooted(name))
-}
-
-// Whether the name begins with the path and a slash.
-fn is_under(path: &[u8], name: &[u8]) -> bool
-    ensures { result ≡ begins (path.now ++ slash ∷ []) name.now }
-{
-    if path.len() >= name.len() {
-        return false;
-    }
-    name[path.len()] == b'/' && &name[..path.len()] == path
-}
-
-// Whether the name begins with a slash.
-fn is_rooted(name: &str) -> bool
-    ensures { result ≡ begins (slash ∷ []) name.now }
-{
-    match name.as_bytes() {
-        [b'/', ..] => true,
-        _ => false,
-    }
+    others.iter().all(|other| path.cmp(&other.as_str()).is_lt() && !covers(path, other.as_str()))
 }

@@ -15,12 +15,14 @@ fn strings(alloc: Global, texts: &[&str]) -> Result<Vec<String>, Fail> {
 #[test]
 fn rows_are_written(rt: HostRuntime) -> Result<(), Fail> {
     let empty = Builder::new(rt.alloc(), &strings(rt.alloc(), &["/a"])?)?.finish()?;
-    let empty_want = b"csearch index 1\n/a\0\0\0\xff\xff\xff\0\0\0\0\0\0\0\0\x10\0\0\0\x14\0\0\0\x15\0\0\0\x19\0\0\0\x1d\ncsearch trailr\n";
+    let empty_want =
+        b"csearch index 1\n/a\0\0\0\xff\xff\xff\0\0\0\0\0\0\0\0\x10\0\0\0\x14\0\0\0\x15\0\0\0\x19\0\0\0\x1d\ncsearch trailr\n";
     assert_eq!(rt; empty.as_slice(), empty_want.as_slice());
     let mut builder = Builder::new(rt.alloc(), &strings(rt.alloc(), &["/a"])?)?;
     assert_eq!(rt; builder.add("/a/x", &[0x616263, 0x626364, 0x63640a])?, 0);
     let index = builder.finish()?;
-    let want = b"csearch index 1\n/a\0\0/a/x\0\0abc\x01\0bcd\x01\0cd\n\x01\0\xff\xff\xff\0\0\0\0\0\0\0\0\x05abc\0\0\0\x01\0\0\0\0bcd\0\0\0\x01\0\0\0\x05cd\n\0\0\0\x01\0\0\0\x0a\0\0\0\x10\0\0\0\x14\0\0\0\x1a\0\0\0\x2d\0\0\0\x35\ncsearch trailr\n";
+    let want =
+        b"csearch index 1\n/a\0\0/a/x\0\0abc\x01\0bcd\x01\0cd\n\x01\0\xff\xff\xff\0\0\0\0\0\0\0\0\x05abc\0\0\0\x01\0\0\0\0bcd\0\0\0\x01\0\0\0\x05cd\n\0\0\0\x01\0\0\0\x0a\0\0\0\x10\0\0\0\x14\0\0\0\x1a\0\0\0\x2d\0\0\0\x35\ncsearch trailr\n";
     assert_eq!(rt; index.as_slice(), want.as_slice());
     Ok(())
 }
@@ -78,7 +80,10 @@ fn limits_are_kept(rt: HostRuntime) -> Result<(), Fail> {
     let mut builder = Builder::new(rt.alloc(), &strings(rt.alloc(), &["/a"])?)?;
     assert_eq!(rt; builder.add_within(2, "/b", &[]), Ok(0));
     assert_eq!(rt; builder.add_within(2, "/c", &[7]), Ok(1));
-    assert_eq!(rt; builder.add_within(2, "/d", &[7]), Err(BuildFault::TooLarge));
+    assert_eq!(rt;
+        builder.add_within(2, "/d", &[7]),
+        Err(BuildFault::TooLarge)
+    );
     assert_eq!(rt; builder.add_within(3, "/d", &[]), Ok(2));
     for (most, want) in [(64, None), (65, Some(65))] {
         let empty = Builder::new(rt.alloc(), &strings(rt.alloc(), &["/a"])?)?;

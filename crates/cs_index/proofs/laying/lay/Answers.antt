@@ -1,8 +1,8 @@
-use Rattle.std.proofs.Common.{◌≡◌, map, flat_map, ◌∙◌, ◌++◌, ◌∷◌, [], ap, sym, subst, refl, length, List, ℕ, arith}
+use Rattle.std.proofs.Common.{◌≡◌, map, flat_map, ◌∙◌, ◌++◌, ◌∷◌, [], ap, sym, subst, length, List, ℕ, arith}
 use Rattle.cs_index.specs.Image.{closing_list, entry_bytes, joined, list_entries, posting_list, sections_of, magic, Sections}
-use Rattle.cs_index.specs.Gathering.{HaveLists, in_order, keys, listed}
+use Rattle.cs_index.specs.Gathering.{HaveLists, in_order, listed}
 use Rattle.cs_index.proofs.BuiltLemmas.{keys_in_order}
-use Rattle.cs_index.proofs.LayingLemmas.{laid_is, LaidInTurn}
+use Rattle.cs_index.proofs.LayingLemmas.{laid_is}
 use Rattle.cs_index.proofs.laying.lay.Goals as goal
 
 pub lay_lists-requires : goal.lay_lists-requires
@@ -24,9 +24,9 @@ returns-clause-ok c =
       list_index = c.in_ok-lay_entries.ensures ∙ ap (λ ps. c.lay_starts.new.out.items ++ flat_map entry_bytes (list_entries 0 ps)) all;
       trailer = c.in_ok-lay_trailer.ensures;
       begun =
-        let a : c.len-names_at.result ≡ length c.lay.new.out.items = omega (arith, c.len-names_at.ensures, c.lay.new.out.ok.0) in
-        let b : c.len-lists_at.result ≡ length c.lay-2.new.out.items = omega (arith, c.len-lists_at.ensures, c.lay-2.new.out.ok.0) in
-        let d : c.len-name_index_at.result ≡ length c.lay_lists.new.out.items = omega (arith, c.len-name_index_at.ensures, c.lay_lists.new.out.ok.0) in
-        let e : c.len-list_index_at.result ≡ length c.lay_starts.new.out.items = omega (arith, c.len-list_index_at.ensures, c.lay_starts.new.out.ok.0) in
-        λ i. 16 ∷ a i ∷ b i ∷ d i ∷ e i ∷ [];
+          let a : c.len-names_at.result ≡ length c.lay.new.out.items = omega (arith, c.len-names_at.ensures, c.lay.new.out.ok.0) in
+          let b : c.len-lists_at.result ≡ length c.lay-2.new.out.items = omega (arith, c.len-lists_at.ensures, c.lay-2.new.out.ok.0) in
+          let d : c.len-name_index_at.result ≡ length c.lay_lists.new.out.items = omega (arith, c.len-name_index_at.ensures, c.lay_lists.new.out.ok.0) in
+          let e : c.len-list_index_at.result ≡ length c.lay_starts.new.out.items = omega (arith, c.len-list_index_at.ensures, c.lay_starts.new.out.ok.0) in
+          λ i. 16 ∷ a i ∷ b i ∷ d i ∷ e i ∷ [];
     })

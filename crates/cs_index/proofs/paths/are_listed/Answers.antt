@@ -1,4 +1,4 @@
-use Rattle.std.proofs.Common.{◌≡◌, ◌∙◌, ap, sym, ◌&&◌, map, string_bytes}
+use Rattle.std.proofs.Common.{◌∙◌, ap, sym, ◌&&◌, map, string_bytes}
 use Rattle.cs_index.specs.Built.{is_storable, are_reduced}
 use Rattle.cs_index.proofs.PathLemmas.{list_all-map}
 use Rattle.cs_index.proofs.paths.are_listed.Goals as goal

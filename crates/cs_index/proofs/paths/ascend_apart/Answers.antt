@@ -5,7 +5,6 @@ use Rattle.cs_index.specs.Built.{are_reduced, is_before}
 use Rattle.cs_index.proofs.PathLemmas.{list_all-map}
 use Rattle.cs_index.proofs.paths.ascend_apart.Goals as goal
 
-
 next : (paths : List (String Global)) (i : ℕ) (d : String Global) → i < length paths → d ≡ get_or paths i d → drop i paths ≡ d ∷ drop (i + 1) paths
 next paths i d h is = drop-cons paths i d h ∙ (λ j. is' j ∷ drop (one j) paths)
   where

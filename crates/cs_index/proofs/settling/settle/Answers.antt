@@ -1,6 +1,5 @@
-use Rattle.std.proofs.Common.{◌≡◌, ◌<◌, ◌≤◌, ◌+◌, ◌-◌, ◌∷◌, ℕ, suc, List, length, drop, get_or, refl, sym, ap, subst, ◌∙◌, arith, drop-cons, add-one}
-use Rattle.cs_index.specs.Image.{Posting}
-use Rattle.cs_index.specs.Gathering.{AwaitLast, gathered, gathered_all}
+use Rattle.std.proofs.Common.{◌≡◌, ◌<◌, ◌+◌, ◌-◌, ◌∷◌, ℕ, List, length, drop, get_or, sym, ap, subst, ◌∙◌, arith, drop-cons, add-one}
+use Rattle.cs_index.specs.Gathering.{AwaitLast, gathered_all}
 use Rattle.cs_index.proofs.BuiltLemmas.{await_after}
 use Rattle.cs_index.proofs.settling.settle.Goals as goal
 

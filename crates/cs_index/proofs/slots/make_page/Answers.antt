@@ -1,4 +1,4 @@
-use Rattle.std.proofs.Common.{◌≡◌, ℕ, ◌++◌, ◌∷◌, [], ap, ◌∙◌, rules}
+use Rattle.std.proofs.Common.{◌≡◌, ◌++◌, ◌∷◌, [], ap, ◌∙◌, rules}
 use Rattle.cs_index.specs.Slots.{slot_in}
 use Rattle.cs_index.proofs.SlotLemmas.{slot_pushed}
 use Rattle.cs_index.proofs.slots.make_page.Goals as goal

@@ -1,4 +1,4 @@
-use Rattle.std.proofs.Common.{◌≡◌, ◌∙◌, ap, cond, eqb, sym, ℕ, ◌<◌, get_or}
+use Rattle.std.proofs.Common.{◌∙◌, ap, cond, eqb, sym}
 use Rattle.std.proofs.lemmas.Option.{unwrap_or-slice_get}
 use Rattle.cs_index.proofs.ResultLemmas.{any_err}
 use Rattle.cs_index.proofs.SlotLemmas.{set_read}

@@ -1,11 +1,11 @@
-use Rattle.std.proofs.Common.{◌≡◌, ◌∙◌, ◌-◌, ◌<◌, ◌++◌, ◌∷◌, [], ap, sym, subst, refl, drop, length, List, ℕ, arith}
+use Rattle.std.proofs.Common.{◌≡◌, ◌∙◌, ◌-◌, ◌<◌, ◌++◌, ◌∷◌, [], ap, sym, subst, drop, length, List, ℕ, arith}
 use Rattle.std.specs.List.{AllByRecursion}
-use Rattle.cs_index.specs.Image.{Posting, names_of, Entry}
-use Rattle.cs_index.specs.Spelling.{Ascends, IsPosting, entries_of}
+use Rattle.cs_index.specs.Image.{Posting, Entry}
+use Rattle.cs_index.specs.Spelling.{Ascends, entries_of}
 use Rattle.cs_index.specs.Gathering.{in_order, gathered_all, AwaitLast}
 use Rattle.cs_index.specs.declared.builder.Builder.TheInside.{Inside}
-use Rattle.cs_index.specs.Building.{settled_lists, held, IsHeld}
-use Rattle.cs_index.specs.Built.{Built, IsBuilt, added, is_above}
+use Rattle.cs_index.specs.Building.{settled_lists, held}
+use Rattle.cs_index.specs.Built.{Built, IsBuilt, added}
 use Rattle.cs_index.proofs.GatheredLemmas.{length-entries_of}
 use Rattle.cs_index.proofs.HeldLemmas.{built_added, added_later, Later, settled_is, each_later}
 use Rattle.cs_index.proofs.builder.Builder.hold.Goals as goal
@@ -41,9 +41,9 @@ all_held : (b : Inside) (now : Built) (names : List (List ℕ)) (name : List ℕ
 all_held b now names name lists waiting trigrams is named taken more = record {
   waits = subst (λ (ns : List (List ℕ)). AwaitLast (length ns) lists waiting) (sym named) (subst (AwaitLast (length (b.names ++ name ∷ [])) lists) (sym taken) more.waits);
   is =
-    (λ i. record { paths = b.paths; entries = entries_of 0 (named i) (in_order (gathered_all lists (length (named i) - 1) (taken i))) })
-    ∙ ap (λ (es : List Entry). let built : Built = record { paths = b.paths; entries = es } in built) more.entries
-    ∙ ap (λ (built : Built). added built name trigrams) is;
+      (λ i. record { paths = b.paths; entries = entries_of 0 (named i) (in_order (gathered_all lists (length (named i) - 1) (taken i))) })
+      ∙ ap (λ (es : List Entry). let built : Built = record { paths = b.paths; entries = es } in built) more.entries
+      ∙ ap (λ (built : Built). added built name trigrams) is;
 }
 
 pub invariant_of-self-2 : goal.invariant_of-self-2

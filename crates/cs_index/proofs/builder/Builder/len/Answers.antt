@@ -1,4 +1,4 @@
-use Rattle.std.proofs.Common.{◌≡◌, ◌∙◌, ap, sym, length, List, ℕ, arith}
+use Rattle.std.proofs.Common.{◌∙◌, ap, sym, length, arith}
 use Rattle.cs_index.specs.Gathering.{in_order}
 use Rattle.cs_index.specs.Building.{settled_lists}
 use Rattle.cs_index.specs.Built.{Built}

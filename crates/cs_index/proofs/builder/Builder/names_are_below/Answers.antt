@@ -1,4 +1,4 @@
-use Rattle.std.proofs.Common.{◌∙◌, ap, sym, List, ℕ}
+use Rattle.std.proofs.Common.{◌∙◌, ap, sym}
 use Rattle.cs_index.specs.Image.{names_of}
 use Rattle.cs_index.specs.Gathering.{in_order}
 use Rattle.cs_index.specs.Building.{settled_lists}

@@ -1,8 +1,7 @@
-use Rattle.std.proofs.Common.{◌≡◌, ◌≤◌, ◌<◌, ◌+◌, ◌^◌, ◌++◌, ◌∷◌, ℕ, false, cond, eqb, List, [], length, refl, sym, ap, subst, ◌∙◌, arith}
+use Rattle.std.proofs.Common.{◌≡◌, ◌+◌, ◌++◌, ◌∷◌, ℕ, false, cond, eqb, List, [], length, sym, ap, subst, ◌∙◌, arith}
 use Rattle.cs_index.specs.Image.{Posting, has}
-use Rattle.cs_index.specs.Gathering.{gathered, keys}
+use Rattle.cs_index.specs.Gathering.{keys}
 use Rattle.cs_index.specs.Slots.{slot_of, AreSlotted}
-use Rattle.cs_index.specs.declared.slots.Slots.{Slots}
 use Rattle.cs_index.proofs.SlottedLemmas.{few_lists, slotted_same, slotted_push}
 use Rattle.cs_index.proofs.GatheringLemmas.{gathered_new}
 use Rattle.cs_index.proofs.lists.Lists.begin.Goals as goal

@@ -1,6 +1,6 @@
-use Rattle.std.proofs.Common.{◌≡◌, ◌∙◌, ap, ℕ, List, sym, subst}
+use Rattle.std.proofs.Common.{ℕ, List, subst}
 use Rattle.std.specs.List.Sorted.{IsPermutation}
-use Rattle.cs_index.specs.Gathering.{keys, AreDistinct}
+use Rattle.cs_index.specs.Gathering.{keys}
 use Rattle.cs_index.proofs.SortedLemmas.{sorted_is}
 use Rattle.cs_index.proofs.lists.Lists.trigrams.Goals as goal
 

@@ -1,7 +1,6 @@
-use Rattle.std.proofs.Common.{◌≡◌, ◌∙◌, ◌-◌, ◌<◌, ap, sym, subst, refl, List, ℕ, [], length, Option, Some, None, slice_get, take, drop}
+use Rattle.std.proofs.Common.{◌≡◌, ◌∙◌, ◌-◌, ◌<◌, ap, sym, subst, List, ℕ, length, Some, None, slice_get, take, drop}
 use Rattle.std.specs.Option.{option_copied}
-use Rattle.cs_index.specs.Strings.{AreStrings, texts_in}
-use Rattle.cs_index.proofs.StringLemmas.{last_text, LastText, no_text}
+use Rattle.cs_index.proofs.StringLemmas.{last_text, no_text}
 use Rattle.cs_index.proofs.strings.Strings.last.Goals as goal
 
 pub returns-in_err-start : goal.returns-in_err-start

@@ -1,6 +1,6 @@
-use Rattle.std.proofs.Common.{◌≡◌, ◌<◌, ◌+◌, ◌∙◌, ap, sym, subst, map, length, List, ℕ, arith}
+use Rattle.std.proofs.Common.{◌≡◌, ◌<◌, ◌∙◌, ap, sym, subst, map, List, ℕ, arith}
 use Rattle.std.specs.List.{AllByRecursion}
-use Rattle.cs_index.specs.Image.{ended, joined, starts_from}
+use Rattle.cs_index.specs.Image.{ended, starts_from}
 use Rattle.cs_index.proofs.LayingLemmas.{starts_below}
 use Rattle.cs_index.proofs.strings.Strings.lay_starts.Goals as goal
 

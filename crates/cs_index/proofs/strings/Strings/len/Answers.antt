@@ -1,4 +1,4 @@
-use Rattle.std.proofs.Common.{◌∙◌, ap, length, List, ℕ, arith}
+use Rattle.std.proofs.Common.{◌∙◌, ap, length, List, ℕ}
 use Rattle.cs_index.proofs.StringLemmas.{count_texts}
 use Rattle.cs_index.proofs.strings.Strings.len.Goals as goal
 

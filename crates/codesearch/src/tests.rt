@@ -1,0 +1,85 @@
+// The program over memory. Each row has the words, standard input, and what is wanted: the status,
+// the output and the lines on standard error.
+use crate::program::run;
+use cs_tree::{Item, MemSink, MemSource, MemTree};
+use std::process::Abort;
+use std::test::Fail;
+
+mod files;
+mod patterns;
+mod refusals;
+mod standard_input;
+mod words;
+
+/// The three outputs of a run.
+#[derive(Clone, Copy, Drop)]
+struct Wanted<'a> {
+    status: u8,
+    out: &'a str,
+    err: &'a str,
+}
+
+fn ends<'a>(status: u8, out: &'a str, err: &'a str) -> Wanted<'a> {
+    Wanted { status, out, err }
+}
+
+/// A tree with these files below `/t`, each given by its name and its text.
+fn tree_of(rt: &(impl Abort + AllocGlobal), files: &[(&str, &str)]) -> Result<MemTree, Fail> {
+    let alloc = rt.alloc();
+    let mut tree = MemTree::new(alloc, 7)?;
+    tree.put("/t", Item::Folder).ok().ok_or("no folder")?;
+    for (name, text) in files {
+        let bytes = text.as_bytes().to_vec(alloc)?;
+        tree.put(name, Item::File(bytes)).ok().ok_or("no file")?;
+    }
+    Ok(tree)
+}
+
+/// Runs the program over the tree and the input, and compares what it answers and prints.
+fn runs_in(
+    rt: &(impl Abort + AllocGlobal),
+    tree: &mut MemTree,
+    words: &[&str],
+    input: &mut MemSource<'_>,
+    want: Wanted<'_>,
+) -> Result<(), Fail> {
+    let alloc = rt.alloc();
+    let mut owned: Vec<String> = Vec::new(alloc);
+    for word in words {
+        owned.push(String::from_str(alloc, word)?)?;
+    }
+    let mut out = MemSink::new(alloc, 1000000);
+    let mut err = MemSink::new(alloc, 1000000);
+    let status = run(alloc, &owned, tree, input, &mut out, &mut err);
+    assert_eq!(rt; out.bytes(), want.out.as_bytes(), "output of {words:?}");
+    assert_eq!(rt;
+        err.bytes(),
+        want.err.as_bytes(),
+        "standard error of {words:?}"
+    );
+    assert_eq!(rt; status, want.status, "status of {words:?}");
+    Ok(())
+}
+
+/// The same over no files.
+fn runs(
+    rt: &(impl Abort + AllocGlobal),
+    words: &[&str],
+    input: &str,
+    want: Wanted<'_>,
+) -> Result<(), Fail> {
+    let mut tree = MemTree::new(rt.alloc(), 1)?;
+    let mut source = MemSource::new(input.as_bytes(), 3, false);
+    runs_in(rt, &mut tree, words, &mut source, want)
+}
+
+/// The same over files, with nothing on standard input.
+fn searches(
+    rt: &(impl Abort + AllocGlobal),
+    tree: &mut MemTree,
+    words: &[&str],
+    want: Wanted<'_>,
+) -> Result<(), Fail> {
+    let mut nothing = MemSource::new(b"", 1, false);
+    runs_in(rt, tree, words, &mut nothing, want)
+}

@@ -1,0 +1,221 @@
+#!/bin/sh
+# Runs the program as a person does, in a fresh folder, and compares what it prints and its status.
+# usage: tests/end_to_end.sh PROGRAM
+# A case that fails prints its command, what was wanted and what came. The last line is 'N passed, M failed'.
+
+program=$(readlink -f -- "$1") || exit 2
+root=$(dirname -- "$(readlink -f -- "$0")")/..
+home=$(mktemp -d) || exit 2
+trap 'rm -rf "$home"' EXIT
+cd "$home" || exit 2
+mkdir files results
+passed=0
+failed=0
+
+# The command of a case is shell text, so that it shows as it would be typed; `codesearch` and `cgrep` stand for the program.
+codesearch() { "$program" "$@"; }
+cgrep() { "$program" cgrep "$@"; }
+
+show() {
+    printf '    %s:\n' "$1"
+    head -c 400 "$2" | sed 's/^/        /'
+    printf '\n'
+}
+
+# verdict COMMAND: compares the results with what is wanted
+verdict() {
+    if cmp -s results/out results/wanted.out && cmp -s results/err results/wanted.err && [ "$came" = "$wanted" ]; then
+        passed=$((passed + 1))
+        return
+    fi
+    failed=$((failed + 1))
+    printf 'FAILED: %s\n    status: wanted %s, came %s\n' "$1" "$wanted" "$came"
+    show 'output wanted' results/wanted.out
+    show 'output came' results/out
+    show 'error wanted' results/wanted.err
+    show 'error came' results/err
+}
+
+# try STATUS OUTPUT ERROR COMMAND: OUTPUT and ERROR as printf writes them; standard input is empty, but for what COMMAND gives
+try() {
+    wanted=$1
+    printf -- "$2" > results/wanted.out
+    printf -- "$3" > results/wanted.err
+    eval "$4" > results/out 2> results/err < /dev/null
+    came=$?
+    verdict "$4"
+}
+
+# same COMMAND PEER: prints the same bytes as PEER, with the same status
+same() {
+    eval "$2" > results/wanted.out 2> results/wanted.err < /dev/null
+    wanted=$?
+    eval "$1" > results/out 2> results/err < /dev/null
+    came=$?
+    verdict "$1    (as: $2)"
+}
+
+# holds COMMAND: a test of the shell's that has to pass
+holds() {
+    : > results/wanted.out
+    : > results/wanted.err
+    wanted=0
+    eval "$1" > results/out 2> results/err < /dev/null
+    came=$?
+    verdict "$1"
+}
+
+skipped() { printf 'skipped: %s\n' "$1"; }
+
+# ---- standard input -------------------------------------------------------------------------------------------------
+printf 'ab\nxacb\nabd' > files/lines
+try 0 '<standard input>:ab\n<standard input>:xacb\n' '' "cgrep 'a(b|c)*\$' < files/lines"
+try 0 '<standard input>:ab\n<standard input>:xacb\n' '' "printf 'ab\nxacb\nabd' | codesearch cgrep 'a(b|c)*\$'"
+try 0 '<standard input>:abd\n' '' "cgrep '^abd' < files/lines"
+try 0 '<standard input>:x\n' '' "printf 'x\n' | cgrep 'a||b'"
+try 1 '' '' "cgrep zzz < files/lines"
+try 1 '' '' "cgrep '' < /dev/null"
+try 1 '' '' "cgrep '^\$' < files/lines"
+try 0 '<standard input>:\n' '' "printf '\n' | cgrep '^\$'"
+
+# ---- refusals -------------------------------------------------------------------------------------------------------
+first='codesearch: first word must be cindex, csearch or cgrep\n'
+try 2 '' "$first" "codesearch"
+try 2 '' "$first" "codesearch grep x"
+try 2 '' "$first" "codesearch ''"
+try 2 '' 'cgrep: no pattern\n' "cgrep"
+try 2 '' 'cgrep: pattern at 2: stacked repeat\n' "cgrep 'a**' < files/lines"
+try 2 '' 'cgrep: pattern at 0: nothing to repeat\n' "cgrep '*a' < files/lines"
+try 2 '' 'cgrep: pattern at 1: nothing to repeat\n' "cgrep '(*a)' < files/lines"
+try 2 '' 'cgrep: pattern at 0: group not closed\n' "cgrep '(a' < files/lines"
+try 2 '' 'cgrep: pattern at 1: unexpected )\n' "cgrep 'a)' < files/lines"
+# a word that is no text
+try 2 '' "$first" "cgrep \"\$(printf 'a\\377')\" < files/lines"
+
+# ---- patterns -----------------------------------------------------------------------------------------------------------
+tab=$(printf '\t')
+while IFS=$tab read -r answer pattern line; do
+    line=${line#?}
+    printf -- "${line%?}\n" > files/line
+    case $answer in
+        match) { printf '<standard input>:'; cat files/line; } > results/wanted.out; wanted=0 ;;
+        none) : > results/wanted.out; wanted=1 ;;
+        *) continue ;;
+    esac
+    : > results/wanted.err
+    cgrep -- "$pattern" < files/line > results/out 2> results/err
+    came=$?
+    verdict "cgrep -- '$pattern', over the line '${line%?}'"
+done < "$root/tests/patterns.tsv"
+while IFS=$tab read -r words at pattern; do
+    case $words in '#'*) continue ;; esac
+    : > results/wanted.out
+    printf 'cgrep: pattern at %d: %s\n' "$at" "$words" > results/wanted.err
+    wanted=2
+    cgrep -- "$pattern" > results/out 2> results/err < /dev/null
+    came=$?
+    verdict "cgrep -- '$pattern'"
+done < "$root/tests/refusals.tsv"
+
+# ---- words ----------------------------------------------------------------------------------------------------------
+printf 'one\ntwo\none\n' > files/p
+printf 'say -x\na-b\n' > files/dashes
+try 0 'files/p:1:one\nfiles/p:3:one\n' '' "cgrep -n one files/p"
+try 0 'files/p:1:one\nfiles/p:3:one\n' '' "cgrep --n one files/p"
+try 0 'files/p:one\nfiles/p:one\n' '' "cgrep -n -n=false one files/p"
+try 0 'files/p:one\nfiles/p:one\n' '' "cgrep -n=0 one files/p"
+try 0 'files/dashes:say -x\n' '' "cgrep -- -x files/dashes"
+try 0 'files/dashes:say -x\nfiles/dashes:a-b\n' '' "cgrep - files/dashes"
+try 0 'files/dashes:say -x\n' '' "cgrep x -- files/dashes 2>/dev/null"
+try 2 '' 'cgrep: bad truth value in -n=yes\n' "cgrep -n=yes x"
+try 2 '' 'cgrep: unknown option -cn\n' "cgrep -cn x"
+try 2 '' 'cgrep: unknown option ---n\n' "cgrep ---n x"
+try 2 '' 'cgrep: unknown option -f\n' "cgrep -f x"
+try 2 '' 'cgrep: no pattern\n' "cgrep -n"
+
+# ---- styles: each option alone, and each pair -------------------------------------------------------------------------
+lines='files/p:one\nfiles/p:one\n'
+bare='one\none\n'
+count='files/p: 2\n'
+numbers='files/p:1:one\nfiles/p:3:one\n'
+try 0 "$lines" '' "cgrep one files/p"
+try 0 "$count" '' "cgrep -c one files/p"
+try 0 "$bare" '' "cgrep -h one files/p"
+try 0 "$lines" '' "cgrep -i ONE files/p"
+try 0 'files/p\n' '' "cgrep -l one files/p"
+try 0 "$count" '' "cgrep -c -h one files/p"
+try 0 "$count" '' "cgrep -c -i ONE files/p"
+try 0 'files/p\n' '' "cgrep -c -l one files/p"
+try 0 "$count" '' "cgrep -c -n one files/p"
+try 0 "$bare" '' "cgrep -h -i ONE files/p"
+try 0 'files/p\n' '' "cgrep -h -l one files/p"
+try 0 '1:one\n3:one\n' '' "cgrep -h -n one files/p"
+try 0 'files/p\n' '' "cgrep -i -l ONE files/p"
+try 0 "$numbers" '' "cgrep -i -n ONE files/p"
+try 0 'files/p\n' '' "cgrep -l -n one files/p"
+try 1 '' '' "cgrep ONE files/p"
+try 1 '' '' "cgrep -c six files/p"
+try 1 '' '' "cgrep -l six files/p"
+try 0 '<standard input>\n' '' "cgrep -l one < files/p"
+try 0 '<standard input>: 2\n' '' "cat files/p | cgrep -c one"
+
+# ---- files ------------------------------------------------------------------------------------------------------------
+: > files/empty
+printf 'last one' > files/unended
+printf 'a\0one\nb\n' > files/nul
+printf '\377one\351\n' > files/latin
+try 1 '' 'cgrep: files/none: no such file\n' "cgrep one files/none"
+try 0 "$lines" 'cgrep: files/none: no such file\n' "cgrep one files/none files/p"
+try 1 '' 'cgrep: files/p/x: no such file\n' "cgrep one files/p/x"
+try 1 '' 'cgrep: : no such file\n' "cgrep one ''"
+try 1 '' 'cgrep: files: cannot be read\n' "cgrep one files"
+try 1 '' '' "cgrep '' files/empty"
+try 0 'files/unended:last one\n' '' "cgrep one files/unended"
+try 0 'files/nul:a\0one\n' '' "cgrep one files/nul"
+try 0 'files/latin:\377one\351\n' '' "cgrep '^.one.\$' files/latin"
+try 0 "$lines$lines" '' "cgrep one files/p files/p"
+try 0 "files/unended:last one\n$lines" '' "cgrep one files/unended files/p"
+if [ "$(id -u)" -eq 0 ]; then
+    skipped 'a file that may not be read: root may read all files'
+else
+    printf 'one\n' > files/locked
+    chmod 000 files/locked
+    try 1 '' 'cgrep: files/locked: permission denied\n' "cgrep one files/locked"
+fi
+if [ -p /dev/fd/0 ] || [ -e /dev/stdin ]; then
+    try 0 '/dev/stdin:one\n/dev/stdin:one\n' '' "cat files/p | cgrep one /dev/stdin"
+fi
+
+# ---- size -------------------------------------------------------------------------------------------------------------
+{ head -c 5000000 /dev/zero | tr '\0' a; printf 'b\nlast\n'; } > files/long
+same "cgrep 'b\$' files/long" "LC_ALL=C grep -H 'b\$' files/long"
+same "cgrep -n last files/long" "LC_ALL=C grep -Hn last files/long"
+mkdir files/many
+awk 'BEGIN { for (i = 10000; i < 20000; i++) { f = "files/many/" i; printf "line\nnumber %d\n", i > f; close(f) } }'
+same "cgrep '7\$' files/many/*" "LC_ALL=C grep -H '7\$' files/many/*"
+same "cgrep -l '^number 1234' files/many/*" "LC_ALL=C grep -l '^number 1234' files/many/*"
+
+# ---- outputs ----------------------------------------------------------------------------------------------------------
+if [ -w /dev/full ]; then
+    try 2 '' 'cgrep: output failed\n' "cgrep one files/p > /dev/full"
+    try 2 '' 'cgrep: output failed\n' "cgrep '' files/many/* > /dev/full"
+else
+    skipped 'a full output: there is no /dev/full'
+fi
+# Where the output is closed early the program ends at once, by the signal or with the line that output failed.
+try 0 'files/many/10000:line\n' '' "timeout 20 \"\$program\" cgrep line files/many/* 2>/dev/null | head -n 1"
+holds "seq 1 3000000 | timeout 20 \"\$program\" cgrep '' 2>/dev/null | head -n 1 | grep -qx '<standard input>:1'"
+
+# ---- the same lines as grep, over the sources of this repository --------------------------------------------------------
+tree=$root/crates
+find "$tree" -type d -name out -prune -o -type f \( -name '*.rt' -o -name '*.antt' \) -print | sort > results/names
+for pattern in 'requires' '^use .*specs' 'fn [a-z_]*\(' '(length|take) [a-z]' '^$'; do
+    same "xargs \"\$program\" cgrep -n '$pattern' < results/names" "LC_ALL=C xargs grep -EHn '$pattern' < results/names"
+    same "xargs \"\$program\" cgrep '$pattern' < results/names" "LC_ALL=C xargs grep -EH '$pattern' < results/names"
+    same "xargs \"\$program\" cgrep -h '$pattern' < results/names" "LC_ALL=C xargs grep -Eh '$pattern' < results/names"
+    same "xargs \"\$program\" cgrep -l '$pattern' < results/names" "LC_ALL=C xargs grep -El '$pattern' < results/names"
+    same "xargs \"\$program\" cgrep -c '$pattern' < results/names" "LC_ALL=C xargs grep -EHc '$pattern' < results/names | grep -v ':0\$' | sed 's/:\([0-9]*\)\$/: \1/'"
+done
+
+printf '%d passed, %d failed\n' "$passed" "$failed"
+[ "$failed" -eq 0 ]

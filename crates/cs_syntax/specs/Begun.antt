@@ -25,7 +25,8 @@ abbrev pub completed : Begun → Level → Tree
 completed h l =
     let m = with_units h.units l in choice_after h.branches (sequence m.units) m.branches
 
--- what the whole text reads as, from the groups around, the innermost group and the rest of the text
+-- what the whole text reads as, from the groups around, the innermost group and the rest of the
+-- text
 abbrev pub continued : List Begun → Begun → Rest → Reading
 continued hs h (broken k at) = refused k at
 continued [] h (levels l ls) = tree (completed h l)

@@ -10,4 +10,5 @@ capped n = record { value = min n.value 4294967295; len = n.len }
 
 -- both counts
 abbrev pub all_capped : Counts → Counts
-all_capped c = record { least = min c.least 4294967295; most = option_map (λ m. min m 4294967295) c.most; len = c.len }
+all_capped c =
+    record { least = min c.least 4294967295; most = option_map (λ m. min m 4294967295) c.most; len = c.len }

@@ -15,12 +15,14 @@ use Rattle.cs_syntax.specs.declared.class_item.ClassItem.TheVariants.{Range, Nam
 use Rattle.cs_syntax.specs.declared.fault.PatternFault.{PatternFault}
 use Rattle.cs_syntax.specs.declared.fault.PatternFault.TheVariants.{OpenClass, BadRange, BadEscape, LoneBackslash, NotInProfile}
 
--- what stands at the front of the rest of a class: an item and the number of its bytes after the first, or a fault and how far behind it lies
+-- what stands at the front of the rest of a class: an item and the number of its bytes after the
+-- first, or a fault and how far behind it lies
 pub data ClassFront : Type 0 where
   piece : ClassItem → ℕ → ClassFront
   misread : PatternFault → ℕ → ClassFront
 
--- what a character of a class is: its number, and how many bytes stand behind its first one; or a fault, at its first byte
+-- what a character of a class is: its number, and how many bytes stand behind its first one; or a
+-- fault, at its first byte
 pub data ClassChar : Type 0 where
   one : ℕ → ℕ → ClassChar
   wrong : PatternFault → ClassChar
@@ -34,12 +36,16 @@ class_escape (e ∷ rest) =
 
 -- one character, also at the end of a range
 abbrev pub class_char : ℕ → List ℕ → ClassChar
-class_char b rest = if nat_eq b 92 then class_escape rest else if nat_lt b 128 then one b 0 else wrong NotInProfile
+class_char b rest =
+    if nat_eq b 92 then class_escape rest
+    else if nat_lt b 128 then one b 0 else wrong NotInProfile
 
--- behind the `-` of a range that begins with `low` and has `len` bytes between its first and the character here
+-- behind the `-` of a range that begins with `low` and has `len` bytes between its first and the
+-- character here
 abbrev pub range_to : ℕ → ℕ → ClassChar → ClassFront
 range_to low len (wrong k) = misread k len
-range_to low len (one high more) = if nat_lt high low then misread BadRange 0 else piece (Range low high) (len + more)
+range_to low len (one high more) =
+    if nat_lt high low then misread BadRange 0 else piece (Range low high) (len + more)
 
 -- behind a character: a `-` that stands before anything but `]` makes it the first of a range
 abbrev pub range_from : ℕ → ℕ → List ℕ → ClassFront
@@ -56,7 +62,8 @@ span (one low len) rest = range_from low len (drop len rest)
 -- the bytes up to the first `:]`, where there is one
 abbrev pub name_length : List ℕ → Option ℕ
 name_length [] = None
-name_length (b ∷ rest) = if starts_with nat_eq (b ∷ rest) (codes ":]") then Some 0 else option_map suc (name_length rest)
+name_length (b ∷ rest) =
+    if starts_with nat_eq (b ∷ rest) (codes ":]") then Some 0 else option_map suc (name_length rest)
 
 -- the class of a name
 unfoldable pub named : List ℕ → Option NamedClass
@@ -85,12 +92,14 @@ bracketed name =
 
 -- behind `[:`, where a `[` is a character if no `:]` follows
 abbrev pub after_colon : List ℕ → ClassFront
-after_colon text = elim (name_length text) [ None ↦ piece (Range 91 91) 0 | Some n ↦ bracketed (take n text) ]
+after_colon text =
+    elim (name_length text) [ None ↦ piece (Range 91 91) 0 | Some n ↦ bracketed (take n text) ]
 
 -- behind a backslash
 abbrev pub after_backslash : List ℕ → ClassFront
 after_backslash [] = misread LoneBackslash 0
-after_backslash (e ∷ rest) = elim (escaped_class e) [ None ↦ span (class_escape (e ∷ rest)) (e ∷ rest) | Some i ↦ piece i 1 ]
+after_backslash (e ∷ rest) =
+    elim (escaped_class e) [ None ↦ span (class_escape (e ∷ rest)) (e ∷ rest) | Some i ↦ piece i 1 ]
 
 -- the item that begins with the byte
 abbrev pub class_front : ℕ → List ℕ → ClassFront
@@ -99,7 +108,8 @@ class_front b rest =
     else if nat_eq b 92 then after_backslash rest
     else span (class_char b rest) rest
 
--- the items from some place to the `]`, and how many bytes behind the `[` that stands; or the first fault, and how far behind the `[` it lies
+-- the items from some place to the `]`, and how many bytes behind the `[` that stands; or the first
+-- fault, and how far behind the `[` it lies
 pub data ClassRest : Type 0 where
   closed : List ClassItem → ℕ → ClassRest
   failed : PatternFault → ℕ → ClassRest
@@ -108,7 +118,8 @@ abbrev pub with_item : ClassItem → ClassRest → ClassRest
 with_item i (closed items len) = closed (i ∷ items) len
 with_item i (failed k behind) = failed k behind
 
--- `items_from skip behind start text`: the text that many bytes behind the `[`, whose first `skip` bytes belong to the item before it;
+-- `items_from skip behind start text`: the text that many bytes behind the `[`, whose first `skip`
+-- bytes belong to the item before it;
 -- at the start a `]` is a character
 abbrev pub items_from : ℕ → ℕ → Bool → List ℕ → ClassRest
 items_from skip behind start [] = failed OpenClass 0
@@ -124,4 +135,5 @@ class_of fold negated (failed k behind) = fault k behind
 -- behind `[`: a `^` negates the class
 abbrev pub class : Bool → List ℕ → Front
 class fold rest =
-    if is_front 94 rest then class_of fold true (items_from 0 2 true (drop 1 rest)) else class_of fold false (items_from 0 1 true rest)
+    if is_front 94 rest then class_of fold true (items_from 0 2 true (drop 1 rest))
+    else class_of fold false (items_from 0 1 true rest)

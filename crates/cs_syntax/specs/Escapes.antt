@@ -31,7 +31,8 @@ octal text =
 abbrev pub hex_in_braces : List ℕ → Option Escaped
 hex_in_braces text =
     let len = count_digits 16 text in
-    if nat_lt 0 len && is_front 125 (drop len text) then numbered (value_in 16 (take len text)) (len + 3) else None
+    if nat_lt 0 len && is_front 125 (drop len text) then numbered (value_in 16 (take len text)) (len + 3)
+    else None
 
 -- behind `x`: two hexadecimal digits, or some in braces
 abbrev pub hex : List ℕ → Option Escaped
@@ -81,7 +82,8 @@ is_left_out e = nat_eq e 65 || nat_eq e 122 || nat_eq e 81 || nat_eq e 112 || na
 
 -- behind a backslash outside a class, where it gives a character or nothing
 unfoldable pub char_front : Bool → List ℕ → Front
-char_front fold text = elim (escaped_char text) [ None ↦ fault BadEscape 0 | Some c ↦ item (unit (char_tree fold c.char)) c.len ]
+char_front fold text =
+    elim (escaped_char text) [ None ↦ fault BadEscape 0 | Some c ↦ item (unit (char_tree fold c.char)) c.len ]
 
 -- `\b`, `\B`, `\C` and the classes
 unfoldable pub escaped_tree : ℕ → Option Tree

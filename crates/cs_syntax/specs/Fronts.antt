@@ -18,7 +18,8 @@ pub data Item : Type 0 where
   -- these flags hold from here on, to the end of the group
   flags_from_here : Flags → Item
 
--- An item and the number of its bytes after the first; or a fault, and how many bytes behind the front it lies.
+-- An item and the number of its bytes after the first; or a fault, and how many bytes behind the
+-- front it lies.
 pub data Front : Type 0 where
   item : Item → ℕ → Front
   fault : PatternFault → ℕ → Front
@@ -43,6 +44,7 @@ byte_sets (b ∷ bs) = more (one_of (char_set false b)) (byte_sets bs)
 abbrev pub bytes_tree : List ℕ → Tree
 bytes_tree bs = sequence (byte_sets bs)
 
--- A character by its number: an ASCII letter is folded where that flag is on, and a character past ASCII is its bytes in UTF-8.
+-- A character by its number: an ASCII letter is folded where that flag is on, and a character past
+-- ASCII is its bytes in UTF-8.
 abbrev pub char_tree : Bool → ℕ → Tree
 char_tree fold c = if nat_lt c 128 then one_of (char_set fold c) else bytes_tree (encode_utf8 c)

@@ -11,7 +11,8 @@ use Rattle.cs_syntax.specs.declared.fault.PatternFault.TheVariants.{BadGroup, No
 abbrev pub name : Flags → ℕ → List ℕ → Front
 name flags len text =
     let n = prefix_len is_word text in
-    if nat_lt 0 n && is_front 62 (drop n text) then item (group_start flags) (len + n + 1) else fault BadGroup 0
+    if nat_lt 0 n && is_front 62 (drop n text) then item (group_start flags) (len + n + 1)
+    else fault BadGroup 0
 
 -- the flags that may be set: i, m, s and U
 unfoldable pub is_flag : ℕ → Bool
@@ -25,10 +26,12 @@ abbrev pub has : ℕ → List ℕ → Bool
 has b letters = list_any (λ c. nat_eq c b) letters
 
 abbrev pub with_set : List ℕ → Flags → Flags
-with_set letters flags = record { fold = flags.fold || has 105 letters; dot_all = flags.dot_all || has 115 letters }
+with_set letters flags =
+    record { fold = flags.fold || has 105 letters; dot_all = flags.dot_all || has 115 letters }
 
 abbrev pub with_cleared : List ℕ → Flags → Flags
-with_cleared letters flags = record { fold = flags.fold && not (has 105 letters); dot_all = flags.dot_all && not (has 115 letters) }
+with_cleared letters flags =
+    record { fold = flags.fold && not (has 105 letters); dot_all = flags.dot_all && not (has 115 letters) }
 
 -- at the end of the flags: a `:` and the group's text, or a `)`
 abbrev pub after_flags : Flags → ℕ → List ℕ → Front

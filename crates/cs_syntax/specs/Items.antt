@@ -20,7 +20,9 @@ is_continuation b = nat_le 128 b && nat_lt b 192
 
 -- a character past ASCII is one unit, the bytes of its UTF-8 form in order
 abbrev pub written : ℕ → List ℕ → Front
-written b rest = let n = prefix_len is_continuation rest in item (unit (bytes_tree (b ∷ take n rest))) n
+written b rest =
+    let n = prefix_len is_continuation rest in
+    item (unit (bytes_tree (b ∷ take n rest))) n
 
 -- what stands at the front, by what its first byte means
 abbrev pub item_by : Sign → Flags → ℕ → List ℕ → Front

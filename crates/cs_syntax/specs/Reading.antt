@@ -10,7 +10,8 @@ use Rattle.cs_syntax.specs.declared.before.Before.TheVariants.{Start, Operand, C
 use Rattle.cs_syntax.specs.declared.fault.PatternFault.{PatternFault}
 use Rattle.cs_syntax.specs.declared.fault.PatternFault.TheVariants.{NoOperand, StackedRepeat, OpenGroup, StrayClose, TooDeep, TooLarge, Memory}
 
--- A group from some place in it up to its `)`: the units up to the next bar, the branches after that bar,
+-- A group from some place in it up to its `)`: the units up to the next bar, the branches after
+-- that bar,
 -- and the repeats that stand at the front, for what goes before them.
 pub record Level : Type 0 where
   pub units : Trees
@@ -47,7 +48,8 @@ with_repeat n m l = record l { repeats = (n, m) ∷ l.repeats }
 abbrev pub with_bar : Level → Level
 with_bar l = record { units = none; branches = more (sequence l.units) l.branches; repeats = [] }
 
--- The rest of a text: up to the `)` of the group that is open, then up to the `)` of the group around it, ..
+-- The rest of a text: up to the `)` of the group that is open, then up to the `)` of the group
+-- around it, ..
 -- and last up to the end; or the first fault.
 pub data Rest : Type 0 where
   levels : Level → List Level → Rest
@@ -79,7 +81,8 @@ abbrev pub at_end : List Group → Rest
 at_end [] = levels blank []
 at_end (g ∷ gs) = broken OpenGroup g.at
 
--- `rest skip at before groups flags text`: the text at offset `at`, whose first `skip` bytes belong to the item before it
+-- `rest skip at before groups flags text`: the text at offset `at`, whose first `skip` bytes belong
+-- to the item before it
 abbrev pub rest : ℕ → ℕ → Before → List Group → Flags → List ℕ → Rest
 rest skip at before groups flags [] = at_end groups
 rest (suc skip) at before groups flags (b ∷ text) = rest skip (at + 1) before groups flags text

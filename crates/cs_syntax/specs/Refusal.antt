@@ -11,5 +11,7 @@ use Rattle.cs_syntax.specs.declared.fault.PatternError.{PatternError}
 -- or it reads as a tree that weighs too much; or a growth was refused.
 pub data IsRefused (text : List ℕ) (fold : Bool) (e : PatternError) : Type 0 where
   breaks : IsTextFault e.fault → Breaks text fold e.fault e.at → IsRefused text fold e
-  too_large : e.fault ≡ TooLarge → e.at ≡ 0 → (t : Tree) → Reads text fold t → 10000 < weight t → IsRefused text fold e
+  too_large :
+      e.fault ≡ TooLarge → e.at ≡ 0 →
+      (t : Tree) → Reads text fold t → 10000 < weight t → IsRefused text fold e
   memory : e.fault ≡ Memory → e.at ≡ 0 → IsRefused text fold e

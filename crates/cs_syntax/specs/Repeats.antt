@@ -43,7 +43,8 @@ counts text = elim (number text) [ None ↦ None | Some n ↦ counts_from n (dro
 
 -- a count passes 1000, or the second is below the first
 abbrev pub is_bad : Counts → Bool
-is_bad c = nat_lt 1000 c.least || elim c.most [ None ↦ false | Some m ↦ nat_lt 1000 m || nat_lt m c.least ]
+is_bad c =
+    nat_lt 1000 c.least || elim c.most [ None ↦ false | Some m ↦ nat_lt 1000 m || nat_lt m c.least ]
 
 -- behind `{`, which is a literal where no counts follow
 abbrev pub brace : List ℕ → Front

@@ -30,7 +30,8 @@ item_seen text (item_of.GroupStart flags) = group_start flags
 item_seen text item_of.GroupEnd = group_end
 item_seen text (item_of.FlagsFromHere flags) = flags_from_here flags
 
--- what a reader of items has found at the front of the text; an item's own text is its first byte and those behind it
+-- what a reader of items has found at the front of the text; an item's own text is its first byte
+-- and those behind it
 abbrev pub front_seen : List ℕ → Result (items.Item × ℕ) Misread → Front
 front_seen text (Ok r) = item (item_seen (take (suc r.1) text) r.0) r.1
 front_seen text (Err m) = fault m.fault m.behind

@@ -79,7 +79,8 @@ impl ByteSet {
 
     /// The bytes of the item too.
     pub(crate) fn add(&mut self, fold: bool, item: ClassItem)
-        ensures { (test : ℕ → Bool) → self.old ≡ set_of test → self.new ≡ set_of (λ b. test b || is_in_item fold item b) }
+        ensures { (test : ℕ → Bool) → self.old ≡ set_of test → self.new ≡ set_of
+            (λ b. test b || is_in_item fold item b) }
     {
         for (b, m) in self.members.iter_mut().enumerate() {
             *m = *m || is_in_item(fold, item, b);

@@ -70,7 +70,8 @@ fn range_to(
 fn range_from(low: u8, len: usize, rest: &[u8]) -> Result<(ClassItem, usize), Misread>
     requires { len + length rest.now < 2 ^ 63 }
     ensures value { class_front_seen result ≡ range_from low len rest.now }
-    ensures within { MatchResult result (λ r. r.1 ≤ len + length rest.now) (λ m. m.behind ≤ len + length rest.now) }
+    ensures within { MatchResult result (λ r. r.1 ≤ len + length rest.now)
+        (λ m. m.behind ≤ len + length rest.now) }
 {
     match rest {
         [b'-', c, after @ ..] if *c != b']' => range_to(low, len + 2, class_char(*c, after)),

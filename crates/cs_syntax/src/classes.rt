@@ -1,10 +1,8 @@
 // Classes.
-ghost use Rattle.std.specs.Prelude.{◌≡◌, ◌+◌, ◌≤◌, ◌<◌, ◌^◌, ◌&&◌, not, nat_eq, ℕ, List, true, length, drop, MatchResult};
-ghost use Rattle.cs_syntax.specs.ByteSet.{set_of};
-ghost use Rattle.cs_syntax.specs.ClassSets.{is_in_items};
-ghost use Rattle.cs_syntax.specs.Classes.{items_from, closed, failed, class};
+ghost use Rattle.std.specs.Prelude.{◌≡◌, ◌+◌, ◌<◌, ◌≤◌, ◌^◌, ◌&&◌, not, nat_eq, ℕ, List, true, length, MatchResult};
+ghost use Rattle.cs_syntax.specs.Classes.{items_from, class};
+ghost use Rattle.cs_syntax.specs.ClassState.{IsReadAs};
 ghost use Rattle.cs_syntax.specs.Seen.{front_seen};
-ghost use Rattle.cs_syntax.specs.declared.class_item.ClassItem.{ClassItem};
 
 use crate::byte_set::ByteSet;
 use crate::class_fronts::class_front;
@@ -19,11 +17,13 @@ fn closes(byte: u8, start: bool) -> bool
     byte == b']' && !start
 }
 
-/// The items up to the `]`, and how many bytes behind the `[` that stands; the text begins `behind` bytes behind the `[`.
+/// The items up to the `]`, and how many bytes behind the `[` that stands; the text begins
+/// `behind` bytes behind the `[`.
 fn items(fold: bool, behind: usize, text: &[u8]) -> Result<(ByteSet, usize), Misread>
     requires { behind + length text.now < 2 ^ 64 }
-    ensures value { MatchResult result (λ r. (items : List ClassItem) × (items_from 0 behind true text.now ≡ closed items r.1) × (r.0 ≡ set_of (is_in_items fold items))) (λ m. items_from 0 behind true text.now ≡ failed m.fault m.behind) }
-    ensures within { MatchResult result (λ r. r.1 < behind + length text.now) (λ m. m.behind ≤ behind + length text.now) }
+    ensures value { IsReadAs fold (items_from 0 behind true text.now) result }
+    ensures within { MatchResult result (λ r. r.1 < behind + length text.now)
+        (λ m. m.behind ≤ behind + length text.now) }
 {
     let mut set = ByteSet::empty();
     let mut at = 0;

@@ -10,5 +10,6 @@ pub fn reading_is_decided()
 
 /// Neither the weight nor want of memory breaks a text: they come only as answers of `parse`.
 pub fn texts_break_by_their_own_faults()
-    ensures { (text : List ℕ) (fold : Bool) (fault : PatternFault) (at : ℕ) → Breaks text fold fault at → IsTextFault fault }
+    ensures { (text : List ℕ) (fold : Bool) (fault : PatternFault) (at : ℕ) → Breaks text fold fault at →
+        IsTextFault fault }
 {}

@@ -22,7 +22,8 @@ use std::mem;
 /// How many groups may be open at one time.
 const MOST_OPEN: usize = 200;
 
-/// A group that waits for the one in it: where its inner group begins, the flags before that, and what it has so far.
+/// A group that waits for the one in it: where its inner group begins, the flags before that,
+/// and what it has so far.
 #[derive(Drop)]
 pub struct Open {
     at: usize,
@@ -40,7 +41,7 @@ pub struct Parser {
 }
 
 impl Parser {
-    ghost use Rattle.cs_syntax.specs.ParserState.{reading_from, reading_at_end, state_of, at_start, HasOperand, IsRefusal, IsStop, step, goes_on};
+    ghost use Rattle.cs_syntax.specs.ParserState.{reading_from, reading_at_end, state_of, at_start, HasOperand, IsRefusal, Advances, StopsAt};
 
     /// Nothing is read yet.
     #[tactic(auto, unfolding(crate::specs::ParserState::state_of))]
@@ -60,7 +61,7 @@ impl Parser {
 
     #[tactic(auto, unfolding(crate::specs::ParserState::state_of))]
     fn unit(&mut self, alloc: Global, found: Unit, own: &[u8], at: usize) -> Result<(), AllocError>
-        ensures { OnOk result (step (unit (unit_tree own.now found)) at (state_of self.old) ≡ goes_on (state_of self.new)) }
+        ensures { OnOk result (Advances (unit (unit_tree own.now found)) at self.old self.new) }
     {
         let node = unit_node(alloc, found, own)?;
         self.draft.add(node)?;
@@ -77,8 +78,8 @@ impl Parser {
         at: usize,
     ) -> Result<(), PatternError>
         requires { HasOperand (state_of self.old) }
-        ensures goes_on { OnOk result (step (repeat least most) at (state_of self.old) ≡ goes_on (state_of self.new)) }
-        ensures refused { IfErr result (IsStop (step (repeat least most) at (state_of self.old)) at) }
+        ensures goes_on { OnOk result (Advances (repeat least most) at self.old self.new) }
+        ensures refused { IfErr result (StopsAt (repeat least most) at self.old) }
     {
         match self.before {
             Before::Start => Err(PatternError {
@@ -99,7 +100,7 @@ impl Parser {
 
     #[tactic(auto, unfolding(crate::specs::ParserState::state_of))]
     fn bar(&mut self, alloc: Global, at: usize) -> Result<(), AllocError>
-        ensures { OnOk result (step bar at (state_of self.old) ≡ goes_on (state_of self.new)) }
+        ensures { OnOk result (Advances bar at self.old self.new) }
     {
         self.draft.bar(alloc)?;
         self.before = Before::Start;
@@ -109,8 +110,8 @@ impl Parser {
     /// What is read of a group waits while a group in it is read.
     #[tactic(auto, unfolding(crate::specs::ParserState::state_of))]
     fn open_group(&mut self, alloc: Global, flags: Flags, at: usize) -> Result<(), PatternError>
-        ensures goes_on { OnOk result (step (group_start flags) at (state_of self.old) ≡ goes_on (state_of self.new)) }
-        ensures refused { IfErr result (IsStop (step (group_start flags) at (state_of self.old)) at) }
+        ensures goes_on { OnOk result (Advances (group_start flags) at self.old self.new) }
+        ensures refused { IfErr result (StopsAt (group_start flags) at self.old) }
     {
         if self.open.len() == MOST_OPEN {
             return Err(PatternError {
@@ -131,8 +132,8 @@ impl Parser {
 
     #[tactic(auto, unfolding(crate::specs::ParserState::state_of))]
     fn close_group(&mut self, at: usize) -> Result<(), PatternError>
-        ensures goes_on { OnOk result (step group_end at (state_of self.old) ≡ goes_on (state_of self.new)) }
-        ensures refused { IfErr result (IsStop (step group_end at (state_of self.old)) at) }
+        ensures goes_on { OnOk result (Advances group_end at self.old self.new) }
+        ensures refused { IfErr result (StopsAt group_end at self.old) }
     {
         let Some(
             Open {
@@ -156,7 +157,7 @@ impl Parser {
 
     #[tactic(auto, unfolding(crate::specs::ParserState::state_of))]
     fn set_flags(&mut self, flags: Flags, at: usize)
-        ensures { step (flags_from_here flags) at (state_of self.old) ≡ goes_on (state_of self.new) }
+        ensures { Advances (flags_from_here flags) at self.old self.new }
     {
         self.before = Before::Start;
         self.flags = flags;
@@ -165,8 +166,8 @@ impl Parser {
     /// Takes the item at the place, whose own text is `own`.
     fn take(&mut self, alloc: Global, item: Item, own: &[u8], at: usize) -> Result<(), PatternError>
         requires { HasOperand (state_of self.old) }
-        ensures goes_on { OnOk result (step (item_seen own.now item) at (state_of self.old) ≡ goes_on (state_of self.new)) }
-        ensures refused { IfErr result (IsStop (step (item_seen own.now item) at (state_of self.old)) at) }
+        ensures goes_on { OnOk result (Advances (item_seen own.now item) at self.old self.new) }
+        ensures refused { IfErr result (StopsAt (item_seen own.now item) at self.old) }
     {
         match item {
             Item::Unit(found) => Ok(self.unit(alloc, found, own, at)?),
@@ -185,7 +186,8 @@ impl Parser {
     fn read_item(&mut self, alloc: Global, text: &[u8], at: usize) -> Result<usize, PatternError>
         requires inside { at < length text.now }
         requires kept { HasOperand (state_of self.old) }
-        ensures same { IfOk result (λ next. reading_from self.new text.now next ≡ reading_from self.old text.now at) }
+        ensures same { IfOk result
+            (λ next. reading_from self.new text.now next ≡ reading_from self.old text.now at) }
         ensures onward { IfOk result (λ next. (at < next) × (next ≤ length text.now)) }
         ensures still { OnOk result (HasOperand (state_of self.new)) }
         ensures refused { IfErr result (IsRefusal (reading_from self.old text.now at)) }

@@ -32,7 +32,8 @@ impl Model for Pattern {
 impl Pattern {
     /// The pattern of a tree, where the tree is not too heavy.
     pub(crate) fn new(root: Node) -> Option<Pattern>
-        ensures { MatchOption result (10000 < weight (tree_of root)) (λ p. (p ≡ tree_of root) × (weight p ≤ 10000)) }
+        ensures { MatchOption result (10000 < weight (tree_of root))
+            (λ p. (p ≡ tree_of root) × (weight p ≤ 10000)) }
     {
         if weigh(&root).is_none() {
             return None;

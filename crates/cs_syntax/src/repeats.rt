@@ -75,7 +75,8 @@ fn counts_to(n: Number, rest: &[u8]) -> Option<Counts>
 /// Behind `n`.
 fn counts_from(n: Number, rest: &[u8]) -> Option<Counts>
     requires { n.len + length rest.now < 2 ^ 63 }
-    ensures value { (real : Number) → n ≡ capped real → result ≡ option_map all_capped (counts_from real rest.now) }
+    ensures value { (real : Number) → n ≡ capped real → result
+        ≡ option_map all_capped (counts_from real rest.now) }
     ensures within { IfSome result (λ c. c.len ≤ n.len + length rest.now) }
 {
     if is_front(b'}', rest) {

@@ -8,7 +8,8 @@ use crate::node::Node;
 /// The weight of the tree, where it is at most 10000.
 #[cycle(weigh)]
 pub fn weigh(node: &Node) -> Option<u32>
-    ensures { MatchOption result (10000 < weight (tree_of node.now)) (λ w. (w ≡ weight (tree_of node.now)) × (w ≤ 10000)) }
+    ensures { MatchOption result (10000 < weight (tree_of node.now))
+        (λ w. (w ≡ weight (tree_of node.now)) × (w ≤ 10000)) }
 {
     match node {
         Node::Cat(parts) => {
@@ -39,7 +40,8 @@ pub fn weigh(node: &Node) -> Option<u32>
 
 #[cycle(weigh)]
 fn weigh_all(parts: &[Node]) -> Option<u32>
-    ensures { MatchOption result (10000 < weights (trees_of parts.now)) (λ w. (w ≡ weights (trees_of parts.now)) × (w ≤ 10000)) }
+    ensures { MatchOption result (10000 < weights (trees_of parts.now))
+        (λ w. (w ≡ weights (trees_of parts.now)) × (w ≤ 10000)) }
 {
     let mut sum: u32 = 0;
     for part in parts {

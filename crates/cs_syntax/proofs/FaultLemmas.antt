@@ -1,18 +1,17 @@
 -- The faults of a text: neither an item nor a place of the text gives one of the last two.
-use Rattle.std.proofs.Common.{◌≡◌, ℕ, zero, suc, ◌+◌, ◌&&◌, Bool, true, false, not, List, [], ◌∷◌, length, take, drop, subst}
+use Rattle.std.proofs.Common.{ℕ, zero, suc, ◌+◌, ◌&&◌, Bool, true, false, not, List, [], ◌∷◌, length, take, drop, subst}
 use Rattle.std.specs.Prelude.{Option, Some, None, nat_eq, nat_lt, if◌then◌else◌}
 use Rattle.std.specs.List.{prefix_len}
-use Rattle.cs_syntax.specs.ByteSet.{char_set, set_of}
+use Rattle.cs_syntax.specs.ByteSet.{char_set}
 use Rattle.cs_syntax.specs.Matching.{Tree, one_of, is_word}
-use Rattle.cs_syntax.specs.ClassSets.{is_in_item}
 use Rattle.cs_syntax.specs.Fronts.{Item, unit, repeat, bar, group_start, group_end, flags_from_here, Front, item, fault, is_front, char_tree}
-use Rattle.cs_syntax.specs.Repeats.{counts, is_bad, brace, lazy}
+use Rattle.cs_syntax.specs.Repeats.{counts, is_bad, lazy}
 use Rattle.cs_syntax.specs.Groups.{name, is_flag, is_cleared_flag, with_set, with_cleared, after_flags, cleared_flags, set_flags, head, group}
 use Rattle.cs_syntax.specs.Escapes.{escaped_char, escaped_class, escaped_tree, is_left_out, char_front, escape}
-use Rattle.cs_syntax.specs.Classes.{ClassFront, piece, misread, ClassChar, one, wrong, class_escape, class_char, range_to, range_from, span, name_length, named, bracketed, after_colon, after_backslash, class_front, ClassRest, closed, failed, with_item, items_from, class_of, class}
+use Rattle.cs_syntax.specs.Classes.{ClassFront, piece, misread, ClassChar, one, wrong, class_escape, class_char, range_to, range_from, span, name_length, bracketed, after_backslash, class_front, ClassRest, closed, failed, with_item, items_from, class_of, class}
 use Rattle.cs_syntax.specs.Items.{item_by, front}
 use Rattle.cs_syntax.specs.Signs.{sign_of}
-use Rattle.cs_syntax.specs.Reading.{IsTextFault, Level, Rest, levels, broken, inside, opened, closed as closed_group, with_unit, with_repeat, with_bar, Group, at_end, rest, answer, Reading, tree, refused, Breaks, reading, at_first}
+use Rattle.cs_syntax.specs.Reading.{IsTextFault, Level, Rest, levels, broken, inside, opened, closed as closed_group, with_unit, with_repeat, with_bar, Group, at_end, rest, answer, Reading, tree, refused, Breaks, at_first}
 use Rattle.cs_syntax.specs.declared.class_item.ClassItem.{ClassItem}
 use Rattle.cs_syntax.specs.declared.class_item.ClassItem.TheVariants.{Range, Named}
 use Rattle.cs_syntax.specs.declared.class_item.NamedClass.{NamedClass}

@@ -1,4 +1,4 @@
-use Rattle.std.proofs.Common.{◌⊎◌, inl, inr, ℕ, List, Bool, refl, rules}
+use Rattle.std.proofs.Common.{inl, inr, ℕ, List, Bool, refl, rules}
 use Rattle.cs_syntax.specs.Node.{tree_of}
 use Rattle.cs_syntax.specs.ParserState.{IsRefusal}
 use Rattle.cs_syntax.specs.Reading.{reading}

@@ -1,9 +1,7 @@
 -- Worked rows of the definitions.
-use Rattle.std.proofs.Common.{◌≡◌, ℕ, List, [], ◌∷◌, ◌++◌, Option, Some, None, refl}
-use Rattle.std.specs.Prelude.{codes, replicate}
-use Rattle.cs_tree.specs.Told.{Told, ends, fails}
-use Rattle.cs_trigram.specs.declared.limits.Limits.{Limits}
-use Rattle.cs_trigram.specs.declared.scan.Reason.{Reason}
+use Rattle.std.proofs.Common.{◌≡◌, [], ◌∷◌, ◌++◌, Some, None, refl}
+use Rattle.std.specs.Prelude.{codes}
+use Rattle.cs_tree.specs.Told.{ends, fails}
 use Rattle.cs_trigram.specs.declared.scan.Reason.TheVariants.{Nul, Utf8, TooLong, LongLine, ManyTrigrams}
 use Rattle.cs_trigram.specs.Trigram.{windows, tri}
 use Rattle.cs_trigram.specs.Text.{limits, skip, text_trigrams, finding, text, left_out, unread}

@@ -1,12 +1,12 @@
 -- What a number more changes of what is kept.
 use Rattle.std.proofs.Common.{◌≡◌, ◌≢◌, ◌≤◌, ◌<◌, ℕ, zero, suc, ◌+◌, ◌-◌, ◌*◌, ◌/◌, ◌%◌, ◌^◌, min, Bool, true, false, ◌||◌, eqb, List, [], ◌∷◌, ◌++◌, length, take, get_or, set, refl, sym, ap, subst, ◌∙◌, inl, inr, ◌⊎◌, arith, length-append, length-take-le, drop, get_or-set_same, get_or-set_other, replicate, w64, bit_or}
-use Rattle.std.proofs.lemmas.Bool.{true≢false, false≢true, cases_Bool, cases_eq, cases_lt, eq-eqb, ne_eqb}
+use Rattle.std.proofs.lemmas.Bool.{false≢true, cases_eq, cases_lt, eq-eqb, ne_eqb}
 use Rattle.std.proofs.lemmas.Nat.Bits.{bit_at_set_same, bit_at_set_other, bit_at-lt, bit_at-zero}
 use Rattle.std.proofs.lemmas.List.{take-set-le, take_more_set, get_or-replicate, length-replicate, get_or_past, drop_all, drop_more}
 use Rattle.std.proofs.lemmas.List.Folds.{list_any_at}
 use Rattle.std.specs.Int.{bit_at}
 use Rattle.std.specs.List.{AllByRecursion}
-use Rattle.cs_trigram.specs.Trigram.{Ascends, placed, ascending, has}
+use Rattle.cs_trigram.specs.Trigram.{Ascends, placed, has}
 use Rattle.cs_trigram.specs.Marks.{bit_of, as_bit, Marks, Holds, Gathers}
 use Rattle.cs_trigram.proofs.SetLemmas.{has-append, has-ascending, ascends_ascending, ascending-push, placed-member, length-placed, length-placed-ge}
 

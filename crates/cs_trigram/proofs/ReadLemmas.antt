@@ -1,5 +1,5 @@
 -- A scan on its way: one more piece is read.
-use Rattle.std.proofs.Common.{◌≡◌, ◌≤◌, ◌<◌, ℕ, ◌+◌, List, [], ◌++◌, length, Option, Some, None, Result, Ok, Err, refl, sym, ap, ◌∙◌, arith, length-append, append_assoc}
+use Rattle.std.proofs.Common.{◌≡◌, ◌≤◌, ℕ, ◌+◌, List, [], ◌++◌, length, Option, Some, None, Result, Ok, Err, sym, ap, ◌∙◌, arith, length-append, append_assoc}
 use Rattle.cs_tree.specs.Told.{Told, Ending, ends, fails, Loses, LosesAtMost, IsAt}
 use Rattle.std.proofs.lemmas.List.{append-nil}
 use Rattle.cs_tree.proofs.Losing.{Loses_few}
@@ -12,11 +12,11 @@ use Rattle.cs_trigram.specs.declared.scan.Scan.TheVariants as answer
 use Rattle.cs_trigram.specs.declared.scan.ScanFault.{ScanFault}
 use Rattle.cs_trigram.specs.declared.scan.ScanFault.TheVariants as fault
 use Rattle.cs_trigram.specs.Trigram.{tri}
-use Rattle.cs_trigram.specs.Text.{first_broken, or_else, too_many, found_at, found_or, finding, Finding, text, left_out, unread, Says, IsRight}
+use Rattle.cs_trigram.specs.Text.{first_broken, or_else, too_many, found_at, found_or, text, left_out, unread, Says, IsRight}
 use Rattle.cs_trigram.specs.Place.{Stands, Passes}
 use Rattle.cs_trigram.specs.Found.{Knows}
 use Rattle.cs_trigram.specs.Scanning.{Reads}
-use Rattle.cs_trigram.proofs.PlaceLemmas.{Passes-append, first_broken-append, Passes-stop}
+use Rattle.cs_trigram.proofs.PlaceLemmas.{Passes-append, Passes-stop}
 
 Loses-chain : (a b c : Option Told) (xs ys : List ℕ) → Loses a b xs → Loses b c ys → Loses a c (xs ++ ys)
 Loses-chain None b c xs ys h k = tt

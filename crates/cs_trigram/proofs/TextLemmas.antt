@@ -1,14 +1,14 @@
 -- What follows from a rule that is kept by every byte.
-use Rattle.std.proofs.Common.{◌≡◌, ◌≤◌, ◌<◌, ◌⊎◌, ℕ, zero, suc, ◌+◌, ◌*◌, Bool, true, false, not, cond, ◌&&◌, ◌||◌, ltb, leb, eqb, List, [], ◌∷◌, ◌++◌, length, Option, Some, None, refl, sym, ap, ◌∙◌, inl, inr, arith}
-use Rattle.std.proofs.lemmas.Bool.{false≢true, cases_Bool, or_cases, and_parts, ltb-true, leb-true, lt-ltb, le-ltb}
+use Rattle.std.proofs.Common.{◌≡◌, ◌≤◌, ◌<◌, ℕ, Bool, true, false, not, cond, ◌&&◌, ◌||◌, ltb, leb, eqb, List, [], ◌∷◌, ◌++◌, length, Option, Some, None, refl, sym, ap, ◌∙◌, inl, inr, arith}
+use Rattle.std.proofs.lemmas.Bool.{false≢true, or_cases, and_parts, ltb-true, leb-true, lt-ltb, le-ltb}
 use Rattle.std.specs.List.{AllByRecursion}
-use Rattle.cs_tree.specs.Told.{Told, ends, fails}
+use Rattle.cs_tree.specs.Told.{ends}
 use Rattle.cs_trigram.specs.declared.limits.Limits.{Limits}
 use Rattle.cs_trigram.specs.declared.scan.Reason.{Reason}
 use Rattle.cs_trigram.specs.declared.scan.Reason.TheVariants.{Nul, Utf8, TooLong, LongLine, ManyTrigrams}
-use Rattle.cs_trigram.specs.Trigram.{Ascends, trigram, windows, tri}
-use Rattle.cs_trigram.specs.Text.{may_follow, last_byte, line_so_far, broken, first_broken, or_else, too_many, skip, found_at, found_or, text, left_out}
-use Rattle.cs_trigram.proofs.SetLemmas.{ascends_ascending, all_ascending}
+use Rattle.cs_trigram.specs.Trigram.{windows, tri}
+use Rattle.cs_trigram.specs.Text.{may_follow, last_byte, line_so_far, broken, first_broken, or_else, too_many, found_at, found_or, text, left_out}
+use Rattle.cs_trigram.proofs.SetLemmas.{all_ascending}
 
 pub or_else-none : (a b : Option Reason) → or_else a b ≡ None → (a ≡ None) × (b ≡ None)
 or_else-none None b h = (refl, h)

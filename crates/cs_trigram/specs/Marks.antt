@@ -1,7 +1,7 @@
 -- What is kept of the trigrams of a file: a bit for each number, and the numbers whose bit is set.
-use Rattle.std.specs.Prelude.{◌≡◌, ℕ, ◌+◌, ◌*◌, ◌/◌, ◌%◌, ◌<◌, ◌≤◌, Bool, true, false, if◌then◌else◌, List, [], ◌∷◌, ◌++◌, length, take, slice_index}
+use Rattle.std.specs.Prelude.{◌≡◌, ℕ, ◌+◌, ◌*◌, ◌/◌, ◌%◌, ◌<◌, ◌≤◌, Bool, true, false, List, [], ◌∷◌, length, take, slice_index}
 use Rattle.std.specs.Int.{bit_at}
-use Rattle.cs_trigram.specs.Trigram.{trigram, ascending, has}
+use Rattle.cs_trigram.specs.Trigram.{ascending, has}
 use Rattle.cs_trigram.specs.Text.{last_byte}
 
 -- the bit of a number among cells of 64 bits

@@ -1,7 +1,7 @@
 -- A scan on its way, and when it stops.
-use Rattle.std.specs.Prelude.{◌≡◌, ℕ, ◌+◌, ◌≤◌, ◌<◌, List, [], length, Option, Some, None, Result, Ok, Err, Vec}
+use Rattle.std.specs.Prelude.{◌≡◌, ℕ, ◌<◌, List, [], length, Option, None, Vec}
 use Rattle.std.specs.declared.alloc.Global.{Global}
-use Rattle.cs_tree.specs.Told.{Told, Ending, Loses}
+use Rattle.cs_tree.specs.Told.{Told, Loses}
 use Rattle.cs_trigram.specs.declared.limits.Limits.{Limits}
 use Rattle.cs_trigram.specs.declared.place.Place.{Place}
 use Rattle.cs_trigram.specs.declared.found.Found.{Found}

@@ -1,6 +1,6 @@
 -- The trigrams of some bytes: the numbers of all their parts of three bytes.
 -- docs/FORMAT.md, "Which files are text"; the article "Regular Expression Matching with a Trigram Index".
-use Rattle.std.specs.Prelude.{◌≡◌, ℕ, ◌+◌, ◌*◌, ◌<◌, Bool, nat_eq, nat_lt, if◌then◌else◌, List, [], ◌∷◌}
+use Rattle.std.specs.Prelude.{ℕ, ◌+◌, ◌*◌, ◌<◌, Bool, nat_eq, nat_lt, if◌then◌else◌, List, [], ◌∷◌}
 use Rattle.std.specs.List.{list_any}
 
 -- the number of three bytes

@@ -1,4 +1,4 @@
-use Rattle.std.proofs.Common.{◌≡◌, ◌≤◌, ◌<◌, ◌+◌, ap, subst, sym, ◌∙◌, length, take, arith, length-take}
+use Rattle.std.proofs.Common.{◌≤◌, ◌+◌, ◌∙◌, length, take, arith, length-take}
 use Rattle.cs_trigram.proofs.ReadLemmas.{Reads-more, IsRight-broken, LosesAtMost-more}
 use Rattle.cs_trigram.proofs.bounded.read_through.Goals as goal
 

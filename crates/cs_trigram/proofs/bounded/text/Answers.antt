@@ -1,9 +1,8 @@
-use Rattle.std.proofs.Common.{◌≡◌, ◌≤◌, ◌<◌, ap, subst, sym, refl, ◌∙◌, List, ℕ, length, arith, inl, inr, false}
+use Rattle.std.proofs.Common.{◌≤◌, ap, refl, ◌∙◌, List, ℕ, length, inl, inr}
 use Rattle.std.proofs.lemmas.Bool.{cases_lt, false≢true}
-use Rattle.std.specs.List.{AllByRecursion}
 use Rattle.cs_trigram.specs.declared.limits.Limits.{Limits}
-use Rattle.cs_trigram.specs.Trigram.{Ascends, tri}
-use Rattle.cs_trigram.specs.Text.{text, first_broken}
+use Rattle.cs_trigram.specs.Trigram.{tri}
+use Rattle.cs_trigram.specs.Text.{text}
 use Rattle.cs_trigram.specs.Found.{Knows}
 use Rattle.cs_trigram.proofs.SetLemmas.{ascends_ascending}
 use Rattle.cs_trigram.specs.Trigram.{windows}

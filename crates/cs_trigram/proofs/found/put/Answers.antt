@@ -1,4 +1,4 @@
-use Rattle.std.proofs.Common.{◌≡◌, ℕ, ◌+◌, ◌-◌, ◌/◌, ◌<◌, min, length, set, length-set, arith, ap, ◌∙◌}
+use Rattle.std.proofs.Common.{◌≡◌, ◌+◌, ◌-◌, min, length, set, length-set, arith, ap, ◌∙◌}
 use Rattle.cs_trigram.specs.Marks.{bit_of}
 use Rattle.cs_trigram.proofs.MarkLemmas.{Gathers-push}
 use Rattle.cs_trigram.proofs.found.put.Goals as goal

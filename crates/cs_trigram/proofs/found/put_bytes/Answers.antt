@@ -1,6 +1,5 @@
 use Rattle.std.proofs.Common.{◌≡◌, ◌<◌, ◌≤◌, ◌+◌, ◌++◌, ℕ, List, [], take, length, arith, ap, sym, ◌∙◌, length-append, append_assoc, inl, inr, ◌⊎◌}
 use Rattle.std.proofs.lemmas.Bool.{cases_lt}
-use Rattle.cs_trigram.specs.Trigram.{tri}
 use Rattle.cs_trigram.proofs.TrigramLemmas.{tri-head}
 use Rattle.cs_trigram.proofs.found.put_bytes.Goals as goal
 

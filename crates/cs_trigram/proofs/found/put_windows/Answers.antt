@@ -1,4 +1,4 @@
-use Rattle.std.proofs.Common.{◌≡◌, ◌<◌, ◌-◌, ◌+◌, get_or, length, arith, ap, sym}
+use Rattle.std.proofs.Common.{◌≡◌, ◌<◌, get_or, arith}
 use Rattle.cs_trigram.proofs.TrigramLemmas.{EndsWith-more, tri-more}
 use Rattle.cs_trigram.proofs.found.put_windows.Goals as goal
 

@@ -1,5 +1,3 @@
-use Rattle.std.proofs.Common.{◌≡◌, length}
-use Rattle.cs_trigram.specs.Marks.{Marks}
 use Rattle.cs_trigram.proofs.MarkLemmas.{Unmarks}
 use Rattle.cs_trigram.proofs.found.unmark.Given as goal
 

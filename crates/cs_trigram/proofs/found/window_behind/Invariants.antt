@@ -1,4 +1,4 @@
-use Rattle.std.proofs.Common.{◌+◌, ℕ, List, take, ◌++◌}
+use Rattle.std.proofs.Common.{ℕ, List, take, ◌++◌}
 use Rattle.cs_trigram.specs.Marks.{EndsWith}
 use Rattle.cs_trigram.proofs.found.window_behind.Given as goal
 

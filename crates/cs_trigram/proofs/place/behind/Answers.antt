@@ -1,5 +1,3 @@
-use Rattle.std.proofs.Common.{◌+◌, cond, ap, sym, ◌∙◌}
-use Rattle.std.specs.Prelude.{nat_eq}
 use Rattle.std.proofs.lemmas.Bool.{eq-eqb, ne_eqb}
 use Rattle.cs_trigram.proofs.PlaceLemmas.{Stands-push}
 use Rattle.cs_trigram.proofs.place.behind.Goals as goal

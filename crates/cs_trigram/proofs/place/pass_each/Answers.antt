@@ -1,6 +1,5 @@
-use Rattle.std.proofs.Common.{◌+◌, Ok, Err, take, length, take_all, arith, sym, ap}
+use Rattle.std.proofs.Common.{◌+◌, Ok, Err, take_all, arith}
 use Rattle.std.proofs.lemmas.Result.{err_from_is_err_and}
-use Rattle.cs_trigram.specs.Place.{Passes}
 use Rattle.cs_trigram.proofs.PlaceLemmas.{Passes-more, first_broken-on_the_way}
 use Rattle.cs_trigram.proofs.place.pass_each.Goals as goal
 

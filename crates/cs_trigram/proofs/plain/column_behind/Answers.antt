@@ -1,4 +1,4 @@
-use Rattle.std.proofs.Common.{◌≡◌, ◌<◌, ◌≤◌, ◌+◌, ◌-◌, ◌∙◌, sym, ap, subst, length, take, drop, get_or, get_or-take, arith, length-drop, length-take}
+use Rattle.std.proofs.Common.{◌≡◌, ◌<◌, ◌-◌, ◌∙◌, sym, ap, subst, length, get_or, get_or-take, arith}
 use Rattle.std.proofs.lemmas.Bool.{eqb-true}
 use Rattle.cs_trigram.specs.Plain.{LinesFit, column_behind}
 use Rattle.cs_trigram.proofs.PlainLemmas.{LinesFit-few, LinesFit-rest, column-rest}

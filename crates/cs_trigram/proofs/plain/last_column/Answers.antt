@@ -1,4 +1,4 @@
-use Rattle.std.proofs.Common.{◌≡◌, ◌<◌, ◌≤◌, ◌+◌, ◌-◌, ℕ, sym, ap, ◌∙◌, length, drop, get_or, arith, length-drop}
+use Rattle.std.proofs.Common.{◌≡◌, ◌+◌, sym, ◌∙◌, drop, get_or, arith, length-drop}
 use Rattle.std.proofs.lemmas.Bool.{eqb-true, eq-eqb}
 use Rattle.std.proofs.lemmas.List.{get_or-drop}
 use Rattle.cs_trigram.proofs.PlainLemmas.{column-rest, column-no_newline}

@@ -1,4 +1,4 @@
-use Rattle.std.proofs.Common.{◌≡◌, ◌≤◌, ◌+◌, ◌-◌, Ok, Err, take, drop, length, take_all, arith, length-take, length-drop}
+use Rattle.std.proofs.Common.{◌+◌, ◌-◌, Ok, Err, drop, take_all, arith, length-take, length-drop}
 use Rattle.std.proofs.lemmas.Result.{err_from_is_err_and}
 use Rattle.cs_trigram.proofs.PlaceLemmas.{Passes-piece, first_broken-on_the_way}
 use Rattle.cs_trigram.proofs.plain.pass.Goals as goal

@@ -1,4 +1,4 @@
-use Rattle.std.proofs.Common.{◌≡◌, ◌<◌, length, arith, length-take, length-append}
+use Rattle.std.proofs.Common.{arith, length-take, length-append}
 use Rattle.cs_trigram.proofs.bounded.BoundedScanner.scan.Goals as goal
 
 pub invariant_of-self : goal.invariant_of-self

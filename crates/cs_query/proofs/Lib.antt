@@ -1,0 +1,9 @@
+mod MemberLemmas
+mod NodeLemmas
+mod SampleLemmas
+mod FewLemmas
+mod TrigramLemmas
+mod SpellingLemmas
+mod AskedLemmas
+mod QueryLemmas
+mod RightLemmas

@@ -1,0 +1,23 @@
+use Rattle.std.proofs.Common.{◌≡◌, ◌&&◌, ℕ, Bool, ap, ◌∙◌}
+use Rattle.std.specs.List.{list_all}
+use Rattle.std.proofs.lemmas.Bool.{and_from}
+use Rattle.cs_query.specs.Query.{holds, are_trigrams}
+use Rattle.cs_query.specs.Sample.{all_hold, has_any}
+use Rattle.cs_query.specs.declared.queries.Query.TheVariants.{And}
+use Rattle.cs_query.proofs.QueryLemmas.{holds-And, numbers-And}
+use Rattle.cs_query.proofs.AskedLemmas.{asked_whole}
+use Rattle.cs_query.proofs.asked.Asked.finish.Goals as goal
+
+pub returns : goal.returns
+returns c = λ ts asked.
+    let front = c.args.self.front.items in
+    let needs : (ℕ → Bool) → Bool = λ set. all_hold c.args.self.needs.items set in
+    let whole : (ℕ → Bool) → Bool = λ set. holds (And c.need.new.self.needs) set in
+    let is : (set : ℕ → Bool) → whole set ≡ (needs set && has_any set front) =
+    λ set. holds-And set c.need.new.self.needs ∙ c.in_ok-need.ensures.needs set ∙ ap (λ b. needs set && b) (c.in_ok-last.ensures.asks set ∙ ap (has_any set) c.deref.ensures.value) in
+    let right = asked_whole front needs whole ts asked.0 is in
+    record {
+      holding = right.0;
+      sharp = right.1;
+      numbers = numbers-And c.need.new.self.needs ∙ c.in_ok-need.ensures.numbers ∙ and_from (list_all are_trigrams c.args.self.needs.items) _ asked.1 c.in_ok-last.ensures.numbers;
+    }

@@ -1,0 +1,128 @@
+-- The paths of histories are clean and reduced, and their files can be held by an index.
+use Rattle.std.proofs.Common.{◌≡◌, ◌≢◌, ℕ, ◌<◌, ◌^◌, Bool, true, false, cond, eqb, List, [], ◌∷◌, length, get_or, refl, sym, ap, subst, ◌∙◌, inl, inr, Option, Some, None}
+use Rattle.std.proofs.lemmas.Bool.{true≢false, cases_Bool, or_cases}
+use Rattle.std.specs.Prelude.{IfSome}
+use Rattle.std.specs.FinMap as map
+use Rattle.cs_tree.specs.PathSet as set
+use Rattle.cs_tree.specs.Cover.{Paths, covered, least}
+use Rattle.cs_tree.specs.Snapshot.{Snapshot, item_at}
+use Rattle.cs_tree.specs.Reached.{read_item}
+use Rattle.cs_tree.proofs.Found.{found_under}
+use Rattle.cs_tree.proofs.Sets.{contains-union, contains-empty}
+use Rattle.cs_tree.proofs.Least.{least_says, least_settled, covered-least}
+use Rattle.cs_index.specs.Image.{Files, image}
+use Rattle.cs_index.specs.Spelling.{set_at}
+use Rattle.cs_trigram.specs.Text.{text_trigrams, limits}
+use Rattle.cs_merge.specs.Join.{join_files, join_paths}
+use Rattle.cs_merge.specs.Content.{IsContent, LieUnder, Holds}
+use Rattle.cs_merge.proofs.JoinLemmas.{newer_at, old_at}
+use Rattle.cs_merge.proofs.ContentLemmas.{content_joined, under_joined}
+use Rattle.cs_merge.proofs.HoldingLemmas.{content_held, held_once, held_names, held_set}
+use Rattle.cs_history.specs.History.{Visit, History, all_given, paths_of, walked, files_found, files_of, index_of}
+use Rattle.cs_history.specs.WellFormed.{IsClean, AreClean, IsVisit, IsHistory}
+use Rattle.cs_history.specs.Headline.{indexed_names, StillReads}
+use Rattle.cs_history.proofs.KeepingLemmas.{join_kept, join_paths_of, get-kept}
+use Rattle.cs_history.proofs.WalkLemmas.{AreStrings, found_content, found_lies}
+
+-- ---- paths
+
+pub least_twice : (paths : Paths) → least (least paths) ≡ least paths
+least_twice paths = least_settled (least paths) paths (covered-least paths)
+
+clean_least : (paths : Paths) → AreClean paths → AreClean (least paths)
+clean_least paths h path member = h path (least_says paths path member).member
+
+clean_union : (a b : Paths) → AreClean a → AreClean b → AreClean (set.union a b)
+clean_union a b f g path member =
+    elim (or_cases (set.contains a path) (set.contains b path) (sym (contains-union a b path) ∙ member)) [ inl here ↦ f path here | inr there ↦ g path there ]
+
+clean_given : (history : History) → IsHistory history → AreClean (all_given history)
+clean_given [] is path member = absurd (true≢false (sym member ∙ contains-empty path))
+clean_given (visit ∷ before) is path member = clean_union (all_given before) visit.given (clean_given before is.1) is.0.given_are path member
+
+pub clean_paths : (history : History) → IsHistory history → AreClean (paths_of history)
+clean_paths history is = clean_least (all_given history) (clean_given history is)
+
+-- what holds of the paths before and of the job's own holds of those that it walks
+module _ (P : Paths → Type 0) (visit : Visit) (before : History) where
+  by_walked : P (paths_of before) → P (least visit.given) → P (walked visit before)
+  by_walked old own = elim (eqb (set.len visit.given) 0) as (λ b. P (cond b (paths_of before) (least visit.given))) [ true ↦ old | false ↦ own ]
+
+pub clean_walked : (visit : Visit) (before : History) → IsHistory (visit ∷ before) → AreClean (walked visit before)
+clean_walked visit before is = by_walked AreClean visit before (clean_paths before is.1) (clean_least visit.given is.0.given_are)
+
+pub reduced_walked : (visit : Visit) (before : History) → least (walked visit before) ≡ walked visit before
+reduced_walked visit before = by_walked (λ paths. least paths ≡ paths) visit before (least_twice (all_given before)) (least_twice visit.given)
+
+clean_strings : (paths : Paths) → AreClean paths → AreStrings paths
+clean_strings paths h path member = (h path member).text
+
+-- ---- files
+
+pub walk_content : (visit : Visit) (before : History) → IsHistory (visit ∷ before) → IsContent (walked visit before) (files_found visit before)
+walk_content visit before is = found_content limits visit.tree (walked visit before) is.0.tree_is (clean_strings (walked visit before) (clean_walked visit before is))
+
+pub walk_lies : (visit : Visit) (before : History) → LieUnder (walked visit before) (files_found visit before)
+walk_lies visit before name trigrams h = found_lies (text_trigrams limits) visit.tree (walked visit before) name trigrams h
+
+nothing_kept : (name trigrams : List ℕ) → map.get (files_of []) name ≡ Some trigrams → ⊥
+nothing_kept name trigrams h = none_some (sym (get-kept (text_trigrams limits) [] name) ∙ h)
+  where
+    none_some : None ≡ Some trigrams → ⊥
+    none_some e = cc
+
+pub history_content : (history : History) → IsHistory history → IsContent (paths_of history) (files_of history)
+history_content [] is = record {
+  paths_are = clean_strings (paths_of []) (clean_paths [] is);
+  names_are = λ name trigrams h. absurd (nothing_kept name trigrams h);
+  sets_are = λ name trigrams h. absurd (nothing_kept name trigrams h);
+}
+history_content (visit ∷ before) is =
+    let joined = content_joined (paths_of before) (walked visit before) (files_of before) (files_found visit before) (history_content before is.1) (walk_content visit before is) in
+    subst (λ files. IsContent (paths_of (visit ∷ before)) files) (join_kept (text_trigrams limits) before visit)
+    (subst (λ paths. IsContent paths (join_files (walked visit before) (files_of before) (files_found visit before))) (join_paths_of before visit) joined)
+
+pub history_lies : (history : History) → LieUnder (paths_of history) (files_of history)
+history_lies [] name trigrams h = absurd (nothing_kept name trigrams h)
+history_lies (visit ∷ before) name trigrams h =
+    let joined = under_joined (paths_of before) (walked visit before) (files_of before) (files_found visit before) (history_lies before) (walk_lies visit before) in
+    subst (λ paths. covered paths name ≡ true) (join_paths_of before visit)
+    (joined name trigrams (subst (λ files. map.get files name ≡ Some trigrams) (sym (join_kept (text_trigrams limits) before visit)) h))
+
+-- ---- the index
+
+pub index_is : (history : History) (bytes : List ℕ) → index_of history ≡ Some bytes → image (paths_of history) (files_of history) ≡ bytes
+index_is [] bytes h = cc
+index_is (visit ∷ before) bytes h = cc
+
+pub index_holds : (history : History) (bytes : List ℕ) → IsHistory history → index_of history ≡ Some bytes → length bytes < 2 ^ 32 → Holds bytes (paths_of history) (files_of history)
+index_holds history bytes is h short =
+    let same = index_is history bytes h in
+    subst (λ b. Holds b (paths_of history) (files_of history)) same
+    (content_held (paths_of history) (files_of history) (history_content history is) (subst (λ b. length b < 2 ^ 32) (sym same) short))
+
+pub index_once : (history : History) (bytes : List ℕ) (paths : Paths) (files : Files) → IsHistory history → index_of history ≡ Some bytes → length bytes < 2 ^ 32 → Holds bytes paths files → (paths_of history ≡ paths) × (files_of history ≡ files)
+index_once history bytes paths files is h short holds = held_once bytes (paths_of history) paths (files_of history) files (index_holds history bytes is h short) holds
+
+-- ---- the latest job that covers a name
+
+pub newest_at : (visit : Visit) (before : History) (name : List ℕ) → covered (walked visit before) name ≡ true → map.get (files_of (visit ∷ before)) name ≡ map.get (files_found visit before) name
+newest_at visit before name h =
+    ap (λ files. map.get files name) (sym (join_kept (text_trigrams limits) before visit))
+    ∙ newer_at (walked visit before) (files_of before) (files_found visit before) name h
+
+pub others_at : (visit : Visit) (before : History) (name : List ℕ) → covered (walked visit before) name ≡ false → map.get (files_of (visit ∷ before)) name ≡ map.get (files_of before) name
+others_at visit before name h =
+    ap (λ files. map.get files name) (sym (join_kept (text_trigrams limits) before visit))
+    ∙ old_at (walked visit before) (files_of before) (files_found visit before) name (found_under (text_trigrams limits) visit.tree (walked visit before) name h) h
+
+-- ---- files that still read as they were indexed
+
+pub names_held : (history : History) (bytes : List ℕ) (paths : Paths) (files : Files) → IsHistory history → index_of history ≡ Some bytes → length bytes < 2 ^ 32 → (holds : Holds bytes paths files) → indexed_names history ≡ holds.names
+names_held history bytes paths files is h short holds =
+    ap map.keys (index_once history bytes paths files is h short holds).1 ∙ held_names bytes paths files holds
+
+pub reads_agree : (history : History) (bytes : List ℕ) (paths : Paths) (files : Files) (tree : Snapshot) → IsHistory history → index_of history ≡ Some bytes → length bytes < 2 ^ 32 → StillReads history tree → (holds : Holds bytes paths files) (id : ℕ) (d : List ℕ) → id < length holds.names → read_item (text_trigrams limits) (item_at tree (get_or holds.names id d)) ≡ Some (set_at id holds.lists)
+reads_agree history bytes paths files tree is h short still holds id d within =
+    still (get_or holds.names id d) (set_at id holds.lists)
+    (ap (λ m. map.get m (get_or holds.names id d)) (index_once history bytes paths files is h short holds).1 ∙ held_set bytes paths files holds id d within)

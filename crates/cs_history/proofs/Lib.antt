@@ -1,0 +1,10 @@
+pub mod KeepingLemmas
+pub mod TextLemmas
+pub mod PathLemmas
+pub mod CleanLemmas
+pub mod WalkLemmas
+pub mod HistoryLemmas
+pub mod JobLemmas
+pub mod IndexLemmas
+pub mod FollowingLemmas
+pub mod RefusalLemmas

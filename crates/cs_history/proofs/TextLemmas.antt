@@ -1,0 +1,25 @@
+-- The trigrams of a text can be held by an index.
+use Rattle.std.proofs.Common.{◌≡◌, ℕ, List, [], ◌∷◌, refl, subst, Option, Some, None}
+use Rattle.cs_index.specs.Spelling.{Ascends}
+use Rattle.cs_merge.specs.Content.{IsTrigramSet}
+use Rattle.cs_trigram.specs.Trigram.{windows, tri, Ascends as Rises}
+use Rattle.cs_trigram.specs.Text.{first_broken, too_many, skip, none_skipped, text_trigrams}
+use Rattle.cs_trigram.specs.declared.limits.Limits.{Limits}
+use Rattle.cs_trigram.specs.declared.scan.Reason.{Reason}
+use Rattle.cs_trigram.proofs.SetLemmas.{ascends_ascending}
+use Rattle.cs_trigram.proofs.TextLemmas.{or_else-none, tri_below}
+
+-- the set of a scan is one of an index
+rises : (ns : List ℕ) → Rises ns → Ascends ns
+rises [] up = tt
+rises (n ∷ []) up = tt
+rises (n ∷ m ∷ ms) up = (up.0, rises (m ∷ ms) up.1)
+
+pub text_set : (most : Limits) (bytes trigrams : List ℕ) → text_trigrams most bytes ≡ Some trigrams → IsTrigramSet trigrams
+text_set most bytes trigrams h = by_skip (skip most bytes) refl h
+  where
+    by_skip : (why : Option Reason) → skip most bytes ≡ why → none_skipped why (tri bytes) ≡ Some trigrams → IsTrigramSet trigrams
+    by_skip (Some reason) e h = cc
+    by_skip None e h =
+        let is : tri bytes ≡ trigrams = cc in
+        subst IsTrigramSet is (rises (tri bytes) (ascends_ascending (windows bytes)), tri_below most bytes (or_else-none (first_broken most [] bytes) (too_many most (tri bytes)) e).0)

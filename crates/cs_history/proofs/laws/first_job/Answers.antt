@@ -1,0 +1,6 @@
+use Rattle.std.proofs.Common.{sym}
+use Rattle.cs_history.proofs.IndexLemmas.{index_first}
+use Rattle.cs_history.proofs.laws.first_job.Goals as goal
+
+pub returns : goal.returns
+returns c = λ visit. sym (index_first visit)

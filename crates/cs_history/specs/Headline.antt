@@ -1,0 +1,60 @@
+-- The main promise. docs/PROMISES.md, "The main promise".
+--
+--     After any list of cindex jobs over any snapshots, the index is byte for byte the one built at
+--     once from the paths that remain and, for each name under them, the text last read there; a
+--     refused job changes no byte; and where every indexed file still reads as it was indexed,
+--     csearch prints exactly what cgrep prints over the indexed files in name order.
+use Rattle.std.specs.Prelude.{◌≡◌, ◌<◌, ◌^◌, ℕ, Bool, List, [], ◌∷◌, Option, Some, IfSome, map, filter, length}
+use Rattle.std.specs.List.{AllByRecursion, AllZip}
+use Rattle.std.specs.FinMap as map'
+use Rattle.cs_tree.specs.Snapshot.{Snapshot, item_at, Tells}
+use Rattle.cs_tree.specs.Reached.{read_item}
+use Rattle.cs_trigram.specs.Text.{text_trigrams, limits}
+use Rattle.cs_history.specs.History.{History, files_of, index_of}
+use Rattle.cs_history.specs.WellFormed.{IsHistory}
+use Rattle.cs_history.specs.Jobs.{followed, told, IsFitting}
+use Rattle.cs_history.specs.declared.jobs.IndexJob.{IndexJob}
+use Rattle.cs_history.specs.declared.jobs.Reply.{Reply}
+
+-- ---- what it rests on
+
+-- 32 bits count the bytes of the index, if there is one
+abbrev pub IsShort : Option (List ℕ) → Type 0
+IsShort index = IfSome index (λ bytes. length bytes < 2 ^ 32)
+
+-- Each tree tells what stands in it, and the index is the one that these earlier jobs left: none,
+-- where there were none.
+pub record Premises (trees : List (Option Snapshot)) (index : Option (List ℕ)) (earlier : History) : Type 0 where
+  pub trees_tell : AllByRecursion Tells trees
+  pub jobs_were : IsHistory earlier
+  pub they_left : index_of earlier ≡ index
+  pub short : IsShort index
+
+-- ---- cindex: jobs over trees, each with a reply, turn the old index into the new one
+
+pub record Indexes (jobs : List IndexJob) (trees : List (Option Snapshot)) (replies : List Reply) (old new : Option (List ℕ)) : Type 0 where
+  -- The new index is that of the earlier jobs and of those that were done now, whichever the earlier
+  -- ones were. A refused job adds nothing to them, so it changes no byte.
+  pub index : (earlier : History) → Premises trees old earlier → new ≡ index_of (followed earlier jobs (map told trees) replies)
+  -- The next call finds its premises: only jobs with paths were done, and the new index is short again.
+  pub fitting : AllZip IsFitting jobs replies
+  pub short : IsShort old → IsShort new
+
+-- ---- csearch: a search over an index and a tree
+
+-- the indexed names, in their order
+abbrev pub indexed_names : History → List (List ℕ)
+indexed_names history = map'.keys (files_of history)
+
+-- every indexed file still reads as it was indexed: at its name stands a text with the trigrams that are kept
+abbrev pub StillReads : History → Snapshot → Type 0
+StillReads history tree =
+    (name trigrams : List ℕ) → map'.get (files_of history) name ≡ Some trigrams → read_item (text_trigrams limits) (item_at tree name) ≡ Some trigrams
+
+-- `searched` is what cgrep prints over some names in a tree, with a pattern and a style, and `chosen`
+-- is whether `-f` takes a name.
+module _ {Printed : Type 0} (searched : Snapshot → List (List ℕ) → Printed) (chosen : List ℕ → Bool) where
+  -- What is printed is what cgrep prints over the indexed names that are chosen, in their order.
+  abbrev pub SearchesLikeGrep : Option Snapshot → Option (List ℕ) → Printed → Type 0
+  SearchesLikeGrep tree index printed =
+      (earlier : History) → Premises (tree ∷ []) index earlier → StillReads earlier (told tree) → printed ≡ searched (told tree) (filter chosen (indexed_names earlier))

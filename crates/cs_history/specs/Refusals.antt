@@ -1,0 +1,53 @@
+-- Why a job is refused, where the index is the one that some earlier jobs left.
+-- docs/PROMISES.md, "Refusals of cindex".
+use Rattle.std.specs.Prelude.{◌≡◌, ◌≢◌, ◌<◌, ◌≤◌, ◌^◌, ◌⊎◌, ◌↔◌, ℕ, true, false, if◌then◌else◌, List, [], ◌∷◌, length, take, get_or, string_bytes, IfSome}
+use Rattle.std.specs.List.{AllByRecursion}
+use Rattle.cs_tree.specs.Snapshot.{Snapshot}
+use Rattle.cs_index.specs.Image.{image}
+use Rattle.cs_history.specs.History.{History, walked, files_found, index_of}
+use Rattle.cs_history.specs.Jobs.{texts, has_no_path, IsTaken, visit_of, after_done, after}
+use Rattle.cs_history.specs.declared.jobs.IndexJob.{IndexJob}
+use Rattle.cs_history.specs.declared.jobs.CindexFault.TheVariants.{NoIndex, BadIndex, Unsorted, TooLarge, BadPath}
+use Rattle.cs_history.specs.declared.jobs.Reply.{Reply}
+use Rattle.cs_history.specs.declared.jobs.Reply.TheVariants.{Refused}
+
+-- ---- the causes
+
+-- `-list`, and a job that has no path and is no reset, go by the index
+abbrev pub NeedsIndex : IndexJob → Type 0
+NeedsIndex job = (job.list ≡ true) ⊎ ((job.reset ≡ false) × (has_no_path job ≡ true))
+
+-- the path at the place is the first one that cleaning refuses
+pub record IsFirstBad (job : IndexJob) (place : ℕ) : Type 0 where
+  pub walks : job.list ≡ false
+  pub within : place < length (texts job)
+  pub refused : (d : List ℕ) → IsTaken (string_bytes job.cwd) (get_or (texts job) place d) → ⊥
+  pub taken : AllByRecursion (IsTaken (string_bytes job.cwd)) (take place (texts job))
+
+-- the index of what the job finds, alone
+abbrev pub own_index : History → IndexJob → Snapshot → List ℕ
+own_index before job tree =
+    let base = if job.reset then [] else before in
+    image (walked (visit_of job tree) base) (files_found (visit_of job tree) base)
+
+-- 32 bits do not count the bytes of the job's own index, or of the one after it
+abbrev pub IsTooLarge : History → IndexJob → Snapshot → Type 0
+IsTooLarge before job tree = (2 ^ 32 ≤ length (own_index before job tree)) ⊎ (IfSome (index_of (after_done before job tree)) (λ bytes. 2 ^ 32 ≤ length bytes))
+
+-- ---- replies
+
+-- Each refusal has its cause. A history's index is never bad, and its names are in order.
+pub record IsRightReply (before : History) (job : IndexJob) (tree : Snapshot) (reply : Reply) : Type 0 where
+  pub no_index : (reply ≡ Refused NoIndex) ↔ ((before ≡ []) × NeedsIndex job)
+  pub bad_path : (place : ℕ) → reply ≡ Refused (BadPath place) → IsFirstBad job place
+  pub too_large : reply ≡ Refused TooLarge → IsTooLarge before job tree
+  pub bad_index : reply ≢ Refused BadIndex
+  pub unsorted : reply ≢ Refused Unsorted
+
+-- jobs in order, each reply right after the jobs before it
+abbrev pub AreRightReplies : History → List IndexJob → List Snapshot → List Reply → Type 0
+AreRightReplies before [] trees replies = Unit {0}
+AreRightReplies before (job ∷ jobs) [] replies = Unit {0}
+AreRightReplies before (job ∷ jobs) (tree ∷ trees) [] = Unit {0}
+AreRightReplies before (job ∷ jobs) (tree ∷ trees) (reply ∷ replies) =
+    IsRightReply before job tree reply × AreRightReplies (after before job tree reply) jobs trees replies

@@ -1,0 +1,213 @@
+-- What can be held is kept by a join, and is determined by its image.
+use Rattle.std.proofs.Common.{◌≡◌, ℕ, zero, suc, ◌+◌, ◌*◌, ◌<◌, ◌≤◌, ◌^◌, Bool, true, false, cond, ◌&&◌, List, [], ◌∷◌, ◌++◌, length, map, refl, sym, ap, subst, ◌∙◌, inl, inr, Option, None, Some, arith, length-append, append_assoc}
+use Rattle.std.proofs.lemmas.Bool.{true≢false, cases_Bool, and_parts}
+use Rattle.std.proofs.lemmas.List.{length-map, append_cancel_right}
+use Rattle.std.specs.Prelude.{T, flat_map, slice_index_or, is_some}
+use Rattle.std.specs.List.{AllByRecursion, AllZip, list_any}
+use Rattle.std.specs.Ordering.{eq_by_cmp, is_lt, is_eq}
+use Rattle.std.specs.declared.cmp.Ordering.{Ordering}
+use Rattle.std.specs.declared.cmp.Ordering.TheVariants.{Less, Equal, Greater}
+use Rattle.std.specs.FinMap.Entries.{below_all, is_sorted, find}
+use Rattle.std.specs.FinMap as map'
+use Rattle.cs_tree.specs.PathSet as set
+use Rattle.cs_tree.specs.Cover.{bytes_cmp, Paths, covered}
+use Rattle.cs_tree.proofs.Sets.{tied_is, tied_same, same_set}
+use Rattle.cs_index.specs.Image.{Files, Entry, image, image_of, names_of, Posting, posting_list, postings_of, ListEntry, list_entries, joined, ended, closing_list, Sections, sections_of, laid_out, in_order, trailer, name_offsets, four_bytes, starts_from}
+use Rattle.cs_index.specs.Spelling.{IsString, Ascends, IsIndexable, Spells, IsList, entries_of, set_at}
+use Rattle.cs_index.proofs.SpellingLemmas.{image_spelled}
+use Rattle.cs_index.proofs.OnceLemmas.{sections_once, spelled_once}
+use Rattle.cs_index.proofs.ListedLemmas.{image_lists}
+use Rattle.cs_index.proofs.TransposeLemmas.{set_back}
+use Rattle.cs_merge.specs.Join.{join_files, join_paths}
+use Rattle.cs_merge.specs.Content.{IsTrigramSet, EachFile, IsContent, LieUnder}
+use Rattle.cs_merge.proofs.JoinLemmas.{joined_from, path_from, covered_left, covered_right}
+
+-- ---- joining
+
+pub content_joined : (p q : Paths) (f g : Files) → IsContent p f → IsContent q g → IsContent (join_paths p q) (join_files q f g)
+content_joined p q f g a b = record {
+  paths_are = λ path h. elim (path_from p q path h) [ inl here ↦ a.paths_are path here | inr there ↦ b.paths_are path there ];
+  names_are = λ name trigrams h. elim (joined_from q f g name trigrams h) [ inl here ↦ b.names_are name trigrams here | inr there ↦ a.names_are name trigrams there ];
+  sets_are = λ name trigrams h. elim (joined_from q f g name trigrams h) [ inl here ↦ b.sets_are name trigrams here | inr there ↦ a.sets_are name trigrams there ];
+}
+
+pub under_joined : (p q : Paths) (f g : Files) → LieUnder p f → LieUnder q g → LieUnder (join_paths p q) (join_files q f g)
+under_joined p q f g a b name trigrams h =
+    elim (joined_from q f g name trigrams h) [
+      | inl here ↦ covered_right p q name (b name trigrams here)
+      | inr there ↦ covered_left p q name (a name trigrams there)
+    ]
+
+-- ---- what holds at each name holds of each entry, in their order
+
+-- what stands before all keys is none of them
+pub below_lacks : {X : Type 0} (name : List ℕ) (es : List (List ℕ × X)) → T (below_all bytes_cmp name es) → find bytes_cmp name es ≡ None
+below_lacks name [] h = refl
+below_lacks name (e ∷ es) h =
+    let parts = both_hold (is_lt (bytes_cmp name e.0)) (below_all bytes_cmp name es) h in
+    ap (λ b. cond b (Some e.1) (find bytes_cmp name es)) (less_apart (bytes_cmp name e.0) parts.0) ∙ below_lacks name es parts.1
+  where
+    both_hold : (a b : Bool) → T (a && b) → T a × T b
+    both_hold true b p = (tt, p)
+    both_hold false b p = absurd p
+
+    less_apart : (o : Ordering) → T (is_lt o) → is_eq o ≡ false
+    less_apart Less p = refl
+    less_apart Equal p = absurd p
+    less_apart Greater p = absurd p
+
+module _ {X : Type 0} (P : List ℕ → X → Type 0) where
+  each_entry : (es : List (List ℕ × X)) → T (is_sorted bytes_cmp es) → ((name : List ℕ) (x : X) → find bytes_cmp name es ≡ Some x → P name x) → AllByRecursion (λ (e : List ℕ × X). P e.0 e.1) es
+  each_entry [] up h = tt
+  each_entry (e ∷ es) up h =
+      let parts = both_hold (below_all bytes_cmp e.0 es) (is_sorted bytes_cmp es) up in (
+        h e.0 e.1 (ap (λ b. cond b (Some e.1) (find bytes_cmp e.0 es)) (tied_same e.0)),
+        each_entry es parts.1 (λ name x there. h name x (later name x parts.0 there)),
+      )
+    where
+      both_hold : (a b : Bool) → T (a && b) → T a × T b
+      both_hold true b p = (tt, p)
+      both_hold false b p = absurd p
+
+      later : (name : List ℕ) (x : X) → T (below_all bytes_cmp e.0 es) → find bytes_cmp name es ≡ Some x → find bytes_cmp name (e ∷ es) ≡ Some x
+      later name x below there =
+          elim (cases_Bool (eq_by_cmp bytes_cmp name e.0)) [
+            | inl here ↦ absurd (none_some x (sym (below_lacks e.0 es below) ∙ ap (λ n. find bytes_cmp n es) (sym (tied_is name e.0 here)) ∙ there))
+            | inr apart ↦ ap (λ b. cond b (Some e.1) (find bytes_cmp name es)) apart ∙ there
+          ]
+        where
+          none_some : (x : X) → None ≡ Some x → ⊥
+          none_some x e = cc
+
+  pub each_of_map : (m : map'.FinMap bytes_cmp X) → ((name : List ℕ) (x : X) → map'.get m name ≡ Some x → P name x) → AllByRecursion (λ (e : List ℕ × X). P e.0 e.1) (map'.entries m)
+  each_of_map m h = each_entry (map'.entries m) (map'.entries_sorted m) (λ name x there. h name x (map'.get-entries m name ∙ there))
+
+pub all_keys : {X : Type 0} (P : List ℕ → Type 0) (es : List (List ℕ × X)) → AllByRecursion (λ (e : List ℕ × X). P e.0) es → AllByRecursion P (map (λ (e : List ℕ × X). e.0) es)
+all_keys P [] all = tt
+all_keys P (e ∷ es) all = (all.0, all_keys P es all.1)
+
+all_firsts : (P Q : Entry → Type 0) (es : List Entry) → AllByRecursion (λ (e : Entry). P e × Q e) es → AllByRecursion P es
+all_firsts P Q [] all = tt
+all_firsts P Q (e ∷ es) all = (all.0.0, all_firsts P Q es all.1)
+
+all_seconds : (P Q : Entry → Type 0) (es : List Entry) → AllByRecursion (λ (e : Entry). P e × Q e) es → AllByRecursion Q es
+all_seconds P Q [] all = tt
+all_seconds P Q (e ∷ es) all = (all.0.1, all_seconds P Q es all.1)
+
+all_paths : (paths : Paths) → ((path : List ℕ) → set.contains paths path ≡ true → IsString path) → AllByRecursion IsString (set.items paths)
+all_paths paths h = all_keys IsString (map'.entries paths) (each_of_map (λ path (mark : Unit {0}). IsString path) paths (λ path mark there. h path (ap is_some there)))
+
+-- ---- what 32 bits can count has few names
+
+long_offsets : (start : ℕ) (pieces : List (List ℕ)) → length (flat_map four_bytes (starts_from start pieces)) ≡ 4 * length pieces
+long_offsets start [] = refl
+long_offsets start (piece ∷ pieces) =
+    let rest = long_offsets (start + length piece) pieces in
+    let l : length (four_bytes start ++ flat_map four_bytes (starts_from (start + length piece) pieces)) ≡ 4 + length (flat_map four_bytes (starts_from (start + length piece) pieces)) = length-append (four_bytes start) _ in
+    omega (arith, l, rest)
+
+-- a section is no longer than the whole
+index_short : (s : Sections) → length s.name_index ≤ length (laid_out s)
+index_short s =
+    let a : length (laid_out s) ≡ 16 + length (joined (in_order s) ++ trailer s) = omega arith in
+    let b : length (joined (in_order s) ++ trailer s) ≡ length (joined (in_order s)) + length (trailer s) = length-append (joined (in_order s)) (trailer s) in
+    let c : length (joined (in_order s)) ≡ length s.paths + length (s.names ++ (s.postings ++ (s.name_index ++ (s.list_index ++ [])))) = length-append s.paths _ in
+    let d : length (s.names ++ (s.postings ++ (s.name_index ++ (s.list_index ++ [])))) ≡ length s.names + length (s.postings ++ (s.name_index ++ (s.list_index ++ []))) = length-append s.names _ in
+    let e : length (s.postings ++ (s.name_index ++ (s.list_index ++ []))) ≡ length s.postings + length (s.name_index ++ (s.list_index ++ [])) = length-append s.postings _ in
+    let f : length (s.name_index ++ (s.list_index ++ [])) ≡ length s.name_index + length (s.list_index ++ []) = length-append s.name_index _ in
+    omega (arith, a, b, c, d, e, f)
+
+few_names : (paths : List (List ℕ)) (entries : List Entry) → length (image_of paths entries) < 2 ^ 32 → length entries < 2 ^ 31
+few_names paths entries short =
+    let s : Sections = sections_of paths (names_of entries) (postings_of entries) in
+    let whole = index_short s in
+    let own : length s.name_index ≡ length (name_offsets (names_of entries)) + 4 = length-append (name_offsets (names_of entries)) (four_bytes (length (joined (map ended (names_of entries))))) in
+    let offsets = long_offsets 0 (map ended (names_of entries)) in
+    let count : length (map ended (names_of entries)) ≡ length entries = length-map (names_of entries) ended ∙ length-map entries (λ (entry : Entry). entry.0) in
+    omega (arith, whole, own, offsets, count, short)
+
+-- ---- content and image
+
+indexable : (paths : List (List ℕ)) (entries : List Entry) → AllByRecursion IsString paths → AllByRecursion (λ (e : Entry). IsString e.0) entries → AllByRecursion (λ (e : Entry). IsTrigramSet e.1) entries → length (image_of paths entries) < 2 ^ 32 → IsIndexable paths entries
+indexable paths entries a b c short = record {
+  each_path = a;
+  each_name = all_keys IsString entries b;
+  trigrams = all_seconds (λ (e : Entry). Ascends e.1) (λ (e : Entry). AllByRecursion (λ g. g < 16777215) e.1) entries c;
+  few = few_names paths entries short;
+  short = short;
+}
+
+-- what can be held and counted can be written
+pub content_indexable : (paths : Paths) (files : Files) → IsContent paths files → length (image_of (set.items paths) (map'.entries files)) < 2 ^ 32 → IsIndexable (set.items paths) (map'.entries files)
+content_indexable paths files h short =
+    indexable (set.items paths) (map'.entries files) (all_paths paths h.paths_are)
+    (each_of_map (λ name (trigrams : List ℕ). IsString name) files h.names_are)
+    (each_of_map (λ name (trigrams : List ℕ). IsTrigramSet trigrams) files h.sets_are)
+    short
+
+pub content_spelled : (paths : Paths) (files : Files) → IsContent paths files → length (image paths files) < 2 ^ 32 → Spells (image paths files) (set.items paths) (map'.keys files) (list_entries 0 (postings_of (map'.entries files)))
+unfolding image
+content_spelled paths files h short = image_spelled (set.items paths) (map'.entries files) (content_indexable paths files h short)
+
+-- ---- one content for one image
+
+-- lists that are read at the same entries of one section are the same
+pub lists_once : (section : List ℕ) (names at : ℕ) (es : List ListEntry) (ps qs : List Posting) → es ≡ list_entries at ps → es ≡ list_entries at qs → AllZip (λ (e : ListEntry) (p : Posting). IsList section names e p.1) es ps → AllZip (λ (e : ListEntry) (p : Posting). IsList section names e p.1) es qs → ps ≡ qs
+lists_once section names at [] [] [] e f a b = refl
+lists_once section names at [] [] (q ∷ qs) e f a b = absurd b
+lists_once section names at [] (p ∷ ps) qs e f a b = absurd a
+lists_once section names at (x ∷ es) [] qs e f a b = absurd a
+lists_once section names at (x ∷ es) (p ∷ ps) [] e f a b = absurd b
+lists_once section names at (x ∷ es) (p ∷ ps) (q ∷ qs) e f a b =
+    let ids : p.1 ≡ q.1 = ap (λ r. r.ids) (sym a.0 ∙ b.0) in
+    let xp : x ≡ record { trigram = p.0; count = length p.1; offset = at } = cc in
+    let xq : x ≡ record { trigram = q.0; count = length q.1; offset = at } = cc in
+    let trigram : p.0 ≡ q.0 = ap (λ (y : ListEntry). y.trigram) (sym xp ∙ xq) in
+    let head : p ≡ q = λ i. (trigram i, ids i) in
+    let te : es ≡ list_entries (at + length (posting_list p)) ps = cc in
+    let tf : es ≡ list_entries (at + length (posting_list q)) qs = cc in
+    let rest : ps ≡ qs = lists_once section names (at + length (posting_list p)) es ps qs te (tf ∙ ap (λ r. list_entries (at + length (posting_list r)) qs) (sym head)) a.1 b.1 in
+    λ i. head i ∷ rest i
+
+-- ---- sets are read back from the lists
+
+index_at : (front rest : List Entry) (entry d : Entry) → slice_index_or (front ++ entry ∷ rest) (length front) d ≡ entry
+index_at [] rest entry d = refl
+index_at (x ∷ front) rest entry d = index_at front rest entry d
+
+pub read_back : (front entries : List Entry) → AllByRecursion (λ (e : Entry). Ascends e.1) entries → entries_of (length front) (names_of entries) (postings_of (front ++ entries)) ≡ entries
+read_back front [] all = refl
+read_back front (entry ∷ entries) all =
+    let whole : List Entry = front ++ entry ∷ entries in
+    let long : length whole ≡ length front + suc (length entries) = length-append front (entry ∷ entries) in
+    let here : slice_index_or whole (length front) entry ≡ entry = index_at front entries entry entry in
+    let back : set_at (length front) (postings_of whole) ≡ entry.1 = set_back whole (length front) entry (omega (arith, long)) (subst (λ (e : Entry). Ascends e.1) (sym here) all.0) ∙ ap (λ (e : Entry). e.1) here in
+    let on : length (front ++ entry ∷ []) ≡ length front + 1 = length-append front (entry ∷ []) in
+    let rest = read_back (front ++ entry ∷ []) entries all.1 in
+    let rest' : entries_of (length front + 1) (names_of entries) (postings_of whole) ≡ entries = ap (λ n. entries_of n (names_of entries) (postings_of whole)) (sym on) ∙ ap (λ es. entries_of (length (front ++ entry ∷ [])) (names_of entries) (postings_of es)) (sym (append_assoc front (entry ∷ []) entries)) ∙ rest in
+    λ i. (entry.0, back i) ∷ rest' i
+
+pub ascending_sets : (files : Files) → EachFile (λ name trigrams. IsTrigramSet trigrams) files → AllByRecursion (λ (e : Entry). Ascends e.1) (map'.entries files)
+ascending_sets files h = all_firsts (λ (e : Entry). Ascends e.1) (λ (e : Entry). AllByRecursion (λ g. g < 16777215) e.1) (map'.entries files) (each_of_map (λ name (trigrams : List ℕ). IsTrigramSet trigrams) files h)
+
+-- the entries of two images with the same bytes
+entries_once : (p q : List (List ℕ)) (d e : List Entry) → IsIndexable p d → IsIndexable q e → AllByRecursion (λ (x : Entry). Ascends x.1) d → AllByRecursion (λ (x : Entry). Ascends x.1) e → image_of p d ≡ image_of q e → (p ≡ q) × (d ≡ e)
+entries_once p q d e g h a b same =
+    let s : Sections = sections_of p (names_of d) (postings_of d) in
+    let t : Sections = sections_of q (names_of e) (postings_of e) in
+    let once = spelled_once (image_of p d) p q (names_of d) (names_of e) (list_entries 0 (postings_of d)) (list_entries 0 (postings_of e)) (image_spelled p d g) (subst (λ bytes. Spells bytes q (names_of e) (list_entries 0 (postings_of e))) (sym same) (image_spelled q e h)) in
+    let sections = sections_once s t g.short h.short same in
+    let lists : joined (map posting_list (postings_of d)) ++ closing_list ≡ joined (map posting_list (postings_of e)) ++ closing_list = ap (λ (u : Sections). u.postings) sections in
+    let count : length d ≡ length e = sym (length-map d (λ (x : Entry). x.0)) ∙ ap length once.1 ∙ length-map e (λ (x : Entry). x.0) in
+    let moved = subst (λ section. AllZip (λ (x : ListEntry) (r : Posting). IsList section (length d) x r.1) (list_entries 0 (postings_of e)) (postings_of e)) (sym lists) (subst (λ n. AllZip (λ (x : ListEntry) (r : Posting). IsList (joined (map posting_list (postings_of e)) ++ closing_list) n x r.1) (list_entries 0 (postings_of e)) (postings_of e)) (sym count) (image_lists e h.few)) in
+    let postings : postings_of d ≡ postings_of e = lists_once (joined (map posting_list (postings_of d)) ++ closing_list) (length d) 0 (list_entries 0 (postings_of d)) (postings_of d) (postings_of e) refl once.2 (image_lists d g.few) (subst (λ xs. AllZip (λ (x : ListEntry) (r : Posting). IsList (joined (map posting_list (postings_of d)) ++ closing_list) (length d) x r.1) xs (postings_of e)) (sym once.2) moved) in
+    (once.0, sym (read_back [] d a) ∙ ap (λ names. entries_of 0 names (postings_of d)) once.1 ∙ ap (entries_of 0 (names_of e)) postings ∙ read_back [] e b)
+
+pub same_paths : (p q : Paths) → set.items p ≡ set.items q → p ≡ q
+same_paths p q e = same_set p q (λ path. map'.contains_key-keys p path ∙ ap (list_any (eq_by_cmp bytes_cmp path)) e ∙ sym (map'.contains_key-keys q path))
+
+pub content_once : (p q : Paths) (f g : Files) → IsContent p f → IsContent q g → length (image p f) < 2 ^ 32 → image p f ≡ image q g → (p ≡ q) × (f ≡ g)
+unfolding image
+content_once p q f g a b short same =
+    let once = entries_once (set.items p) (set.items q) (map'.entries f) (map'.entries g) (content_indexable p f a short) (content_indexable q g b (subst (λ bytes. length bytes < 2 ^ 32) same short)) (ascending_sets f a.sets_are) (ascending_sets g b.sets_are) same in
+    (same_paths p q once.0, map'.same_entries_map f g once.1)

@@ -1,0 +1,242 @@
+-- What bytes hold.
+use Rattle.std.proofs.Common.{◌≡◌, ◌≢◌, ℕ, zero, suc, ◌+◌, ◌<◌, ◌≤◌, ◌^◌, Bool, true, false, cond, ◌&&◌, ◌||◌, List, [], ◌∷◌, ◌++◌, length, map, take, drop, get_or, refl, sym, ap, subst, ◌∙◌, inl, inr, ◌⊎◌, Option, None, Some, arith}
+use Rattle.std.proofs.lemmas.Bool.{true≢false, cases_Bool, cond_both, cases_eq}
+use Rattle.std.specs.Prelude.{T, is_some, filter}
+use Rattle.std.specs.List.{AllByRecursion, AllZip, list_any}
+use Rattle.std.specs.Cmp.Lexicographic.{nat_list_cmp_total}
+use Rattle.std.specs.Ordering.{eq_by_cmp}
+use Rattle.std.specs.FinMap as map'
+use Rattle.std.specs.FinMap.Entries.{is_sorted, find}
+use Rattle.cs_tree.specs.PathSet as set
+use Rattle.cs_tree.specs.Cover.{bytes_cmp, Paths, same}
+use Rattle.cs_tree.proofs.Sets.{tied_is, tied_same, same_set, entries_in_order}
+use Rattle.cs_index.specs.Image.{Files, Entry, image, image_of, names_of, has, Posting, posting_list, postings_of, ListEntry, list_entries, joined, closing_list, Sections, sections_of, laid_out, three_bytes}
+use Rattle.cs_index.specs.Spelling.{IsString, Ascends, IsEntry, Spells, IsList, read_ids, damaged, entries_of, set_at}
+use Rattle.cs_index.proofs.OnceLemmas.{sections_once, spelled_once}
+use Rattle.cs_index.proofs.ListedLemmas.{image_lists}
+use Rattle.cs_merge.specs.Content.{IsTrigramSet, IsContent, IsListOf, Holds}
+use Rattle.cs_merge.proofs.ContentLemmas.{each_of_map, content_indexable, content_spelled, read_back, ascending_sets}
+
+-- ---- maps and sets made of lists
+
+find_all : {X : Type 0} (P : List ℕ → X → Type 0) (es : List (List ℕ × X)) (name : List ℕ) (x : X) → AllByRecursion (λ (e : List ℕ × X). P e.0 e.1) es → find bytes_cmp name es ≡ Some x → P name x
+find_all {X} P [] name x all h = cc
+find_all {X} P (e ∷ es) name x all h =
+    elim (cases_Bool (eq_by_cmp bytes_cmp name e.0)) [
+      | inl here ↦
+          let is : e.1 ≡ x = same_some e.1 x (sym (ap (λ t. cond t (Some e.1) (find bytes_cmp name es)) here) ∙ h) in
+          subst (P name) is (subst (λ n. P n e.1) (sym (tied_is name e.0 here)) all.0)
+      | inr apart ↦ find_all P es name x all.1 (sym (ap (λ t. cond t (Some e.1) (find bytes_cmp name es)) apart) ∙ h)
+    ]
+  where
+    same_some : (y z : X) → Some y ≡ Some z → y ≡ z
+    same_some y z e = cc
+
+-- a member of a set that was made of a list is one of the list
+pub from_list_all : (P : List ℕ → Type 0) (paths : List (List ℕ)) → AllByRecursion P paths → (path : List ℕ) → set.contains (set.from_list paths) path ≡ true → P path
+from_list_all P paths all path member = among paths all (ap is_some (sym (map'.get-from_entries nat_list_cmp_total (set.marked paths) path)) ∙ member)
+  where
+    among : (ps : List (List ℕ)) → AllByRecursion P ps → is_some (find bytes_cmp path (set.marked ps)) ≡ true → P path
+    among [] all h = absurd (true≢false (sym h))
+    among (p ∷ ps) all h =
+        elim (cases_Bool (eq_by_cmp bytes_cmp path p)) [
+          | inl here ↦ subst P (sym (tied_is path p here)) all.0
+          | inr apart ↦ among ps all.1 (sym (ap (λ t. is_some (cond t (Some tt) (find bytes_cmp path (set.marked ps)))) apart) ∙ h)
+        ]
+
+marked_items : (q : List ℕ) (ps : List (List ℕ)) → is_some (find bytes_cmp q (set.marked ps)) ≡ list_any (eq_by_cmp bytes_cmp q) ps
+marked_items q [] = refl
+marked_items q (p ∷ ps) = elim (eq_by_cmp bytes_cmp q p) as (λ t. is_some (cond t (Some tt) (find bytes_cmp q (set.marked ps))) ≡ (t || list_any (eq_by_cmp bytes_cmp q) ps)) [ true ↦ refl | false ↦ marked_items q ps ]
+
+-- a set is made of its items, and a map of its entries
+set_of_items : (paths : Paths) → paths ≡ set.from_list (set.items paths)
+set_of_items paths = same_set paths (set.from_list (set.items paths)) (λ q.
+    map'.contains_key-keys paths q
+    ∙ sym (marked_items q (set.items paths))
+    ∙ ap is_some (sym (map'.get-from_entries nat_list_cmp_total (set.marked (set.items paths)) q)))
+
+map_of_entries : (files : Files) → files ≡ map'.from_entries (map'.entries files)
+map_of_entries files = map'.same_entries_map files (map'.from_entries (map'.entries files)) (sym (entries_in_order (map'.entries files) (map'.entries_sorted files)))
+
+-- ---- the image of what can be held
+
+lists_of : (section : List ℕ) (names at : ℕ) (ps : List Posting) → AllZip (λ (e : ListEntry) (p : Posting). IsList section names e p.1) (list_entries at ps) ps → AllZip (IsListOf section names) (list_entries at ps) ps
+lists_of section names at [] all = tt
+lists_of section names at (p ∷ ps) all = ((refl, all.0), lists_of section names (at + length (posting_list p)) ps all.1)
+
+is_true : (b : Bool) → T b → b ≡ true
+is_true true h = refl
+is_true false h = absurd h
+
+length-names : (es : List Entry) → length (names_of es) ≡ length es
+length-names [] = refl
+length-names (e ∷ es) = ap suc (length-names es)
+
+pub content_held : (paths : Paths) (files : Files) → IsContent paths files → length (image paths files) < 2 ^ 32 → Holds (image paths files) paths files
+unfolding image
+content_held paths files content short =
+    let es : List Entry = map'.entries files in
+    let spells = content_spelled paths files content short in
+    let back : entries_of 0 (names_of es) (postings_of es) ≡ es = read_back [] es (ascending_sets files content.sets_are) in
+    let laid : laid_out (sections_of (set.items paths) (names_of es) (postings_of es)) ≡ laid_out spells.sections = spells.laid in
+    let sections = sections_once (sections_of (set.items paths) (names_of es) (postings_of es)) spells.sections short (subst (λ b. length b < 2 ^ 32) laid short) laid in
+    let lists = lists_of (joined (map posting_list (postings_of es)) ++ closing_list) (length es) 0 (postings_of es) (image_lists es (content_indexable paths files content short).few) in
+    record {
+      path_list = set.items paths;
+      names = map'.keys files;
+      entries = list_entries 0 (postings_of es);
+      lists = postings_of es;
+      spells = spells;
+      each_list = subst (λ section. AllZip (IsListOf section (length (names_of es))) (list_entries 0 (postings_of es)) (postings_of es)) (ap (λ (s : Sections). s.postings) sections) (subst (λ n. AllZip (IsListOf (joined (map posting_list (postings_of es)) ++ closing_list) n) (list_entries 0 (postings_of es)) (postings_of es)) (sym (length-names es)) lists);
+      ascend = ap (is_sorted bytes_cmp) back ∙ is_true (is_sorted bytes_cmp es) (map'.entries_sorted files);
+      paths_are = set_of_items paths;
+      files_are = map_of_entries files ∙ ap map'.from_entries (sym back);
+    }
+
+-- ---- one content
+
+lists_same : (section : List ℕ) (names : ℕ) (es : List ListEntry) (ps qs : List Posting) → AllZip (IsListOf section names) es ps → AllZip (IsListOf section names) es qs → ps ≡ qs
+lists_same section names [] [] [] a b = refl
+lists_same section names [] [] (q ∷ qs) a b = absurd b
+lists_same section names [] (p ∷ ps) qs a b = absurd a
+lists_same section names (e ∷ es) [] qs a b = absurd a
+lists_same section names (e ∷ es) (p ∷ ps) [] a b = absurd b
+lists_same section names (e ∷ es) (p ∷ ps) (q ∷ qs) a b =
+    let trigram : p.0 ≡ q.0 = sym a.0.0 ∙ b.0.0 in
+    let ids : p.1 ≡ q.1 = ap (λ r. r.ids) (sym a.0.1 ∙ b.0.1) in
+    let rest : ps ≡ qs = lists_same section names es ps qs a.1 b.1 in
+    λ i. (trigram i, ids i) ∷ rest i
+
+pub held_once : (bytes : List ℕ) (p q : Paths) (f g : Files) → Holds bytes p f → Holds bytes q g → (p ≡ q) × (f ≡ g)
+held_once bytes p q f g a b =
+    let once = spelled_once bytes a.path_list b.path_list a.names b.names a.entries b.entries a.spells b.spells in
+    let sections = sections_once a.spells.sections b.spells.sections (subst (λ bs. length bs < 2 ^ 32) a.spells.laid a.spells.short) (subst (λ bs. length bs < 2 ^ 32) b.spells.laid b.spells.short) (sym a.spells.laid ∙ b.spells.laid) in
+    let moved : AllZip (IsListOf a.spells.sections.postings (length a.names)) a.entries b.lists =
+    subst (λ section. AllZip (IsListOf section (length a.names)) a.entries b.lists) (sym (ap (λ (s : Sections). s.postings) sections))
+    (subst (λ names. AllZip (IsListOf b.spells.sections.postings (length names)) a.entries b.lists) (sym once.1)
+    (subst (λ es. AllZip (IsListOf b.spells.sections.postings (length b.names)) es b.lists) (sym once.2) b.each_list)) in
+    let lists : a.lists ≡ b.lists = lists_same a.spells.sections.postings (length a.names) a.entries a.lists b.lists a.each_list moved in (
+      a.paths_are ∙ ap set.from_list once.0 ∙ sym b.paths_are,
+      a.files_are ∙ (λ i. map'.from_entries (entries_of 0 (once.1 i) (lists i))) ∙ sym b.files_are,
+    )
+
+-- ---- what is held can be held
+
+-- a trigram that some file may have
+abbrev Fits : Posting → Type 0
+Fits p = (p.0 < 16777215) ⊎ (p.1 ≡ [])
+
+no_ids : (section ids : List ℕ) (names : ℕ) (e : ListEntry) → e.count ≡ 0 → IsList section names e ids → ids ≡ []
+no_ids section ids names e none h = by_count e.count none (ap (λ r. r.ids) h)
+  where
+    by_count : (count : ℕ) → count ≡ 0 → (cond (same (take 3 (drop e.offset section)) (three_bytes e.trigram)) (read_ids names count 0 (drop (e.offset + 3) section)) damaged).ids ≡ ids → ids ≡ []
+    by_count zero z h = sym h ∙ elim (same (take 3 (drop e.offset section)) (three_bytes e.trigram)) as (λ t. (cond t (read_ids names 0 0 (drop (e.offset + 3) section)) damaged).ids ≡ []) [ true ↦ refl | false ↦ refl ]
+    by_count (suc count) z h = absurd (omega (arith, z))
+
+all_fit : (section : List ℕ) (names : ℕ) (es : List ListEntry) (ps : List Posting) → AllByRecursion (IsEntry section) es → AllZip (IsListOf section names) es ps → AllByRecursion Fits ps
+all_fit section names [] [] is all = tt
+all_fit section names [] (p ∷ ps) is all = absurd all
+all_fit section names (e ∷ es) [] is all = absurd all
+all_fit section names (e ∷ es) (p ∷ ps) is all = (
+  elim (cases_eq e.trigram 16777215) [
+    | inl closing ↦ inr (no_ids section p.1 names e (is.0.closing closing) all.0.1)
+    | inr other ↦ inl (let t : e.trigram ≡ p.0 = all.0.0 in let below = is.0.trigram in under e.trigram p.0 t below other)
+  ],
+  all_fit section names es ps is.1 all.1,
+)
+  where
+    under : (t g : ℕ) → t ≡ g → t < 2 ^ 24 → (t ≡ 16777215 → ⊥) → g < 16777215
+    under t g e below apart = omega (arith, e, below, apart)
+
+same_trigrams : (section : List ℕ) (names : ℕ) (es : List ListEntry) (ps : List Posting) → AllZip (IsListOf section names) es ps → map (λ (e : ListEntry). e.trigram) es ≡ map (λ (p : Posting). p.0) ps
+same_trigrams section names [] [] all = refl
+same_trigrams section names [] (p ∷ ps) all = absurd all
+same_trigrams section names (e ∷ es) [] all = absurd all
+same_trigrams section names (e ∷ es) (p ∷ ps) all =
+    let head : e.trigram ≡ p.0 = all.0.0 in
+    let rest = same_trigrams section names es ps all.1 in
+    λ i. head i ∷ rest i
+
+set_fits : (id : ℕ) (ps : List Posting) → AllByRecursion Fits ps → AllByRecursion (λ g. g < 16777215) (set_at id ps)
+set_fits id [] all = tt
+set_fits id (p ∷ ps) all = by_test (has p.1 id) refl (set_fits id ps all.1)
+  where
+    by_test : (t : Bool) → has p.1 id ≡ t → AllByRecursion (λ g. g < 16777215) (set_at id ps) → AllByRecursion (λ g. g < 16777215) (map (λ (q : Posting). q.0) (cond t (p ∷ filter (λ (q : Posting). has q.1 id) ps) (filter (λ (q : Posting). has q.1 id) ps)))
+    by_test true e rest = (elim all.0 [ inl below ↦ below | inr none ↦ absurd (true≢false (sym e ∙ ap (λ ids. has ids id) none)) ], rest)
+    by_test false e rest = rest
+
+-- ---- what is left of an ascending list ascends
+
+all_above : (n : ℕ) (ms : List ℕ) → Ascends (n ∷ ms) → AllByRecursion (λ m. n < m) ms
+all_above n [] up = tt
+all_above n (m ∷ ms) up = (up.0, all_above n ms (skip ms up.0 up.1))
+  where
+    skip : (ks : List ℕ) → n < m → Ascends (m ∷ ks) → Ascends (n ∷ ks)
+    skip [] h up = tt
+    skip (k ∷ ks) h up = (let g = up.0 in omega (arith, h, g), up.1)
+
+tail_ascends : (n : ℕ) (ms : List ℕ) → Ascends (n ∷ ms) → Ascends ms
+tail_ascends n [] up = tt
+tail_ascends n (m ∷ ms) up = up.1
+
+ascends_from : (n : ℕ) (ms : List ℕ) → AllByRecursion (λ m. n < m) ms → Ascends ms → Ascends (n ∷ ms)
+ascends_from n [] above up = tt
+ascends_from n (m ∷ ms) above up = (above.0, up)
+
+set_above : (n id : ℕ) (ps : List Posting) → AllByRecursion (λ m. n < m) (map (λ (p : Posting). p.0) ps) → AllByRecursion (λ m. n < m) (set_at id ps)
+set_above n id [] above = tt
+set_above n id (p ∷ ps) above =
+    elim (has p.1 id) as (λ t. AllByRecursion (λ m. n < m) (map (λ (q : Posting). q.0) (cond t (p ∷ filter (λ (q : Posting). has q.1 id) ps) (filter (λ (q : Posting). has q.1 id) ps)))) [
+      | true ↦ (above.0, set_above n id ps above.1)
+      | false ↦ set_above n id ps above.1
+    ]
+
+set_ascends : (id : ℕ) (ps : List Posting) → Ascends (map (λ (p : Posting). p.0) ps) → Ascends (set_at id ps)
+set_ascends id [] up = tt
+set_ascends id (p ∷ ps) up =
+    let rest = set_ascends id ps (tail_ascends p.0 (map (λ (q : Posting). q.0) ps) up) in
+    elim (has p.1 id) as (λ t. Ascends (map (λ (q : Posting). q.0) (cond t (p ∷ filter (λ (q : Posting). has q.1 id) ps) (filter (λ (q : Posting). has q.1 id) ps)))) [
+      | true ↦ ascends_from p.0 (set_at id ps) (set_above p.0 id ps (all_above p.0 (map (λ (q : Posting). q.0) ps) up)) rest
+      | false ↦ rest
+    ]
+
+-- ---- files
+
+all_files : (P : List ℕ → Type 0) (Q : List ℕ → Type 0) (first : ℕ) (names : List (List ℕ)) (ps : List Posting) → AllByRecursion P names → ((id : ℕ) → Q (set_at id ps)) → AllByRecursion (λ (e : Entry). P e.0 × Q e.1) (entries_of first names ps)
+all_files P Q first [] ps all sets = tt
+all_files P Q first (name ∷ names) ps all sets = ((all.0, sets first), all_files P Q (first + 1) names ps all.1 sets)
+
+pub held_content : (bytes : List ℕ) (paths : Paths) (files : Files) → Holds bytes paths files → IsContent paths files
+held_content bytes paths files h =
+    let fit = all_fit h.spells.sections.postings (length h.names) h.entries h.lists h.spells.each_entry h.each_list in
+    let up : Ascends (map (λ (p : Posting). p.0) h.lists) = subst Ascends (same_trigrams h.spells.sections.postings (length h.names) h.entries h.lists h.each_list) h.spells.ascending in
+    let all = all_files IsString IsTrigramSet 0 h.names h.lists h.spells.each_name (λ id. (set_ascends id h.lists up, set_fits id h.lists fit)) in
+    let each : (name trigrams : List ℕ) → map'.get files name ≡ Some trigrams → IsString name × IsTrigramSet trigrams =
+    λ name trigrams there. find_all (λ (n : List ℕ) (t : List ℕ). IsString n × IsTrigramSet t) (entries_of 0 h.names h.lists) name trigrams all (sym (map'.get-from_entries nat_list_cmp_total (entries_of 0 h.names h.lists) name) ∙ ap (λ m. map'.get m name) (sym h.files_are) ∙ there) in
+    record {
+      paths_are = λ path member. from_list_all IsString h.path_list h.spells.each_path path (ap (λ s. set.contains s path) (sym h.paths_are) ∙ member);
+      names_are = λ name trigrams there. (each name trigrams there).0;
+      sets_are = λ name trigrams there. (each name trigrams there).1;
+    }
+
+names_of-entries_of : (first : ℕ) (names : List (List ℕ)) (ps : List Posting) → names_of (entries_of first names ps) ≡ names
+names_of-entries_of first [] ps = refl
+names_of-entries_of first (name ∷ names) ps = ap (λ rest. name ∷ rest) (names_of-entries_of (first + 1) names ps)
+
+held_entries : (bytes : List ℕ) (paths : Paths) (files : Files) (h : Holds bytes paths files) → map'.entries files ≡ entries_of 0 h.names h.lists
+held_entries bytes paths files h = ap map'.entries h.files_are ∙ entries_in_order (entries_of 0 h.names h.lists) (subst T (sym h.ascend) tt)
+
+pub held_names : (bytes : List ℕ) (paths : Paths) (files : Files) (h : Holds bytes paths files) → map'.keys files ≡ h.names
+held_names bytes paths files h = ap (map (λ (e : Entry). e.0)) (held_entries bytes paths files h) ∙ names_of-entries_of 0 h.names h.lists
+
+-- what holds of each entry holds of the name and the set with an id
+at_id : (P : List ℕ → List ℕ → Type 0) (first : ℕ) (names : List (List ℕ)) (ps : List Posting) (k : ℕ) (d : List ℕ) → AllByRecursion (λ (e : Entry). P e.0 e.1) (entries_of first names ps) → k < length names → P (get_or names k d) (set_at (first + k) ps)
+at_id P first [] ps k d all within = absurd (omega (arith, within))
+at_id P first (name ∷ names) ps zero d all within = subst (λ n. P name (set_at n ps)) (let e : first ≡ first + 0 = omega arith in e) all.0
+at_id P first (name ∷ names) ps (suc k) d all within = subst (λ n. P (get_or names k d) (set_at n ps)) (let e : first + 1 + k ≡ first + suc k = omega arith in e) (at_id P (first + 1) names ps k d all.1 (omega (arith, within)))
+
+pub held_set : (bytes : List ℕ) (paths : Paths) (files : Files) (h : Holds bytes paths files) (id : ℕ) (d : List ℕ) → id < length h.names → map'.get files (get_or h.names id d) ≡ Some (set_at id h.lists)
+held_set bytes paths files h id d within =
+    let P = λ (name : List ℕ) (trigrams : List ℕ). map'.get files name ≡ Some trigrams in
+    let all = subst (AllByRecursion (λ (e : Entry). P e.0 e.1)) (held_entries bytes paths files h) (each_of_map P files (λ name trigrams there. there)) in
+    subst (λ n. map'.get files (get_or h.names id d) ≡ Some (set_at n h.lists)) (let e : 0 + id ≡ id = omega arith in e) (at_id P 0 h.names h.lists id d all within)

@@ -1,0 +1,3 @@
+pub mod JoinLemmas
+pub mod ContentLemmas
+pub mod HoldingLemmas

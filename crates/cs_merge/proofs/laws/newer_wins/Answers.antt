@@ -1,0 +1,5 @@
+use Rattle.cs_merge.proofs.JoinLemmas.{newer_at}
+use Rattle.cs_merge.proofs.laws.newer_wins.Goals as goal
+
+pub returns : goal.returns
+returns c = newer_at

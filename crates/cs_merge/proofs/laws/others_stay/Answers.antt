@@ -1,0 +1,5 @@
+use Rattle.cs_merge.proofs.JoinLemmas.{old_under}
+use Rattle.cs_merge.proofs.laws.others_stay.Goals as goal
+
+pub returns : goal.returns
+returns c = old_under

@@ -1,0 +1,48 @@
+-- What an index holds: a set of paths, and a map from the names of files to their sets of trigrams.
+-- docs/FORMAT.md, "The index as it is written" and "The index as it is read".
+use Rattle.std.specs.Prelude.{◌≡◌, ℕ, ◌<◌, true, List, length, Some}
+use Rattle.std.specs.List.{AllByRecursion, AllZip}
+use Rattle.std.specs.FinMap as map
+use Rattle.cs_tree.specs.PathSet as set
+use Rattle.cs_tree.specs.Cover.{bytes_cmp, Paths, covered}
+use Rattle.cs_index.specs.Image.{Files, ListEntry, Posting}
+use Rattle.cs_index.specs.Spelling.{IsString, Ascends, IsList, Spells, entries_of}
+
+-- ---- what can be held
+
+-- the members of a set of trigrams, ascending; ff ff ff is none
+abbrev pub IsTrigramSet : List ℕ → Type 0
+IsTrigramSet trigrams = Ascends trigrams × AllByRecursion (λ trigram. trigram < 16777215) trigrams
+
+-- each file of a map is so
+abbrev pub EachFile : (List ℕ → List ℕ → Type 0) → Files → Type 0
+EachFile IsSo files = (name trigrams : List ℕ) → map.get files name ≡ Some trigrams → IsSo name trigrams
+
+-- What an index can hold: paths and names that are strings, and sets of trigrams.
+pub record IsContent (paths : Paths) (files : Files) : Type 0 where
+  pub paths_are : (path : List ℕ) → set.contains paths path ≡ true → IsString path
+  pub names_are : EachFile (λ name trigrams. IsString name) files
+  pub sets_are : EachFile (λ name trigrams. IsTrigramSet trigrams) files
+
+-- each name lies under some path
+abbrev pub LieUnder : Paths → Files → Type 0
+LieUnder paths files = EachFile (λ name trigrams. covered paths name ≡ true) files
+
+-- ---- what bytes hold, whoever wrote them
+
+-- at an entry of the list index stands this list, whole
+abbrev pub IsListOf : List ℕ → ℕ → ListEntry → Posting → Type 0
+IsListOf postings names entry list = (entry.trigram ≡ list.0) × IsList postings names entry list.1
+
+-- The bytes hold these paths and files: they spell the paths, and names that strictly ascend, and each
+-- entry has its list. The set of a name is that of the trigrams whose list has its id.
+pub record Holds (bytes : List ℕ) (paths : Paths) (files : Files) : Type 0 where
+  pub path_list : List (List ℕ)
+  pub names : List (List ℕ)
+  pub entries : List ListEntry
+  pub lists : List Posting
+  pub spells : Spells bytes path_list names entries
+  pub each_list : AllZip (IsListOf spells.sections.postings (length names)) entries lists
+  pub ascend : map.is_sorted bytes_cmp (entries_of 0 names lists) ≡ true
+  pub paths_are : paths ≡ set.from_list path_list
+  pub files_are : files ≡ map.from_entries (entries_of 0 names lists)

@@ -5,7 +5,7 @@ use Rattle.std.specs.List.{list_any}
 use Rattle.std.specs.FinMap as map
 use Rattle.cs_tree.specs.PathSet as set
 use Rattle.cs_tree.specs.Cover.{bytes_cmp, Paths, slash, same, covers}
-use Rattle.cs_tree.specs.Clean.{elements}
+use Rattle.cs_tree.specs.Clean.{elements, longest_path}
 use Rattle.cs_tree.specs.Snapshot.{Snapshot, Item, file, item_at, child, lists, name_of}
 
 -- ---- what is left out: a name that begins with `.`, `#` or `~`, or ends with `~`
@@ -25,10 +25,6 @@ elements_under path name =
     if same path name then [] else elements (drop (if same path (slash ∷ []) then 1 else length path + 1) name)
 
 -- ---- what is reached
-
--- the longest path that is looked at
-abbrev pub longest_path : ℕ
-longest_path = 4095
 
 -- each element is listed in the folder that it stands in, and not left out
 abbrev pub leads : Snapshot → List ℕ → List (List ℕ) → Bool

@@ -1,6 +1,6 @@
 // What a path covers, and the elements of a path.
 ghost use Rattle.std.specs.Prelude.{◌≡◌, ◌≢◌, ◌++◌, ◌∷◌, [], true, false, MatchOption, IsTrue, ◌↔◌, List, ℕ, length, ◌<◌, ◌&&◌, not};
-ghost use Rattle.cs_tree.specs.Cover.{covers as covers', ends_element as ends_element', same, slash};
+ghost use Rattle.cs_tree.specs.Cover.{covers as covers', ends_element as ends_element', same, begins, slash};
 ghost use Rattle.cs_tree.specs.Snapshot.{child, stem_of, name_of, parent_of};
 ghost use Rattle.cs_tree.specs.Clean.{is_clean as is_clean', is_proper as is_proper', has_nul as has_nul'};
 
@@ -69,6 +69,16 @@ pub(crate) fn is_clean(path: &str) -> bool
         rest = later;
     }
     is_proper(rest)
+}
+
+/// Whether the path begins with a slash.
+pub(crate) fn is_absolute(path: &str) -> bool
+    ensures { result ≡ begins (slash ∷ []) path.now }
+{
+    match path.as_bytes().split_first() {
+        Some((first, _)) => *first == b'/',
+        None => false,
+    }
 }
 
 pub(crate) fn has_nul(text: &str) -> bool

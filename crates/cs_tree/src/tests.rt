@@ -1,7 +1,7 @@
 // Each call once with ample memory, and readers and writers that fail in mid-stream.
 use crate::{
-    DiskTree, IoFault, Item, Kind, MemSink, MemSource, MemTree, PutFault, Sink, Source, StdSink,
-    StdSource, Tree, TreeFault, TreeReader, covers, read_all, write_all,
+    DiskTree, IoFault, Item, Kind, MemSink, MemSource, MemTree, PathFault, PutFault, Sink, Source,
+    StdSink, StdSource, Tree, TreeFault, TreeReader, clean, covers, read_all, write_all,
 };
 use std::alloc::{AllocError, Global};
 use std::io::{Read, Write};
@@ -255,4 +255,23 @@ fn the_real_disk(rt: HostRuntime) -> Result<(), Fail> {
     assert_eq!(rt; tree.failures(), 4);
     fs::remove_dir_all(&rt, folder)?;
     Ok(())
+}
+
+#[test]
+fn paths_are_cleaned(rt: HostRuntime) {
+    for (folder, text, want) in [
+        ("/w", "a/./b/../c/", Ok("/w/a/c")),
+        ("/w", "../..", Ok("/")),
+        ("/w", "/t//x", Ok("/t/x")),
+        ("/", "a", Ok("/a")),
+        ("/w", "", Err(PathFault::Empty)),
+        ("/w", "a\0", Err(PathFault::Nul)),
+        ("/w\0", "a", Err(PathFault::Nul)),
+        ("/w\0", "/a", Ok("/a")),
+    ] {
+        match (clean(rt.alloc(), folder, text), want) {
+            (Ok(path), Ok(want)) => assert_eq!(rt; path.as_str(), want, "{folder} and {text}"),
+            (answer, want) => assert_eq!(rt; answer.err(), want.err(), "{folder} and {text}"),
+        }
+    }
 }

@@ -3,7 +3,8 @@ use Rattle.std.proofs.Common.{◌≡◌, ℕ, zero, suc, ◌+◌, ◌-◌, ◌<�
 use Rattle.std.proofs.lemmas.List.{take-append-drop, drop-take, take-take, drop-drop, take_rest}
 use Rattle.cs_tree.proofs.Growing.{take_on}
 use Rattle.cs_tools.specs.Lines.{newline, ended_lines}
-use Rattle.cs_tools.specs.Rest.{unended, IsPart}
+use Rattle.cs_tools.specs.Rest.{unended}
+use Rattle.cs_tools.specs.Lines.{IsPart}
 use Rattle.cs_tools.proofs.LinesLemmas.{lines_within, ended_lines-append, unended-append, ended_lines-part, unended-part, ended_lines-line, unended-line, IsPart-append}
 
 module _ (block : List ℕ) (start from : ℕ) (rising : start ≤ from) (before : unended (take start block) ≡ []) (clean : IsPart (take (from - start) (drop start block))) where
@@ -29,9 +30,9 @@ module _ (block : List ℕ) (start from : ℕ) (rising : start ≤ from) (before
         ∙ ap (λ ls. ended_lines (take start block) ++ ls) (ended_lines-part (drop start block) part)
         ∙ append_nil_of (ended_lines (take start block))
       where
-      append_nil_of : (ls : List (List ℕ)) → ls ++ [] ≡ ls
-      append_nil_of [] = refl
-      append_nil_of (l ∷ ls) = ap (λ (w : List (List ℕ)). l ∷ w) (append_nil_of ls)
+        append_nil_of : (ls : List (List ℕ)) → ls ++ [] ≡ ls
+        append_nil_of [] = refl
+        append_nil_of (l ∷ ls) = ap (λ (w : List (List ℕ)). l ∷ w) (append_nil_of ls)
 
     pub unended_none : unended block ≡ drop start block
     unended_none =
@@ -55,8 +56,8 @@ module _ (block : List ℕ) (start from : ℕ) (rising : start ≤ from) (before
         ap (λ n. take n block) (omega arith)
         ∙ take_on start (end - start + 1) block
         ∙ ap (λ r. take start block ++ r) (
-          take_on (end - start) 1 (drop start block)
-          ∙ ap (λ r. take (end - start) (drop start block) ++ take 1 r) (drop-drop (end - start) start block ∙ ap (λ i. drop i block) (omega arith) ∙ here))
+        take_on (end - start) 1 (drop start block)
+        ∙ ap (λ r. take (end - start) (drop start block) ++ take 1 r) (drop-drop (end - start) start block ∙ ap (λ i. drop i block) (omega arith) ∙ here))
 
     pub ended_more : ended_lines (take (end + 1) block) ≡ ended_lines (take start block) ++ take (end - start) (drop start block) ∷ []
     unfolding ended_lines

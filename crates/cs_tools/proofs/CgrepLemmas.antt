@@ -37,12 +37,11 @@ pattern_refused text fold error refused = pattern_refused_at text fold error err
 -- both outputs are flushed
 pub PrintsStatus-flushed : (printed : Option Printed) (out now later err err-now err-later : Option (List ℕ)) (matched : Bool) (status : Status) → Prints printed out now err err-now matched → Grows now later [] → Grows err-now err-later [] → status ≡ status_of matched → PrintsStatus printed out later err err-later status
 PrintsStatus-flushed None out now later err err-now err-later matched status p flushed flushed-err is = tt
-PrintsStatus-flushed (Some printed) out now later err err-now err-later matched status p flushed flushed-err is =
-    (
-      subst (Grows out later) (append-nil printed.output) (Grows-chain out now later printed.output [] p.0 flushed),
-      subst (Grows err err-later) (append-nil printed.errors) (Grows-chain err err-now err-later printed.errors [] p.1 flushed-err),
-      is ∙ ap status_of p.2,
-    )
+PrintsStatus-flushed (Some printed) out now later err err-now err-later matched status p flushed flushed-err is = (
+  subst (Grows out later) (append-nil printed.output) (Grows-chain out now later printed.output [] p.0 flushed),
+  subst (Grows err err-later) (append-nil printed.errors) (Grows-chain err err-now err-later printed.errors [] p.1 flushed-err),
+  is ∙ ap status_of p.2,
+)
 
 -- the tree that a text reads as
 pub read_once : (text : List ℕ) (fold : Bool) (t u : Tree) → Reads text fold t → Reads text fold u → t ≡ u

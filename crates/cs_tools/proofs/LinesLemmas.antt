@@ -2,7 +2,8 @@
 use Rattle.std.proofs.Common.{◌≡◌, ℕ, zero, suc, ◌+◌, ◌-◌, ◌<◌, ◌≤◌, Bool, true, false, cond, nat_eq, List, [], ◌∷◌, ◌++◌, length, take, drop, get_or, refl, sym, ap, subst, ◌∙◌, arith, append_assoc, length-append}
 use Rattle.std.proofs.lemmas.Bool.{false≢true}
 use Rattle.cs_tools.specs.Lines.{newline, lines, ended_lines, with_byte, with_byte_in_line}
-use Rattle.cs_tools.specs.Rest.{unended, unless_ended, IsPart, last_line}
+use Rattle.cs_tools.specs.Rest.{unended, unless_ended, last_line}
+use Rattle.cs_tools.specs.Lines.{IsPart}
 
 module _ (x : ℕ) (b : List ℕ) where
   ended-step : (t : Bool) → nat_eq x newline ≡ t → (ls : List (List ℕ)) (rest : List ℕ) (whole : List (List ℕ)) → whole ≡ ls ++ ended_lines (rest ++ b) → cond t ([] ∷ whole) (with_byte_in_line x whole) ≡ cond t ([] ∷ ls) (with_byte_in_line x ls) ++ ended_lines (cond t rest (unless_ended x ls rest) ++ b)
@@ -95,3 +96,20 @@ IsPart-searched (x ∷ a) h = (elim (nat_eq x newline) as (λ t. nat_eq x newlin
 pub IsPart-append : (a b : List ℕ) → IsPart a → IsPart b → IsPart (a ++ b)
 IsPart-append [] b p q = q
 IsPart-append (x ∷ a) b p q = (p.0, IsPart-append a b p.1 q)
+
+pub lines-line : (part more : List ℕ) → IsPart part → lines (part ++ newline ∷ more) ≡ part ∷ lines more
+lines-line part more p =
+    lines-split (part ++ newline ∷ more)
+    ∙ ap (λ ls. ls ++ last_line (unended (part ++ newline ∷ more))) (ended_lines-line part more p)
+    ∙ ap (λ rest. part ∷ (ended_lines more ++ last_line rest)) (unended-line part more p)
+    ∙ ap (λ (ls : List (List ℕ)). part ∷ ls) (sym (lines-split more))
+
+pub lines-last : (b : ℕ) (part : List ℕ) → IsPart (b ∷ part) → lines (b ∷ part) ≡ (b ∷ part) ∷ []
+lines-last b part p =
+    lines-split (b ∷ part)
+    ∙ ap (λ ls. ls ++ last_line (unended (b ∷ part))) (ended_lines-part (b ∷ part) p)
+    ∙ ap last_line (unended-part (b ∷ part) p)
+
+pub lines-none : lines [] ≡ []
+unfolding lines
+lines-none = refl

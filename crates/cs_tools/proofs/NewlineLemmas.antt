@@ -4,7 +4,7 @@ use Rattle.std.proofs.lemmas.List.{take_rest, drop-drop}
 use Rattle.std.proofs.lemmas.Bool.{eqb-true}
 use Rattle.memchr.specs.Find.{Nowhere, NoneBefore, Passes, is_byte}
 use Rattle.cs_tools.specs.Lines.{newline}
-use Rattle.cs_tools.specs.Rest.{IsPart}
+use Rattle.cs_tools.specs.Lines.{IsPart}
 use Rattle.cs_tools.proofs.LinesLemmas.{IsPart-searched}
 
 pub part_nowhere : (hay : List ℕ) → Nowhere (Passes (is_byte 10) hay) 0 (length hay) → IsPart hay
@@ -27,13 +27,12 @@ module _ (block : List ℕ) (from at : ℕ) where
   pub next_some : NoneBefore (Passes (is_byte 10) (take (length block - from) (drop from block))) 0 (length (take (length block - from) (drop from block))) at × Passes (is_byte 10) (take (length block - from) (drop from block)) at → (from ≤ from + at) × (from + at < length block) × IsPart (take (from + at - from) (drop from block)) × (drop (from + at) block ≡ newline ∷ drop (from + at + 1) block)
   next_some h = next (subst (λ (hay : List ℕ). NoneBefore (Passes (is_byte 10) hay) 0 (length hay) at × Passes (is_byte 10) hay at) (take_rest block from) h)
     where
-    next : NoneBefore (Passes (is_byte 10) (drop from block)) 0 (length (drop from block)) at × Passes (is_byte 10) (drop from block) at → (from ≤ from + at) × (from + at < length block) × IsPart (take (from + at - from) (drop from block)) × (drop (from + at) block ≡ newline ∷ drop (from + at + 1) block)
-    next h =
-        let low : at < length (drop from block) = h.0.high in
-        let size = length-drop from block in
-        (
-          omega arith,
-          omega arith,
-          subst (λ n. IsPart (take n (drop from block))) (omega arith) (part_before (drop from block) at low h.0.before),
-          sym (drop-drop at from block) ∙ here (drop from block) at low h.0.before h.1 ∙ ap (λ r. newline ∷ r) (drop-drop (at + 1) from block ∙ ap (λ i. drop i block) (sym (add_assoc from at 1))),
-        )
+      next : NoneBefore (Passes (is_byte 10) (drop from block)) 0 (length (drop from block)) at × Passes (is_byte 10) (drop from block) at → (from ≤ from + at) × (from + at < length block) × IsPart (take (from + at - from) (drop from block)) × (drop (from + at) block ≡ newline ∷ drop (from + at + 1) block)
+      next h =
+          let low : at < length (drop from block) = h.0.high in
+          let size = length-drop from block in (
+            omega arith,
+            omega arith,
+            subst (λ n. IsPart (take n (drop from block))) (omega arith) (part_before (drop from block) at low h.0.before),
+            sym (drop-drop at from block) ∙ here (drop from block) at low h.0.before h.1 ∙ ap (λ r. newline ∷ r) (drop-drop (at + 1) from block ∙ ap (λ i. drop i block) (sym (add_assoc from at 1))),
+          )

@@ -117,8 +117,7 @@ module _ (style : Style) (name : List ℕ) (finds : List ℕ → Bool) (text : L
   reported_left fault unsettled tests =
       let hits = hits_from 1 finds (ended_lines text) in
       let count = hits_counted (ended_lines text) tests in
-      let none = λ (e : style.list ≡ true). nothing hits (sym count ∙ unsettled e) in
-      (
+      let none = λ (e : style.list ≡ true). nothing hits (sym count ∙ unsettled e) in (
         subst (Grows taken out) (printed_left style name hits none) (hits_written (ended_lines text) tests),
         ap (λ n. nat_lt 0 n) count ∙ some_counted hits,
         sym (ap (λ b. cond b None (Some fault)) (no_list style.list hits none)),
@@ -137,8 +136,7 @@ module _ (style : Style) (name : List ℕ) (finds : List ℕ → Bool) (text : L
     unfolding report
     reported_settled fault =
         let hits = hits_from 1 finds (tested (is_none fault) text) in
-        let found : some_hit hits ≡ true = some fault in
-        (
+        let found : some_hit hits ≡ true = some fault in (
           subst (Grows taken out) (sym (printed_listed style name s.listed (is_none fault) hits ∙ ap (λ b. cond b (name ++ newline ∷ []) []) found)) s.written,
           sym found,
           sym (ap (λ b. cond (b && some_hit hits) None fault) s.listed ∙ ap (λ b. cond b None fault) found),
@@ -161,8 +159,7 @@ module _ (style : Style) (name : List ℕ) (finds : List ℕ → Bool) (text : L
       let tests = subst (λ ls. Tests style name finds ls before after taken out) all (Tests-more style name finds (ended_lines text) (last_line rest) before mid after taken now out (omega arith) front last) in
       let hits = hits_from 1 finds (lines text) in
       let count = hits_counted (lines text) tests in
-      let few = λ (e : style.list ≡ true). (let none = unsettled e in let h : length hits ≤ 1 = omega (arith, none, last.hits, few_last (mid.lines + 1) rest, count) in h) in
-      (
+      let few = λ (e : style.list ≡ true). (let none = unsettled e in let h : length hits ≤ 1 = omega (arith, none, last.hits, few_last (mid.lines + 1) rest, count) in h) in (
         subst (Grows taken later) (ap (λ n. flat_map (shown style name) hits ++ total style name n) count ∙ printed_end style name hits few) (Grows-chain taken out later _ _ (hits_written (lines text) tests) written),
         ap (λ n. nat_lt 0 n) count ∙ some_counted hits,
         sym (kept_fault (style.list && some_hit hits)),

@@ -48,8 +48,7 @@ module _ (n : ℕ) (rest piece : List ℕ) (lines : ℕ) where
   HasRead-more (Some told) (Some left) (Some later) now counted r l u e =
       let front = front_more told left later n piece r.0 r.1 l.0 in
       let whole : told.bytes ≡ (take n told.bytes ++ piece) ++ later.bytes = r.1 ∙ ap (λ b. take n told.bytes ++ b) l.0 ∙ sym (append_assoc (take n told.bytes) piece later.bytes) in
-      let ended = ap ended_lines front ∙ ended_lines-append (take n told.bytes) piece ∙ ap (λ b. ended_lines (take n told.bytes) ++ ended_lines (b ++ piece)) (sym r.3) in
-      (
+      let ended = ap ended_lines front ∙ ended_lines-append (take n told.bytes) piece ∙ ap (λ b. ended_lines (take n told.bytes) ++ ended_lines (b ++ piece)) (sym r.3) in (
         omega (arith, ap (λ (b : List ℕ). length b) whole, length-append (take n told.bytes ++ piece) later.bytes, length-append (take n told.bytes) piece, length-take n told.bytes, r.0),
         whole ∙ ap (λ b. b ++ later.bytes) (sym front),
         r.2 ∙ l.1,
@@ -154,8 +153,7 @@ LosesAtMost-more (Some a) (Some b) (Some c) m n most g h w =
     let i = length a.bytes - length b.bytes in
     let j = length b.bytes - length c.bytes in
     let shorter : length b.bytes ≤ length a.bytes = omega (arith, ap (λ (l : List ℕ). length l) g.0, length-drop i a.bytes) in
-    let shorter' : length c.bytes ≤ length b.bytes = omega (arith, ap (λ (l : List ℕ). length l) h.0, length-drop j b.bytes) in
-    (
+    let shorter' : length c.bytes ≤ length b.bytes = omega (arith, ap (λ (l : List ℕ). length l) h.0, length-drop j b.bytes) in (
       h.0 ∙ ap (λ l. drop j l) g.0 ∙ drop-drop j i a.bytes ∙ ap (λ k. drop k a.bytes) (omega arith),
       omega (arith, g.1, h.1),
       g.2 ∙ h.2,

@@ -118,9 +118,8 @@ module _ (tool : Tool) where
   failures_of-append (fault ∷ a) b n = failures_of-append a b (failures_at fault.1 n)
 
   pub Tells-more : (failed now later : ℕ) (err err-now err-later : Option (List ℕ)) → TellsFaults tool failed now err err-now → TellsFaults tool now later err-now err-later → TellsFaults tool failed later err err-later
-  Tells-more failed now later err err-now err-later first next =
-      (
-        first.0 ++ next.0,
-        next.1 ∙ ap (failures_of next.0) first.1 ∙ sym (failures_of-append first.0 next.0 failed),
-        subst (Grows err err-later) (sym (flat_map-append (λ (fault : NamedFault). fault_line_of tool fault.0 fault.1) first.0 next.0)) (Grows-chain err err-now err-later _ _ first.2 next.2),
-      )
+  Tells-more failed now later err err-now err-later first next = (
+    first.0 ++ next.0,
+    next.1 ∙ ap (failures_of next.0) first.1 ∙ sym (failures_of-append first.0 next.0 failed),
+    subst (Grows err err-later) (sym (flat_map-append (λ (fault : NamedFault). fault_line_of tool fault.0 fault.1) first.0 next.0)) (Grows-chain err err-now err-later _ _ first.2 next.2),
+  )

@@ -51,9 +51,9 @@ module _ (style : Style) (name : List ℕ) (finds : List ℕ → Bool) where
       record {
         hits = next.hits ∙ ap (λ n. n + length (hits_from (mid.lines + 1) finds b)) first.hits ∙ (omega (arith, length-append (hits_from (before.lines + 1) finds a) (hits_from (mid.lines + 1) finds b), ap (λ (hs : List Hit). length hs) hits));
         written = subst (Grows taken later) (
-          sym (ap (flat_map (shown style name)) hits
-          ∙ flat_map-append (shown style name) (hits_from (before.lines + 1) finds a) (hits_from (mid.lines + 1) finds b))
-        ) (Grows-chain taken now later _ _ first.written next.written);
+            sym (ap (flat_map (shown style name)) hits
+            ∙ flat_map-append (shown style name) (hits_from (before.lines + 1) finds a) (hits_from (mid.lines + 1) finds b))
+            ) (Grows-chain taken now later _ _ first.written next.written);
       }
 
   no_hits : (hits : List Hit) → length hits ≡ 0 → hits ≡ []

@@ -1,4 +1,4 @@
--- What cgrep prints and answers. README.md, "What is printed".
+-- What cgrep prints and answers. docs/PROMISES.md, "What is printed".
 use Rattle.std.specs.Prelude.{ℕ, ◌≡◌, ◌≢◌, ◌⊎◌, ◌≤◌, Bool, true, false, if◌then◌else◌, List, map, codes, Option, Some, None, option_map, string_bytes, Result, Ok, Err}
 use Rattle.cs_syntax.specs.Matching.{Tree}
 use Rattle.cs_syntax.specs.Weight.{weight}

@@ -1,4 +1,4 @@
--- What a search of one input prints, and what it answers. README.md, "What is printed".
+-- What a search of one input prints, and what it answers. docs/PROMISES.md, "What is printed".
 use Rattle.std.specs.Prelude.{ℕ, ◌+◌, Bool, true, false, not, ◌&&◌, if◌then◌else◌, List, [], ◌∷◌, ◌++◌, length, codes, decimal, Option, Some, None, is_none}
 use Rattle.std.specs.List.{flat_map}
 use Rattle.cs_tools.specs.Lines.{newline, lines, ended_lines}

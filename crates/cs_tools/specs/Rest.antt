@@ -1,5 +1,5 @@
 -- What is left of a text after its lines that have ended.
-use Rattle.std.specs.Prelude.{ℕ, nat_eq, false, ◌≡◌, if◌then◌else◌, List, [], ◌∷◌}
+use Rattle.std.specs.Prelude.{ℕ, nat_eq, if◌then◌else◌, List, [], ◌∷◌}
 use Rattle.cs_tools.specs.Lines.{newline, ended_lines}
 
 abbrev pub unless_ended : ℕ → List (List ℕ) → List ℕ → List ℕ
@@ -10,11 +10,6 @@ unless_ended b (line ∷ lines) rest = rest
 unfoldable pub unended : List ℕ → List ℕ
 unended [] = []
 unended (b ∷ text) = if nat_eq b newline then unended text else unless_ended b (ended_lines text) (unended text)
-
--- no newline stands in the text
-abbrev pub IsPart : List ℕ → Type 0
-IsPart [] = Unit {0}
-IsPart (b ∷ text) = (nat_eq b newline ≡ false) × IsPart text
 
 -- a last part that is not empty is a line
 abbrev pub last_line : List ℕ → List (List ℕ)

@@ -1,5 +1,5 @@
 -- What is searched of an input that tells its bytes, and what a search of it prints and answers.
--- README.md, "What is printed"; docs/FORMAT.md, "Limits".
+-- docs/PROMISES.md, "What is printed"; docs/FORMAT.md, "Limits".
 use Rattle.std.specs.Prelude.{ℕ, ◌≡◌, nat_lt, if◌then◌else◌, Bool, List, length, take, Option, Some, None, Result, Ok, Err}
 use Rattle.cs_tree.specs.Told.{Told, Ending, ends, fails, Grows, risen}
 use Rattle.cs_tree.specs.declared.fault.IoFault.{IoFault}

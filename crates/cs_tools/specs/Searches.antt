@@ -1,5 +1,5 @@
 -- What a tool prints and answers of the inputs that it searches, one after another.
--- README.md, "What is printed".
+-- docs/PROMISES.md, "What is printed".
 use Rattle.std.specs.Prelude.{ℕ, ◌≡◌, Bool, true, false, ◌||◌, List, [], ◌∷◌, ◌++◌, codes, Option, Some, None, option_map, Result, Ok, Err}
 use Rattle.std.specs.List.{flat_map}
 use Rattle.cs_tree.specs.Told.{Told, Grows, risen}
@@ -29,7 +29,7 @@ abbrev pub open_fault : TreeFault → FileFault
 open_fault tree.Missing = Missing
 open_fault tree.Denied = Denied
 open_fault tree.Failed = Failed
-open_fault tree.Memory = Failed -- never: a tree does not hold this fault
+open_fault tree.Memory = Failed  -- never: a tree does not hold this fault
 
 -- what is printed on both outputs, and whether some line matched
 pub record Printed : Type 0 where

@@ -2,17 +2,17 @@
 ghost use Rattle.std.specs.Prelude.{◌≡◌, ◌≤◌, ◌<◌, ◌+◌, ◌-◌, ◌^◌, ◌∷◌, [], ℕ, Bool, true, List, OnOk, IfOk, IfSome, MatchOption, length, take, drop};
 ghost use Rattle.cs_match.specs.Finding.{Decides};
 ghost use Rattle.cs_tools.specs.Lines.{newline, ended_lines};
-ghost use Rattle.cs_tools.specs.Rest.{unended, IsPart};
+ghost use Rattle.cs_tools.specs.Rest.{unended};
+ghost use Rattle.cs_tools.specs.Lines.{IsPart};
 ghost use Rattle.cs_tools.specs.Searched.{write_counted};
 ghost use Rattle.cs_tools.specs.Testing.{Tests, Settles};
 
+use crate::form::Form;
+use crate::grep_fault::GrepFault;
+use crate::tally::Tally;
 use cs_match::Matcher;
 use cs_tree::Sink;
 use memchr::memchr;
-
-use crate::grep_fault::GrepFault;
-use crate::form::Form;
-use crate::tally::Tally;
 
 /// Whether something is found in the line.
 fn is_hit(matcher: &mut Matcher<'_>, line: &[u8]) -> bool

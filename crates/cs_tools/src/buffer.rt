@@ -124,7 +124,12 @@ impl LineBuffer {
 }
 
 /// Reads some bytes to the place from `end` on, at most so many.
-fn read_behind<R: Source>(input: &mut R, bytes: &mut [u8], end: usize, most: usize) -> Result<usize, IoFault>
+fn read_behind<R: Source>(
+    input: &mut R,
+    bytes: &mut [u8],
+    end: usize,
+    most: usize,
+) -> Result<usize, IoFault>
     requires some { 0 < most }
     requires room { end < length bytes.old }
     ensures within { IfOk result (λ n. n ≤ most) }

@@ -6,11 +6,10 @@ ghost use Rattle.cs_tools.specs.Report.{hit_line};
 ghost use Rattle.cs_tools.specs.Searched.{write_counted};
 ghost use Rattle.cs_tools.specs.Testing.{shown, total};
 
-use cs_tree::{Sink, write_all};
-use itoa::Buffer;
-
 use crate::grep_fault::GrepFault;
 use crate::jobs::Style;
+use cs_tree::{Sink, write_all};
+use itoa::Buffer;
 
 /// The name of an input, and what is printed of it.
 #[derive(Clone, Copy, Drop)]
@@ -22,7 +21,12 @@ pub(crate) struct Form<'a> {
 impl Form<'_> {
     /// What is printed where something is found in a line: under `-l` the name, and under `-c` nothing.
     #[tactic(auto, using(crate::proofs::Printing::printing), unfolding(crate::specs::Testing::shown))]
-    pub(crate) fn print_hit<O: Sink>(&self, number: u64, line: &[u8], out: &mut O) -> Result<(), GrepFault>
+    pub(crate) fn print_hit<O: Sink>(
+        &self,
+        number: u64,
+        line: &[u8],
+        out: &mut O,
+    ) -> Result<(), GrepFault>
         ensures written { OnOk result (Grows (O.taken out.old) (O.taken out.new) (shown self.now.style self.now.name.now (number, line.now))) }
         ensures failed { O.failed out.new ≡ write_counted result (O.failed out.old) }
     {

@@ -11,6 +11,7 @@ mod grep_fault;
 mod grepped;
 mod index_fault;
 mod jobs;
+pub mod laws;
 mod messages;
 mod options;
 mod reading;

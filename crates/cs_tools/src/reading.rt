@@ -6,15 +6,14 @@ ghost use Rattle.cs_tools.specs.Buffer.{pending};
 ghost use Rattle.cs_tools.specs.Searched.{write_counted};
 ghost use Rattle.cs_tools.specs.Stops.{StopsHere, Stops, IsUnsettled, FindsBy, stop_counted};
 
-use cs_match::Matcher;
-use cs_tree::{IoFault, Sink, Source};
-
 use crate::blocks::search_block;
 use crate::buffer::LineBuffer;
-use crate::grep_fault::{GrepFault, ReadFault};
 use crate::form::Form;
+use crate::grep_fault::{GrepFault, ReadFault};
 use crate::stop::Stop;
 use crate::tally::Tally;
+use cs_match::Matcher;
+use cs_tree::{IoFault, Sink, Source};
 
 /// Searches the lines of an input that end within its first `most` bytes, and answers where the reading stopped. What
 /// is then in the buffer is the part after the last newline.

@@ -6,19 +6,18 @@ ghost use Rattle.cs_tools.specs.Rest.{last_line};
 ghost use Rattle.cs_tools.specs.Searched.{Reports, told_report, read_counted, write_counted};
 ghost use Rattle.cs_tools.specs.Testing.{Tests};
 
+use crate::blocks::search_line;
+use crate::buffer::LineBuffer;
+use crate::form::Form;
+use crate::grep_fault::GrepFault;
+use crate::grepped::Grepped;
+use crate::jobs::Style;
+use crate::reading::search_input;
+use crate::stop::Stop;
+use crate::tally::Tally;
 use cs_match::Matcher;
 use cs_tree::{Sink, Source};
 use std::alloc::Global;
-
-use crate::blocks::search_line;
-use crate::buffer::LineBuffer;
-use crate::grep_fault::GrepFault;
-use crate::form::Form;
-use crate::grepped::Grepped;
-use crate::reading::search_input;
-use crate::stop::Stop;
-use crate::jobs::Style;
-use crate::tally::Tally;
 
 /// How many bytes of one input are searched: 2^30.
 pub const MOST_SEARCHED: usize = 1073741824;
@@ -43,7 +42,14 @@ pub fn grep<R: Source, O: Sink>(
     ensures keeps { R.Keeps input.old input.new }
 {
     let mut buffer = LineBuffer::new(alloc)?;
-    grep_within(&Form { name, style }, input, MOST_SEARCHED, &mut buffer, matcher, out)
+    grep_within(
+        &Form { name, style },
+        input,
+        MOST_SEARCHED,
+        &mut buffer,
+        matcher,
+        out,
+    )
 }
 
 /// Searches the first `most` bytes of the input, by way of the buffer.

@@ -6,10 +6,6 @@ ghost use Rattle.cs_tools.specs.Cgrep.{WritesCounted, IsSearchFault, failures_af
 ghost use Rattle.cs_tools.specs.Messages.{fault_line_of};
 ghost use Rattle.cs_tools.specs.Searches.{Prints, input_printed, file_printed, all_printed, left_fault, open_fault, TellsFaults};
 
-use cs_match::{Matcher, Program};
-use cs_tree::{Sink, Source, Tree, TreeFault, TreeReader, write_all};
-use std::alloc::{AllocError, Global};
-
 use crate::buffer::LineBuffer;
 use crate::fault::{FileFault, ToolFault};
 use crate::form::Form;
@@ -17,6 +13,9 @@ use crate::grep_fault::ReadFault;
 use crate::jobs::{Style, Tool};
 use crate::messages::fault_line;
 use crate::report::{MOST_SEARCHED, grep_within};
+use cs_match::{Matcher, Program};
+use cs_tree::{Sink, Source, Tree, TreeFault, TreeReader, write_all};
+use std::alloc::{AllocError, Global};
 
 /// A tool's matcher and read buffer, which serve for one input after another.
 #[derive(Drop)]
@@ -62,7 +61,7 @@ impl<'p> Searcher<'p> {
     ) -> Result<bool, ToolFault>
         ensures prints { IfOk result (λ matched. (finds : List ℕ → Bool) → Decides finds self.old.matcher →
             Prints (option_map (input_printed MOST_SEARCHED self.old.tool self.old.style finds name.now) (R.told input.old))
-                (O.taken out.old) (O.taken out.new) (E.taken err.old) (E.taken err.new) matched) }
+            (O.taken out.old) (O.taken out.new) (E.taken err.old) (E.taken err.new) matched) }
         ensures faults { IfOk result (λ _. TellsFaults self.old.tool (R.failed input.old) (R.failed input.new) (E.taken err.old) (E.taken err.new)) }
         ensures writes { WritesCounted result (O.failed out.old) (O.failed out.new) (E.failed err.old) (E.failed err.new) }
         ensures only { IsSearchFault result }
@@ -73,7 +72,14 @@ impl<'p> Searcher<'p> {
             name,
             style: self.style,
         };
-        let answer = grep_within(&form, input, MOST_SEARCHED, &mut self.buffer, &mut self.matcher, out)?;
+        let answer = grep_within(
+            &form,
+            input,
+            MOST_SEARCHED,
+            &mut self.buffer,
+            &mut self.matcher,
+            out,
+        )?;
         if let Some(fault) = answer.fault {
             self.print_fault(name, of_input(fault), err)?;
         }
@@ -90,7 +96,7 @@ impl<'p> Searcher<'p> {
     ) -> Result<bool, ToolFault>
         ensures prints { IfOk result (λ matched. (finds : List ℕ → Bool) → Decides finds self.old.matcher →
             Prints (option_map (λ tree. file_printed MOST_SEARCHED self.old.tool self.old.style finds tree name.now) (T.snapshot tree.old))
-                (O.taken out.old) (O.taken out.new) (E.taken err.old) (E.taken err.new) matched) }
+            (O.taken out.old) (O.taken out.new) (E.taken err.old) (E.taken err.new) matched) }
         ensures faults { IfOk result (λ _. TellsFaults self.old.tool (T.failed tree.old) (T.failed tree.new) (E.taken err.old) (E.taken err.new)) }
         ensures writes { WritesCounted result (O.failed out.old) (O.failed out.new) (E.failed err.old) (E.failed err.new) }
         ensures only { IsSearchFault result }
@@ -117,7 +123,7 @@ impl<'p> Searcher<'p> {
     ) -> Result<bool, ToolFault>
         ensures prints { IfOk result (λ matched. (finds : List ℕ → Bool) → Decides finds self.old.matcher →
             Prints (option_map (λ tree. all_printed (file_printed MOST_SEARCHED self.old.tool self.old.style finds tree) (map string_bytes names.now)) (T.snapshot tree.old))
-                (O.taken out.old) (O.taken out.new) (E.taken err.old) (E.taken err.new) matched) }
+            (O.taken out.old) (O.taken out.new) (E.taken err.old) (E.taken err.new) matched) }
         ensures faults { IfOk result (λ _. TellsFaults self.old.tool (T.failed tree.old) (T.failed tree.new) (E.taken err.old) (E.taken err.new)) }
         ensures writes { WritesCounted result (O.failed out.old) (O.failed out.new) (E.failed err.old) (E.failed err.new) }
         ensures only { IsSearchFault result }
@@ -132,7 +138,12 @@ impl<'p> Searcher<'p> {
     }
 
     /// The line of a fault.
-    fn print_fault<E: Sink>(&self, name: &str, fault: FileFault, err: &mut E) -> Result<(), ToolFault>
+    fn print_fault<E: Sink>(
+        &self,
+        name: &str,
+        fault: FileFault,
+        err: &mut E,
+    ) -> Result<(), ToolFault>
         ensures written { OnOk result (Grows (E.taken err.old) (E.taken err.new) (fault_line_of self.now.tool name.now fault)) }
         ensures failed { E.failed err.new ≡ failures_after result (E.failed err.old) }
         ensures only { IsSearchFault result }

@@ -7,16 +7,15 @@ ghost use Rattle.cs_tree.specs.Told.{Grows};
 ghost use Rattle.cs_tools.specs.Cgrep.{cgrep_printed, PatternFirst, QuietAtPattern, WritesCounted, IsSearchFault, TellsFaultsOf};
 ghost use Rattle.cs_tools.specs.Searches.{Prints, PrintsStatus};
 
-use cs_match::Program;
-use cs_syntax::parse;
-use cs_tree::{Sink, Source, Tree};
-use std::alloc::Global;
-
 use crate::fault::ToolFault;
 use crate::jobs::{GrepJob, Tool};
 use crate::report::MOST_SEARCHED;
 use crate::searcher::Searcher;
 use crate::status::Status;
+use cs_match::Program;
+use cs_syntax::parse;
+use cs_tree::{Sink, Source, Tree};
+use std::alloc::Global;
 
 /// Prints the lines that match the pattern of the job: those of standard input, or those of its files in the order of
 /// the words. A line on `err` names each input that could not be searched to its end. At the end both outputs are
@@ -32,7 +31,7 @@ pub fn cgrep<T: Tree, R: Source, O: Sink, E: Sink>(
     ensures prints { IfOk result (λ status. (pattern : PatternTree) (finds : List ℕ → Bool) →
         Reads (string_bytes job.now.pattern) job.now.fold pattern → Decides finds pattern →
         PrintsStatus (cgrep_printed MOST_SEARCHED job.now finds (T.snapshot tree.old) (R.told input.old))
-            (O.taken out.old) (O.taken out.new) (E.taken err.old) (E.taken err.new) status) }
+        (O.taken out.old) (O.taken out.new) (E.taken err.old) (E.taken err.new) status) }
     ensures pattern { PatternFirst (string_bytes job.now.pattern) job.now.fold result }
     ensures quiet { QuietAtPattern result (Grows (O.taken out.old) (O.taken out.new) [] × Grows (E.taken err.old) (E.taken err.new) []) }
     ensures faults { IfOk result (λ _. TellsFaultsOf job.now.standard (T.failed tree.old) (T.failed tree.new) (R.failed input.old) (R.failed input.new)
@@ -63,7 +62,7 @@ fn search_job<T: Tree, R: Source, O: Sink, E: Sink>(
     requires style { searcher.old.style ≡ job.now.style }
     ensures prints { IfOk result (λ matched. (finds : List ℕ → Bool) → Decides finds searcher.old.matcher →
         Prints (cgrep_printed MOST_SEARCHED job.now finds (T.snapshot tree.old) (R.told input.old))
-            (O.taken out.old) (O.taken out.new) (E.taken err.old) (E.taken err.new) matched) }
+        (O.taken out.old) (O.taken out.new) (E.taken err.old) (E.taken err.new) matched) }
     ensures faults { IfOk result (λ _. TellsFaultsOf job.now.standard (T.failed tree.old) (T.failed tree.new) (R.failed input.old) (R.failed input.new)
         (E.taken err.old) (E.taken err.new)) }
     ensures writes { WritesCounted result (O.failed out.old) (O.failed out.new) (E.failed err.old) (E.failed err.new) }

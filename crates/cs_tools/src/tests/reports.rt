@@ -1,9 +1,9 @@
 // Searches at small limits and in small buffers.
 use crate::buffer::LineBuffer;
-use crate::grep_fault::ReadFault;
 use crate::form::Form;
-use crate::report::{grep, grep_within};
+use crate::grep_fault::ReadFault;
 use crate::jobs::Style;
+use crate::report::{grep, grep_within};
 use cs_match::{Matcher, Program};
 use cs_syntax::parse;
 use cs_tree::{MemSink, MemSource, Source};
@@ -40,7 +40,16 @@ impl<'a> Given<'a> {
 type Wanted<'a> = (&'a str, bool, Option<ReadFault>);
 
 /// One search, by reads of at most `step` bytes into a buffer that begins with `size` bytes.
-fn search_by(rt: &impl Abort, alloc: Global, pattern: &str, given: Given<'_>, step: usize, size: usize, style: Style, wanted: Wanted<'_>) -> Result<(), Fail> {
+fn search_by(
+    rt: &impl Abort,
+    alloc: Global,
+    pattern: &str,
+    given: Given<'_>,
+    step: usize,
+    size: usize,
+    style: Style,
+    wanted: Wanted<'_>,
+) -> Result<(), Fail> {
     let pattern = parse(alloc, pattern, false).ok().ok_or("pattern")?;
     let program = Program::compile(alloc, &pattern)?;
     let mut matcher = Matcher::new(alloc, &program)?;
@@ -48,15 +57,41 @@ fn search_by(rt: &impl Abort, alloc: Global, pattern: &str, given: Given<'_>, st
     let mut input = MemSource::new(given.text, step.max(1), given.cut);
     let mut out = MemSink::new(alloc, 1000);
     let form = Form { name: "t", style };
-    let answer = grep_within(&form, &mut input, given.most.min(1000), &mut buffer, &mut matcher, &mut out)?;
-    assert_eq!(rt; out.bytes(), wanted.0.as_bytes(), "by steps of {step} and {size} bytes, {style:?}");
-    assert_eq!(rt; answer.matched, wanted.1, "by steps of {step} and {size} bytes, {style:?}");
-    assert_eq!(rt; answer.fault, wanted.2, "by steps of {step} and {size} bytes, {style:?}");
+    let answer = grep_within(
+        &form,
+        &mut input,
+        given.most.min(1000),
+        &mut buffer,
+        &mut matcher,
+        &mut out,
+    )?;
+    assert_eq!(rt;
+        out.bytes(),
+        wanted.0.as_bytes(),
+        "by steps of {step} and {size} bytes, {style:?}"
+    );
+    assert_eq!(rt;
+        answer.matched,
+        wanted.1,
+        "by steps of {step} and {size} bytes, {style:?}"
+    );
+    assert_eq!(rt;
+        answer.fault,
+        wanted.2,
+        "by steps of {step} and {size} bytes, {style:?}"
+    );
     Ok(())
 }
 
 /// The same search at several steps and sizes.
-fn search(rt: &impl Abort, alloc: Global, pattern: &str, given: Given<'_>, style: Style, wanted: Wanted<'_>) -> Result<(), Fail> {
+fn search(
+    rt: &impl Abort,
+    alloc: Global,
+    pattern: &str,
+    given: Given<'_>,
+    style: Style,
+    wanted: Wanted<'_>,
+) -> Result<(), Fail> {
     for step in [1, 2, 3, 7, 100] {
         for size in [1, 2, 5, 64] {
             search_by(rt, alloc, pattern, given, step, size, style, wanted)?;
@@ -67,33 +102,96 @@ fn search(rt: &impl Abort, alloc: Global, pattern: &str, given: Given<'_>, style
 
 #[test]
 fn lines_with_numbers_and_names(rt: HostRuntime) -> Result<(), Fail> {
-    let number = Style { number: true, ..PLAIN };
-    let bare = Style { bare: true, ..number };
+    let number = Style {
+        number: true,
+        ..PLAIN
+    };
+    let bare = Style {
+        bare: true,
+        ..number
+    };
     let text = Given::whole(b"ab\nxacb\nabd");
-    search(&rt, rt.alloc(), "a(b|c)*$", text, number, ("t:1:ab\nt:2:xacb\n", true, None))?;
-    search(&rt, rt.alloc(), "^abd", text, PLAIN, ("t:abd\n", true, None))?;
-    search(&rt, rt.alloc(), "one", Given::whole(b"one\ntwo\none\n"), bare, ("1:one\n3:one\n", true, None))?;
-    search(&rt, rt.alloc(), "^$", Given::whole(b""), PLAIN, ("", false, None))?;
-    search(&rt, rt.alloc(), "^$", Given::whole(b"\n\n"), number, ("t:1:\nt:2:\n", true, None))
+    search(
+        &rt,
+        rt.alloc(),
+        "a(b|c)*$",
+        text,
+        number,
+        ("t:1:ab\nt:2:xacb\n", true, None),
+    )?;
+    search(
+        &rt,
+        rt.alloc(),
+        "^abd",
+        text,
+        PLAIN,
+        ("t:abd\n", true, None),
+    )?;
+    search(
+        &rt,
+        rt.alloc(),
+        "one",
+        Given::whole(b"one\ntwo\none\n"),
+        bare,
+        ("1:one\n3:one\n", true, None),
+    )?;
+    search(
+        &rt,
+        rt.alloc(),
+        "^$",
+        Given::whole(b""),
+        PLAIN,
+        ("", false, None),
+    )?;
+    search(
+        &rt,
+        rt.alloc(),
+        "^$",
+        Given::whole(b"\n\n"),
+        number,
+        ("t:1:\nt:2:\n", true, None),
+    )
 }
 
 #[test]
 fn counts_and_lists(rt: HostRuntime) -> Result<(), Fail> {
-    let count = Style { count: true, ..PLAIN };
-    let bare = Style { bare: true, ..count };
-    let list = Style { list: true, ..count };
+    let count = Style {
+        count: true,
+        ..PLAIN
+    };
+    let bare = Style {
+        bare: true,
+        ..count
+    };
+    let list = Style {
+        list: true,
+        ..count
+    };
     let text = Given::whole(b"one\ntwo\none\n");
     search(&rt, rt.alloc(), "one", text, count, ("t: 2\n", true, None))?;
     search(&rt, rt.alloc(), "one", text, bare, ("t: 2\n", true, None))?;
     search(&rt, rt.alloc(), "one", text, list, ("t\n", true, None))?;
-    search(&rt, rt.alloc(), "one", Given::whole(b"two\none"), list, ("t\n", true, None))?;
+    search(
+        &rt,
+        rt.alloc(),
+        "one",
+        Given::whole(b"two\none"),
+        list,
+        ("t\n", true, None),
+    )?;
     search(&rt, rt.alloc(), "six", text, count, ("", false, None))
 }
 
 #[test]
 fn inputs_that_fail(rt: HostRuntime) -> Result<(), Fail> {
-    let count = Style { count: true, ..PLAIN };
-    let list = Style { list: true, ..PLAIN };
+    let count = Style {
+        count: true,
+        ..PLAIN
+    };
+    let list = Style {
+        list: true,
+        ..PLAIN
+    };
     let cut = Given {
         cut: true,
         ..Given::whole(b"one\ntwo\non")
@@ -107,18 +205,42 @@ fn inputs_that_fail(rt: HostRuntime) -> Result<(), Fail> {
 
 #[test]
 fn inputs_that_are_too_long(rt: HostRuntime) -> Result<(), Fail> {
-    let count = Style { count: true, ..PLAIN };
+    let count = Style {
+        count: true,
+        ..PLAIN
+    };
     let long = Given {
         most: 10,
         ..Given::whole(b"a\na\na\na\na\na\na\n")
     };
     let full = Given { most: 14, ..long };
     let fault = Some(ReadFault::TooLong);
-    search(&rt, rt.alloc(), "a", long, PLAIN, ("t:a\nt:a\nt:a\nt:a\nt:a\n", true, fault))?;
+    search(
+        &rt,
+        rt.alloc(),
+        "a",
+        long,
+        PLAIN,
+        ("t:a\nt:a\nt:a\nt:a\nt:a\n", true, fault),
+    )?;
     search(&rt, rt.alloc(), "a", long, count, ("", true, fault))?;
-    search(&rt, rt.alloc(), "a", Given { most: 9, ..long }, count, ("", true, fault))?;
+    search(
+        &rt,
+        rt.alloc(),
+        "a",
+        Given { most: 9, ..long },
+        count,
+        ("", true, fault),
+    )?;
     search(&rt, rt.alloc(), "a", full, count, ("t: 7\n", true, None))?;
-    search(&rt, rt.alloc(), "a", Given { cut: true, ..full }, count, ("", true, Some(ReadFault::Read)))
+    search(
+        &rt,
+        rt.alloc(),
+        "a",
+        Given { cut: true, ..full },
+        count,
+        ("", true, Some(ReadFault::Read)),
+    )
 }
 
 #[test]
@@ -128,7 +250,10 @@ fn a_list_reads_no_further_than_its_hit(rt: HostRuntime) -> Result<(), Fail> {
     let mut matcher = Matcher::new(rt.alloc(), &program)?;
     let mut input = MemSource::new(b"one\ntwo\n", 4, false);
     let mut out = MemSink::new(rt.alloc(), 1000);
-    let list = Style { list: true, ..PLAIN };
+    let list = Style {
+        list: true,
+        ..PLAIN
+    };
     let answer = grep(rt.alloc(), "t", &mut input, &mut matcher, list, &mut out)?;
     assert!(rt; answer.matched);
     let mut next = [0u8; 10];

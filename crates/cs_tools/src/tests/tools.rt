@@ -37,7 +37,13 @@ fn tree_of(alloc: Global) -> Result<MemTree, Fail> {
 type Wanted<'a> = (&'a str, &'a str, Result<Status, ToolFault>);
 
 /// A run of cgrep over the text as standard input and the tree of `tree_of`.
-fn run(rt: &impl Abort, alloc: Global, words: &str, text: &[u8], wanted: Wanted<'_>) -> Result<(), Fail> {
+fn run(
+    rt: &impl Abort,
+    alloc: Global,
+    words: &str,
+    text: &[u8],
+    wanted: Wanted<'_>,
+) -> Result<(), Fail> {
     let job = job_of(alloc, words)?;
     let mut tree = tree_of(alloc)?;
     let mut input = MemSource::new(text, 3, false);
@@ -54,9 +60,31 @@ fn run(rt: &impl Abort, alloc: Global, words: &str, text: &[u8], wanted: Wanted<
 fn cgrep_of_standard_input(rt: HostRuntime) -> Result<(), Fail> {
     let matched = Ok(Status::Matched);
     let text = b"ab\nxacb\nabd";
-    run(&rt, rt.alloc(), "-n a(b|c)*$", text, ("<standard input>:1:ab\n<standard input>:2:xacb\n", "", matched))?;
-    run(&rt, rt.alloc(), "^abd", text, ("<standard input>:abd\n", "", matched))?;
-    run(&rt, rt.alloc(), "-i éa", "ÉA\néA\n".as_bytes(), ("<standard input>:éA\n", "", matched))?;
+    run(
+        &rt,
+        rt.alloc(),
+        "-n a(b|c)*$",
+        text,
+        (
+            "<standard input>:1:ab\n<standard input>:2:xacb\n",
+            "",
+            matched,
+        ),
+    )?;
+    run(
+        &rt,
+        rt.alloc(),
+        "^abd",
+        text,
+        ("<standard input>:abd\n", "", matched),
+    )?;
+    run(
+        &rt,
+        rt.alloc(),
+        "-i éa",
+        "ÉA\néA\n".as_bytes(),
+        ("<standard input>:éA\n", "", matched),
+    )?;
     run(&rt, rt.alloc(), "xyz", text, ("", "", Ok(Status::NoMatch)))
 }
 
@@ -65,17 +93,71 @@ fn cgrep_of_files(rt: HostRuntime) -> Result<(), Fail> {
     let matched = Ok(Status::Matched);
     let cut = "cgrep: /t/c: cannot be read\n";
     let missing = "cgrep: /t/x: no such file\n";
-    run(&rt, rt.alloc(), "-c one /t/p", b"", ("/t/p: 2\n", "", matched))?;
-    run(&rt, rt.alloc(), "-c -h one /t/p", b"", ("/t/p: 2\n", "", matched))?;
-    run(&rt, rt.alloc(), "-l -c one /t/p", b"", ("/t/p\n", "", matched))?;
-    run(&rt, rt.alloc(), "-n -h one /t/p", b"", ("1:one\n3:one\n", "", matched))?;
-    run(&rt, rt.alloc(), "-c six /t/p", b"six\n", ("", "", Ok(Status::NoMatch)))?;
-    run(&rt, rt.alloc(), "one /t/c", b"", ("/t/c:one\n", cut, matched))?;
+    run(
+        &rt,
+        rt.alloc(),
+        "-c one /t/p",
+        b"",
+        ("/t/p: 2\n", "", matched),
+    )?;
+    run(
+        &rt,
+        rt.alloc(),
+        "-c -h one /t/p",
+        b"",
+        ("/t/p: 2\n", "", matched),
+    )?;
+    run(
+        &rt,
+        rt.alloc(),
+        "-l -c one /t/p",
+        b"",
+        ("/t/p\n", "", matched),
+    )?;
+    run(
+        &rt,
+        rt.alloc(),
+        "-n -h one /t/p",
+        b"",
+        ("1:one\n3:one\n", "", matched),
+    )?;
+    run(
+        &rt,
+        rt.alloc(),
+        "-c six /t/p",
+        b"six\n",
+        ("", "", Ok(Status::NoMatch)),
+    )?;
+    run(
+        &rt,
+        rt.alloc(),
+        "one /t/c",
+        b"",
+        ("/t/c:one\n", cut, matched),
+    )?;
     run(&rt, rt.alloc(), "-c one /t/c", b"", ("", cut, matched))?;
     run(&rt, rt.alloc(), "-l one /t/c", b"", ("/t/c\n", "", matched))?;
-    run(&rt, rt.alloc(), "two /t/x /t/p", b"", ("/t/p:two\n", missing, matched))?;
-    run(&rt, rt.alloc(), "two /t/d", b"", ("", "cgrep: /t/d: permission denied\n", Ok(Status::NoMatch)))?;
-    run(&rt, rt.alloc(), "two /t", b"", ("", "cgrep: /t: cannot be read\n", Ok(Status::NoMatch)))
+    run(
+        &rt,
+        rt.alloc(),
+        "two /t/x /t/p",
+        b"",
+        ("/t/p:two\n", missing, matched),
+    )?;
+    run(
+        &rt,
+        rt.alloc(),
+        "two /t/d",
+        b"",
+        ("", "cgrep: /t/d: permission denied\n", Ok(Status::NoMatch)),
+    )?;
+    run(
+        &rt,
+        rt.alloc(),
+        "two /t",
+        b"",
+        ("", "cgrep: /t: cannot be read\n", Ok(Status::NoMatch)),
+    )
 }
 
 #[test]
@@ -84,7 +166,13 @@ fn cgrep_of_a_broken_pattern(rt: HostRuntime) -> Result<(), Fail> {
         fault: PatternFault::StackedRepeat,
         at: 2,
     };
-    run(&rt, rt.alloc(), "a** /t/x", b"a\n", ("", "", Err(ToolFault::Pattern(refused))))
+    run(
+        &rt,
+        rt.alloc(),
+        "a** /t/x",
+        b"a\n",
+        ("", "", Err(ToolFault::Pattern(refused))),
+    )
 }
 
 #[test]
@@ -147,7 +235,11 @@ fn cgrep_whose_flush_fails(rt: HostRuntime) -> Result<(), Fail> {
             cgrep(rt.alloc(), &job, &mut tree, &mut input, &mut good, &mut bad)
         };
         assert_eq!(rt; status, Err(ToolFault::Write));
-        let written = if stuck { bad.taken.as_slice() } else { good.bytes() };
+        let written = if stuck {
+            bad.taken.as_slice()
+        } else {
+            good.bytes()
+        };
         assert_eq!(rt; written, b"/t/p:one\n/t/p:one\n".as_slice());
     }
     Ok(())

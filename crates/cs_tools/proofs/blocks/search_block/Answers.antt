@@ -2,7 +2,8 @@ use Rattle.std.proofs.Common.{◌≡◌, ◌≤◌, ◌+◌, ◌-◌, ◌<◌, �
 use Rattle.std.proofs.lemmas.Bool.{false≢true}
 use Rattle.cs_match.specs.Finding.{Decides}
 use Rattle.cs_tools.specs.Lines.{ended_lines}
-use Rattle.cs_tools.specs.Rest.{unended, IsPart}
+use Rattle.cs_tools.specs.Rest.{unended}
+use Rattle.cs_tools.specs.Lines.{IsPart}
 use Rattle.cs_tools.specs.Testing.{Tests, Settles}
 use Rattle.cs_tools.proofs.BlockLemmas.{ended_none, unended_none, ended_more, unended_more, ended_front, counted_within}
 use Rattle.cs_tools.proofs.TestingLemmas.{Tests-none, Tests-more, Settles-first, Settles-more}
@@ -64,7 +65,7 @@ lines-preserved g c =
       clean = subst (λ n. IsPart (take n (drop (end + 1) block))) nothing tt;
       counted = omega (arith, i.counted, c.in_ok-search_line.ensures.lines, ap (λ (ls : List (List ℕ)). length ls) more, length-append (ended_lines (take start block)) (line ∷ []));
       tests = λ finds decides. subst (λ (ls : List (List ℕ)). Tests c.args.form.now.style c.args.form.now.name.now finds ls c.args.tally.now c.search_line.new.tally (g.O.Sink.taken c.args.out.now) (g.O.Sink.taken c.search_line.new.out)) (sym more)
-      (Tests-more _ _ finds (ended_lines (take start block)) (line ∷ []) _ _ _ _ _ _ i.counted (i.tests finds decides) (c.in_ok-search_line.ensures.tests finds (subst (Decides finds) (sym i.same) decides)));
+          (Tests-more _ _ finds (ended_lines (take start block)) (line ∷ []) _ _ _ _ _ _ i.counted (i.tests finds decides) (c.in_ok-search_line.ensures.tests finds (subst (Decides finds) (sym i.same) decides)));
       unsettled = elim c.else-form.branch [ else-form-via-then-form+else-tally-gt0 w ↦ λ listed. omega (arith, w.if-tally-gt0.false) | else-form-via-else-form w ↦ λ listed. absurd (false≢true (sym w.if-form.false ∙ listed)) ];
       same = c.in_ok-search_line.ensures.same ∙ i.same;
       failed = c.in_ok-search_line.ensures.failed ∙ i.failed;

@@ -1,7 +1,8 @@
 use Rattle.std.proofs.Common.{◌≡◌, ◌≤◌, ◌+◌, ◌-◌, [], true, Bool, List, ℕ, length, take, drop}
 use Rattle.cs_match.specs.Finding.{Decides}
 use Rattle.cs_tools.specs.Lines.{ended_lines}
-use Rattle.cs_tools.specs.Rest.{unended, IsPart}
+use Rattle.cs_tools.specs.Rest.{unended}
+use Rattle.cs_tools.specs.Lines.{IsPart}
 use Rattle.cs_tools.specs.Testing.{Tests}
 use Rattle.cs_tools.proofs.blocks.search_block.Given as goal
 

@@ -5,7 +5,8 @@ use Rattle.cs_tools.specs.declared.grep_fault.ReadFault.TheVariants.{Read}
 use Rattle.cs_tools.specs.declared.stop.Stop.TheVariants.{End, Left}
 use Rattle.cs_tree.proofs.Losing.{Loses_few}
 use Rattle.cs_tools.specs.Lines.{ended_lines}
-use Rattle.cs_tools.specs.Rest.{unended, IsPart}
+use Rattle.cs_tools.specs.Rest.{unended}
+use Rattle.cs_tools.specs.Lines.{IsPart}
 use Rattle.cs_tools.specs.Buffer.{pending}
 use Rattle.cs_tools.specs.Testing.{Tests, Settles}
 use Rattle.cs_tools.specs.Stops.{HasRead, HasTested}
@@ -23,7 +24,7 @@ pieces-init g c =
       few = omega (arith, r.lines, ap (λ (l : List ℕ). length l) r.empty);
       part = subst IsPart (sym r.empty) tt;
       read = HasRead-none (g.R.Source.told c.args.input.now) _ _ _ none r.empty r.lines;
-      tested = λ finds decides. HasTested-none (g.R.Source.told c.args.input.now) _ _ none (Tests-none c.args.form.now.style c.args.form.now.name.now finds c.args.tally.now (g.O.Sink.taken c.args.out.now));
+      tested = λ finds decides. HasTested-none (g.R.Source.told c.args.input.now) (c.args.most - c.args.most) (λ lines. Tests c.args.form.now.style c.args.form.now.name.now finds lines c.args.tally.now c.args.tally.now (g.O.Sink.taken c.args.out.now) (g.O.Sink.taken c.args.out.now)) none (Tests-none c.args.form.now.style c.args.form.now.name.now finds c.args.tally.now (g.O.Sink.taken c.args.out.now));
       unsettled = λ listed. r.hits;
       same = refl;
       read_failed = refl;
@@ -95,11 +96,11 @@ pieces-preserved g c =
       few = omega (arith, e.within, i.few, s.lines, ap (λ (l : List ℕ). length l) rest, ap (λ (l : List ℕ). length l) c.pending.ensures, e.gains.size, lines_within c.pending.result.now);
       part = subst IsPart (sym rest) (IsPart-unended c.pending.result.now);
       read = subst (λ k. HasRead told later k (pending c.skip.new.self) c.search_block.new.tally.lines) n
-      (HasRead-more (c.args.most - c.pieces.left) old piece c.pieces.tally.lines told left later _ _ i.read e.told.0 (rest ∙ ap unended block) counted);
+          (HasRead-more (c.args.most - c.pieces.left) old piece c.pieces.tally.lines told left later _ _ i.read e.told.0 (rest ∙ ap unended block) counted);
       tested = λ finds decides.
-        let found = subst (λ b. Tests c.args.form.now.style c.args.form.now.name.now finds (ended_lines b) c.pieces.tally c.search_block.new.tally (g.O.Sink.taken c.pieces.out) (g.O.Sink.taken c.search_block.new.out)) block (s.tests finds (subst (Decides finds) (sym i.same) decides)) in
-        subst (λ k. HasTested told k (After finds)) n
-        (HasTested-more (c.args.most - c.pieces.left) old piece c.pieces.tally.lines told left later (Mid finds) (After finds) i.read e.told.0 (λ ls is tests. Tests-more _ _ finds ls (ended_lines (old ++ piece)) _ _ _ _ _ _ (omega (arith, is, c.requires.lines)) tests found) (i.tested finds decides));
+          let found = subst (λ b. Tests c.args.form.now.style c.args.form.now.name.now finds (ended_lines b) c.pieces.tally c.search_block.new.tally (g.O.Sink.taken c.pieces.out) (g.O.Sink.taken c.search_block.new.out)) block (s.tests finds (subst (Decides finds) (sym i.same) decides)) in
+          subst (λ k. HasTested told k (After finds)) n
+          (HasTested-more (c.args.most - c.pieces.left) old piece c.pieces.tally.lines told left later (Mid finds) (After finds) i.read e.told.0 (λ ls is tests. Tests-more _ _ finds ls (ended_lines (old ++ piece)) _ _ _ _ _ _ (omega (arith, is, c.requires.lines)) tests found) (i.tested finds decides));
       unsettled = s.unsettled;
       same = s.same ∙ i.same;
       read_failed = e.failed ∙ i.read_failed;

@@ -1,6 +1,6 @@
 use Rattle.std.proofs.Common.{◌≡◌, ◌≤◌, ◌+◌, ◌-◌, true, Bool, List, ℕ, length}
 use Rattle.cs_match.specs.Finding.{Decides}
-use Rattle.cs_tools.specs.Rest.{IsPart}
+use Rattle.cs_tools.specs.Lines.{IsPart}
 use Rattle.cs_tools.specs.Buffer.{pending}
 use Rattle.cs_tools.specs.Stops.{HasRead, HasTested}
 use Rattle.cs_tools.specs.Testing.{Tests}

@@ -12,8 +12,8 @@ returns-in_err-n-clause-same g c =
     let before = c.read_behind.ensures.before ∙ ap (λ l. take buffer.end l) c.deref_mut.ensures.value in
     let size = c.read_behind.auto.bytes ∙ c.deref_mut.ensures.len in
     on_err_of c.from_residual-in_err-n.result (
-      ap (λ l. take (buffer.end - buffer.start) (drop buffer.start l)) (refilled buffer.bytes.len buffer.bytes.items bytes size)
-      ∙ pending_same buffer bytes before ∙ c.in_ok-make_room.ensures.same)
+    ap (λ l. take (buffer.end - buffer.start) (drop buffer.start l)) (refilled buffer.bytes.len buffer.bytes.items bytes size)
+    ∙ pending_same buffer bytes before ∙ c.in_ok-make_room.ensures.same)
 
 pub returns-clause-gains : goal.returns-clause-gains
 unfolding pending
@@ -24,9 +24,9 @@ returns-clause-gains g c =
     let before = c.read_behind.ensures.before ∙ ap (λ l. take buffer.end l) c.deref_mut.ensures.value in
     let size = c.read_behind.auto.bytes ∙ c.deref_mut.ensures.len in
     Gains-append (pending c.args.self.now) _ (take n (drop buffer.end bytes)) n (
-      ap (λ l. take (buffer.end + n - buffer.start) (drop buffer.start l)) (refilled buffer.bytes.len buffer.bytes.items bytes size)
-      ∙ pending_more buffer bytes before n
-      ∙ ap (λ l. l ++ take n (drop buffer.end bytes)) c.in_ok-make_room.ensures.same)
+    ap (λ l. take (buffer.end + n - buffer.start) (drop buffer.start l)) (refilled buffer.bytes.len buffer.bytes.items bytes size)
+    ∙ pending_more buffer bytes before n
+    ∙ ap (λ l. l ++ take n (drop buffer.end bytes)) c.in_ok-make_room.ensures.same)
     (omega (arith, length-take n (drop buffer.end bytes), length-drop buffer.end bytes, c.in_ok-n.ensures.size))
 
 pub returns-clause-told : goal.returns-clause-told
@@ -38,10 +38,9 @@ returns-clause-told g c =
     let before = c.read_behind.ensures.before ∙ ap (λ l. take buffer.end l) c.deref_mut.ensures.value in
     let size = c.read_behind.auto.bytes ∙ c.deref_mut.ensures.len in
     let e = gained (pending c.args.self.now) _ (take n (drop buffer.end bytes)) (
-      ap (λ l. take (buffer.end + n - buffer.start) (drop buffer.start l)) (refilled buffer.bytes.len buffer.bytes.items bytes size)
-      ∙ pending_more buffer bytes before n
-      ∙ ap (λ l. l ++ take n (drop buffer.end bytes)) c.in_ok-make_room.ensures.same) in
-    (
+    ap (λ l. take (buffer.end + n - buffer.start) (drop buffer.start l)) (refilled buffer.bytes.len buffer.bytes.items bytes size)
+    ∙ pending_more buffer bytes before n
+    ∙ ap (λ l. l ++ take n (drop buffer.end bytes)) c.in_ok-make_room.ensures.same) in (
       subst (Loses (g.R.Source.told c.args.input.now) (g.R.Source.told c.read_behind.new.input)) (sym e) c.in_ok-n.ensures.told.0,
       λ none. c.in_ok-n.ensures.told.1 none (omega (arith, length-drop buffer.end bytes, c.in_ok-make_room.ensures.room, size)),
     )

@@ -25,21 +25,21 @@ loop-name-preserved g c =
     let s = c.in_ok-matched.ensures in
     record {
       prints = λ finds decides.
-        let self = c.args.self.now in
-        let names = c.args.names.now in
-        let at = c.loop-name.name-index in
-        let item = c.name-item.result in
-        let file = λ (s : Snapshot) (name : List ℕ). file_printed MOST_SEARCHED self.tool self.style finds s name in
-        let one = s.prints finds (subst (Decides finds) (sym i.kept.matcher) decides) in
-        let tools = subst (λ t. Prints (option_map (λ (s : Snapshot). file_printed MOST_SEARCHED t c.loop-name.self.style finds s c.as_str.result.now) (g.T.Tree.snapshot c.loop-name.tree)) (g.O.Sink.taken c.loop-name.out) (g.O.Sink.taken c.search_file.new.out) (g.E.Sink.taken c.loop-name.err) (g.E.Sink.taken c.search_file.new.err) c.in_ok-matched.field-0) i.kept.tool one in
-        let styles = subst (λ t. Prints (option_map (λ (s : Snapshot). file_printed MOST_SEARCHED self.tool t finds s c.as_str.result.now) (g.T.Tree.snapshot c.loop-name.tree)) (g.O.Sink.taken c.loop-name.out) (g.O.Sink.taken c.search_file.new.out) (g.E.Sink.taken c.loop-name.err) (g.E.Sink.taken c.search_file.new.err) c.in_ok-matched.field-0) i.kept.style tools in
-        let trees = subst (λ tree. Prints (option_map (λ (s : Snapshot). file s c.as_str.result.now) tree) (g.O.Sink.taken c.loop-name.out) (g.O.Sink.taken c.search_file.new.out) (g.E.Sink.taken c.loop-name.err) (g.E.Sink.taken c.search_file.new.err) c.in_ok-matched.field-0) i.keeps styles in
-        let last = subst (λ name. Prints (option_map (λ (s : Snapshot). file s name) (g.T.Tree.snapshot c.args.tree.now)) (g.O.Sink.taken c.loop-name.out) (g.O.Sink.taken c.search_file.new.out) (g.E.Sink.taken c.loop-name.err) (g.E.Sink.taken c.search_file.new.err) c.in_ok-matched.field-0) c.as_str.ensures.value trees in
-        Prints-then (g.T.Tree.snapshot c.args.tree.now) (λ s. all_printed (file s) (map string_bytes (take at names))) (λ s. file s (string_bytes item)) (λ s. all_printed (file s) (map string_bytes (take (at + 1) names))) _ _ _ _ _ _ c.loop-name.matched c.in_ok-matched.field-0
-        (λ s. ap (all_printed (file s)) (mapped_more string_bytes names at item c.loop-name-test.true c.name-item.is) ∙ all_more (file s) (map string_bytes (take at names)) (string_bytes item))
-        (i.prints finds decides) last;
+          let self = c.args.self.now in
+          let names = c.args.names.now in
+          let at = c.loop-name.name-index in
+          let item = c.name-item.result in
+          let file = λ (s : Snapshot) (name : List ℕ). file_printed MOST_SEARCHED self.tool self.style finds s name in
+          let one = s.prints finds (subst (Decides finds) (sym i.kept.matcher) decides) in
+          let tools = subst (λ t. Prints (option_map (λ (s : Snapshot). file_printed MOST_SEARCHED t c.loop-name.self.style finds s c.as_str.result.now) (g.T.Tree.snapshot c.loop-name.tree)) (g.O.Sink.taken c.loop-name.out) (g.O.Sink.taken c.search_file.new.out) (g.E.Sink.taken c.loop-name.err) (g.E.Sink.taken c.search_file.new.err) c.in_ok-matched.field-0) i.kept.tool one in
+          let styles = subst (λ t. Prints (option_map (λ (s : Snapshot). file_printed MOST_SEARCHED self.tool t finds s c.as_str.result.now) (g.T.Tree.snapshot c.loop-name.tree)) (g.O.Sink.taken c.loop-name.out) (g.O.Sink.taken c.search_file.new.out) (g.E.Sink.taken c.loop-name.err) (g.E.Sink.taken c.search_file.new.err) c.in_ok-matched.field-0) i.kept.style tools in
+          let trees = subst (λ tree. Prints (option_map (λ (s : Snapshot). file s c.as_str.result.now) tree) (g.O.Sink.taken c.loop-name.out) (g.O.Sink.taken c.search_file.new.out) (g.E.Sink.taken c.loop-name.err) (g.E.Sink.taken c.search_file.new.err) c.in_ok-matched.field-0) i.keeps styles in
+          let last = subst (λ name. Prints (option_map (λ (s : Snapshot). file s name) (g.T.Tree.snapshot c.args.tree.now)) (g.O.Sink.taken c.loop-name.out) (g.O.Sink.taken c.search_file.new.out) (g.E.Sink.taken c.loop-name.err) (g.E.Sink.taken c.search_file.new.err) c.in_ok-matched.field-0) c.as_str.ensures.value trees in
+          Prints-then (g.T.Tree.snapshot c.args.tree.now) (λ s. all_printed (file s) (map string_bytes (take at names))) (λ s. file s (string_bytes item)) (λ s. all_printed (file s) (map string_bytes (take (at + 1) names))) _ _ _ _ _ _ c.loop-name.matched c.in_ok-matched.field-0
+          (λ s. ap (all_printed (file s)) (mapped_more string_bytes names at item c.loop-name-test.true c.name-item.is) ∙ all_more (file s) (map string_bytes (take at names)) (string_bytes item))
+          (i.prints finds decides) last;
       faults = Tells-more c.args.self.now.tool _ (g.T.Tree.failed c.loop-name.tree) _ _ (g.E.Sink.taken c.loop-name.err) _ i.faults
-        (subst (λ t. TellsFaults t (g.T.Tree.failed c.loop-name.tree) (g.T.Tree.failed c.search_file.new.tree) (g.E.Sink.taken c.loop-name.err) (g.E.Sink.taken c.search_file.new.err)) i.kept.tool s.faults);
+          (subst (λ t. TellsFaults t (g.T.Tree.failed c.loop-name.tree) (g.T.Tree.failed c.search_file.new.tree) (g.E.Sink.taken c.loop-name.err) (g.E.Sink.taken c.search_file.new.err)) i.kept.tool s.faults);
       out_failed = s.writes.0 ∙ i.out_failed;
       err_failed = s.writes.1 ∙ i.err_failed;
       kept = record { tool = s.kept.tool ∙ i.kept.tool; style = s.kept.style ∙ i.kept.style; matcher = s.kept.matcher ∙ i.kept.matcher };

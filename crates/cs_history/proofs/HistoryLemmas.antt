@@ -1,7 +1,6 @@
 -- The paths of histories are clean and reduced, and their files can be held by an index.
-use Rattle.std.proofs.Common.{◌≡◌, ◌≢◌, ℕ, ◌<◌, ◌^◌, Bool, true, false, cond, eqb, List, [], ◌∷◌, length, get_or, refl, sym, ap, subst, ◌∙◌, inl, inr, Option, Some, None}
-use Rattle.std.proofs.lemmas.Bool.{true≢false, cases_Bool, or_cases}
-use Rattle.std.specs.Prelude.{IfSome}
+use Rattle.std.proofs.Common.{◌≡◌, ℕ, ◌<◌, ◌^◌, true, false, cond, eqb, List, [], ◌∷◌, length, get_or, sym, ap, subst, ◌∙◌, inl, inr, Some, None}
+use Rattle.std.proofs.lemmas.Bool.{true≢false, or_cases}
 use Rattle.std.specs.FinMap as map
 use Rattle.cs_tree.specs.PathSet as set
 use Rattle.cs_tree.specs.Cover.{Paths, covered, least}
@@ -13,13 +12,13 @@ use Rattle.cs_tree.proofs.Least.{least_says, least_settled, covered-least}
 use Rattle.cs_index.specs.Image.{Files, image}
 use Rattle.cs_index.specs.Spelling.{set_at}
 use Rattle.cs_trigram.specs.Text.{text_trigrams, limits}
-use Rattle.cs_merge.specs.Join.{join_files, join_paths}
+use Rattle.cs_merge.specs.Join.{join_files}
 use Rattle.cs_merge.specs.Content.{IsContent, LieUnder, Holds}
 use Rattle.cs_merge.proofs.JoinLemmas.{newer_at, old_at}
 use Rattle.cs_merge.proofs.ContentLemmas.{content_joined, under_joined}
 use Rattle.cs_merge.proofs.HoldingLemmas.{content_held, held_once, held_names, held_set}
 use Rattle.cs_history.specs.History.{Visit, History, all_given, paths_of, walked, files_found, files_of, index_of}
-use Rattle.cs_history.specs.WellFormed.{IsClean, AreClean, IsVisit, IsHistory}
+use Rattle.cs_history.specs.WellFormed.{AreClean, IsHistory}
 use Rattle.cs_history.specs.Headline.{indexed_names, StillReads}
 use Rattle.cs_history.proofs.KeepingLemmas.{join_kept, join_paths_of, get-kept}
 use Rattle.cs_history.proofs.WalkLemmas.{AreStrings, found_content, found_lies}

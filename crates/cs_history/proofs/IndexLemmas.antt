@@ -1,8 +1,8 @@
 -- The index after one more job.
-use Rattle.std.proofs.Common.{◌≡◌, ◌≢◌, ℕ, ◌<◌, ◌^◌, Bool, true, false, cond, not, eqb, List, [], ◌∷◌, length, map, refl, sym, ap, subst, ◌∙◌, inl, inr, Option, Some, None}
-use Rattle.std.proofs.lemmas.Bool.{true≢false, cases_Bool, eqb-true, ne_eqb, eqb-false}
+use Rattle.std.proofs.Common.{◌≡◌, ◌≢◌, ℕ, ◌<◌, ◌^◌, Bool, true, false, cond, eqb, List, [], ◌∷◌, length, map, refl, sym, ap, subst, ◌∙◌, Option, Some, None}
+use Rattle.std.proofs.lemmas.Bool.{true≢false, ne_eqb, eqb-false}
 use Rattle.std.proofs.lemmas.List.{length-map}
-use Rattle.std.specs.Prelude.{string_bytes, nat_eq, option_and_then}
+use Rattle.std.specs.Prelude.{string_bytes, option_and_then}
 use Rattle.std.specs.Cmp.Lexicographic.{nat_list_cmp_total}
 use Rattle.std.specs.FinMap as map'
 use Rattle.cs_tree.specs.PathSet as set
@@ -19,7 +19,7 @@ use Rattle.cs_merge.specs.Content.{Holds}
 use Rattle.cs_merge.proofs.HoldingLemmas.{content_held}
 use Rattle.cs_history.specs.History.{History, Visit, Walk, all_given, paths_of, walked, last, kept_at, files_found, files_of, index_of}
 use Rattle.cs_history.specs.WellFormed.{IsHistory}
-use Rattle.cs_history.specs.Jobs.{texts, given, has_no_path, visit_of, begun, after_done}
+use Rattle.cs_history.specs.Jobs.{texts, given, has_no_path, visit_of, after_done}
 use Rattle.cs_history.specs.declared.jobs.IndexJob.{IndexJob}
 use Rattle.cs_history.proofs.KeepingLemmas.{join_kept, join_paths_of, kept_first, paths_first, get-kept, no_paths}
 use Rattle.cs_history.proofs.HistoryLemmas.{history_lies, walk_content, index_holds}

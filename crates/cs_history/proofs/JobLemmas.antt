@@ -1,22 +1,18 @@
 -- What single jobs make of a history.
-use Rattle.std.proofs.Common.{◌≡◌, ◌≢◌, ℕ, ◌<◌, ◌≤◌, Bool, true, false, cond, not, eqb, List, [], ◌∷◌, ◌++◌, length, map, refl, sym, ap, subst, ◌∙◌, inl, inr, Option, Some, None}
-use Rattle.std.proofs.lemmas.Bool.{true≢false, cases_Bool, cond_both}
-use Rattle.std.proofs.lemmas.List.{length-map}
+use Rattle.std.proofs.Common.{◌≡◌, true, false, cond, List, [], ◌∷◌, ◌++◌, map, ap, ◌∙◌, Option, Some, None}
+use Rattle.std.proofs.lemmas.Bool.{cond_both}
 use Rattle.std.proofs.lemmas.Str.{IsUtf8-append, IsUtf8-string_bytes}
 use Rattle.std.specs.Prelude.{string_bytes, String, is_some, nat_eq}
 use Rattle.std.specs.declared.alloc.Global.{Global}
 use Rattle.std.specs.List.{AllByRecursion, AllZip}
-use Rattle.std.specs.Cmp.Lexicographic.{nat_list_cmp_total}
 use Rattle.std.specs.Ordering.{eq_by_cmp}
 use Rattle.std.specs.FinMap as map'
 use Rattle.std.specs.FinMap.{find}
-use Rattle.cs_tree.specs.PathSet as set
-use Rattle.cs_tree.specs.Cover.{bytes_cmp, Paths, slash, begins}
+use Rattle.cs_tree.specs.Cover.{slash, begins}
 use Rattle.cs_tree.specs.Snapshot.{Snapshot, IsTree, Tells}
 use Rattle.cs_tree.specs.Clean.{absolute, cleaned}
-use Rattle.cs_tree.proofs.Sets.{tied_is}
 use Rattle.cs_merge.proofs.HoldingLemmas.{from_list_all}
-use Rattle.cs_history.specs.History.{Visit, History}
+use Rattle.cs_history.specs.History.{History}
 use Rattle.cs_history.specs.WellFormed.{IsClean, AreClean, IsVisit, IsHistory}
 use Rattle.cs_history.specs.Jobs.{texts, given, has_no_path, IsTaken, AreTaken, IsFitting, visit_of, begun, after_done, after, followed, told}
 use Rattle.cs_history.specs.declared.jobs.IndexJob.{IndexJob}

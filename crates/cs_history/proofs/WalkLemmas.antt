@@ -1,6 +1,6 @@
 -- What a walk finds can be held by an index, and lies under the paths that were walked.
-use Rattle.std.proofs.Common.{◌≡◌, ◌≢◌, ℕ, suc, ◌+◌, ◌<◌, ◌≤◌, Bool, true, false, cond, not, eqb, leb, ◌&&◌, ◌||◌, List, [], ◌∷◌, ◌++◌, length, take, drop, refl, sym, ap, subst, ◌∙◌, inl, inr, Option, Some, None, arith, length-append, append_assoc}
-use Rattle.std.proofs.lemmas.Bool.{true≢false, cases_Bool, cond_both, and_parts, or_cases, or_parts, not-true, eq-eqb, eqb-false, both_ways}
+use Rattle.std.proofs.Common.{◌≡◌, ◌≢◌, ℕ, ◌+◌, ◌<◌, Bool, true, false, cond, not, eqb, leb, ◌&&◌, List, [], ◌∷◌, ◌++◌, length, drop, refl, sym, ap, subst, ◌∙◌, inl, inr, Option, Some, None, arith, length-append, append_assoc}
+use Rattle.std.proofs.lemmas.Bool.{true≢false, cases_Bool, and_parts, or_cases, or_parts, not-true, eqb-false, both_ways}
 use Rattle.std.proofs.lemmas.List.{drop_at}
 use Rattle.std.specs.Prelude.{IsUtf8}
 use Rattle.std.specs.Cmp.Lexicographic.{bytes_decides}
@@ -8,17 +8,16 @@ use Rattle.std.specs.List.{AllByRecursion, list_any, list_all}
 use Rattle.std.specs.FinMap as map
 use Rattle.cs_tree.specs.PathSet as set
 use Rattle.cs_tree.specs.Cover.{Paths, slash, same, covers, covered, Covers, itself, below, root}
-use Rattle.cs_tree.specs.Snapshot.{Snapshot, Item, folder, file, cut, other, bad, item_at, lists, child, name_of, is_name, are_names, HasNames, IsTree}
+use Rattle.cs_tree.specs.Snapshot.{Snapshot, Item, folder, file, cut, other, bad, item_at, lists, child, name_of, is_name, HasNames, IsTree}
 use Rattle.cs_tree.specs.Clean.{elements}
-use Rattle.cs_tree.specs.Reached.{elements_under, leads, reaches, is_reached, is_left_out, longest_path, found, found_at, read_item}
+use Rattle.cs_tree.specs.Reached.{elements_under, leads, reaches, is_reached, is_left_out, longest_path, found, read_item}
 use Rattle.cs_tree.proofs.Covering.{covers_says}
 use Rattle.cs_tree.proofs.Sets.{some_member}
 use Rattle.cs_tree.proofs.Found.{get-found, found_under}
-use Rattle.cs_index.specs.Image.{Files}
 use Rattle.cs_index.specs.Spelling.{IsString}
 use Rattle.cs_trigram.specs.Text.{text_trigrams}
 use Rattle.cs_trigram.specs.declared.limits.Limits.{Limits}
-use Rattle.cs_merge.specs.Content.{IsContent, IsTrigramSet, LieUnder}
+use Rattle.cs_merge.specs.Content.{IsContent}
 use Rattle.cs_history.proofs.PathLemmas.{NoNul, IsPart, part_joined, part_empty, text_from_parts}
 use Rattle.cs_history.proofs.TextLemmas.{text_set}
 

@@ -1,7 +1,7 @@
 -- What can be held is kept by a join, and is determined by its image.
-use Rattle.std.proofs.Common.{◌≡◌, ℕ, zero, suc, ◌+◌, ◌*◌, ◌<◌, ◌≤◌, ◌^◌, Bool, true, false, cond, ◌&&◌, List, [], ◌∷◌, ◌++◌, length, map, refl, sym, ap, subst, ◌∙◌, inl, inr, Option, None, Some, arith, length-append, append_assoc}
-use Rattle.std.proofs.lemmas.Bool.{true≢false, cases_Bool, and_parts}
-use Rattle.std.proofs.lemmas.List.{length-map, append_cancel_right}
+use Rattle.std.proofs.Common.{◌≡◌, ℕ, suc, ◌+◌, ◌*◌, ◌<◌, ◌≤◌, ◌^◌, Bool, true, false, cond, ◌&&◌, List, [], ◌∷◌, ◌++◌, length, map, refl, sym, ap, subst, ◌∙◌, inl, inr, None, Some, arith, length-append, append_assoc}
+use Rattle.std.proofs.lemmas.Bool.{cases_Bool}
+use Rattle.std.proofs.lemmas.List.{length-map}
 use Rattle.std.specs.Prelude.{T, flat_map, slice_index_or, is_some}
 use Rattle.std.specs.List.{AllByRecursion, AllZip, list_any}
 use Rattle.std.specs.Ordering.{eq_by_cmp, is_lt, is_eq}
@@ -10,7 +10,7 @@ use Rattle.std.specs.declared.cmp.Ordering.TheVariants.{Less, Equal, Greater}
 use Rattle.std.specs.FinMap.Entries.{below_all, is_sorted, find}
 use Rattle.std.specs.FinMap as map'
 use Rattle.cs_tree.specs.PathSet as set
-use Rattle.cs_tree.specs.Cover.{bytes_cmp, Paths, covered}
+use Rattle.cs_tree.specs.Cover.{bytes_cmp, Paths}
 use Rattle.cs_tree.proofs.Sets.{tied_is, tied_same, same_set}
 use Rattle.cs_index.specs.Image.{Files, Entry, image, image_of, names_of, Posting, posting_list, postings_of, ListEntry, list_entries, joined, ended, closing_list, Sections, sections_of, laid_out, in_order, trailer, name_offsets, four_bytes, starts_from}
 use Rattle.cs_index.specs.Spelling.{IsString, Ascends, IsIndexable, Spells, IsList, entries_of, set_at}

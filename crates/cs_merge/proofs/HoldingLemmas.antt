@@ -1,6 +1,6 @@
 -- What bytes hold.
-use Rattle.std.proofs.Common.{◌≡◌, ◌≢◌, ℕ, zero, suc, ◌+◌, ◌<◌, ◌≤◌, ◌^◌, Bool, true, false, cond, ◌&&◌, ◌||◌, List, [], ◌∷◌, ◌++◌, length, map, take, drop, get_or, refl, sym, ap, subst, ◌∙◌, inl, inr, ◌⊎◌, Option, None, Some, arith}
-use Rattle.std.proofs.lemmas.Bool.{true≢false, cases_Bool, cond_both, cases_eq}
+use Rattle.std.proofs.Common.{◌≡◌, ℕ, zero, suc, ◌+◌, ◌<◌, ◌^◌, Bool, true, false, cond, ◌||◌, List, [], ◌∷◌, ◌++◌, length, map, take, drop, get_or, refl, sym, ap, subst, ◌∙◌, inl, inr, ◌⊎◌, Some, arith}
+use Rattle.std.proofs.lemmas.Bool.{true≢false, cases_Bool, cases_eq}
 use Rattle.std.specs.Prelude.{T, is_some, filter}
 use Rattle.std.specs.List.{AllByRecursion, AllZip, list_any}
 use Rattle.std.specs.Cmp.Lexicographic.{nat_list_cmp_total}
@@ -9,9 +9,9 @@ use Rattle.std.specs.FinMap as map'
 use Rattle.std.specs.FinMap.Entries.{is_sorted, find}
 use Rattle.cs_tree.specs.PathSet as set
 use Rattle.cs_tree.specs.Cover.{bytes_cmp, Paths, same}
-use Rattle.cs_tree.proofs.Sets.{tied_is, tied_same, same_set, entries_in_order}
-use Rattle.cs_index.specs.Image.{Files, Entry, image, image_of, names_of, has, Posting, posting_list, postings_of, ListEntry, list_entries, joined, closing_list, Sections, sections_of, laid_out, three_bytes}
-use Rattle.cs_index.specs.Spelling.{IsString, Ascends, IsEntry, Spells, IsList, read_ids, damaged, entries_of, set_at}
+use Rattle.cs_tree.proofs.Sets.{tied_is, same_set, entries_in_order}
+use Rattle.cs_index.specs.Image.{Files, Entry, image, names_of, has, Posting, posting_list, postings_of, ListEntry, list_entries, joined, closing_list, Sections, sections_of, laid_out, three_bytes}
+use Rattle.cs_index.specs.Spelling.{IsString, Ascends, IsEntry, IsList, read_ids, damaged, entries_of, set_at}
 use Rattle.cs_index.proofs.OnceLemmas.{sections_once, spelled_once}
 use Rattle.cs_index.proofs.ListedLemmas.{image_lists}
 use Rattle.cs_merge.specs.Content.{IsTrigramSet, IsContent, IsListOf, Holds}

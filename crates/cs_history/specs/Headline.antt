@@ -36,7 +36,8 @@ pub record Indexes (jobs : List IndexJob) (trees : List (Option Snapshot)) (repl
   -- The new index is that of the earlier jobs and of those that were done now, whichever the earlier
   -- ones were. A refused job adds nothing to them, so it changes no byte.
   pub index : (earlier : History) → Premises trees old earlier → new ≡ index_of (followed earlier jobs (map told trees) replies)
-  -- The next call finds its premises: only jobs with paths were done, and the new index is short again.
+  -- The next call finds its premises: cleaning takes the paths of each job that was done, and the new
+  -- index is short again.
   pub fitting : AllZip IsFitting jobs replies
   pub short : IsShort old → IsShort new
 

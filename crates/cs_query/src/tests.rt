@@ -68,6 +68,17 @@ fn queries_of_patterns(rt: HostRuntime) -> Result<(), Fail> {
         ("(ab|cd)ef", "abe def", false),
         ("abc.def", "abc def", true),
         ("abc.def", "abc", false),
+        ("abc?", "", true),
+        ("x(abc)+", "", false),
+        ("x(abc)+", "abc", true),
+        ("(abc){2,}", "abc", true),
+        ("a[bc]d", "", false),
+        ("a[bc]d", "acd", true),
+        ("[ab][ab][ab]", "", false),
+        ("[ab][ab][ab]", "bab", true),
+        ("(?i)abc", "", false),
+        ("(?i)abc", "ABc", true),
+        ("[abc][abc][abc]", "", true),
     ] {
         assert_eq!(rt;
             query_holds(&rt, pattern, false, set)?,

@@ -5,8 +5,7 @@ use Rattle.std.specs.Cmp.Lexicographic.{bytes_decides}
 use Rattle.std.specs.Prelude.{codes}
 use Rattle.std.specs.List.{AllByRecursion}
 use Rattle.cs_tree.specs.Cover.{slash, same, begins}
-use Rattle.cs_tree.specs.Snapshot.{child}
-use Rattle.cs_tree.specs.Clean.{elements, without_first, stepped, steps, path_of, absolute, cleaned}
+use Rattle.cs_tree.specs.Clean.{elements, without_first, stepped, steps, slashed, path_of, absolute, cleaned}
 use Rattle.cs_history.proofs.PathLemmas.{NoSlash, IsPart, part_joined, part_empty, parts_of_text, elements_apart, elements_more}
 
 -- an element that cleaning keeps
@@ -40,31 +39,6 @@ all_given P Q (name ∷ names) h all = (h name all.0, all_given P Q names h all.
 
 -- ---- the path of elements
 
--- its elements, each behind a slash
-abbrev stem : List (List ℕ) → List ℕ
-stem [] = []
-stem (name ∷ above) = stem above ++ slash ∷ name
-
-long_apart : (front rest : List ℕ) → front ++ slash ∷ rest ≡ slash ∷ [] → rest ≡ []
-long_apart [] rest e = cc
-long_apart (b ∷ []) rest e = cc
-long_apart (b ∷ c ∷ front) rest e = cc
-
-not_root : (above : List (List ℕ)) (name : List ℕ) → same name [] ≡ false → same (stem above ++ slash ∷ name) (slash ∷ []) ≡ false
-not_root above name h = by_test (same (stem above ++ slash ∷ name) (slash ∷ [])) refl
-  where
-    by_test : (t : Bool) → same (stem above ++ slash ∷ name) (slash ∷ []) ≡ t → same (stem above ++ slash ∷ name) (slash ∷ []) ≡ false
-    by_test false e = e
-    by_test true e = absurd (true≢false (sym ((bytes_decides name []).1 (long_apart (stem above) name ((bytes_decides (stem above ++ slash ∷ name) (slash ∷ [])).0 e))) ∙ h))
-
--- a path that is not the root is the stem
-child_stem : (above : List (List ℕ)) (name : List ℕ) → AllByRecursion IsKept above → child (path_of above) name ≡ stem above ++ slash ∷ name
-child_stem [] name all = refl
-child_stem (top ∷ above) name all =
-    let path : path_of (top ∷ above) ≡ stem (top ∷ above) = child_stem above top all.1 in
-    ap (λ p. child p name) path
-    ∙ ap (λ t. cond t [] (stem (top ∷ above)) ++ slash ∷ name) (not_root above top all.0.filled)
-
 steps_more : (above names : List (List ℕ)) (name : List ℕ) → steps above (names ++ name ∷ []) ≡ stepped (steps above names) name
 steps_more above [] name = refl
 steps_more above (x ∷ names) name = steps_more (stepped above x) names name
@@ -74,26 +48,24 @@ kept_steps above name k =
     ap (λ t. cond t above (cond (same name (codes "..")) (without_first above) (name ∷ above))) (or_from (same name []) (same name (codes ".")) k.filled k.no_dot)
     ∙ ap (λ t. cond t (without_first above) (name ∷ above)) k.no_dots
 
-steps_stem : (above : List (List ℕ)) → AllByRecursion IsKept above → AllByRecursion NoSlash above → steps [] (elements (stem above)) ≡ above
+steps_stem : (above : List (List ℕ)) → AllByRecursion IsKept above → AllByRecursion NoSlash above → steps [] (elements (slashed above)) ≡ above
 steps_stem [] kept apart = refl
 steps_stem (name ∷ above) kept apart =
-    ap (steps []) (elements_more (stem above) name apart.0)
-    ∙ steps_more [] (elements (stem above)) name
+    ap (steps []) (elements_more (slashed above) name apart.0)
+    ∙ steps_more [] (elements (slashed above)) name
     ∙ ap (λ front. stepped front name) (steps_stem above kept.1 apart.1)
     ∙ kept_steps above name kept.0
 
-begins_root : (above : List (List ℕ)) (name : List ℕ) → begins (slash ∷ []) (stem above ++ slash ∷ name) ≡ true
+begins_root : (above : List (List ℕ)) (name : List ℕ) → begins (slash ∷ []) (slashed above ++ slash ∷ name) ≡ true
 begins_root [] name = refl
-begins_root (top ∷ above) name = subst (λ t. begins (slash ∷ []) t ≡ true) (sym (append_assoc (stem above) (slash ∷ top) (slash ∷ name))) (begins_root above (top ++ slash ∷ name))
+begins_root (top ∷ above) name = subst (λ t. begins (slash ∷ []) t ≡ true) (sym (append_assoc (slashed above) (slash ∷ top) (slash ∷ name))) (begins_root above (top ++ slash ∷ name))
 
 -- cleaning leaves the path of kept elements as it is
 settled : (folder : List ℕ) (above : List (List ℕ)) → AllByRecursion IsKept above → AllByRecursion NoSlash above → cleaned folder (path_of above) ≡ path_of above
 settled folder [] kept apart = refl
 settled folder (name ∷ above) kept apart =
-    let path : path_of (name ∷ above) ≡ stem (name ∷ above) = child_stem above name kept.1 in
-    let whole : absolute folder (stem (name ∷ above)) ≡ stem (name ∷ above) = ap (λ t. cond t (stem (name ∷ above)) (folder ++ slash ∷ stem (name ∷ above))) (begins_root above name) in
-    ap (cleaned folder) path
-    ∙ ap (λ text. path_of (steps [] (elements text))) whole
+    let whole : absolute folder (slashed (name ∷ above)) ≡ slashed (name ∷ above) = ap (λ t. cond t (slashed (name ∷ above)) (folder ++ slash ∷ slashed (name ∷ above))) (begins_root above name) in
+    ap (λ text. path_of (steps [] (elements text))) whole
     ∙ ap path_of (steps_stem (name ∷ above) kept apart)
 
 -- ---- cleaned paths
@@ -111,13 +83,13 @@ apart_elements text = all_steps NoSlash [] (elements text) tt (all_given NoSlash
 part_elements : (text : List ℕ) → IsPart text → AllByRecursion IsPart (steps [] (elements text))
 part_elements text h = all_steps IsPart [] (elements text) tt (all_given IsPart (λ name. IsKept name → IsPart name) (elements text) (λ name p k. p) (parts_of_text text h))
 
-part_stem : (above : List (List ℕ)) → AllByRecursion IsPart above → IsPart (stem above)
+part_stem : (above : List (List ℕ)) → AllByRecursion IsPart above → IsPart (slashed above)
 part_stem [] all = part_empty
-part_stem (name ∷ above) all = part_joined (stem above) name (part_stem above all.1) all.0
+part_stem (name ∷ above) all = part_joined (slashed above) name (part_stem above all.1) all.0
 
 part_path : (above : List (List ℕ)) → AllByRecursion IsKept above → AllByRecursion IsPart above → IsPart (path_of above)
 part_path [] kept all = part_joined [] [] part_empty part_empty
-part_path (name ∷ above) kept all = subst IsPart (sym (child_stem above name kept.1)) (part_stem (name ∷ above) all)
+part_path (name ∷ above) kept all = part_stem (name ∷ above) all
 
 -- cleaning twice is cleaning once, whatever the folders are
 pub cleaned_settled : (folder text other : List ℕ) → cleaned other (cleaned folder text) ≡ cleaned folder text
@@ -137,4 +109,4 @@ cleaned_filled folder text = filled (steps [] (elements (absolute folder text)))
 
     filled : (above : List (List ℕ)) → AllByRecursion IsKept above → path_of above ≢ []
     filled [] kept e = cc
-    filled (name ∷ above) kept e = longer (stem above) name (sym (child_stem above name kept.1) ∙ e)
+    filled (name ∷ above) kept e = longer (slashed above) name e

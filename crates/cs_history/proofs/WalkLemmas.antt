@@ -10,7 +10,8 @@ use Rattle.cs_tree.specs.PathSet as set
 use Rattle.cs_tree.specs.Cover.{Paths, slash, same, covers, covered, Covers, itself, below, root}
 use Rattle.cs_tree.specs.Snapshot.{Snapshot, Item, folder, file, cut, other, bad, item_at, lists, child, name_of, is_name, HasNames, IsTree}
 use Rattle.cs_tree.specs.Clean.{elements}
-use Rattle.cs_tree.specs.Reached.{elements_under, leads, reaches, is_reached, is_left_out, longest_path, found, read_item}
+use Rattle.cs_tree.specs.Reached.{elements_under, leads, reaches, is_reached, is_left_out, found, read_item}
+use Rattle.cs_tree.specs.Clean.{longest_path}
 use Rattle.cs_tree.proofs.Covering.{covers_says}
 use Rattle.cs_tree.proofs.Sets.{some_member}
 use Rattle.cs_tree.proofs.Found.{get-found, found_under}

@@ -6,7 +6,7 @@ use Rattle.std.specs.FinMap as map'
 use Rattle.cs_tree.specs.PathSet as set
 use Rattle.cs_tree.specs.Cover.{Paths}
 use Rattle.cs_tree.specs.Snapshot.{Snapshot}
-use Rattle.cs_tree.specs.Reached.{longest_path}
+use Rattle.cs_tree.specs.Clean.{longest_path}
 use Rattle.cs_tree.specs.Clean.{absolute, cleaned}
 use Rattle.cs_history.specs.History.{History, Visit}
 use Rattle.cs_history.specs.declared.jobs.IndexJob.{IndexJob}

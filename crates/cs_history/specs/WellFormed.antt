@@ -5,7 +5,7 @@ use Rattle.std.specs.List.{AllByRecursion}
 use Rattle.cs_tree.specs.PathSet as set
 use Rattle.cs_tree.specs.Cover.{Paths}
 use Rattle.cs_tree.specs.Snapshot.{IsTree}
-use Rattle.cs_tree.specs.Reached.{longest_path}
+use Rattle.cs_tree.specs.Clean.{longest_path}
 use Rattle.cs_tree.specs.Clean.{cleaned}
 use Rattle.cs_index.specs.Spelling.{IsString}
 use Rattle.cs_history.specs.History.{Visit, History}

@@ -14,3 +14,4 @@ pub mod ReportedLemmas
 pub mod SearchesLemmas
 pub mod TestingLemmas
 pub mod WordsLemmas
+pub mod DivisionLemmas

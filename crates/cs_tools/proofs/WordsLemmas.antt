@@ -7,7 +7,7 @@ use Rattle.std.proofs.Math.Seq.{take-length}
 use Rattle.std.proofs.lemmas.List.{reverse-append, map-append, take-map, take_more, drop-drop}
 use Rattle.std.proofs.lemmas.List.Sums.{sum_by-cons}
 use Rattle.std.proofs.lemmas.List.Folds.{find-append}
-use Rattle.cs_tools.specs.Words.{Item, item, is_option, name_of, takes_next, items_from, items, words_in, without_end, rest, says, value_in, fault_in, first_fault, last_of, is_on, value_for, style_of, switches_of, valued_of, is_among, job_by, meaning}
+use Rattle.cs_tools.specs.Words.{Item, item, is_option, name_of, takes_next, items_from, items, words_in, without_end, rest, says, value_in, fault_in, first_fault, last_of, is_on, value_for, style_of, switches_of, valued_of, is_among, job_by, unless, meaning}
 use Rattle.cs_tools.specs.Settings.{switch_name, item_of, Sets, IsNext, BreaksRule, Answers, is_set, turned, with_setting, AreOf}
 use Rattle.cs_tools.specs.Jobs.{Wanted, index, search, grep, wanted}
 use Rattle.cs_tools.specs.declared.jobs.Job.{Job}
@@ -315,13 +315,13 @@ pub meaning-faulty : (tool : Tool) (cwd : List ℕ) (words : List (List ℕ)) (f
     → meaning tool cwd words ≡ Err fault
 unfolding meaning
 meaning-faulty tool cwd words fault is =
-    ap (λ found. unwrap_or (option_map (λ fault. Err fault) found) (job_by tool cwd (length words) (items tool words) (rest tool words))) is
+    ap (λ found. unless found (job_by tool cwd (length words) (items tool words) (rest tool words))) is
 
 pub meaning-sound : (tool : Tool) (cwd : List ℕ) (words : List (List ℕ)) → first_fault tool (items tool words) ≡ None
     → meaning tool cwd words ≡ job_by tool cwd (length words) (items tool words) (rest tool words)
 unfolding meaning
 meaning-sound tool cwd words is =
-    ap (λ found. unwrap_or (option_map (λ fault. Err fault) found) (job_by tool cwd (length words) (items tool words) (rest tool words))) is
+    ap (λ found. unless found (job_by tool cwd (length words) (items tool words) (rest tool words))) is
 
 pub meaning-memory : (tool : Tool) (cwd : List ℕ) (words : List (List ℕ)) → meaning tool cwd words ≡ Err Memory → ⊥
 unfolding meaning
@@ -330,7 +330,7 @@ meaning-memory tool cwd words is =
     (first_fault-memory tool (items tool words)) (job_by-memory tool cwd (length words) (items tool words) (rest tool words)) is
   where
     by_fault : (found : Option WordFault) (job : Result Wanted WordFault) → (found ≡ Some Memory → ⊥) → (job ≡ Err Memory → ⊥)
-        → unwrap_or (option_map (λ fault. Err fault) found) job ≡ Err Memory → ⊥
+        → unless found job ≡ Err Memory → ⊥
     by_fault None job no_fault no_job is = no_job is
     by_fault (Some fault) job no_fault no_job is = no_fault (let same : fault ≡ Memory = cc in ap (λ fault. Some fault) same)
 

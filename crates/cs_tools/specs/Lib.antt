@@ -5,6 +5,7 @@ pub mod Searched
 pub mod Searches
 pub mod Cgrep
 pub mod Words
+pub mod Division
 pub mod Jobs
 pub mod Messages
 -- What functions inside promise each other.

@@ -10,7 +10,7 @@ use Rattle.cs_tools.specs.declared.jobs.Style.{Style}
 use Rattle.cs_tools.specs.declared.fault.WordFault.{WordFault}
 use Rattle.cs_tools.specs.declared.fault.WordFault.TheVariants.{UnknownOption, NoValue, BadTruth, NoPattern, ExtraWord}
 
--- the word is one of these
+-- whether the word is one of these
 abbrev pub is_among : List (List ℕ) → List ℕ → Bool
 is_among words word = list_any (bytes_eq word) words
 
@@ -77,18 +77,20 @@ items_from tool at (word ∷ next ∷ words) =
 abbrev pub items : Tool → List (List ℕ) → List Item
 items tool words = items_from tool 0 words
 
--- the words that items take
+-- how many words an item takes
 abbrev pub words_in : Item → ℕ
 words_in item = if is_some item.next then 2 else 1
 
--- what stands behind the items, without the `--` that may end them
+-- the words without a `--` in front
 abbrev pub without_end : List (List ℕ) → List (List ℕ)
 without_end [] = []
 without_end (word ∷ words) = if bytes_eq word (codes "--") then words else word ∷ words
 
+-- what stands behind the items, without the `--` that may end them
 abbrev pub rest : Tool → List (List ℕ) → List (List ℕ)
 rest tool words = without_end (drop (sum_by words_in (items tool words)) words)
 
+-- what the value of a switch says, if anything
 abbrev pub truth : List ℕ → Option Bool
 truth value = if is_among yes value then Some true else if is_among no value then Some false else None
 
@@ -150,14 +152,19 @@ abbrev pub index_job : List ℕ → List Item → List (List ℕ) → Result Wan
 index_job cwd items paths =
     Ok (index (is_on (codes "list") items) (is_on (codes "reset") items) (is_on (codes "logskip") items) cwd paths)
 
+-- the job by the items and the rest, which nothing but the rest can refuse
 abbrev pub job_by : Tool → List ℕ → ℕ → List Item → List (List ℕ) → Result Wanted WordFault
 job_by Cindex cwd all items rest = index_job cwd items rest
 job_by Csearch cwd all items rest = search_job all items rest
 job_by Cgrep cwd all items rest = grep_job items rest
 
+-- the fault where there is one, and else the job
+abbrev pub unless : Option WordFault → Result Wanted WordFault → Result Wanted WordFault
+unless (Some fault) job = Err fault
+unless None job = job
+
 -- What the words mean: the fault of the first item that breaks a rule, or else the job by the last
 -- item of each option and by the rest.
 unfoldable pub meaning : Tool → List ℕ → List (List ℕ) → Result Wanted WordFault
 meaning tool cwd words =
-    unwrap_or (option_map (λ fault. Err fault) (first_fault tool (items tool words)))
-    (job_by tool cwd (length words) (items tool words) (rest tool words))
+    unless (first_fault tool (items tool words)) (job_by tool cwd (length words) (items tool words) (rest tool words))

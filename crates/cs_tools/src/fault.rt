@@ -56,19 +56,19 @@ impl<T: Drop> From<AllocFailed<T>> for WordFault {
 /// Why `csearch` or `cgrep` refuses. The first four are found in this order, before any output.
 #[derive(Clone, Copy, Debug, PartialEq, Eq, Drop, Error)]
 pub enum ToolFault {
-    /// The pattern is none.
+    /// The pattern is none, as in `cgrep '(a'`.
     #[error("a fault of the pattern")]
     Pattern(PatternError),
-    /// The pattern of `-f` is none.
+    /// The pattern of `-f` is none, as in `csearch -f '(a' x`.
     #[error("a fault of the pattern for names")]
     FilePattern(PatternError),
-    /// There is no index.
+    /// There is no index, as before the first job of `cindex`.
     #[error("no index")]
     NoIndex,
-    /// The index is damaged.
+    /// The index is damaged, as where its last byte is cut off.
     #[error("bad index: {0}")]
     BadIndex(IndexFault),
-    /// Output failed.
+    /// An output took no more, as on a full disk.
     #[error("output failed")]
     Write,
     /// A growth was refused.

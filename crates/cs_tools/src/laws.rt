@@ -1,6 +1,7 @@
 // Laws of the definitions.
 ghost use Rattle.std.specs.Prelude.{◌≡◌, ◌∷◌, ◌++◌, [], ℕ, List};
 ghost use Rattle.cs_tools.specs.Lines.{newline, lines, ended_lines, IsPart};
+ghost use Rattle.cs_tools.specs.Division.{WordsAreDivided};
 
 /// The lines of a text are its longest parts without a newline. An empty part at the end is no line.
 pub fn lines_are_parts()
@@ -13,4 +14,9 @@ pub fn lines_are_parts()
 pub fn ended_lines_are_parts()
     ensures cut { (part more : List ℕ) → IsPart part → ended_lines (part ++ newline ∷ more) ≡ part ∷ ended_lines more }
     ensures last { (part : List ℕ) → IsPart part → ended_lines part ≡ [] }
+{}
+
+/// Words are option items, then nothing or `--`, and then the rest; each item stands at its place.
+pub fn words_are_divided()
+    ensures { WordsAreDivided }
 {}

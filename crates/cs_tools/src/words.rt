@@ -30,10 +30,12 @@ struct ReadOptions<'a> {
 /// them, and then the rest. A word fault is the first from the left, and is found before anything
 /// grows.
 pub fn read_words(alloc: Global, tool: Tool, cwd: &str, words: &[String]) -> Result<Job, WordFault>
-    ensures job { IfOk result (λ job. meaning tool cwd.now (map string_bytes words.now) ≡ Ok (wanted job)) }
+    ensures job { IfOk result
+        (λ job. meaning tool cwd.now (map string_bytes words.now) ≡ Ok (wanted job)) }
     ensures fault { (fault : A_fault) → fault ≢ Memory →
         (result ≡ Err fault) ↔ (meaning tool cwd.now (map string_bytes words.now) ≡ Err fault) }
-    ensures memory { result ≡ Err Memory → IsOk (meaning tool cwd.now (map string_bytes words.now)) }
+    ensures memory { result ≡ Err Memory →
+        IsOk (meaning tool cwd.now (map string_bytes words.now)) }
 {
     let options = read_options(tool, words)?;
     make_job(alloc, tool, cwd, &options, words.len())
@@ -58,11 +60,15 @@ fn make_job(
 }
 
 fn read_options<'a>(tool: Tool, words: &'a [String]) -> Result<ReadOptions<'a>, WordFault>
-    ensures settings { IfOk result (λ options. AreOf options.settings (items tool (map string_bytes words.now))) }
-    ensures rest { IfOk result (λ options. map string_bytes options.rest.now ≡ rest tool (map string_bytes words.now)) }
+    ensures settings { IfOk result
+        (λ options. AreOf options.settings (items tool (map string_bytes words.now))) }
+    ensures rest { IfOk result
+        (λ options. map string_bytes options.rest.now ≡ rest tool (map string_bytes words.now)) }
     ensures within { IfOk result (λ options. length options.rest.now ≤ length words.now) }
-    ensures sound { IfOk result (λ _. first_fault tool (items tool (map string_bytes words.now)) ≡ None) }
-    ensures fault { IfErr result (λ fault. first_fault tool (items tool (map string_bytes words.now)) ≡ Some fault) }
+    ensures sound { IfOk result
+        (λ _. first_fault tool (items tool (map string_bytes words.now)) ≡ None) }
+    ensures fault { IfErr result
+        (λ fault. first_fault tool (items tool (map string_bytes words.now)) ≡ Some fault) }
 {
     let mut settings = NOTHING;
     let mut at = 0;
@@ -111,10 +117,14 @@ fn read_item<'a>(
     at: usize,
 ) -> Result<ReadItem<'a>, WordFault>
     requires { is_option word.now ≡ true }
-    ensures words { IfOk result (λ item. item.words ≡ words_in (item_of tool at word.now (map string_bytes behind.now))) }
-    ensures sound { IfOk result (λ _. fault_in tool (item_of tool at word.now (map string_bytes behind.now)) ≡ None) }
-    ensures setting { IfOk result (λ item. Sets (item_of tool at word.now (map string_bytes behind.now)) item.setting) }
-    ensures fault { IfErr result (λ fault. fault_in tool (item_of tool at word.now (map string_bytes behind.now)) ≡ Some fault) }
+    ensures words { IfOk result
+        (λ item. item.words ≡ words_in (item_of tool at word.now (map string_bytes behind.now))) }
+    ensures sound { IfOk result
+        (λ _. fault_in tool (item_of tool at word.now (map string_bytes behind.now)) ≡ None) }
+    ensures setting { IfOk result
+        (λ item. Sets (item_of tool at word.now (map string_bytes behind.now)) item.setting) }
+    ensures fault { IfErr result
+        (λ fault. fault_in tool (item_of tool at word.now (map string_bytes behind.now)) ≡ Some fault) }
 {
     let option = option_word(word);
     match flag_named(tool, option.name) {
@@ -209,7 +219,8 @@ fn copy_of(alloc: Global, text: Option<&str>) -> Result<Option<String>, AllocErr
 }
 
 fn copies(alloc: Global, texts: &[String]) -> Result<Vec<String>, AllocError>
-    ensures { IfOk result (λ copies. map string_bytes copies.items ≡ map string_bytes texts.now) }
+    ensures { IfOk result
+        (λ copies. map string_bytes copies.items ≡ map string_bytes texts.now) }
 {
     let mut copies = Vec::with_capacity(alloc, texts.len())?;
     for text in texts {

@@ -218,29 +218,36 @@ impl Sink for Stuck {
     }
 }
 
-#[test]
-fn cgrep_whose_flush_fails(rt: HostRuntime) -> Result<(), Fail> {
-    let job = job_of(rt.alloc(), "one /t/p")?;
-    for stuck in [true, false] {
-        let mut tree = tree_of(rt.alloc())?;
-        let mut input = MemSource::new(b"", 1, false);
-        let mut bad = Stuck {
-            taken: Vec::new(rt.alloc()),
-            failed: 0,
-        };
-        let mut good = MemSink::new(rt.alloc(), 1000);
-        let status = if stuck {
-            cgrep(rt.alloc(), &job, &mut tree, &mut input, &mut bad, &mut good)
-        } else {
-            cgrep(rt.alloc(), &job, &mut tree, &mut input, &mut good, &mut bad)
-        };
-        assert_eq!(rt; status, Err(ToolFault::Write));
-        let written = if stuck {
-            bad.taken.as_slice()
-        } else {
-            good.bytes()
-        };
-        assert_eq!(rt; written, b"/t/p:one\n/t/p:one\n".as_slice());
+/// A sink that has taken nothing.
+fn unflushed(alloc: Global) -> Stuck {
+    Stuck {
+        taken: Vec::new(alloc),
+        failed: 0,
     }
+}
+
+#[test]
+fn cgrep_whose_output_is_not_flushed(rt: HostRuntime) -> Result<(), Fail> {
+    let job = job_of(rt.alloc(), "one /t/p")?;
+    let mut tree = tree_of(rt.alloc())?;
+    let mut input = MemSource::new(b"", 1, false);
+    let mut out = unflushed(rt.alloc());
+    let mut err = MemSink::new(rt.alloc(), 1000);
+    let status = cgrep(rt.alloc(), &job, &mut tree, &mut input, &mut out, &mut err);
+    assert_eq!(rt; status, Err(ToolFault::Write));
+    assert_eq!(rt; out.taken.as_slice(), b"/t/p:one\n/t/p:one\n".as_slice());
+    Ok(())
+}
+
+#[test]
+fn cgrep_whose_fault_lines_are_not_flushed(rt: HostRuntime) -> Result<(), Fail> {
+    let job = job_of(rt.alloc(), "one /t/p")?;
+    let mut tree = tree_of(rt.alloc())?;
+    let mut input = MemSource::new(b"", 1, false);
+    let mut out = MemSink::new(rt.alloc(), 1000);
+    let mut err = unflushed(rt.alloc());
+    let status = cgrep(rt.alloc(), &job, &mut tree, &mut input, &mut out, &mut err);
+    assert_eq!(rt; status, Err(ToolFault::Write));
+    assert_eq!(rt; out.bytes(), b"/t/p:one\n/t/p:one\n".as_slice());
     Ok(())
 }

@@ -184,7 +184,7 @@ fn small_limits(rt: HostRuntime) -> Result<(), Fail> {
         (&b"abcd\n\n"[..], Scan::Skip(Reason::ManyTrigrams)),
         (&b"abcd\n\n\xff"[..], Scan::Skip(Reason::Utf8)),
     ] {
-        for step in [1, 2, 3, 5, 100] {
+        for step in 1..21 {
             let mut source = MemSource::new(file, step, false);
             assert_eq!(rt;
                 scanner.scan(&mut source)?,
@@ -192,6 +192,22 @@ fn small_limits(rt: HostRuntime) -> Result<(), Fail> {
                 "at {file:?}, {step} at a time"
             );
         }
+    }
+    Ok(())
+}
+
+#[test]
+fn larger_than_a_block(rt: HostRuntime) -> Result<(), Fail> {
+    let mut file = Vec::new(rt.alloc());
+    for _line in 0..20_000 {
+        file.extend_from_slice(b"abcd\n")?;
+    }
+    let parts = [b"\nab", b"abc", b"bcd", b"cd\n", b"d\na"];
+    let want = text(&rt, &parts, 100_000)?;
+    let mut scanner = Scanner::new(rt.alloc())?;
+    for step in [7, 65_536, 1_000_000] {
+        let mut source = MemSource::new(&file, step, false);
+        assert_eq!(rt; scanner.scan(&mut source)?, want, "{step} at a time");
     }
     Ok(())
 }

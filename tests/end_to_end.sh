@@ -12,9 +12,16 @@ mkdir files results
 passed=0
 failed=0
 
-# The command of a case is shell text, so that it shows as it would be typed; `codesearch` and `cgrep` stand for the program.
+# The Go tools, where they are installed.
+go_cindex=$(command -v cindex)
+go_csearch=$(command -v csearch)
+
+# The command of a case is shell text, so that it shows as it would be typed; these stand for the program.
 codesearch() { "$program" "$@"; }
 cgrep() { "$program" cgrep "$@"; }
+cindex() { "$program" cindex "$@"; }
+csearch() { "$program" csearch "$@"; }
+export CSEARCHINDEX="$home/index"
 
 show() {
     printf '    %s:\n' "$1"
@@ -216,6 +223,9 @@ for pattern in 'requires' '^use .*specs' 'fn [a-z_]*\(' '(length|take) [a-z]' '^
     same "xargs \"\$program\" cgrep -l '$pattern' < results/names" "LC_ALL=C xargs grep -El '$pattern' < results/names"
     same "xargs \"\$program\" cgrep -c '$pattern' < results/names" "LC_ALL=C xargs grep -EHc '$pattern' < results/names | grep -v ':0\$' | sed 's/:\([0-9]*\)\$/: \1/'"
 done
+
+. "$root/tests/indexing.sh"
+. "$root/tests/searching.sh"
 
 printf '%d passed, %d failed\n' "$passed" "$failed"
 [ "$failed" -eq 0 ]

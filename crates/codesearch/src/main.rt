@@ -1,15 +1,19 @@
-//! The program: what it is called with, the standard streams, the disk and the status. All that it
-//! does is `run`, over any of them; all that it reads and prints goes by way of `cs_tools`.
+//! The program: what it is called with, the standard streams, the disk, the index file and the status.
+//! All that it does is `run`, over any of them; all that it reads and prints goes by way of `cs_tools`
+//! and `cs_cindex`.
 #![tactic(auto)]
 
 mod program;
+mod storage;
 
-use cs_tree::{DiskTree, StdSink, StdSource};
-use program::{OUT_OF_MEMORY, REFUSED, run};
+use cs_tree::{DiskTree, StdSink, StdSource, is_absolute};
+use cs_words::Tool;
+use program::{FIRST_WORD, NO_FOLDER, OUT_OF_MEMORY, Ran, refuse, run, tool_of};
 use std::alloc::AllocError;
 use std::env;
-use std::io::BufWriter;
+use std::io::{BufWriter, ErrorKind, Write};
 use std::process::ExitCode;
+use storage::{FileFault, index_file, load, store};
 
 /// How many bytes of output are gathered before the system is asked to take them.
 const OUTPUT_BYTES: usize = 65536;
@@ -17,32 +21,108 @@ const OUTPUT_BYTES: usize = 65536;
 fn main(rt: HostRuntime) -> ExitCode {
     let status = match start(&rt) {
         Ok(status) => status,
-        Err(AllocError) => {
-            let _ = rt.eprint(OUT_OF_MEMORY);
-            REFUSED
-        }
+        Err(AllocError) => refuse(&mut StdSink::new(rt.stderr()), OUT_OF_MEMORY),
     };
     ExitCode::from(status)
 }
 
+/// Finds the faults of the surroundings in this order: the first word, the current folder, the reading
+/// of the index file. Then it runs, and writes the index file.
 fn start(rt: &HostRuntime) -> Result<u8, AllocError> {
-    let alloc = rt.alloc();
-    let mut words: Vec<String> = Vec::new(alloc);
-    // Where some word is no text, there are none, so that the first word is refused.
-    if let Ok(all) = env::args(rt) {
-        words = all.skip(1).collect(alloc)?;
+    let words = words_of(rt)?;
+    let mut err = StdSink::new(rt.stderr());
+    let Some(first) = words.first() else {
+        return Ok(refuse(&mut err, FIRST_WORD));
+    };
+    match tool_of(first.as_str()) {
+        Some(Tool::Cgrep) => Ok(run_over(rt, &words, "", None, &mut err)?.status),
+        Some(Tool::Csearch) => run_indexed(rt, &words, "", &mut err),
+        Some(Tool::Cindex) => match current_folder(rt)? {
+            Some(folder) => run_indexed(rt, &words, folder.as_str(), &mut err),
+            None => Ok(refuse(&mut err, NO_FOLDER)),
+        },
+        None => Ok(refuse(&mut err, FIRST_WORD)),
     }
-    let Ok(out) = BufWriter::with_capacity(alloc, OUTPUT_BYTES, rt.stdout()) else {
+}
+
+/// The words that the program is called with. Where some word is no text there are none, so that the
+/// first word is refused.
+fn words_of(rt: &HostRuntime) -> Result<Vec<String>, AllocError> {
+    match env::args(rt) {
+        Ok(all) => all.skip(1).collect(rt.alloc()),
+        Err(_) => Ok(Vec::new(rt.alloc())),
+    }
+}
+
+/// The current folder, where it is text and begins with `/`.
+fn current_folder(rt: &HostRuntime) -> Result<Option<String>, AllocError> {
+    match env::current_dir(rt) {
+        Ok(folder) if is_absolute(folder.as_str()) => {
+            Ok(Some(String::from_str(rt.alloc(), folder.as_str())?))
+        }
+        Err(error) if error.kind() == ErrorKind::OutOfMemory => Err(AllocError),
+        _ => Ok(None),
+    }
+}
+
+/// Runs over the index file, and does with it what the run asks.
+fn run_indexed<W: Write + Drop>(
+    rt: &HostRuntime,
+    words: &[String],
+    folder: &str,
+    err: &mut StdSink<W>,
+) -> Result<u8, AllocError> {
+    let file = match index_file(rt) {
+        Ok(file) => file,
+        Err(fault) => return blame(rt, err, "cannot read", "CSEARCHINDEX", fault),
+    };
+    let index = match load(rt, file.as_str()) {
+        Ok(index) => index,
+        Err(fault) => return blame(rt, err, "cannot read", file.as_str(), fault),
+    };
+    let ran = run_over(rt, words, folder, index, err)?;
+    match store(rt, file.as_str(), &ran.index) {
+        Ok(()) => Ok(ran.status),
+        Err(fault) => blame(rt, err, "cannot write", file.as_str(), fault),
+    }
+}
+
+/// Runs over the disk and the standard streams.
+fn run_over<W: Write + Drop>(
+    rt: &HostRuntime,
+    words: &[String],
+    folder: &str,
+    index: Option<Vec<u8>>,
+    err: &mut StdSink<W>,
+) -> Result<Ran, AllocError> {
+    let Ok(out) = BufWriter::with_capacity(rt.alloc(), OUTPUT_BYTES, rt.stdout()) else {
         return Err(AllocError);
     };
     Ok(run(
-        alloc,
-        &words,
+        rt.alloc(),
+        words,
+        folder,
+        index,
         &mut DiskTree::new(rt.clone()?),
         &mut StdSource::new(rt.stdin()),
         &mut StdSink::new(out),
-        &mut StdSink::new(rt.stderr()),
+        err,
     ))
+}
+
+/// Writes the line on a file that is not read or written.
+fn blame<W: Write + Drop>(
+    rt: &HostRuntime,
+    err: &mut StdSink<W>,
+    what: &str,
+    file: &str,
+    fault: FileFault,
+) -> Result<u8, AllocError> {
+    if fault == FileFault::Memory {
+        return Err(AllocError);
+    }
+    let line = format!(in rt.alloc(); "codesearch: {what} {file}\n")?;
+    Ok(refuse(err, line.as_str()))
 }
 
 #[cfg(test)]

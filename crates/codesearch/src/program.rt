@@ -1,96 +1,189 @@
-// The program over any tree, input and outputs.
+// The program over any tree, input and outputs, and any bytes of an index file.
 ghost use Rattle.std.specs.Prelude.{◌≤◌};
+ghost use Rattle.std.specs.Mem.{FitsInMemory};
 
-use cs_tools::{Job, Refusal, Status, Tool, WordFault, cgrep, message, read_words};
-use cs_tree::{Sink, Source, Tree, write_all};
+use crate::storage::After;
+use cs_cindex::cindex;
+use cs_tools::{Status, cgrep, csearch};
+use cs_tree::{Sink, Source, Tree, is_absolute, write_all};
+use cs_words::{
+    CindexFault, IndexJob, Job, Refusal, Reply, SearchJob, Tool, ToolFault, WordFault, message,
+    read_words,
+};
 use std::alloc::{AllocError, Global};
+use std::slice;
 
-/// The status where some line matched, where none did, and where the program refuses.
-const MATCHED: u8 = 0;
+/// The status where some line matched, or a job was done.
+pub const MATCHED: u8 = 0;
 
+/// The status where no line matched.
 const NO_MATCH: u8 = 1;
 
+/// The status where the program refuses.
 pub const REFUSED: u8 = 2;
 
-const FIRST_WORD: &str = "codesearch: first word must be cindex, csearch or cgrep\n";
+pub const FIRST_WORD: &str = "codesearch: first word must be cindex, csearch or cgrep\n";
+
+pub const NO_FOLDER: &str = "codesearch: no current folder\n";
 
 pub const OUT_OF_MEMORY: &str = "codesearch: out of memory\n";
 
-/// Does what the words ask, and answers the status: 0 where some line matched, 1 where none did, and
-/// 2 where it refuses, with a line on `err` that says why.
+/// How a run ended.
+#[derive(Drop)]
+pub struct Ran {
+    /// 0 where some line matched or a job was done, 1 where none matched, 2 where it refused, with a
+    /// line on standard error that says why.
+    pub status: u8,
+    pub index: After,
+}
+
+impl Ran {
+    /// A run that leaves the index file as it is.
+    fn ended(status: u8) -> Ran
+        requires { status ≤ 2 }
+        ensures { result.status ≤ 2 }
+    {
+        Ran {
+            status,
+            index: After::Kept,
+        }
+    }
+}
+
+/// The tool that a first word names.
+pub fn tool_of(word: &str) -> Option<Tool> {
+    match word {
+        "cindex" => Some(Tool::Cindex),
+        "csearch" => Some(Tool::Csearch),
+        "cgrep" => Some(Tool::Cgrep),
+        _ => None,
+    }
+}
+
+/// Does what the words ask, over the bytes of the index file, where there is one. `folder` is the
+/// current folder, of which `cindex` alone makes use.
 pub fn run<T: Tree, R: Source, O: Sink, E: Sink>(
     alloc: Global,
     words: &[String],
+    folder: &str,
+    index: Option<Vec<u8>>,
     tree: &mut T,
     input: &mut R,
     out: &mut O,
+    err: &mut E,
+) -> Ran
+    requires { FitsInMemory T.row }
+    ensures { result.status ≤ 2 }
+{
+    let Some((first, words)) = words.split_first() else {
+        return Ran::ended(refuse(err, FIRST_WORD));
+    };
+    let Some(tool) = tool_of(first.as_str()) else {
+        return Ran::ended(refuse(err, FIRST_WORD));
+    };
+    match read_words(alloc, tool, folder, words) {
+        Ok(Job::Index(job)) => run_cindex(alloc, &job, index, tree, out, err),
+        Ok(Job::Search(job)) => {
+            let answer = csearch(alloc, &job, index.as_deref(), tree, out, err);
+            Ran::ended(searched(alloc, tool, answer, err))
+        }
+        Ok(Job::Grep(job)) => {
+            let answer = cgrep(alloc, &job, tree, input, out, err);
+            Ran::ended(searched(alloc, tool, answer, err))
+        }
+        Err(fault) => {
+            let word = word_at(fault, words);
+            Ran::ended(explain(alloc, tool, &Refusal::Word(fault), word, err))
+        }
+    }
+}
+
+fn run_cindex<T: Tree, O: Sink, E: Sink>(
+    alloc: Global,
+    job: &IndexJob,
+    index: Option<Vec<u8>>,
+    tree: &mut T,
+    out: &mut O,
+    err: &mut E,
+) -> Ran
+    requires { FitsInMemory T.row }
+    ensures { result.status ≤ 2 }
+{
+    if !is_absolute(job.cwd.as_str()) {
+        return Ran::ended(refuse(err, NO_FOLDER));
+    }
+    let mut reply = Reply::Done;
+    let jobs = slice::from_ref(job);
+    let trees = slice::from_mut(tree);
+    let after = cindex(
+        alloc,
+        index,
+        jobs,
+        trees,
+        slice::from_mut(&mut reply),
+        out,
+        err,
+    );
+    match reply {
+        Reply::Refused(fault) => {
+            let word = path_at(fault, job);
+            Ran::ended(explain(alloc, Tool::Cindex, &Refusal::Index(fault), word, err))
+        }
+        Reply::Done if job.list => Ran::ended(MATCHED),
+        Reply::Done => Ran {
+            status: MATCHED,
+            index: After::of(after),
+        },
+    }
+}
+
+/// The status of a search, with the line of its refusal.
+fn searched<E: Sink>(
+    alloc: Global,
+    tool: Tool,
+    answer: Result<Status, ToolFault>,
     err: &mut E,
 ) -> u8
     ensures { result ≤ 2 }
 {
-    let Some((first, words)) = words.split_first() else {
-        return refuse(err, FIRST_WORD);
-    };
-    if first.as_str() != "cgrep" {
-        return refuse(err, FIRST_WORD);
-    }
-    match run_cgrep(alloc, words, tree, input, out, err) {
+    match answer {
         Ok(Status::Matched) => MATCHED,
         Ok(Status::NoMatch) => NO_MATCH,
-        Err(refusal) => explain(alloc, Tool::Cgrep, &refusal, words, err),
-    }
-}
-
-fn run_cgrep<T: Tree, R: Source, O: Sink, E: Sink>(
-    alloc: Global,
-    words: &[String],
-    tree: &mut T,
-    input: &mut R,
-    out: &mut O,
-    err: &mut E,
-) -> Result<Status, Refusal> {
-    match read_words(alloc, Tool::Cgrep, "", words) {
-        Ok(Job::Grep(job)) => match cgrep(alloc, &job, tree, input, out, err) {
-            Ok(status) => Ok(status),
-            Err(fault) => Err(Refusal::Tool(fault)),
-        },
-        Ok(_) => Err(Refusal::Word(WordFault::NoPattern)),
-        Err(fault) => Err(Refusal::Word(fault)),
+        Err(fault) => explain(alloc, tool, &Refusal::Tool(fault), "", err),
     }
 }
 
 /// Writes the line of a refusal.
-fn explain<E: Sink>(
-    alloc: Global,
-    tool: Tool,
-    refusal: &Refusal,
-    words: &[String],
-    err: &mut E,
-) -> u8
+fn explain<E: Sink>(alloc: Global, tool: Tool, refusal: &Refusal, word: &str, err: &mut E) -> u8
     ensures { result ≤ 2 }
 {
-    match message(alloc, tool, refusal, word_at(refusal, words)) {
+    match message(alloc, tool, refusal, word) {
         Ok(line) => refuse(err, line.as_str()),
         Err(AllocError) => refuse(err, OUT_OF_MEMORY),
     }
 }
 
-/// The word that a refusal points at, or nothing.
-fn word_at<'a>(refusal: &Refusal, words: &'a [String]) -> &'a str {
-    let at = match refusal {
-        Refusal::Word(
-            WordFault::UnknownOption(at)
-            | WordFault::NoValue(at)
-            | WordFault::BadTruth(at)
-            | WordFault::ExtraWord(at),
-        ) => *at,
-        _ => return "",
-    };
-    words.get(at).map_or("", |word| word.as_str())
+/// The word that a fault points at, or nothing.
+fn word_at(fault: WordFault, words: &[String]) -> &str {
+    match fault {
+        WordFault::UnknownOption(at)
+        | WordFault::NoValue(at)
+        | WordFault::BadTruth(at)
+        | WordFault::ExtraWord(at) => words.get(at).map_or("", |word| word.as_str()),
+        WordFault::NoPattern | WordFault::Memory => "",
+    }
+}
+
+/// The path that a fault points at, or nothing.
+fn path_at(fault: CindexFault, job: &IndexJob) -> &str {
+    match fault {
+        CindexFault::BadPath(at) => job.paths.get(at).map_or("", |path| path.as_str()),
+        _ => "",
+    }
 }
 
 /// Writes the line. Where that fails, nothing is left to say.
-fn refuse<E: Sink>(err: &mut E, line: &str) -> u8
+pub fn refuse<E: Sink>(err: &mut E, line: &str) -> u8
     ensures { result ≤ 2 }
 {
     let _ = write_all(err, line.as_bytes());

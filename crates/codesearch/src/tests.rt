@@ -1,14 +1,21 @@
 // The program over memory. Each row has the words, standard input, and what is wanted: the status,
 // the output and the lines on standard error.
 use crate::program::run;
+use crate::storage::After;
 use cs_tree::{Item, MemSink, MemSource, MemTree};
 use std::process::Abort;
 use std::test::Fail;
 
+mod desk;
 mod files;
+mod histories;
+mod indexed;
+mod indexes;
 mod patterns;
+mod random;
 mod refusals;
 mod standard_input;
+mod storage;
 mod words;
 
 /// The three outputs of a run.
@@ -35,14 +42,16 @@ fn tree_of(rt: &(impl Abort + AllocGlobal), files: &[(&str, &str)]) -> Result<Me
     Ok(tree)
 }
 
-/// Runs the program over the tree and the input, and compares what it answers and prints.
-fn runs_in(
+/// Runs the program over the tree, the input and the index, compares what it answers and prints, and
+/// answers what is to become of the index.
+fn runs_over(
     rt: &(impl Abort + AllocGlobal),
     tree: &mut MemTree,
+    index: Option<Vec<u8>>,
     words: &[&str],
     input: &mut MemSource<'_>,
     want: Wanted<'_>,
-) -> Result<(), Fail> {
+) -> Result<After, Fail> {
     let alloc = rt.alloc();
     let mut owned: Vec<String> = Vec::new(alloc);
     for word in words {
@@ -50,14 +59,27 @@ fn runs_in(
     }
     let mut out = MemSink::new(alloc, 1000000);
     let mut err = MemSink::new(alloc, 1000000);
-    let status = run(alloc, &owned, tree, input, &mut out, &mut err);
+    let ran = run(alloc, &owned, "/w", index, tree, input, &mut out, &mut err);
     assert_eq!(rt; out.bytes(), want.out.as_bytes(), "output of {words:?}");
     assert_eq!(rt;
         err.bytes(),
         want.err.as_bytes(),
         "standard error of {words:?}"
     );
-    assert_eq!(rt; status, want.status, "status of {words:?}");
+    assert_eq!(rt; ran.status, want.status, "status of {words:?}");
+    Ok(ran.index)
+}
+
+/// The same over no index.
+fn runs_in(
+    rt: &(impl Abort + AllocGlobal),
+    tree: &mut MemTree,
+    words: &[&str],
+    input: &mut MemSource<'_>,
+    want: Wanted<'_>,
+) -> Result<(), Fail> {
+    let after = runs_over(rt, tree, None, words, input, want)?;
+    assert!(rt; matches!(after, After::Kept), "index after {words:?}");
     Ok(())
 }
 

@@ -8,8 +8,8 @@ use Rattle.cs_history.specs.WellFormed.{IsHistory}
 use Rattle.cs_history.specs.Jobs.{after, followed, told, IsFitting}
 use Rattle.cs_history.specs.Headline.{Premises, Indexes}
 use Rattle.cs_history.proofs.JobLemmas.{followed_history}
-use Rattle.cs_history.specs.declared.jobs.IndexJob.{IndexJob}
-use Rattle.cs_history.specs.declared.jobs.Reply.{Reply}
+use Rattle.cs_words.specs.declared.jobs.IndexJob.{IndexJob}
+use Rattle.cs_words.specs.declared.jobs.Reply.{Reply}
 
 pub followed-push : (before : History) (jobs : List IndexJob) (trees : List Snapshot) (replies : List Reply) (job : IndexJob) (tree : Snapshot) (reply : Reply) → length trees ≡ length jobs → length replies ≡ length jobs → followed before (jobs ++ job ∷ []) (trees ++ tree ∷ []) (replies ++ reply ∷ []) ≡ after (followed before jobs trees replies) job tree reply
 followed-push before [] [] [] job tree reply e f = refl

@@ -20,7 +20,7 @@ use Rattle.cs_merge.proofs.HoldingLemmas.{content_held}
 use Rattle.cs_history.specs.History.{History, Visit, Walk, all_given, paths_of, walked, last, kept_at, files_found, files_of, index_of}
 use Rattle.cs_history.specs.WellFormed.{IsHistory}
 use Rattle.cs_history.specs.Jobs.{texts, given, has_no_path, visit_of, after_done}
-use Rattle.cs_history.specs.declared.jobs.IndexJob.{IndexJob}
+use Rattle.cs_words.specs.declared.jobs.IndexJob.{IndexJob}
 use Rattle.cs_history.proofs.KeepingLemmas.{join_kept, join_paths_of, kept_first, paths_first, get-kept, no_paths}
 use Rattle.cs_history.proofs.HistoryLemmas.{history_lies, walk_content, index_holds}
 use Rattle.cs_history.proofs.JobLemmas.{reset_begins}

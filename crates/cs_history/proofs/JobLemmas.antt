@@ -15,9 +15,9 @@ use Rattle.cs_merge.proofs.HoldingLemmas.{from_list_all}
 use Rattle.cs_history.specs.History.{History}
 use Rattle.cs_history.specs.WellFormed.{IsClean, AreClean, IsVisit, IsHistory}
 use Rattle.cs_history.specs.Jobs.{texts, given, has_no_path, IsTaken, AreTaken, IsFitting, visit_of, begun, after_done, after, followed, told}
-use Rattle.cs_history.specs.declared.jobs.IndexJob.{IndexJob}
-use Rattle.cs_history.specs.declared.jobs.Reply.{Reply}
-use Rattle.cs_history.specs.declared.jobs.Reply.TheVariants.{Done, Refused}
+use Rattle.cs_words.specs.declared.jobs.IndexJob.{IndexJob}
+use Rattle.cs_words.specs.declared.jobs.Reply.{Reply}
+use Rattle.cs_words.specs.declared.jobs.Reply.TheVariants.{Done, Refused}
 use Rattle.cs_history.proofs.PathLemmas.{NoNul, IsPart, slash_utf8}
 use Rattle.cs_history.proofs.CleanLemmas.{cleaned_settled, cleaned_part, cleaned_filled}
 

@@ -8,8 +8,8 @@ use Rattle.cs_tree.specs.Snapshot.{Snapshot}
 use Rattle.cs_history.specs.History.{History}
 use Rattle.cs_history.specs.Jobs.{texts, IsTaken, after, followed}
 use Rattle.cs_history.specs.Refusals.{NeedsIndex, IsFirstBad, IsRightReply, AreRightReplies}
-use Rattle.cs_history.specs.declared.jobs.IndexJob.{IndexJob}
-use Rattle.cs_history.specs.declared.jobs.Reply.{Reply}
+use Rattle.cs_words.specs.declared.jobs.IndexJob.{IndexJob}
+use Rattle.cs_words.specs.declared.jobs.Reply.{Reply}
 
 pub right_more : (before : History) (jobs : List IndexJob) (trees : List Snapshot) (replies : List Reply) (job : IndexJob) (tree : Snapshot) (reply : Reply) → length trees ≡ length jobs → length replies ≡ length jobs → AreRightReplies before jobs trees replies → IsRightReply (followed before jobs trees replies) job tree reply → AreRightReplies before (jobs ++ job ∷ []) (trees ++ tree ∷ []) (replies ++ reply ∷ [])
 right_more before [] [] [] job tree reply e f right h = (h, tt)

@@ -13,8 +13,8 @@ use Rattle.cs_trigram.specs.Text.{text_trigrams, limits}
 use Rattle.cs_history.specs.History.{History, files_of, index_of}
 use Rattle.cs_history.specs.WellFormed.{IsHistory}
 use Rattle.cs_history.specs.Jobs.{followed, told, IsFitting}
-use Rattle.cs_history.specs.declared.jobs.IndexJob.{IndexJob}
-use Rattle.cs_history.specs.declared.jobs.Reply.{Reply}
+use Rattle.cs_words.specs.declared.jobs.IndexJob.{IndexJob}
+use Rattle.cs_words.specs.declared.jobs.Reply.{Reply}
 
 -- ---- what it rests on
 

@@ -9,9 +9,9 @@ use Rattle.cs_tree.specs.Snapshot.{Snapshot}
 use Rattle.cs_tree.specs.Clean.{longest_path}
 use Rattle.cs_tree.specs.Clean.{absolute, cleaned}
 use Rattle.cs_history.specs.History.{History, Visit}
-use Rattle.cs_history.specs.declared.jobs.IndexJob.{IndexJob}
-use Rattle.cs_history.specs.declared.jobs.Reply.{Reply}
-use Rattle.cs_history.specs.declared.jobs.Reply.TheVariants.{Done, Refused}
+use Rattle.cs_words.specs.declared.jobs.IndexJob.{IndexJob}
+use Rattle.cs_words.specs.declared.jobs.Reply.{Reply}
+use Rattle.cs_words.specs.declared.jobs.Reply.TheVariants.{Done, Refused}
 
 -- ---- the paths of a job
 

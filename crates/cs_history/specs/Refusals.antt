@@ -4,12 +4,13 @@ use Rattle.std.specs.Prelude.{◌≡◌, ◌≢◌, ◌<◌, ◌≤◌, ◌^◌,
 use Rattle.std.specs.List.{AllByRecursion}
 use Rattle.cs_tree.specs.Snapshot.{Snapshot}
 use Rattle.cs_index.specs.Image.{image}
+use Rattle.cs_index.specs.declared.fault.IndexFault.{IndexFault}
 use Rattle.cs_history.specs.History.{History, walked, files_found, index_of}
 use Rattle.cs_history.specs.Jobs.{texts, has_no_path, IsTaken, visit_of, after_done, after}
-use Rattle.cs_history.specs.declared.jobs.IndexJob.{IndexJob}
-use Rattle.cs_history.specs.declared.jobs.CindexFault.TheVariants.{NoIndex, BadIndex, Unsorted, TooLarge, BadPath}
-use Rattle.cs_history.specs.declared.jobs.Reply.{Reply}
-use Rattle.cs_history.specs.declared.jobs.Reply.TheVariants.{Refused}
+use Rattle.cs_words.specs.declared.jobs.IndexJob.{IndexJob}
+use Rattle.cs_words.specs.declared.fault.CindexFault.TheVariants.{NoIndex, BadIndex, Unsorted, TooLarge, BadPath}
+use Rattle.cs_words.specs.declared.jobs.Reply.{Reply}
+use Rattle.cs_words.specs.declared.jobs.Reply.TheVariants.{Refused}
 
 -- ---- the causes
 
@@ -41,7 +42,7 @@ pub record IsRightReply (before : History) (job : IndexJob) (tree : Snapshot) (r
   pub no_index : (reply ≡ Refused NoIndex) ↔ ((before ≡ []) × NeedsIndex job)
   pub bad_path : (place : ℕ) → reply ≡ Refused (BadPath place) → IsFirstBad job place
   pub too_large : reply ≡ Refused TooLarge → IsTooLarge before job tree
-  pub bad_index : reply ≢ Refused BadIndex
+  pub bad_index : (fault : IndexFault) → reply ≢ Refused (BadIndex fault)
   pub unsorted : reply ≢ Refused Unsorted
 
 -- jobs in order, each reply right after the jobs before it

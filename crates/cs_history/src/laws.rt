@@ -16,10 +16,10 @@ ghost use Rattle.cs_history.specs.WellFormed.{AreClean, IsHistory};
 ghost use Rattle.cs_history.specs.Jobs.{given, has_no_path, AreTaken, IsFitting, after, followed, told};
 ghost use Rattle.cs_history.specs.Refusals.{NeedsIndex, IsFirstBad, IsRightReply, AreRightReplies};
 ghost use Rattle.cs_history.specs.Headline.{Premises, Indexes, indexed_names, StillReads};
-ghost use Rattle.cs_history.specs.declared.jobs.IndexJob.{IndexJob};
-ghost use Rattle.cs_history.specs.declared.jobs.CindexFault.{CindexFault};
-ghost use Rattle.cs_history.specs.declared.jobs.Reply.{Reply};
-ghost use Rattle.cs_history.specs.declared.jobs.Reply.TheVariants.{Done, Refused};
+ghost use Rattle.cs_words.specs.declared.jobs.IndexJob.{IndexJob};
+ghost use Rattle.cs_words.specs.declared.fault.CindexFault.{CindexFault};
+ghost use Rattle.cs_words.specs.declared.jobs.Reply.{Reply};
+ghost use Rattle.cs_words.specs.declared.jobs.Reply.TheVariants.{Done, Refused};
 
 /// Joining what is kept with what one more job found gives what is kept after that job.
 pub fn joining_keeps()

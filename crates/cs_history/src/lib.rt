@@ -3,7 +3,4 @@
 //! paths and histories are meant; and `specs/Jobs.antt`: what jobs and replies make of a history.
 #![tactic(auto)]
 
-mod jobs;
 pub mod laws;
-
-pub use jobs::{CindexFault, IndexJob, Reply};

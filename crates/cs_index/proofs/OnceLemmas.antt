@@ -17,10 +17,10 @@ apart a b c d l e = (
 four_once : (n m : ℕ) → n < 2 ^ 32 → m < 2 ^ 32 → four_bytes n ≡ four_bytes m → n ≡ m
 four_once n m f g e = sym (from_be_bytes-to_be_bytes_4 n f) ∙ ap (from_be_bytes w32) e ∙ from_be_bytes-to_be_bytes_4 m g
 
-top_zero : (n : ℕ) → n < 2 ^ 24 → four_bytes n ≡ 0 ∷ three_bytes n
+pub top_zero : (n : ℕ) → n < 2 ^ 24 → four_bytes n ≡ 0 ∷ three_bytes n
 top_zero n h = ap (λ b. b ∷ three_bytes n) (let z : n / 16777216 % 256 ≡ 0 = omega (arith, h) in z)
 
-three_once : (n m : ℕ) → n < 2 ^ 24 → m < 2 ^ 24 → three_bytes n ≡ three_bytes m → n ≡ m
+pub three_once : (n m : ℕ) → n < 2 ^ 24 → m < 2 ^ 24 → three_bytes n ≡ three_bytes m → n ≡ m
 three_once n m f g e = four_once n m (omega (arith, f)) (omega (arith, g)) (top_zero n f ∙ ap (λ bs. 0 ∷ bs) e ∙ sym (top_zero m g))
 
 -- ---- strings
@@ -86,11 +86,11 @@ numbers_once (n ∷ xs) (m ∷ ys) x y a b l e =
     let rest = numbers_once xs ys x y a.1 b.1 (omega (arith, l)) both.1 in
     λ i. head i ∷ rest i
 
-record Lengths (s : Sections) : Type 0 where
-  whole : length (joined (in_order s)) ≡ length s.paths + (length s.names + (length s.postings + (length s.name_index + length s.list_index)))
-  laid : length (laid_out s) ≡ 16 + (length (joined (in_order s)) + 36)
+pub record Lengths (s : Sections) : Type 0 where
+  pub whole : length (joined (in_order s)) ≡ length s.paths + (length s.names + (length s.postings + (length s.name_index + length s.list_index)))
+  pub laid : length (laid_out s) ≡ 16 + (length (joined (in_order s)) + 36)
 
-lengths : (s : Sections) → Lengths s
+pub lengths : (s : Sections) → Lengths s
 lengths s =
     let c : length (joined (in_order s)) ≡ length s.paths + length (s.names ++ (s.postings ++ (s.name_index ++ (s.list_index ++ [])))) = length-append s.paths _ in
     let d : length (s.names ++ (s.postings ++ (s.name_index ++ (s.list_index ++ [])))) ≡ length s.names + length (s.postings ++ (s.name_index ++ (s.list_index ++ []))) = length-append s.names _ in
@@ -100,7 +100,7 @@ lengths s =
     let t : length (joined (in_order s) ++ trailer s) ≡ length (joined (in_order s)) + 36 = length-append (joined (in_order s)) (trailer s) in
     record { whole = omega (arith, c, d, e, f, g); laid = omega (arith, t) }
 
-starts_fit : (s : Sections) → length (laid_out s) < 2 ^ 32 → AllByRecursion (λ n. n < 2 ^ 32) (starts_from 16 (in_order s))
+pub starts_fit : (s : Sections) → length (laid_out s) < 2 ^ 32 → AllByRecursion (λ n. n < 2 ^ 32) (starts_from 16 (in_order s))
 starts_fit s h =
     let l = lengths s in
     (omega arith, (omega (arith, l.whole, l.laid, h), (omega (arith, l.whole, l.laid, h), (omega (arith, l.whole, l.laid, h), (omega (arith, l.whole, l.laid, h), tt)))))

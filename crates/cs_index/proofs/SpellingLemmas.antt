@@ -150,3 +150,7 @@ image_spelled paths entries h =
       each_entry = entries_fit s.postings 0 (postings_of entries) (postings_fit entries (trigrams_of entries) h.few (all_ascending (λ g. g < 16777215) _ (all_sets (λ g. g < 16777215) entries h.trigrams))) whole short;
       ascending = subst Ascends (sym (entry_trigrams 0 (postings_of entries) ∙ posting_trigrams entries (trigrams_of entries))) (ascends_ascending (flat_map (λ (entry : Entry). entry.1) entries));
     }
+
+pub image_sections : (paths : List (List ℕ)) (entries : List Entry) (h : IsIndexable paths entries) → (image_spelled paths entries h).sections ≡ sections_of paths (names_of entries) (postings_of entries)
+unfolding image_spelled
+image_sections paths entries h = refl

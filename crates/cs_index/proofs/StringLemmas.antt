@@ -10,7 +10,7 @@ use Rattle.cs_index.specs.Built.{is_storable}
 use Rattle.cs_index.specs.Strings.{onto_first, texts_in, AreStrings}
 
 -- a text and its NUL stand in front
-front_text : (text rest : List ℕ) → AllByRecursion (λ b. 0 < b) text → texts_in (ended text ++ rest) ≡ text ∷ texts_in rest
+pub front_text : (text rest : List ℕ) → AllByRecursion (λ b. 0 < b) text → texts_in (ended text ++ rest) ≡ text ∷ texts_in rest
 unfolding texts_in
 front_text [] rest all = refl
 front_text (zero ∷ text) rest all = absurd (omega (arith, all.0))

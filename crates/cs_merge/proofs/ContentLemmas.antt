@@ -94,7 +94,7 @@ all_seconds : (P Q : Entry → Type 0) (es : List Entry) → AllByRecursion (λ 
 all_seconds P Q [] all = tt
 all_seconds P Q (e ∷ es) all = (all.0.1, all_seconds P Q es all.1)
 
-all_paths : (paths : Paths) → ((path : List ℕ) → set.contains paths path ≡ true → IsString path) → AllByRecursion IsString (set.items paths)
+pub all_paths : (paths : Paths) → ((path : List ℕ) → set.contains paths path ≡ true → IsString path) → AllByRecursion IsString (set.items paths)
 all_paths paths h = all_keys IsString (map'.entries paths) (each_of_map (λ path (mark : Unit {0}). IsString path) paths (λ path mark there. h path (ap is_some there)))
 
 -- ---- what 32 bits can count has few names
@@ -117,14 +117,17 @@ index_short s =
     let f : length (s.name_index ++ (s.list_index ++ [])) ≡ length s.name_index + length (s.list_index ++ []) = length-append s.name_index _ in
     omega (arith, a, b, c, d, e, f)
 
-few_names : (paths : List (List ℕ)) (entries : List Entry) → length (image_of paths entries) < 2 ^ 32 → length entries < 2 ^ 31
-few_names paths entries short =
+pub many_names : (paths : List (List ℕ)) (entries : List Entry) → 4 * length entries + 4 ≤ length (image_of paths entries)
+many_names paths entries =
     let s : Sections = sections_of paths (names_of entries) (postings_of entries) in
     let whole = index_short s in
     let own : length s.name_index ≡ length (name_offsets (names_of entries)) + 4 = length-append (name_offsets (names_of entries)) (four_bytes (length (joined (map ended (names_of entries))))) in
     let offsets = long_offsets 0 (map ended (names_of entries)) in
     let count : length (map ended (names_of entries)) ≡ length entries = length-map (names_of entries) ended ∙ length-map entries (λ (entry : Entry). entry.0) in
-    omega (arith, whole, own, offsets, count, short)
+    omega (arith, whole, own, offsets, count)
+
+few_names : (paths : List (List ℕ)) (entries : List Entry) → length (image_of paths entries) < 2 ^ 32 → length entries < 2 ^ 31
+few_names paths entries short = let many = many_names paths entries in omega (arith, many, short)
 
 -- ---- content and image
 

@@ -44,7 +44,7 @@ from_list_all P paths all path member = among paths all (ap is_some (sym (map'.g
           | inr apart ↦ among ps all.1 (sym (ap (λ t. is_some (cond t (Some tt) (find bytes_cmp path (set.marked ps)))) apart) ∙ h)
         ]
 
-marked_items : (q : List ℕ) (ps : List (List ℕ)) → is_some (find bytes_cmp q (set.marked ps)) ≡ list_any (eq_by_cmp bytes_cmp q) ps
+pub marked_items : (q : List ℕ) (ps : List (List ℕ)) → is_some (find bytes_cmp q (set.marked ps)) ≡ list_any (eq_by_cmp bytes_cmp q) ps
 marked_items q [] = refl
 marked_items q (p ∷ ps) = elim (eq_by_cmp bytes_cmp q p) as (λ t. is_some (cond t (Some tt) (find bytes_cmp q (set.marked ps))) ≡ (t || list_any (eq_by_cmp bytes_cmp q) ps)) [ true ↦ refl | false ↦ marked_items q ps ]
 
@@ -64,7 +64,7 @@ lists_of : (section : List ℕ) (names at : ℕ) (ps : List Posting) → AllZip 
 lists_of section names at [] all = tt
 lists_of section names at (p ∷ ps) all = ((refl, all.0), lists_of section names (at + length (posting_list p)) ps all.1)
 
-is_true : (b : Bool) → T b → b ≡ true
+pub is_true : (b : Bool) → T b → b ≡ true
 is_true true h = refl
 is_true false h = absurd h
 
@@ -123,7 +123,7 @@ held_once bytes p q f g a b =
 -- ---- what is held can be held
 
 -- a trigram that some file may have
-abbrev Fits : Posting → Type 0
+abbrev pub Fits : Posting → Type 0
 Fits p = (p.0 < 16777215) ⊎ (p.1 ≡ [])
 
 no_ids : (section ids : List ℕ) (names : ℕ) (e : ListEntry) → e.count ≡ 0 → IsList section names e ids → ids ≡ []
@@ -157,7 +157,7 @@ same_trigrams section names (e ∷ es) (p ∷ ps) all =
     let rest = same_trigrams section names es ps all.1 in
     λ i. head i ∷ rest i
 
-set_fits : (id : ℕ) (ps : List Posting) → AllByRecursion Fits ps → AllByRecursion (λ g. g < 16777215) (set_at id ps)
+pub set_fits : (id : ℕ) (ps : List Posting) → AllByRecursion Fits ps → AllByRecursion (λ g. g < 16777215) (set_at id ps)
 set_fits id [] all = tt
 set_fits id (p ∷ ps) all = by_test (has p.1 id) refl (set_fits id ps all.1)
   where
@@ -191,7 +191,7 @@ set_above n id (p ∷ ps) above =
       | false ↦ set_above n id ps above.1
     ]
 
-set_ascends : (id : ℕ) (ps : List Posting) → Ascends (map (λ (p : Posting). p.0) ps) → Ascends (set_at id ps)
+pub set_ascends : (id : ℕ) (ps : List Posting) → Ascends (map (λ (p : Posting). p.0) ps) → Ascends (set_at id ps)
 set_ascends id [] up = tt
 set_ascends id (p ∷ ps) up =
     let rest = set_ascends id ps (tail_ascends p.0 (map (λ (q : Posting). q.0) ps) up) in
@@ -202,7 +202,7 @@ set_ascends id (p ∷ ps) up =
 
 -- ---- files
 
-all_files : (P : List ℕ → Type 0) (Q : List ℕ → Type 0) (first : ℕ) (names : List (List ℕ)) (ps : List Posting) → AllByRecursion P names → ((id : ℕ) → Q (set_at id ps)) → AllByRecursion (λ (e : Entry). P e.0 × Q e.1) (entries_of first names ps)
+pub all_files : (P : List ℕ → Type 0) (Q : List ℕ → Type 0) (first : ℕ) (names : List (List ℕ)) (ps : List Posting) → AllByRecursion P names → ((id : ℕ) → Q (set_at id ps)) → AllByRecursion (λ (e : Entry). P e.0 × Q e.1) (entries_of first names ps)
 all_files P Q first [] ps all sets = tt
 all_files P Q first (name ∷ names) ps all sets = ((all.0, sets first), all_files P Q (first + 1) names ps all.1 sets)
 

@@ -20,7 +20,7 @@ module _ {X : Type 0} where
       kept : map.FinMap bytes_cmp X
       kept = map.retain_keys old (λ n. not (covered paths n))
 
-  or_none : (o : Option X) → or_else o None ≡ o
+  pub or_none : (o : Option X) → or_else o None ≡ o
   or_none None = refl
   or_none (Some x) = refl
 

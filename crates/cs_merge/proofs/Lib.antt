@@ -1,3 +1,10 @@
 pub mod JoinLemmas
 pub mod ContentLemmas
 pub mod HoldingLemmas
+pub mod GatheringLemmas
+pub mod BuildingLemmas
+pub mod CoverLemmas
+pub mod InterleavingLemmas
+pub mod JoiningLemmas
+pub mod ReadyLemmas
+pub mod OpeningLemmas

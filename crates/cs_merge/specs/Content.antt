@@ -1,11 +1,12 @@
 -- What an index holds: a set of paths, and a map from the names of files to their sets of trigrams.
 -- docs/FORMAT.md, "The index as it is written" and "The index as it is read".
-use Rattle.std.specs.Prelude.{◌≡◌, ℕ, ◌<◌, true, List, length, Some}
+use Rattle.std.specs.Prelude.{◌≡◌, ℕ, ◌<◌, true, List, length, Some, Ok}
 use Rattle.std.specs.List.{AllByRecursion, AllZip}
 use Rattle.std.specs.FinMap as map
 use Rattle.cs_tree.specs.PathSet as set
 use Rattle.cs_tree.specs.Cover.{bytes_cmp, Paths, covered}
 use Rattle.cs_index.specs.Image.{Files, ListEntry, Posting}
+use Rattle.cs_index.specs.Opening.{Parts, are_whole, files_read, names_ascend, opened as opened_as}
 use Rattle.cs_index.specs.Spelling.{IsString, Ascends, IsList, Spells, entries_of}
 
 -- ---- what can be held
@@ -46,3 +47,26 @@ pub record Holds (bytes : List ℕ) (paths : Paths) (files : Files) : Type 0 whe
   pub ascend : map.is_sorted bytes_cmp (entries_of 0 names lists) ≡ true
   pub paths_are : paths ≡ set.from_list path_list
   pub files_are : files ≡ map.from_entries (entries_of 0 names lists)
+
+-- ---- what an index that was opened holds
+
+-- its paths
+unfoldable pub paths_in : Parts → Paths
+paths_in parts = set.from_list parts.paths
+
+-- its files
+unfoldable pub files_in : Parts → Files
+files_in parts = map.from_entries (files_read parts)
+
+-- The parts have these paths and files, their names ascend and their lists are whole.
+pub record HasContent (parts : Parts) (paths : Paths) (files : Files) : Type 0 where
+  pub paths_are : paths_in parts ≡ paths
+  pub files_are : files_in parts ≡ files
+  pub ascend : names_ascend parts.names ≡ true
+  pub whole : are_whole parts ≡ true
+
+-- The bytes open as an index that has these paths and files.
+pub record Opens (bytes : List ℕ) (paths : Paths) (files : Files) : Type 0 where
+  pub parts : Parts
+  pub opened : opened_as bytes ≡ Ok parts
+  pub has : HasContent parts paths files

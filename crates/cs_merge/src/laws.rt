@@ -1,12 +1,13 @@
 // Laws of joining, and of what an index holds. None of these functions does anything.
-ghost use Rattle.std.specs.Prelude.{◌≡◌, ◌<◌, ◌^◌, ◌||◌, List, ℕ, true, false, Some, length, slice_index_or};
+ghost use Rattle.std.specs.Prelude.{◌≡◌, ◌<◌, ◌^◌, ◌||◌, ◌↔◌, List, ℕ, true, false, Some, Ok, length, slice_index_or};
 ghost use Rattle.std.specs.FinMap as map;
 ghost use Rattle.cs_tree.specs.PathSet as set;
 ghost use Rattle.cs_tree.specs.Cover.{Paths, covered, bytes_cmp};
 ghost use Rattle.cs_index.specs.Image.{Files, image, list_entries, postings_of};
+ghost use Rattle.cs_index.specs.Opening.{AreBytes, Parts, opened};
 ghost use Rattle.cs_index.specs.Spelling.{Spells, set_at};
 ghost use Rattle.cs_merge.specs.Join.{join_files, join_paths};
-ghost use Rattle.cs_merge.specs.Content.{IsContent, LieUnder, Holds};
+ghost use Rattle.cs_merge.specs.Content.{IsContent, LieUnder, Holds, HasContent, Opens};
 
 /// At a name that the newer paths cover the join has what the newer index has.
 pub fn newer_wins()
@@ -60,4 +61,12 @@ pub fn names_have_their_sets()
 pub fn images_have_one_content()
     ensures { (p q : Paths) (f g : Files) → IsContent p f → IsContent q g → length (image p f) < 2 ^ 32 →
         image p f ≡ image q g → (p ≡ q) × (f ≡ g) }
+{}
+
+/// Bytes hold paths and files exactly where they open as an index that has these, its names
+/// ascending and its lists whole.
+pub fn held_bytes_open()
+    ensures exactly { (bytes : List ℕ) (paths : Paths) (files : Files) → AreBytes bytes → Holds bytes paths files ↔ Opens bytes paths files }
+    ensures has { (bytes : List ℕ) (parts : Parts) (paths : Paths) (files : Files) → AreBytes bytes → opened bytes ≡ Ok parts →
+        Holds bytes paths files → HasContent parts paths files }
 {}

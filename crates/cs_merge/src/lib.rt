@@ -1,5 +1,16 @@
-//! What joining an index with a newer one means. Read `specs/Join.antt` first, then
+//! The joining of an index with a newer one. Read `specs/Join.antt` first: what joining means, then
 //! `specs/Content.antt`: what an index holds, and what of it its bytes determine.
 #![tactic(auto)]
 
+mod building;
+mod covering;
+mod fault;
+mod files;
+mod joining;
 pub mod laws;
+
+pub use fault::MergeFault;
+pub use joining::merge;
+
+#[cfg(test)]
+mod tests;

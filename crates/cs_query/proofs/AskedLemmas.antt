@@ -3,16 +3,19 @@ use Rattle.std.proofs.Common.{◌≡◌, ℕ, ◌-◌, ◌<◌, ◌≤◌, ◌�
 use Rattle.std.specs.List.{list_all}
 use Rattle.std.proofs.lemmas.Bool.{and_parts, and_from, or_cases, or_left, or_right}
 use Rattle.cs_syntax.specs.Matching.{Tree, Trees, cat, none, more, Takes, TakesAll}
-use Rattle.cs_query.specs.Trigram.{windows}
+use Rattle.cs_trigram.specs.Trigram.{windows}
+use Rattle.cs_query.specs.Edges.{part}
 use Rattle.cs_query.specs.Query.{HasTrigrams}
-use Rattle.cs_query.specs.Windows.{is_plain, are_plain, Spells, Joins, IsMember, AreFew, Shows, ShowsRuns, joined, HasWindows}
+use Rattle.cs_query.specs.Windows.{IsMember, AreFew, Shows, ShowsRuns, joined, HasWindows}
+use Rattle.cs_query.specs.Words.{is_finite, are_finite, Reads, ReadsAll, ReadFew}
 use Rattle.cs_query.specs.Sample.{with_words, joinings, IsSample, AreWords, IsBlocked, IsFront, TreeWords, has_any, IsAsked}
 use Rattle.cs_query.proofs.FewLemmas.{empty_words, few_front, few_back, front_begins, whole_words, words_sample, before_sample, joins_one, spells_one}
+use Rattle.cs_query.proofs.PlainLemmas.{few_read, reads_joins}
 use Rattle.cs_query.proofs.TrigramLemmas.{all_windows, has_part, has_front, has_back}
-use Rattle.cs_query.proofs.SpellingLemmas.{part, spelled_all, taken_front, spelled_windows}
+use Rattle.cs_query.proofs.SpellingLemmas.{spelled_all, taken_front, spelled_windows}
 
 module _ (set : ℕ → Bool) where
-  any_shown : (ws : List (List ℕ)) → has_any set ws ≡ true → (w : List ℕ) × IsMember w ws × HasTrigrams set w
+  pub any_shown : (ws : List (List ℕ)) → has_any set ws ≡ true → (w : List ℕ) × IsMember w ws × HasTrigrams set w
   any_shown [] h = (cc)
   any_shown (w ∷ ws) h =
       elim (or_cases (list_all set (windows w)) (has_any set ws) h) [
@@ -20,7 +23,7 @@ module _ (set : ℕ → Bool) where
         | inr b ↦ let r = any_shown ws b in (r.0, inr r.1, r.2)
       ]
 
-  shown_any : (ws : List (List ℕ)) (w : List ℕ) → IsMember w ws → HasTrigrams set w → has_any set ws ≡ true
+  pub shown_any : (ws : List (List ℕ)) (w : List ℕ) → IsMember w ws → HasTrigrams set w → has_any set ws ≡ true
   shown_any [] w m h = absurd m
   shown_any (x ∷ ws) w m h =
       elim m [
@@ -33,7 +36,7 @@ module _ (set : ℕ → Bool) where
   front_held : (ts : Trees) (ws : List (List ℕ)) → IsFront ts ws → (s : List ℕ) (i j : ℕ) → TakesAll s ts i j → HasTrigrams set s → has_any set ws ≡ true
   front_held ts ws f s i j h has =
       let r = taken_front s f.run f.after i j (subst (λ (x : Trees). TakesAll s x i j) f.is h) in
-      let word = spelled_all s f.run i r.0 f.plain r.1 in
+      let word = spelled_all s f.run i r.0 f.finite r.1 in
       shown_any ws (part s i r.0) ((f.each.each (part s i r.0)).0 word.1) (has_part set (r.0 - i) i s has)
 
   runs_more : (t : Tree) (ts : Trees) → ShowsRuns set ts → ((run after : Trees) → more t ts ≡ joined run after → AreFew run → Shows set run) → ShowsRuns set (more t ts)
@@ -41,18 +44,24 @@ module _ (set : ℕ → Bool) where
   runs_more t ts old new (more b before) run after e few = let tail : ts ≡ joined before (joined run after) = (cc) in old before run after tail few
 
   -- where the set has a word of the run at the front, it shows each run at the front that has few
-  fronts_shown : (ts : Trees) (ws : List (List ℕ)) → IsFront ts ws → has_any set ws ≡ true → (run after : Trees) → ts ≡ joined run after → AreFew run → Shows set run
-  fronts_shown ts ws f h run after e few =
+  fronts_read : (ts : Trees) (ws : List (List ℕ)) → IsFront ts ws → has_any set ws ≡ true → (run after : Trees) → ts ≡ joined run after → ReadFew run →
+      (word : List ℕ) × ReadsAll run word × HasTrigrams set word
+  fronts_read ts ws f h run after e few =
       let w = any_shown ws h in
       let r = front_begins ts ws f w.0 w.1 run after e few in
       (r.0, r.2, has_front set r.0 r.1 (subst (HasTrigrams set) r.3 w.2))
 
-pub empty_front : (t : Tree) (ts : Trees) → (AreFew (more t none) → ⊥) → IsFront (more t ts) ([] ∷ [])
-empty_front t ts no_few = record { run = none; after = more t ts; is = refl; plain = refl; each = empty_words; blocked = no_few }
+  fronts_shown : (ts : Trees) (ws : List (List ℕ)) → IsFront ts ws → has_any set ws ≡ true → (run after : Trees) → ts ≡ joined run after → AreFew run → Shows set run
+  fronts_shown ts ws f h run after e few =
+      let r = fronts_read ts ws f h run after e (few_read run few) in
+      (r.0, reads_joins run few.0 r.0 r.1, r.2)
+
+pub empty_front : (t : Tree) (ts : Trees) → (ReadFew (more t none) → ⊥) → IsFront (more t ts) ([] ∷ [])
+empty_front t ts no_few = record { run = none; after = more t ts; is = refl; finite = refl; each = empty_words; blocked = no_few }
 
 pub asked_none : (needs : (ℕ → Bool) → Bool) → ((set : ℕ → Bool) → needs set ≡ true) → IsAsked ([] ∷ []) needs none
 asked_none needs all = record {
-  run = record { run = none; after = none; is = refl; plain = refl; each = empty_words; blocked = tt };
+  run = record { run = none; after = none; is = refl; finite = refl; each = empty_words; blocked = tt };
   holding = λ s set i j h has. all set;
   sharp = λ set n h. (λ before run after e few. let parts = none_joined before (joined run after) e in let inner = none_joined run after parts.1 in subst (Shows set) (sym inner.0) ([], refl, refl), tt);
 }
@@ -63,7 +72,7 @@ asked_none needs all = record {
 
 module _ (front : List (List ℕ)) (needs later : (ℕ → Bool) → Bool) (t : Tree) (ts : Trees) (asked : IsAsked front needs ts) where
   -- a part that has not few words
-  pub asked_cut : (own : (ℕ → Bool) → Bool) → (AreFew (more t none) → ⊥) →
+  pub asked_cut : (own : (ℕ → Bool) → Bool) → (ReadFew (more t none) → ⊥) →
       ((s : List ℕ) (set : ℕ → Bool) (i j : ℕ) → Takes s t i j → HasTrigrams set s → own set ≡ true) →
       ((set : ℕ → Bool) → own set ≡ true → HasWindows set t) →
       ((set : ℕ → Bool) → later set ≡ ((needs set && has_any set front) && own set)) → IsAsked ([] ∷ []) later (more t ts)
@@ -84,21 +93,21 @@ module _ (front : List (List ℕ)) (needs later : (ℕ → Bool) → Bool) (t : 
       short set none after e few = ([], refl, refl)
       short set (more u run) after e few =
           let same : u ≡ t = (cc) in
-          absurd (no_few (subst (λ (x : Tree). AreFew (more x none)) same (few_front (more u none) run few)))
+          absurd (no_few (subst (λ (x : Tree). ReadFew (more x none)) same (few_front (more u none) run (few_read (more u run) few))))
 
   -- a part that goes before the run
-  pub asked_join : (us : List (List ℕ)) → TreeWords us t → length (with_words [] (joinings us front)) ≤ 8 →
+  pub asked_join : (us : List (List ℕ)) → TreeWords us t → length (with_words [] (joinings us front)) ≤ 20 →
       IsAsked (with_words [] (joinings us front)) needs (more t ts)
   asked_join us words le =
       let run = asked.run.run in
-      let sample = before_sample t run us front (words_sample us (Spells t) words.1) (words_sample front (Joins run) asked.run.each) in
+      let sample = before_sample t run us front (words_sample us (Reads t) words.1) (words_sample front (ReadsAll run) asked.run.each) in
       let ws = with_words [] (joinings us front) in
       let f : IsFront (more t ts) ws = record {
         run = more t run;
         after = asked.run.after;
         is = ap (more t) asked.run.is;
-        plain = and_from (is_plain t) (are_plain run) words.0 asked.run.plain;
-        each = whole_words ws (Joins (more t run)) sample (some_word us front ws words.1 asked.run.each sample) le;
+        finite = and_from (is_finite t) (are_finite run) words.0 asked.run.finite;
+        each = whole_words ws (ReadsAll (more t run)) sample (some_word us front ws words.1 asked.run.each sample) le;
         blocked = blocked_before run asked.run.after asked.run.blocked;
       } in
       record {
@@ -125,7 +134,7 @@ module _ (front : List (List ℕ)) (needs later : (ℕ → Bool) → Bool) (t : 
       not_empty [] x m = absurd m
       not_empty (y ∷ xs) x m = omega arith
 
-      some_word : (us vs ws : List (List ℕ)) → AreWords us (Spells t) → AreWords vs (Joins asked.run.run) → IsSample ws (Joins (more t asked.run.run)) → 0 < length ws
+      some_word : (us vs ws : List (List ℕ)) → AreWords us (Reads t) → AreWords vs (ReadsAll asked.run.run) → IsSample ws (ReadsAll (more t asked.run.run)) → 0 < length ws
       some_word us vs ws a b s =
           let u = first_of_list us a.some in
           let v = first_of_list vs b.some in
@@ -134,12 +143,12 @@ module _ (front : List (List ℕ)) (needs later : (ℕ → Bool) → Bool) (t : 
             | inr large ↦ large
           ]
         where
-          either : (xs : List (List ℕ)) → (length xs ≤ 8) ⊎ (0 < length xs)
+          either : (xs : List (List ℕ)) → (length xs ≤ 20) ⊎ (0 < length xs)
           either [] = inl (omega arith)
           either (x ∷ xs) = inr (omega arith)
 
   -- a part that does not go before the run, where another run begins
-  pub asked_pass : (ws : List (List ℕ)) → IsFront (more t ts) ws → AreFew (more t none) → ((set : ℕ → Bool) → later set ≡ (needs set && has_any set front)) →
+  pub asked_pass : (ws : List (List ℕ)) → IsFront (more t ts) ws → ReadFew (more t none) → ((set : ℕ → Bool) → later set ≡ (needs set && has_any set front)) →
       IsAsked ws later (more t ts)
   asked_pass ws f few is = record {
     run = f;
@@ -148,7 +157,7 @@ module _ (front : List (List ℕ)) (needs later : (ℕ → Bool) → Bool) (t : 
     sharp = λ set n h.
         let old = and_parts (needs set) (has_any set front) (sym (is set) ∙ n) in
         let windows = asked.sharp set old.0 old.1 in
-        let one = fronts_shown set (more t ts) ws f h (more t none) ts refl few in
+        let one = fronts_read set (more t ts) ws f h (more t none) ts refl few in
         (runs_more set t ts windows.0 (fronts_shown set (more t ts) ws f h), (spelled_windows set t one.0 (spells_one t one.0 one.1) one.2, windows.1));
   }
 
@@ -163,13 +172,23 @@ asked_whole front needs whole ts asked is = (
 )
 
 -- few words of a tree
-pub few_tree : (us : List (List ℕ)) (t : Tree) → TreeWords us t → AreFew (more t none)
+pub few_tree : (us : List (List ℕ)) (t : Tree) → TreeWords us t → ReadFew (more t none)
 few_tree us t words = (
-  and_from (is_plain t) true words.0 refl,
+  and_from (is_finite t) true words.0 refl,
   some us words.1.some (λ w m. (words.1.each w).1 m),
   (us, words.1.few, λ w j. (words.1.each w).0 (spells_one t w j)),
 )
   where
-    some : (xs : List (List ℕ)) → 0 < length xs → ((w : List ℕ) → IsMember w xs → Spells t w) → (w : List ℕ) × Joins (more t none) w
+    some : (xs : List (List ℕ)) → 0 < length xs → ((w : List ℕ) → IsMember w xs → Reads t w) → (w : List ℕ) × ReadsAll (more t none) w
     some [] h each = absurd (omega arith)
     some (x ∷ xs) h each = (x, joins_one t x (each x (inl refl)))
+
+-- one more demand, which each line meets in which the sequence takes a part
+pub asked_more : (front : List (List ℕ)) (needs query later : (ℕ → Bool) → Bool) (ts : Trees) → IsAsked front needs ts →
+    ((s : List ℕ) (set : ℕ → Bool) (i j : ℕ) → TakesAll s ts i j → HasTrigrams set s → query set ≡ true) →
+    ((set : ℕ → Bool) → later set ≡ (needs set && query set)) → IsAsked front later ts
+asked_more front needs query later ts asked held is = record {
+  run = asked.run;
+  holding = λ s set i j h has. is set ∙ and_from (needs set) (query set) (asked.holding s set i j h has) (held s set i j h has);
+  sharp = λ set n h. asked.sharp set (and_parts (needs set) (query set) (sym (is set) ∙ n)).0 h;
+}

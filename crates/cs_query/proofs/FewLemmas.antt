@@ -5,7 +5,8 @@ use Rattle.std.proofs.Math.Seq.{take-append_seam, drop-append_seam}
 use Rattle.std.proofs.lemmas.Bool.{and_parts, and_from, leb-true, le-leb, lt-ltb, ltb-true, both_ways}
 use Rattle.std.proofs.lemmas.List.{append-nil, length-map}
 use Rattle.cs_syntax.specs.Matching.{Tree, Trees, none, more}
-use Rattle.cs_query.specs.Windows.{is_plain, are_plain, Spells, Joins, SomeSpells, IsMember, AreFew, joined}
+use Rattle.cs_query.specs.Windows.{IsMember, joined}
+use Rattle.cs_query.specs.Words.{is_finite, are_finite, Reads, ReadsAll, ReadsSome, ReadFew}
 use Rattle.cs_query.specs.Sample.{with_words, joinings, is_few, IsSample, AreWords, IsBlocked, IsFront, SamplesTree, SamplesRun, SamplesChoice, TreeWords, RunWords}
 use Rattle.cs_query.proofs.MemberLemmas.{map_member, different_within}
 use Rattle.cs_query.proofs.SampleLemmas.{sample_same, sample_words, sample_joinings}
@@ -18,38 +19,38 @@ pub joined_none : (a : Trees) → joined a none ≡ a
 joined_none none = refl
 joined_none (more t a) = ap (more t) (joined_none a)
 
-pub plain_joined : (a b : Trees) → are_plain (joined a b) ≡ (are_plain a && are_plain b)
-plain_joined none b = refl
-plain_joined (more t a) b = and_more (is_plain t) (are_plain a) (are_plain b) (are_plain (joined a b)) (plain_joined a b)
+pub finite_joined : (a b : Trees) → are_finite (joined a b) ≡ (are_finite a && are_finite b)
+finite_joined none b = refl
+finite_joined (more t a) b = and_more (is_finite t) (are_finite a) (are_finite b) (are_finite (joined a b)) (finite_joined a b)
   where
     and_more : (x y z r : Bool) → r ≡ (y && z) → (x && r) ≡ ((x && y) && z)
     and_more true y z r e = e
     and_more false y z r e = refl
 
 -- what joins words of two runs, and what joins words of both
-pub joins_both : (a b : Trees) (u v : List ℕ) → Joins a u → Joins b v → Joins (joined a b) (u ++ v)
-joins_both none b u v p q = subst (λ (x : List ℕ). Joins b (x ++ v)) (sym p) q
+pub joins_both : (a b : Trees) (u v : List ℕ) → ReadsAll a u → ReadsAll b v → ReadsAll (joined a b) (u ++ v)
+joins_both none b u v p q = subst (λ (x : List ℕ). ReadsAll b (x ++ v)) (sym p) q
 joins_both (more t a) b u v p q =
     (p.0, p.1 ++ v, p.2, joins_both a b p.1 v p.3 q, ap (λ x. x ++ v) p.4 ∙ append_assoc p.0 p.1 v)
 
-pub joins_split : (a b : Trees) (w : List ℕ) → Joins (joined a b) w → (u v : List ℕ) × Joins a u × Joins b v × (w ≡ u ++ v)
+pub joins_split : (a b : Trees) (w : List ℕ) → ReadsAll (joined a b) w → (u v : List ℕ) × ReadsAll a u × ReadsAll b v × (w ≡ u ++ v)
 joins_split none b w j = ([], w, refl, j, refl)
 joins_split (more t a) b w j =
     let r = joins_split a b j.1 j.3 in
     (j.0 ++ r.0, r.1, (j.0, r.0, j.2, r.2, refl), r.3, j.4 ∙ ap (λ x. j.0 ++ x) r.4 ∙ sym (append_assoc j.0 r.0 r.1))
 
 -- a run of one
-pub joins_one : (t : Tree) (w : List ℕ) → Spells t w → Joins (more t none) w
+pub joins_one : (t : Tree) (w : List ℕ) → Reads t w → ReadsAll (more t none) w
 joins_one t w s = (w, [], s, refl, sym (append-nil w))
 
-pub spells_one : (t : Tree) (w : List ℕ) → Joins (more t none) w → Spells t w
+pub spells_one : (t : Tree) (w : List ℕ) → ReadsAll (more t none) w → Reads t w
 spells_one t w j =
-    subst (Spells t) (sym (j.4 ∙ ap (λ x. j.0 ++ x) j.3 ∙ append-nil j.0)) j.2
+    subst (Reads t) (sym (j.4 ∙ ap (λ x. j.0 ++ x) j.3 ∙ append-nil j.0)) j.2
 
 -- a run that goes on from one with few words has no fewer
-pub few_front : (a b : Trees) → AreFew (joined a b) → AreFew a
+pub few_front : (a b : Trees) → ReadFew (joined a b) → ReadFew a
 few_front a b few =
-    let parts = and_parts (are_plain a) (are_plain b) (sym (plain_joined a b) ∙ few.0) in
+    let parts = and_parts (are_finite a) (are_finite b) (sym (finite_joined a b) ∙ few.0) in
     let first = joins_split a b few.1.0 few.1.1 in
     let v = first.1 in
     let cut : List ℕ → List ℕ = λ x. take (length x - length v) x in (
@@ -66,9 +67,9 @@ few_front a b few =
       ),
     )
 
-pub few_back : (a b : Trees) → AreFew (joined a b) → AreFew b
+pub few_back : (a b : Trees) → ReadFew (joined a b) → ReadFew b
 few_back a b few =
-    let parts = and_parts (are_plain a) (are_plain b) (sym (plain_joined a b) ∙ few.0) in
+    let parts = and_parts (are_finite a) (are_finite b) (sym (finite_joined a b) ∙ few.0) in
     let first = joins_split a b few.1.0 few.1.1 in
     let u = first.0 in
     let cut : List ℕ → List ℕ = λ x. drop (length u) x in (
@@ -98,35 +99,35 @@ fronts_compare (more t a) x (more u b) y e =
     ]
 
 -- each word of the longest run at the front begins with a word of each run at the front that has few
-pub front_begins : (ts : Trees) (ws : List (List ℕ)) → IsFront ts ws → (w : List ℕ) → IsMember w ws → (run after : Trees) → ts ≡ joined run after → AreFew run →
-    (u rest : List ℕ) × Joins run u × (w ≡ u ++ rest)
+pub front_begins : (ts : Trees) (ws : List (List ℕ)) → IsFront ts ws → (w : List ℕ) → IsMember w ws → (run after : Trees) → ts ≡ joined run after → ReadFew run →
+    (u rest : List ℕ) × ReadsAll run u × (w ≡ u ++ rest)
 front_begins ts ws f w m run after e few =
     let j = (f.each.each w).1 m in
     elim (fronts_compare f.run f.after run after (sym f.is ∙ e)) [
       | inl l ↦
-          let s = joins_split run l.0 w (subst (λ (a : Trees). Joins a w) l.1 j) in
+          let s = joins_split run l.0 w (subst (λ (a : Trees). ReadsAll a w) l.1 j) in
           (s.0, s.1, s.2, s.4)
       | inr r ↦ absurd (stopped f.run f.after run r.0 (joined r.1 after) r.1 f.blocked r.3 r.2 few)
     ]
   where
-    stopped : (a x b : Trees) (t : Tree) (rest c : Trees) → IsBlocked a x → x ≡ more t rest → b ≡ joined a (more t c) → AreFew b → ⊥
+    stopped : (a x b : Trees) (t : Tree) (rest c : Trees) → IsBlocked a x → x ≡ more t rest → b ≡ joined a (more t c) → ReadFew b → ⊥
     stopped a none b t rest c blocked e same few = (cc)
     stopped a (more t2 rest2) b t rest c blocked e same few =
         let tree : t2 ≡ t = (cc) in
-        let long : AreFew (joined (joined a (more t none)) c) =
-        subst AreFew (same ∙ sym (joined_assoc a (more t none) c)) few in
-        blocked (subst (λ (z : Tree). AreFew (joined a (more z none))) (sym tree) (few_front (joined a (more t none)) c long))
+        let long : ReadFew (joined (joined a (more t none)) c) =
+        subst ReadFew (same ∙ sym (joined_assoc a (more t none) c)) few in
+        blocked (subst (λ (z : Tree). ReadFew (joined a (more z none))) (sym tree) (few_front (joined a (more t none)) c long))
 
 -- what the test of a number of words says
-pub few_count : (n : ℕ) → is_few n ≡ true → (0 < n) × (n ≤ 8)
-few_count n h = let p = and_parts (nat_lt 0 n) (nat_le n 8) h in (ltb-true 0 n p.0, leb-true n 8 p.1)
+pub few_count : (n : ℕ) → is_few n ≡ true → (0 < n) × (n ≤ 20)
+few_count n h = let p = and_parts (nat_lt 0 n) (nat_le n 20) h in (ltb-true 0 n p.0, leb-true n 20 p.1)
 
-pub odd_count : (n : ℕ) → is_few n ≡ false → n ≤ 8 → n ≡ 0
+pub odd_count : (n : ℕ) → is_few n ≡ false → n ≤ 20 → n ≡ 0
 odd_count zero h le = refl
-odd_count (suc n) h le = absurd (both_ways (is_few (suc n)) h (and_from (nat_lt 0 (suc n)) (nat_le (suc n) 8) (lt-ltb 0 (suc n) (omega arith)) (le-leb (suc n) 8 le)))
+odd_count (suc n) h le = absurd (both_ways (is_few (suc n)) h (and_from (nat_lt 0 (suc n)) (nat_le (suc n) 20) (lt-ltb 0 (suc n) (omega arith)) (le-leb (suc n) 20 le)))
 
 -- a sample that is neither empty nor large has all words
-pub whole_words : (ws : List (List ℕ)) (P : List ℕ → Type 0) → IsSample ws P → 0 < length ws → length ws ≤ 8 → AreWords ws P
+pub whole_words : (ws : List (List ℕ)) (P : List ℕ → Type 0) → IsSample ws P → 0 < length ws → length ws ≤ 20 → AreWords ws P
 whole_words ws P s some few =
     record { some = some; few = few; different = s.different; each = λ w. (s.whole few w, s.right w) }
 
@@ -135,10 +136,10 @@ words_sample ws P a =
     record { right = λ w m. (a.each w).1 m; different = a.different; whole = λ le w p. (a.each w).0 p }
 
 -- one that is empty or large shows that a run has not few words
-pub not_few : (ws : List (List ℕ)) (ts : Trees) → IsSample ws (Joins ts) → (length ws ≤ 8 → length ws ≡ 0) → AreFew ts → ⊥
+pub not_few : (ws : List (List ℕ)) (ts : Trees) → IsSample ws (ReadsAll ts) → (length ws ≤ 20 → length ws ≡ 0) → ReadFew ts → ⊥
 not_few ws ts s odd few =
     let fits = different_within ws few.2.0 s.different (λ w m. few.2.2 w (s.right w m)) in
-    let small : length ws ≤ 8 = omega (arith, fits, few.2.1) in
+    let small : length ws ≤ 20 = omega (arith, fits, few.2.1) in
     empty ws (odd small) (s.whole small few.1.0 few.1.1)
   where
     empty : (xs : List (List ℕ)) → length xs ≡ 0 → IsMember few.1.0 xs → ⊥
@@ -146,24 +147,24 @@ not_few ws ts s odd few =
     empty (x ∷ xs) e m = absurd (omega arith)
 
 -- the words of a run, joined with those of a tree before it or behind it
-pub before_sample : (t : Tree) (ts : Trees) (us vs : List (List ℕ)) → IsSample us (Spells t) → IsSample vs (Joins ts) → IsSample (with_words [] (joinings us vs)) (Joins (more t ts))
-before_sample t ts us vs s r = sample_joinings us vs (Spells t) (Joins ts) s r
+pub before_sample : (t : Tree) (ts : Trees) (us vs : List (List ℕ)) → IsSample us (Reads t) → IsSample vs (ReadsAll ts) → IsSample (with_words [] (joinings us vs)) (ReadsAll (more t ts))
+before_sample t ts us vs s r = sample_joinings us vs (Reads t) (ReadsAll ts) s r
 
-pub behind_sample : (ts : Trees) (t : Tree) (us vs : List (List ℕ)) → IsSample us (Joins ts) → IsSample vs (Spells t) →
-    IsSample (with_words [] (joinings us vs)) (Joins (joined ts (more t none)))
+pub behind_sample : (ts : Trees) (t : Tree) (us vs : List (List ℕ)) → IsSample us (ReadsAll ts) → IsSample vs (Reads t) →
+    IsSample (with_words [] (joinings us vs)) (ReadsAll (joined ts (more t none)))
 behind_sample ts t us vs s r =
-    sample_same _ _ _ (sample_joinings us vs (Joins ts) (Spells t) s r)
-    (λ w j. subst (Joins (joined ts (more t none))) (sym j.4) (joins_both ts (more t none) j.0 j.1 j.2 (joins_one t j.1 j.3)))
+    sample_same _ _ _ (sample_joinings us vs (ReadsAll ts) (Reads t) s r)
+    (λ w j. subst (ReadsAll (joined ts (more t none))) (sym j.4) (joins_both ts (more t none) j.0 j.1 j.2 (joins_one t j.1 j.3)))
     (λ w j. let p = joins_split ts (more t none) w j in (p.0, p.1, p.2, spells_one t p.1 p.3, p.4))
 
 pub run_step : (t : Tree) (ts : Trees) (us vs : List (List ℕ)) → SamplesTree us t → SamplesRun vs ts → SamplesRun (with_words [] (joinings us vs)) (more t ts)
-run_step t ts us vs s r = (and_from (is_plain t) (are_plain ts) s.0 r.0, before_sample t ts us vs s.1 r.1)
+run_step t ts us vs s r = (and_from (is_finite t) (are_finite ts) s.0 r.0, before_sample t ts us vs s.1 r.1)
 
 pub choice_step : (t : Tree) (ts : Trees) (us vs : List (List ℕ)) → SamplesTree us t → SamplesChoice vs ts → SamplesChoice (with_words vs us) (more t ts)
 choice_step t ts us vs s r =
-    let all : IsSample (with_words vs us) (λ w. SomeSpells ts w ⊎ IsMember w us) =
-    sample_words vs us (SomeSpells ts) (λ w. SomeSpells ts w ⊎ IsMember w us) r.1 (λ v p. inl p) (λ v m. inr m) (λ v q. q) in (
-      and_from (is_plain t) (are_plain ts) s.0 r.0,
+    let all : IsSample (with_words vs us) (λ w. ReadsSome ts w ⊎ IsMember w us) =
+    sample_words vs us (ReadsSome ts) (λ w. ReadsSome ts w ⊎ IsMember w us) r.1 (λ v p. inl p) (λ v m. inr m) (λ v q. q) in (
+      and_from (is_finite t) (are_finite ts) s.0 r.0,
       record {
         right = λ w m. elim (all.right w m) [ inl p ↦ inr p | inr n ↦ inl (s.1.right w n) ];
         different = all.different;
@@ -180,40 +181,40 @@ choice_step t ts us vs s r =
 -- a run that is a front of another: what stops it, and where nothing does
 pub run_front : (run after ts : Trees) (ws : List (List ℕ)) → ts ≡ joined run after → RunWords ws run → IsBlocked run after → IsFront ts ws
 run_front run after ts ws e words blocked =
-    record { run = run; after = after; is = e; plain = words.0; each = words.1; blocked = blocked }
+    record { run = run; after = after; is = e; finite = words.0; each = words.1; blocked = blocked }
 
 -- few words behind a run, and too many
 pub behind_words : (ts : Trees) (t : Tree) (ws us : List (List ℕ)) → RunWords ws ts → TreeWords us t → is_few (length (with_words [] (joinings ws us))) ≡ true →
     RunWords (with_words [] (joinings ws us)) (joined ts (more t none))
 behind_words ts t ws us r s few =
     let count = few_count (length (with_words [] (joinings ws us))) few in (
-      plain_joined ts (more t none) ∙ and_from (are_plain ts) (is_plain t && true) r.0 (and_from (is_plain t) true s.0 refl),
-      whole_words _ _ (behind_sample ts t ws us (words_sample ws (Joins ts) r.1) (words_sample us (Spells t) s.1)) count.0 count.1,
+      finite_joined ts (more t none) ∙ and_from (are_finite ts) (is_finite t && true) r.0 (and_from (is_finite t) true s.0 refl),
+      whole_words _ _ (behind_sample ts t ws us (words_sample ws (ReadsAll ts) r.1) (words_sample us (Reads t) s.1)) count.0 count.1,
     )
 
 pub too_many_behind : (ts : Trees) (t : Tree) (ws us : List (List ℕ)) → RunWords ws ts → TreeWords us t → is_few (length (with_words [] (joinings ws us))) ≡ false →
-    AreFew (joined ts (more t none)) → ⊥
+    ReadFew (joined ts (more t none)) → ⊥
 too_many_behind ts t ws us r s odd =
     not_few (with_words [] (joinings ws us)) (joined ts (more t none))
-    (behind_sample ts t ws us (words_sample ws (Joins ts) r.1) (words_sample us (Spells t) s.1)) (odd_count (length (with_words [] (joinings ws us))) odd)
+    (behind_sample ts t ws us (words_sample ws (ReadsAll ts) r.1) (words_sample us (Reads t) s.1)) (odd_count (length (with_words [] (joinings ws us))) odd)
 
-pub not_few_behind : (ts : Trees) (t : Tree) → (AreFew (more t none) → ⊥) → AreFew (joined ts (more t none)) → ⊥
+pub not_few_behind : (ts : Trees) (t : Tree) → (ReadFew (more t none) → ⊥) → ReadFew (joined ts (more t none)) → ⊥
 not_few_behind ts t no_few few = no_few (few_back ts (more t none) few)
 
 -- a tree with a sample that is neither empty nor large, and one with another
 pub tree_words : (ws : List (List ℕ)) (t : Tree) → SamplesTree ws t → is_few (length ws) ≡ true → TreeWords ws t
-tree_words ws t s few = let count = few_count (length ws) few in (s.0, whole_words ws (Spells t) s.1 count.0 count.1)
+tree_words ws t s few = let count = few_count (length ws) few in (s.0, whole_words ws (Reads t) s.1 count.0 count.1)
 
-pub tree_not_few : (ws : List (List ℕ)) (t : Tree) → SamplesTree ws t → is_few (length ws) ≡ false → AreFew (more t none) → ⊥
+pub tree_not_few : (ws : List (List ℕ)) (t : Tree) → SamplesTree ws t → is_few (length ws) ≡ false → ReadFew (more t none) → ⊥
 tree_not_few ws t s odd =
     not_few ws (more t none)
-    (sample_same ws (Spells t) (Joins (more t none)) s.1 (joins_one t) (spells_one t))
+    (sample_same ws (Reads t) (ReadsAll (more t none)) s.1 (joins_one t) (spells_one t))
     (odd_count (length ws) odd)
 
-pub tree_not_plain : (t : Tree) → is_plain t ≡ false → AreFew (more t none) → ⊥
-tree_not_plain t wild few = both_ways (is_plain t) wild (and_parts (is_plain t) true few.0).0
+pub tree_not_finite : (t : Tree) → is_finite t ≡ false → ReadFew (more t none) → ⊥
+tree_not_finite t wild few = both_ways (is_finite t) wild (and_parts (is_finite t) true few.0).0
 
-pub empty_words : AreWords ([] ∷ []) (Joins none)
+pub empty_words : AreWords ([] ∷ []) (ReadsAll none)
 empty_words = record {
   some = omega arith;
   few = omega arith;

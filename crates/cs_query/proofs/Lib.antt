@@ -1,9 +1,13 @@
 mod MemberLemmas
 mod NodeLemmas
 mod SampleLemmas
+mod RoundLemmas
+mod PlainLemmas
 mod FewLemmas
 mod TrigramLemmas
 mod SpellingLemmas
+mod EdgeLemmas
+mod CrossingLemmas
 mod AskedLemmas
 mod QueryLemmas
 mod RightLemmas

@@ -1,13 +1,14 @@
 -- Lists of nodes as trees.
 use Rattle.std.proofs.Common.{◌≡◌, ℕ, zero, suc, ◌+◌, ◌-◌, ◌<◌, ◌≤◌, ◌&&◌, Bool, true, false, List, [], ◌∷◌, ◌++◌, drop, take, length, get_or, Box, Global, refl, sym, ◌∙◌, ap, subst, arith, drop-cons, length-drop}
-use Rattle.std.specs.Prelude.{Option, Some, None, MatchOption, Result, Ok, Err, IfOk}
-use Rattle.cs_syntax.specs.Matching.{Tree, rep, none, more}
+use Rattle.std.specs.Prelude.{Option, Some, None, MatchOption, Result, Ok, Err, IfOk, OnOk}
+use Rattle.cs_syntax.specs.Matching.{Tree, Trees, rep, none, more}
 use Rattle.cs_syntax.specs.Node.{tree_of, tree_step, trees_of}
 use Rattle.cs_syntax.specs.declared.node.Node.{Node, Node-F, fold-roll-Node}
 use Rattle.cs_syntax.specs.declared.node.Node.TheVariants.{Rep, rolls-Rep}
 use Rattle.std.proofs.Math.Seq.{take-suc, take-length}
 use Rattle.std.proofs.lemmas.List.{take-append-drop}
-use Rattle.cs_query.specs.Windows.{is_plain, are_plain, joined}
+use Rattle.cs_query.specs.Windows.{joined}
+use Rattle.cs_query.specs.Words.{is_finite, are_finite}
 
 pub trees_from : (parts : List Node) (i : ℕ) (part : Node) → i < length parts → part ≡ get_or parts i part →
     trees_of (drop i parts) ≡ more (tree_of part) (trees_of (drop (i + 1) parts))
@@ -22,11 +23,11 @@ trees_before parts at part some le is =
     let next : at - 1 + 1 ≡ at = omega arith in
     trees_from parts (at - 1) part (omega arith) is ∙ ap (λ n. more (tree_of part) (trees_of (drop n parts))) next
 
-pub not_plain : (parts : List Node) (i : ℕ) (part : Node) → i < length parts → part ≡ get_or parts i part → is_plain (tree_of part) ≡ false →
-    are_plain (trees_of parts) ≡ false
-not_plain [] i part lt is not_it = absurd (omega arith)
-not_plain (x ∷ xs) zero part lt is not_it = ap (λ (y : Node). is_plain (tree_of y) && are_plain (trees_of xs)) (sym is) ∙ ap (λ b. b && are_plain (trees_of xs)) not_it
-not_plain (x ∷ xs) (suc i) part lt is not_it = behind (is_plain (tree_of x)) (are_plain (trees_of xs)) (not_plain xs i part (omega arith) is not_it)
+pub not_finite : (parts : List Node) (i : ℕ) (part : Node) → i < length parts → part ≡ get_or parts i part → is_finite (tree_of part) ≡ false →
+    are_finite (trees_of parts) ≡ false
+not_finite [] i part lt is not_it = absurd (omega arith)
+not_finite (x ∷ xs) zero part lt is not_it = ap (λ (y : Node). is_finite (tree_of y) && are_finite (trees_of xs)) (sym is) ∙ ap (λ b. b && are_finite (trees_of xs)) not_it
+not_finite (x ∷ xs) (suc i) part lt is not_it = behind (is_finite (tree_of x)) (are_finite (trees_of xs)) (not_finite xs i part (omega arith) is not_it)
   where
     behind : (a b : Bool) → b ≡ false → (a && b) ≡ false
     behind true b e = e
@@ -71,3 +72,19 @@ rest_is parts i =
 
 pub tree_of-Rep : (x : Box Node Global) (n : ℕ) (m : Option ℕ) → tree_of (Rep x n m) ≡ rep (tree_of x.value) n m
 tree_of-Rep x n m = ap tree_of (sym (rolls-Rep x n m)) ∙ fold-roll-Node Tree tree_step (Node-F.Rep x n m)
+
+pub if_both : {A E : Type 0} (r : Result A E) (P Q R : A → Type 0) → IfOk r P → IfOk r Q → ((x : A) → P x → Q x → R x) → IfOk r R
+if_both (Ok x) P Q R h k f = f x h k
+if_both (Err e) P Q R h k f = tt
+
+pub on_ok : {A E : Type 0} (r : Result A E) (P Q : Type 0) → OnOk r P → (P → Q) → OnOk r Q
+on_ok (Ok x) P Q h f = f h
+on_ok (Err e) P Q h f = tt
+
+same_head : (t u : Tree) (ts us : Trees) → more t ts ≡ more u us → t ≡ u
+same_head t u ts us e = (cc)
+
+-- the first of some trees
+pub trees_head : (parts : List Node) (part : Node) (t : Tree) (ts : Trees) → 0 < length parts → part ≡ get_or parts 0 part → trees_of parts ≡ more t ts → tree_of part ≡ t
+trees_head [] part t ts some is e = absurd (omega arith)
+trees_head (x ∷ xs) part t ts some is e = ap tree_of is ∙ same_head (tree_of x) t (trees_of xs) ts e

@@ -4,11 +4,11 @@ use Rattle.std.specs.Prelude.{nat_lt}
 use Rattle.std.specs.List.{list_all, list_any}
 use Rattle.std.proofs.lemmas.Bool.{and_from}
 use Rattle.std.proofs.lemmas.List.Folds.{list_all-map, list_all-append, list_any-append}
-use Rattle.cs_query.specs.Trigram.{trigram, windows}
-use Rattle.cs_query.specs.Query.{holds, holds_step, are_trigrams, numbers_step}
+use Rattle.cs_trigram.specs.Trigram.{trigram, windows}
+use Rattle.cs_trigram.specs.Query.{holds, holds_step, are_trigrams, numbers_step}
 use Rattle.cs_query.specs.Sample.{all_hold, some_holds, has_any}
-use Rattle.cs_query.specs.declared.queries.Query.{Query, Query-F, fold-roll-Query}
-use Rattle.cs_query.specs.declared.queries.Query.TheVariants.{All, Nothing, Tri, And, Or, rolls-All, rolls-Nothing, rolls-Tri, rolls-And, rolls-Or}
+use Rattle.cs_trigram.specs.declared.queries.Query.{Query, Query-F, fold-roll-Query}
+use Rattle.cs_trigram.specs.declared.queries.Query.TheVariants.{All, Nothing, Tri, And, Or, rolls-All, rolls-Nothing, rolls-Tri, rolls-And, rolls-Or}
 
 list_any-map : (f : Query → Bool) (xs : List Query) → list_any (λ b. b) (map f xs) ≡ list_any f xs
 list_any-map f [] = refl

@@ -1,14 +1,19 @@
 -- Queries that are right for a tree.
-use Rattle.std.proofs.Common.{◌≡◌, ℕ, zero, suc, ◌<◌, ◌≤◌, inl, inr, Bool, true, false, List, [], ◌∷◌, ◌++◌, Vec, Global, sym, ◌∙◌, ap, subst, arith}
+use Rattle.std.proofs.Common.{◌≡◌, ℕ, zero, suc, ◌-◌, ◌<◌, ◌≤◌, inl, inr, Bool, true, false, List, [], ◌∷◌, ◌++◌, Vec, Global, sym, ◌∙◌, ap, subst, arith}
 use Rattle.std.specs.Prelude.{Option}
 use Rattle.std.specs.List.{list_all}
 use Rattle.std.proofs.lemmas.Bool.{or_cases, or_left, or_right}
 use Rattle.cs_syntax.specs.Matching.{Tree, Trees, alt, rep, none, more, Chain, Takes}
-use Rattle.cs_query.specs.Query.{holds, are_trigrams, HasTrigrams, LosesNoLine}
+use Rattle.cs_trigram.specs.Query.{holds, are_trigrams}
+use Rattle.cs_query.specs.Edges.{part}
+use Rattle.cs_query.specs.Query.{HasTrigrams, LosesNoLine}
 use Rattle.cs_query.specs.Windows.{HasWindows}
-use Rattle.cs_query.specs.Sample.{some_holds, IsRight, AreRight}
-use Rattle.cs_query.specs.declared.queries.Query.{Query}
-use Rattle.cs_query.specs.declared.queries.Query.TheVariants.{All, Or}
+use Rattle.cs_query.specs.Sample.{some_holds, has_any, TreeWords, IsRight, AreRight}
+use Rattle.cs_trigram.specs.declared.queries.Query.{Query}
+use Rattle.cs_trigram.specs.declared.queries.Query.TheVariants.{All, Or}
+use Rattle.cs_query.proofs.AskedLemmas.{any_shown, shown_any}
+use Rattle.cs_query.proofs.SpellingLemmas.{spelled, spelled_windows}
+use Rattle.cs_query.proofs.TrigramLemmas.{has_part}
 use Rattle.cs_query.proofs.QueryLemmas.{holds-All, holds-Or, some_holds_push, numbers-All, numbers-Or, numbers_more}
 
 -- a tree that asks nothing
@@ -30,6 +35,18 @@ right_repeated q x (suc n) m some r = record {
     first : (s : List ℕ) (set : ℕ → Bool) (k i j : ℕ) → suc n ≤ k → Chain (Takes s x) k i j → HasTrigrams set s → holds q set ≡ true
     first s set zero i j le c has = absurd (omega arith)
     first s set (suc k) i j le c has = r.holding s set i c.0 c.1 has
+
+-- a tree that reads few words
+pub right_words : (q : Query) (ws : List (List ℕ)) (t : Tree) → TreeWords ws t → ((set : ℕ → Bool) → holds q set ≡ has_any set ws) → are_trigrams q ≡ true → IsRight q t
+right_words q ws t words asks numbers = record {
+  holding = λ s set i j h has.
+      let r = spelled s t i j words.0 h in
+      asks set ∙ shown_any set ws (part s i j) ((words.1.each (part s i j)).0 r.1) (has_part set (j - i) i s has);
+  sharp = λ set h.
+      let w = any_shown set ws (sym (asks set) ∙ h) in
+      spelled_windows set t w.0 ((words.1.each w.0).1 w.1) w.2;
+  numbers = numbers;
+}
 
 pub right_none : (queries : List Query) → queries ≡ [] → AreRight queries none
 right_none queries e = record { holding = λ s set i j h has. absurd h; sharp = λ set h. empty set (ap (λ (qs : List Query). some_holds qs set) (sym e) ∙ h); numbers = ap (list_all are_trigrams) e }

@@ -6,7 +6,8 @@ use Rattle.std.specs.Str.{bytes_eq}
 use Rattle.std.proofs.lemmas.Bool.{leb-true, le-leb, both_ways, cases_lt}
 use Rattle.std.proofs.lemmas.List.{append_cancel_left, append_cancel_right, length-map}
 use Rattle.cs_syntax.specs.Matching.{one_of, member}
-use Rattle.cs_query.specs.Windows.{IsMember, Spells}
+use Rattle.cs_query.specs.Windows.{IsMember}
+use Rattle.cs_query.specs.Words.{Reads}
 use Rattle.cs_query.specs.Sample.{with_word, with_words, joinings, IsSample, SpellsBelow}
 use Rattle.cs_query.proofs.MemberLemmas.{member_append, member_left, member_right, member_map, map_member, any_member, member_any, different_within, different_push, different_map}
 
@@ -26,7 +27,7 @@ sample_same ws P R s to from =
 
 module _ (ws : List (List ℕ)) (w : List ℕ) (P R : List ℕ → Type 0) (s : IsSample ws P)
     (to : (v : List ℕ) → P v → R v) (new : R w) (from : (v : List ℕ) → R v → P v ⊎ (v ≡ w)) where
-  more_by : (room there : Bool) → nat_le (length ws) 8 ≡ room → list_any (λ v. bytes_eq v w) ws ≡ there →
+  more_by : (room there : Bool) → nat_le (length ws) 20 ≡ room → list_any (λ v. bytes_eq v w) ws ≡ there →
       IsSample (if room && not there then ws ++ w ∷ [] else ws) R
   more_by true false r t = record {
     right = λ v m. elim (member_append v ws (w ∷ []) m) [
@@ -35,7 +36,7 @@ module _ (ws : List (List ℕ)) (w : List ℕ) (P R : List ℕ → Type 0) (s : 
     ];
     different = different_push ws w s.different (λ m. both_ways (list_any (λ v. bytes_eq v w) ws) t (member_any w ws m));
     whole = λ le v h. elim (from v h) [
-      | inl p ↦ member_left v ws (w ∷ []) (s.whole (leb-true (length ws) 8 r) v p)
+      | inl p ↦ member_left v ws (w ∷ []) (s.whole (leb-true (length ws) 20 r) v p)
       | inr e ↦ member_right v ws (w ∷ []) (inl e)
     ];
   }
@@ -50,12 +51,12 @@ module _ (ws : List (List ℕ)) (w : List ℕ) (P R : List ℕ → Type 0) (s : 
   more_by false there r t = record {
     right = λ v m. to v (s.right v m);
     different = s.different;
-    whole = λ le v h. absurd (both_ways (nat_le (length ws) 8) r (le-leb (length ws) 8 le));
+    whole = λ le v h. absurd (both_ways (nat_le (length ws) 20) r (le-leb (length ws) 20 le));
   }
 
   -- a word more
   pub sample_more : IsSample (with_word ws w) R
-  sample_more = more_by (nat_le (length ws) 8) (list_any (λ v. bytes_eq v w) ws) refl refl
+  sample_more = more_by (nat_le (length ws) 20) (list_any (λ v. bytes_eq v w) ws) refl refl
 
 -- more words
 pub sample_words : (ws us : List (List ℕ)) (P R : List ℕ → Type 0) → IsSample ws P → ((v : List ℕ) → P v → R v) → ((v : List ℕ) → IsMember v us → R v) →
@@ -102,7 +103,7 @@ module _ (us vs : List (List ℕ)) (P Q : List ℕ → Type 0) (s : IsSample us 
   few_of = with_words [] (joinings us vs)
 
   -- where one may stand behind, those in front are as few as the joinings
-  fronts_few : (v : List ℕ) → IsMember v vs → length few_of ≤ 8 → length us ≤ 8
+  fronts_few : (v : List ℕ) → IsMember v vs → length few_of ≤ 20 → length us ≤ 20
   fronts_few v m le =
       let fits = different_within (map (λ u. u ++ v) us) few_of
       (different_map (λ u. u ++ v) (λ a b e. append_cancel_right a b v e) us s.different)
@@ -110,7 +111,7 @@ module _ (us vs : List (List ℕ)) (P Q : List ℕ → Type 0) (s : IsSample us 
       (sample_of (joinings us vs)).whole le w (subst (λ (x : List ℕ). IsMember x (joinings us vs)) (sym r.2) (joining_member r.0 v us vs r.1 m))) in
       omega (arith, fits, length-map us (λ (u : List ℕ). u ++ v))
 
-  backs_few : (u : List ℕ) → IsMember u us → length few_of ≤ 8 → length vs ≤ 8
+  backs_few : (u : List ℕ) → IsMember u us → length few_of ≤ 20 → length vs ≤ 20
   backs_few u m le =
       let fits = different_within (map (λ v. u ++ v) vs) few_of
       (different_map (λ v. u ++ v) (λ a b e. append_cancel_left u a b e) vs t.different)
@@ -119,9 +120,9 @@ module _ (us vs : List (List ℕ)) (P Q : List ℕ → Type 0) (s : IsSample us 
       omega (arith, fits, length-map vs (λ (v : List ℕ). u ++ v))
 
   -- where a word has the property, the other list has a member, if it is whole
-  fronts_whole : (xs : List (List ℕ)) → vs ≡ xs → (v : List ℕ) → Q v → length few_of ≤ 8 → length us ≤ 8
+  fronts_whole : (xs : List (List ℕ)) → vs ≡ xs → (v : List ℕ) → Q v → length few_of ≤ 20 → length us ≤ 20
   fronts_whole [] e v q le =
-      let short : length vs ≤ 8 = rw e (omega arith) in absurd (subst (IsMember v) e (t.whole short v q))
+      let short : length vs ≤ 20 = rw e (omega arith) in absurd (subst (IsMember v) e (t.whole short v q))
   fronts_whole (x ∷ xs) e v q le = fronts_few x (subst (IsMember x) (sym e) (inl refl)) le
 
   pub sample_joinings : IsSample few_of Joined
@@ -163,9 +164,9 @@ beyond [] b le = refl
 beyond (x ∷ set) zero le = absurd (omega arith)
 beyond (x ∷ set) (suc b) le = beyond set b (omega arith)
 
-pub set_whole : (set : List Bool) (ws : List (List ℕ)) (n : ℕ) → length set ≤ n → IsSample ws (SpellsBelow set n) → IsSample ws (Spells (one_of set))
+pub set_whole : (set : List Bool) (ws : List (List ℕ)) (n : ℕ) → length set ≤ n → IsSample ws (SpellsBelow set n) → IsSample ws (Reads (one_of set))
 set_whole set ws n le s =
-    sample_same ws (SpellsBelow set n) (Spells (one_of set)) s
+    sample_same ws (SpellsBelow set n) (Reads (one_of set)) s
     (λ v p. (p.0, p.2, p.3))
     (λ v p. elim (cases_lt p.0 n) [
       | inl lt ↦ (p.0, lt, p.1, p.2)

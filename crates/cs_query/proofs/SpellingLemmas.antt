@@ -1,23 +1,22 @@
--- A plain tree takes a part of a line where it spells that part; its words have its windows.
-use Rattle.std.proofs.Common.{◌≡◌, ℕ, suc, ◌+◌, ◌-◌, ◌<◌, ◌≤◌, inl, inr, Bool, true, List, [], ◌∷◌, ◌++◌, take, drop, length, refl, sym, ◌∙◌, ap, subst, arith, drop-cons}
-use Rattle.std.specs.Prelude.{slice_index}
+-- A finite tree takes a part of a line where it reads that part; its words have its windows.
+use Rattle.std.proofs.Common.{◌≡◌, ℕ, zero, suc, ◌+◌, ◌-◌, ◌<◌, ◌≤◌, inl, inr, Bool, true, List, [], ◌∷◌, ◌++◌, take, drop, length, refl, sym, ◌∙◌, ap, subst, arith, drop-cons}
+use Rattle.std.specs.Prelude.{slice_index, nat_le, Some, None}
 use Rattle.std.proofs.Math.Seq.{take-add}
 use Rattle.std.proofs.lemmas.Bool.{and_parts}
 use Rattle.std.proofs.lemmas.List.{drop-drop}
-use Rattle.cs_syntax.specs.Matching.{Tree, Trees, empty, one_of, cat, alt, rep, line_start, line_end, word_edge, not_word_edge, none, more, Takes, TakesAll, TakesSome}
+use Rattle.cs_syntax.specs.Matching.{Tree, Trees, empty, one_of, cat, alt, rep, line_start, line_end, word_edge, not_word_edge, none, more, Chain, Takes, TakesAll, TakesSome}
 use Rattle.cs_query.specs.Query.{HasTrigrams}
-use Rattle.cs_query.specs.Windows.{is_plain, are_plain, Spells, Joins, SomeSpells, ShowsRuns, joined, HasWindows, AllHaveWindows, SomeHasWindows}
+use Rattle.cs_query.specs.Edges.{part}
+use Rattle.cs_query.specs.Windows.{ShowsRuns, joined, HasWindows, AllHaveWindows, SomeHasWindows}
+use Rattle.cs_query.specs.Words.{Rounds, is_finite, are_finite, Reads, ReadsAll, ReadsSome}
 use Rattle.cs_query.proofs.FewLemmas.{joins_split}
+use Rattle.cs_query.proofs.PlainLemmas.{reads_joins}
 use Rattle.cs_query.proofs.TrigramLemmas.{has_front, has_back}
 
--- the part of a line from i to j
-abbrev pub part : List ℕ → ℕ → ℕ → List ℕ
-part s i j = take (j - i) (drop i s)
-
-part_empty : (s : List ℕ) (i : ℕ) → part s i i ≡ []
+pub part_empty : (s : List ℕ) (i : ℕ) → part s i i ≡ []
 part_empty s i = let none_left : i - i ≡ 0 = omega arith in ap (λ n. take n (drop i s)) none_left
 
-part_split : (s : List ℕ) (i l j : ℕ) → i ≤ l → l ≤ j → part s i j ≡ part s i l ++ part s l j
+pub part_split : (s : List ℕ) (i l j : ℕ) → i ≤ l → l ≤ j → part s i j ≡ part s i l ++ part s l j
 part_split s i l j a b =
     let sum : j - i ≡ (l - i) + (j - l) = omega arith in
     let place : i + (l - i) ≡ l = omega arith in
@@ -29,9 +28,26 @@ part_one s i lt =
     let one : suc i - i ≡ 1 = omega arith in
     ap (λ n. take n (drop i s)) one ∙ ap (take 1) (drop-cons s i 0 lt)
 
+-- the first of some rounds
+first_round : (P : List ℕ → Type 0) (n k : ℕ) (w : List ℕ) → suc n ≤ k → Rounds P k w → (u v : List ℕ) × P u × (w ≡ u ++ v)
+first_round P n zero w le r = absurd (omega arith)
+first_round P n (suc k) w le r = (r.0, r.1, r.2, r.4)
+
 module _ (s : List ℕ) where
+  at_edge : (i j : ℕ) → i ≡ j → (i ≤ j) × (part s i j ≡ [])
+  at_edge i j e = let same : i ≤ j = omega (arith, e) in (same, ap (part s i) (sym e) ∙ part_empty s i)
+
+  rounds : (P : List ℕ → Type 0) (R : ℕ → ℕ → Type 0) → ((i j : ℕ) → R i j → (i ≤ j) × P (part s i j)) →
+      (k i j : ℕ) → Chain R k i j → (i ≤ j) × Rounds P k (part s i j)
+  rounds P R each zero i j c = at_edge i j c
+  rounds P R each (suc k) i j c =
+      let a = each i c.0 c.1 in
+      let b = rounds P R each k c.0 j c.2 in
+      let long : i ≤ j = omega (arith, a.0, b.0) in
+      (long, (part s i c.0, part s c.0 j, a.1, b.1, part_split s i c.0 j a.0 b.0))
+
   mutual
-    pub spelled : (t : Tree) (i j : ℕ) → is_plain t ≡ true → Takes s t i j → (i ≤ j) × Spells t (part s i j)
+    pub spelled : (t : Tree) (i j : ℕ) → is_finite t ≡ true → Takes s t i j → (i ≤ j) × Reads t (part s i j)
     spelled empty i j p h =
         let same : i ≤ j = omega (arith, h) in (same, ap (part s i) (sym h) ∙ part_empty s i)
     spelled (one_of set) i j p h =
@@ -39,26 +55,30 @@ module _ (s : List ℕ) where
         (long, (slice_index s i, h.1, ap (part s i) h.2 ∙ part_one s i h.0))
     spelled (cat ts) i j p h = spelled_all ts i j p h
     spelled (alt ts) i j p h = spelled_some ts i j p h
-    spelled (rep x n m) i j p h = (cc)
-    spelled line_start i j p h = (cc)
-    spelled line_end i j p h = (cc)
-    spelled word_edge i j p h = (cc)
-    spelled not_word_edge i j p h = (cc)
+    spelled (rep x n None) i j p h = (cc)
+    spelled (rep x n (Some m)) i j p h =
+        let q = and_parts (nat_le n m) (is_finite x) p in
+        let r = rounds (Reads x) (Takes s x) (λ a b k. spelled x a b q.1 k) h.0 i j h.3 in
+        (r.0, (h.0, h.1, h.2, r.1))
+    spelled line_start i j p h = at_edge i j (h.0 ∙ sym h.1)
+    spelled line_end i j p h = at_edge i j (h.0 ∙ sym h.1)
+    spelled word_edge i j p h = at_edge i j h.0
+    spelled not_word_edge i j p h = at_edge i j h.0
 
-    pub spelled_all : (ts : Trees) (i j : ℕ) → are_plain ts ≡ true → TakesAll s ts i j → (i ≤ j) × Joins ts (part s i j)
+    pub spelled_all : (ts : Trees) (i j : ℕ) → are_finite ts ≡ true → TakesAll s ts i j → (i ≤ j) × ReadsAll ts (part s i j)
     spelled_all none i j p h =
         let same : i ≤ j = omega (arith, h) in (same, ap (part s i) (sym h) ∙ part_empty s i)
     spelled_all (more t ts) i j p h =
-        let q = and_parts (is_plain t) (are_plain ts) p in
+        let q = and_parts (is_finite t) (are_finite ts) p in
         let a = spelled t i h.0 q.0 h.1 in
         let b = spelled_all ts h.0 j q.1 h.2 in
         let long : i ≤ j = omega (arith, a.0, b.0) in
         (long, (part s i h.0, part s h.0 j, a.1, b.1, part_split s i h.0 j a.0 b.0))
 
-    pub spelled_some : (ts : Trees) (i j : ℕ) → are_plain ts ≡ true → TakesSome s ts i j → (i ≤ j) × SomeSpells ts (part s i j)
+    pub spelled_some : (ts : Trees) (i j : ℕ) → are_finite ts ≡ true → TakesSome s ts i j → (i ≤ j) × ReadsSome ts (part s i j)
     spelled_some none i j p h = absurd h
     spelled_some (more t ts) i j p h =
-        let q = and_parts (is_plain t) (are_plain ts) p in
+        let q = and_parts (is_finite t) (are_finite ts) p in
         elim h [
           | inl a ↦ let r = spelled t i j q.0 a in (r.0, inl r.1)
           | inr b ↦ let r = spelled_some ts i j q.1 b in (r.0, inr r.1)
@@ -70,32 +90,36 @@ taken_front s none b i j h = (i, refl)
 taken_front s (more t a) b i j h = let r = taken_front s a b h.0 j h.2 in (r.0, (h.0, h.1, r.1))
 
 module _ (set : ℕ → Bool) where
-  runs_shown : (ts : Trees) (w : List ℕ) → Joins ts w → HasTrigrams set w → ShowsRuns set ts
+  runs_shown : (ts : Trees) (w : List ℕ) → ReadsAll ts w → HasTrigrams set w → ShowsRuns set ts
   runs_shown ts w j h before run after e few =
-      let first = joins_split before (joined run after) w (subst (λ (x : Trees). Joins x w) e j) in
+      let first = joins_split before (joined run after) w (subst (λ (x : Trees). ReadsAll x w) e j) in
       let second = joins_split run after first.1 first.3 in
       let rest = has_back set first.0 first.1 (subst (HasTrigrams set) first.4 h) in
-      (second.0, second.2, has_front set second.0 second.1 (subst (HasTrigrams set) second.4 rest))
+      (second.0, reads_joins run few.0 second.0 second.2, has_front set second.0 second.1 (subst (HasTrigrams set) second.4 rest))
 
   mutual
-    pub spelled_windows : (t : Tree) (w : List ℕ) → Spells t w → HasTrigrams set w → HasWindows set t
+    pub spelled_windows : (t : Tree) (w : List ℕ) → Reads t w → HasTrigrams set w → HasWindows set t
     spelled_windows empty w s h = tt
     spelled_windows (one_of bytes) w s h = tt
     spelled_windows (cat ts) w s h = (runs_shown ts w s h, joined_windows ts w s h)
     spelled_windows (alt ts) w s h = some_windows ts w s h
-    spelled_windows (rep x n m) w s h = absurd s
+    spelled_windows (rep x n None) w s h = absurd s
+    spelled_windows (rep x zero (Some m)) w s h = tt
+    spelled_windows (rep x (suc n) (Some m)) w s h =
+        let r = first_round (Reads x) n s.0 w s.1 s.3 in
+        spelled_windows x r.0 r.2 (has_front set r.0 r.1 (subst (HasTrigrams set) r.3 h))
     spelled_windows line_start w s h = tt
     spelled_windows line_end w s h = tt
     spelled_windows word_edge w s h = tt
     spelled_windows not_word_edge w s h = tt
 
-    pub joined_windows : (ts : Trees) (w : List ℕ) → Joins ts w → HasTrigrams set w → AllHaveWindows set ts
+    pub joined_windows : (ts : Trees) (w : List ℕ) → ReadsAll ts w → HasTrigrams set w → AllHaveWindows set ts
     joined_windows none w s h = tt
     joined_windows (more t ts) w s h =
         let parts = subst (HasTrigrams set) s.4 h in
         (spelled_windows t s.0 s.2 (has_front set s.0 s.1 parts), joined_windows ts s.1 s.3 (has_back set s.0 s.1 parts))
 
-    pub some_windows : (ts : Trees) (w : List ℕ) → SomeSpells ts w → HasTrigrams set w → SomeHasWindows set ts
+    pub some_windows : (ts : Trees) (w : List ℕ) → ReadsSome ts w → HasTrigrams set w → SomeHasWindows set ts
     some_windows none w s h = absurd s
     some_windows (more t ts) w s h =
         elim s [ inl a ↦ inl (spelled_windows t w a h) | inr b ↦ inr (some_windows ts w b h) ]

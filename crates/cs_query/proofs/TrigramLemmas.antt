@@ -4,7 +4,7 @@ use Rattle.std.specs.Prelude.{nat_lt, nat_eq, if◌then◌else◌}
 use Rattle.std.specs.List.{list_all}
 use Rattle.std.proofs.Math.Seq.{take-append_seam, drop-append_seam}
 use Rattle.std.proofs.lemmas.Bool.{eqb-true, and_parts, and_from}
-use Rattle.cs_query.specs.Trigram.{trigram, windows, placed, ascending, tri}
+use Rattle.cs_trigram.specs.Trigram.{trigram, windows, placed, ascending, tri}
 use Rattle.cs_query.specs.Query.{HasTrigrams}
 
 module _ (set : ℕ → Bool) where

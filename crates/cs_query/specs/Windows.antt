@@ -2,8 +2,9 @@
 -- docs/PATTERNS.md, "Queries".
 use Rattle.std.specs.Prelude.{ℕ, zero, suc, ◌≡◌, ◌≤◌, ◌⊎◌, ◌&&◌, ◌++◌, ◌∷◌, [], Bool, true, false, List, length, IsTrue}
 use Rattle.cs_syntax.specs.Matching.{Tree, Trees, empty, one_of, cat, alt, rep, line_start, line_end, word_edge, not_word_edge, none, more, member}
-use Rattle.cs_query.specs.Query.{HasTrigrams, holds}
-use Rattle.cs_query.specs.declared.queries.Query.{Query}
+use Rattle.cs_trigram.specs.Query.{holds}
+use Rattle.cs_query.specs.Query.{HasTrigrams}
+use Rattle.cs_trigram.specs.declared.queries.Query.{Query}
 
 -- each part is empty, a set, a sequence or a choice
 abbrev mutual

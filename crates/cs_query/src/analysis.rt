@@ -2,14 +2,16 @@
 ghost use Rattle.std.specs.Prelude.{◌≡◌, IfOk, IsTrue, Option, ℕ};
 ghost use Rattle.cs_syntax.specs.Matching.{cat, alt, rep};
 ghost use Rattle.cs_syntax.specs.Node.{tree_of, trees_of};
-ghost use Rattle.cs_query.specs.Query.{LosesNoLine, are_trigrams};
+ghost use Rattle.cs_trigram.specs.Query.{are_trigrams};
+ghost use Rattle.cs_query.specs.Query.{LosesNoLine};
 ghost use Rattle.cs_query.specs.Windows.{IsSharp};
 ghost use Rattle.cs_query.specs.Sample.{IsRight};
 
 use crate::asked::Asked;
+use crate::asking::any_word;
 use crate::fronts::few_words;
-use crate::queries::Query;
 use cs_syntax::{Node, Pattern};
+use cs_trigram::Query;
 use std::alloc::{AllocError, Global};
 
 /// What a pattern asks of the trigrams of a text. It holds of each text with a line in which the pattern finds
@@ -27,6 +29,9 @@ pub fn query(alloc: Global, pattern: &Pattern) -> Result<Query, AllocError>
 fn query_of(alloc: Global, node: &Node) -> Result<Query, AllocError>
     ensures { IfOk result (λ query. IsRight query (tree_of node.now)) }
 {
+    if let Some(words) = few_words(alloc, node)? {
+        return any_word(alloc, &words);
+    }
     match node {
         Node::Cat(parts) => query_of_sequence(alloc, parts),
         Node::Alt(parts) => query_of_choice(alloc, parts),
@@ -58,11 +63,7 @@ fn query_of_sequence(alloc: Global, parts: &[Node]) -> Result<Query, AllocError>
     let mut at = parts.len();
     'parts: while at > 0 {
         at -= 1;
-        let part = &parts[at];
-        match few_words(alloc, part)? {
-            Some(words) => asked.join(alloc, &words, &parts[at..])?,
-            None => asked.cut(alloc, query_of(alloc, part)?)?,
-        }
+        asked.add(alloc, query_of(alloc, &parts[at])?, &parts[at..])?;
     }
     asked.finish(alloc)
 }

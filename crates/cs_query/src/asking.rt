@@ -1,12 +1,12 @@
 // Queries that ask for words, and what the parts of a sequence ask.
 ghost use Rattle.std.specs.Prelude.{◌≡◌, ◌≤◌, ◌<◌, ◌&&◌, [], ◌∷◌, ℕ, Bool, true, IfOk, OnOk, length};
 ghost use Rattle.std.specs.List.{list_all};
-ghost use Rattle.cs_query.specs.Trigram.{trigram, windows};
-ghost use Rattle.cs_query.specs.Query.{holds, are_trigrams};
+ghost use Rattle.cs_trigram.specs.Trigram.{trigram, windows};
+ghost use Rattle.cs_trigram.specs.Query.{holds, are_trigrams};
 ghost use Rattle.cs_query.specs.Sample.{has_any};
 
-use crate::queries::Query;
 use crate::words::Word;
+use cs_trigram::Query;
 use std::alloc::{AllocError, Global};
 
 /// The number of three bytes.

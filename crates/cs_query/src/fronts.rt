@@ -2,7 +2,8 @@
 ghost use Rattle.std.specs.Prelude.{◌≡◌, IfOk, MatchOption};
 ghost use Rattle.cs_syntax.specs.Matching.{Trees, none, more};
 ghost use Rattle.cs_syntax.specs.Node.{tree_of, trees_of};
-ghost use Rattle.cs_query.specs.Windows.{AreFew, joined};
+ghost use Rattle.cs_query.specs.Windows.{joined};
+ghost use Rattle.cs_query.specs.Words.{ReadFew};
 ghost use Rattle.cs_query.specs.Sample.{TreeWords, RunWords, IsFront};
 
 use crate::spelling::{no_bytes, words_of};
@@ -10,9 +11,9 @@ use crate::words::{Word, are_few, joined_words};
 use cs_syntax::Node;
 use std::alloc::{AllocError, Global};
 
-/// The words of the tree, where it is plain and has at least one and at most eight.
+/// The words of the tree, where it is finite and reads at least one and at most twenty.
 pub fn few_words(alloc: Global, node: &Node) -> Result<Option<Vec<Word>>, AllocError>
-    ensures { IfOk result (λ found. MatchOption found (AreFew (more (tree_of node.now) none) → ⊥) (λ words. TreeWords words.items (tree_of node.now))) }
+    ensures { IfOk result (λ found. MatchOption found (ReadFew (more (tree_of node.now) none) → ⊥) (λ words. TreeWords words.items (tree_of node.now))) }
 {
     let Some(words) = words_of(alloc, node)? else {
         return Ok(None);
@@ -25,7 +26,7 @@ pub fn few_words(alloc: Global, node: &Node) -> Result<Option<Vec<Word>>, AllocE
 
 /// The words of a run and the part behind it, where these are few.
 fn words_behind(alloc: Global, words: &[Word], part: &Node) -> Result<Option<Vec<Word>>, AllocError>
-    ensures { IfOk result (λ found. (run : Trees) → RunWords words.now run → MatchOption found (AreFew (joined run (more (tree_of part.now) none)) → ⊥) (λ more_words. RunWords more_words.items (joined run (more (tree_of part.now) none)))) }
+    ensures { IfOk result (λ found. (run : Trees) → RunWords words.now run → MatchOption found (ReadFew (joined run (more (tree_of part.now) none)) → ⊥) (λ more_words. RunWords more_words.items (joined run (more (tree_of part.now) none)))) }
 {
     let Some(backs) = few_words(alloc, part)? else {
         return Ok(None);

@@ -1,8 +1,8 @@
-// The words that plain trees spell.
-ghost use Rattle.std.specs.Prelude.{◌≡◌, [], ◌∷◌, if◌then◌else◌, IfOk, OnOk, MatchOption, false};
-ghost use Rattle.cs_syntax.specs.Matching.{one_of, member};
+// The words that finite trees read.
+ghost use Rattle.std.specs.Prelude.{◌≡◌, ◌+◌, [], ◌∷◌, if◌then◌else◌, IfOk, OnOk, MatchOption, ℕ, false};
+ghost use Rattle.cs_syntax.specs.Matching.{Tree, one_of, rep, member};
 ghost use Rattle.cs_syntax.specs.Node.{tree_of, trees_of};
-ghost use Rattle.cs_query.specs.Windows.{is_plain, are_plain, Spells};
+ghost use Rattle.cs_query.specs.Words.{is_finite, are_finite, Reads, SomeRounds};
 ghost use Rattle.cs_query.specs.Sample.{with_word, IsSample, SamplesTree, SamplesRun, SamplesChoice};
 
 use crate::words::{FEW, Word, add_word, add_words, joined_words};
@@ -30,7 +30,7 @@ fn add_byte(alloc: Global, set: &ByteSet, byte: u8, words: &mut Vec<Word>) -> Re
 
 /// The members of the set as words, up to one more than are few.
 fn words_of_set(alloc: Global, set: &ByteSet) -> Result<Vec<Word>, AllocError>
-    ensures { IfOk result (λ words. IsSample words.items (Spells (one_of set.now))) }
+    ensures { IfOk result (λ words. IsSample words.items (Reads (one_of set.now))) }
 {
     let count = set.len() as usize;
     let mut words = Vec::with_capacity(alloc, count.min(FEW + 1))?;
@@ -40,23 +40,53 @@ fn words_of_set(alloc: Global, set: &ByteSet) -> Result<Vec<Word>, AllocError>
     Ok(words)
 }
 
-/// The different words that the tree spells, up to one more than are few, where it is plain.
+/// The joinings of up to so many of the words, up to one more than are few.
+fn rounds_up_to(alloc: Global, once: &[Word], most: u32) -> Result<Vec<Word>, AllocError>
+    ensures { IfOk result (λ words. (t : Tree) → IsSample once.now (Reads t) → IsSample words.items (SomeRounds (Reads t) 0 most)) }
+{
+    let mut words = no_bytes(alloc)?;
+    for _round in 0..most {
+        words = joined_words(alloc, once, &words)?;
+        add_word(&mut words, Word::empty(alloc))?;
+    }
+    Ok(words)
+}
+
+/// The joinings of so many of the words before each of the others, up to one more than are few.
+fn rounds_before(
+    alloc: Global,
+    once: &[Word],
+    count: u32,
+    backs: Vec<Word>,
+) -> Result<Vec<Word>, AllocError>
+    ensures { IfOk result (λ words. (t : Tree) (least most : ℕ) → IsSample once.now (Reads t) → IsSample backs.items (SomeRounds (Reads t) least most) → IsSample words.items (SomeRounds (Reads t) (least + count) (most + count))) }
+{
+    let mut words = backs;
+    for _round in 0..count {
+        words = joined_words(alloc, once, &words)?;
+    }
+    Ok(words)
+}
+
+/// The different words that the tree reads, up to one more than are few, where it is finite.
 #[cycle(spell)]
 pub fn words_of(alloc: Global, node: &Node) -> Result<Option<Vec<Word>>, AllocError>
-    ensures { IfOk result (λ found. MatchOption found (is_plain (tree_of node.now) ≡ false) (λ words. SamplesTree words.items (tree_of node.now))) }
+    ensures { IfOk result (λ found. MatchOption found (is_finite (tree_of node.now) ≡ false) (λ words. SamplesTree words.items (tree_of node.now))) }
 {
     match node {
-        Node::Empty => Ok(Some(no_bytes(alloc)?)),
+        Node::Empty | Node::LineStart | Node::LineEnd | Node::WordEdge | Node::NotWordEdge => Ok(
+            Some(no_bytes(alloc)?),
+        ),
         Node::Set(set) => Ok(Some(words_of_set(alloc, set)?)),
         Node::Cat(parts) => words_of_run(alloc, parts),
         Node::Alt(parts) => words_of_choice(alloc, parts),
-        _ => Ok(None),
+        Node::Rep(x, least, most) => words_of_repeat(alloc, x, *least, *most),
     }
 }
 
 #[cycle(spell)]
 fn words_of_run(alloc: Global, parts: &[Node]) -> Result<Option<Vec<Word>>, AllocError>
-    ensures { IfOk result (λ found. MatchOption found (are_plain (trees_of parts.now) ≡ false) (λ words. SamplesRun words.items (trees_of parts.now))) }
+    ensures { IfOk result (λ found. MatchOption found (are_finite (trees_of parts.now) ≡ false) (λ words. SamplesRun words.items (trees_of parts.now))) }
 {
     let mut words = no_bytes(alloc)?;
     let mut at = parts.len();
@@ -72,7 +102,7 @@ fn words_of_run(alloc: Global, parts: &[Node]) -> Result<Option<Vec<Word>>, Allo
 
 #[cycle(spell)]
 fn words_of_choice(alloc: Global, parts: &[Node]) -> Result<Option<Vec<Word>>, AllocError>
-    ensures { IfOk result (λ found. MatchOption found (are_plain (trees_of parts.now) ≡ false) (λ words. SamplesChoice words.items (trees_of parts.now))) }
+    ensures { IfOk result (λ found. MatchOption found (are_finite (trees_of parts.now) ≡ false) (λ words. SamplesChoice words.items (trees_of parts.now))) }
 {
     let mut words = Vec::new(alloc);
     let mut at = parts.len();
@@ -84,4 +114,26 @@ fn words_of_choice(alloc: Global, parts: &[Node]) -> Result<Option<Vec<Word>>, A
         add_words(&mut words, more)?;
     }
     Ok(Some(words))
+}
+
+#[cycle(spell)]
+fn words_of_repeat(
+    alloc: Global,
+    node: &Node,
+    least: u32,
+    most: Option<u32>,
+) -> Result<Option<Vec<Word>>, AllocError>
+    ensures { IfOk result (λ found. MatchOption found (is_finite (rep (tree_of node.now) least most) ≡ false) (λ words. SamplesTree words.items (rep (tree_of node.now) least most))) }
+{
+    let Some(most) = most else {
+        return Ok(None);
+    };
+    if most < least {
+        return Ok(None);
+    }
+    let Some(once) = words_of(alloc, node)? else {
+        return Ok(None);
+    };
+    let beyond = rounds_up_to(alloc, &once, most - least)?;
+    Ok(Some(rounds_before(alloc, &once, least, beyond)?))
 }

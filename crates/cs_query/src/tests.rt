@@ -1,5 +1,6 @@
-use crate::{Query, query};
+use crate::query;
 use cs_syntax::parse;
+use cs_trigram::Query;
 use std::test::Fail;
 
 /// The number of the first three bytes.
@@ -70,7 +71,8 @@ fn queries_of_patterns(rt: HostRuntime) -> Result<(), Fail> {
         ("abc.def", "abc", false),
         ("abc?", "", true),
         ("x(abc)+", "", false),
-        ("x(abc)+", "abc", true),
+        ("x(abc)+", "abc", false),
+        ("x(abc)+", "abc xab", true),
         ("(abc){2,}", "abc", true),
         ("a[bc]d", "", false),
         ("a[bc]d", "acd", true),
@@ -78,7 +80,31 @@ fn queries_of_patterns(rt: HostRuntime) -> Result<(), Fail> {
         ("[ab][ab][ab]", "bab", true),
         ("(?i)abc", "", false),
         ("(?i)abc", "ABc", true),
-        ("[abc][abc][abc]", "", true),
+        ("[abc][abc][abc]", "", false),
+        ("[abc][abc][abc]", "cab", true),
+        ("[a-z][a-z][a-z]", "", true),
+        ("ab$", "", true),
+        ("abc$", "abc", true),
+        ("\\bab\\b|abc", "", true),
+        ("colou?r", "col olo lor", true),
+        ("colou?r", "col olo lou our", true),
+        ("colou?r", "col olo our", false),
+        ("ab{3}c", "abb bbb bbc", true),
+        ("ab{3}c", "abb bbc", false),
+        ("(foo){2}", "foo oof ofo", true),
+        ("(foo){2}", "foo", false),
+        ("fo+bar", "fob oba bar", true),
+        ("fo+bar", "foo oob oba bar", true),
+        ("fo+bar", "foo oob bar", false),
+        ("xab*cd", "xac acd", true),
+        ("xab*cd", "xab", true),
+        ("xab*cd", "", false),
+        ("foo(bar|baz)+qux", "foo oob oba bar arq rqu qux", true),
+        ("foo(bar|baz)+qux", "foo oob oba bar qux", false),
+        ("0x[0-9a-f]+", "0x7", true),
+        ("0x[0-9a-f]+", "", false),
+        ("[0-9]{3}-[0-9]{4}", "012 12- 2-3 -34 345 456", true),
+        ("[0-9]{3}-[0-9]{4}", "", false),
     ] {
         assert_eq!(rt;
             query_holds(&rt, pattern, false, set)?,

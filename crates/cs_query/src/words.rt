@@ -1,6 +1,6 @@
-// The words of plain trees, as far as they are few.
-ghost use Rattle.std.specs.Prelude.{◌≡◌, ◌≤◌, ◌<◌, ◌++◌, ◌∷◌, [], List, IfOk, OnOk, MatchOption, length, map};
-ghost use Rattle.std.specs.List.{list_any};
+// The words of finite trees, as far as they are few.
+ghost use Rattle.std.specs.Prelude.{nat_lt, ◌≡◌, ◌≤◌, ◌<◌, ◌++◌, ◌∷◌, [], List, IfOk, OnOk, MatchOption, length, map};
+ghost use Rattle.std.specs.List.{list_all, list_any};
 ghost use Rattle.std.specs.Str.{bytes_eq};
 ghost use Rattle.cs_query.specs.Sample.{is_few, with_word, with_words, joinings};
 
@@ -8,9 +8,9 @@ use std::alloc::{AllocError, Global};
 use std::marker::Model;
 
 /// So many different words are few.
-pub const FEW: usize = 8;
+pub const FEW: usize = 20;
 
-/// A word that a plain tree spells.
+/// A word that a finite tree reads.
 #[derive(Drop)]
 pub struct Word {
     bytes: Vec<u8>,
@@ -43,6 +43,22 @@ impl Word {
         Ok(Word { bytes })
     }
 
+    /// The word of these bytes.
+    pub fn of(alloc: Global, bytes: &[u8]) -> Result<Word, AllocError>
+        ensures { IfOk result (λ word. word ≡ bytes.now) }
+    {
+        let mut word = Vec::new(alloc);
+        word.extend_from_slice(bytes)?;
+        Ok(Word { bytes: word })
+    }
+
+    /// The word once more.
+    pub fn copy(&self, alloc: Global) -> Result<Word, AllocError>
+        ensures { IfOk result (λ word. word ≡ self.now) }
+    {
+        Word::of(alloc, self.bytes())
+    }
+
     /// The one word and then the other.
     pub fn joining(alloc: Global, front: &Word, back: &Word) -> Result<Word, AllocError>
         ensures { IfOk result (λ word. word ≡ front.now ++ back.now) }
@@ -61,7 +77,7 @@ impl Word {
     }
 
     /// Whether the two are one word.
-    fn is(&self, other: &Word) -> bool
+    pub fn is(&self, other: &Word) -> bool
         ensures { result ≡ bytes_eq self.now other.now }
     {
         self.bytes == other.bytes
@@ -80,6 +96,13 @@ pub fn are_few(words: &[Word]) -> bool
     ensures { result ≡ is_few (length words.now) }
 {
     !words.is_empty() && words.len() <= FEW
+}
+
+/// Whether each of the words has more bytes than that.
+pub fn are_longer(words: &[Word], len: usize) -> bool
+    ensures { result ≡ list_all (λ w. nat_lt len (length w)) words.now }
+{
+    words.iter().all(|word| word.bytes().len() > len)
 }
 
 /// Adds a word that is not there yet, up to one more than are few.

@@ -1,5 +1,5 @@
 -- The parts of cgrep put together.
-use Rattle.std.proofs.Common.{◌≡◌, ℕ, Bool, true, false, List, [], ◌++◌, refl, sym, ap, subst, ◌∙◌, append-nil, Option, Some, None, Result, Ok, Err, ◌↔◌}
+use Rattle.std.proofs.Common.{◌≡◌, ℕ, Bool, true, false, List, [], refl, sym, ap, subst, ◌∙◌, append-nil, Option, Some, None, Err, ◌↔◌}
 use Rattle.std.specs.Prelude.{option_map, map, string_bytes}
 use Rattle.cs_syntax.specs.Matching.{Tree, Found}
 use Rattle.cs_syntax.specs.Reading.{Reads}
@@ -11,11 +11,12 @@ use Rattle.cs_match.specs.Finding.{Decides}
 use Rattle.cs_tree.specs.Told.{Told, Grows}
 use Rattle.cs_tree.specs.Snapshot.{Snapshot}
 use Rattle.cs_tree.proofs.Growing.{Grows-chain}
-use Rattle.cs_tools.specs.declared.jobs.Tool.TheVariants.{Cgrep}
-use Rattle.cs_tools.specs.declared.jobs.GrepJob.{GrepJob}
+use Rattle.cs_words.specs.declared.jobs.Tool.TheVariants.{Cgrep}
+use Rattle.cs_words.specs.declared.jobs.GrepJob.{GrepJob}
 use Rattle.cs_tools.specs.declared.status.Status.{Status}
 use Rattle.cs_tools.specs.Searches.{Printed, Prints, PrintsStatus, status_of, input_printed, file_printed, all_printed}
-use Rattle.cs_tools.specs.Cgrep.{cgrep_printed, standard_name, PatternFirst, pattern_fault, refused_at}
+use Rattle.cs_tools.specs.Cgrep.{cgrep_printed, standard_name, PatternFirst}
+use Rattle.cs_words.specs.Faults.{pattern_fault, refused_at}
 
 module _ (most : ℕ) (job : GrepJob) (finds : List ℕ → Bool) (snapshot : Option Snapshot) (input : Option Told) where
   pub cgrep_standard : job.standard ≡ true → cgrep_printed most job finds snapshot input ≡ option_map (input_printed most Cgrep job.style finds standard_name) input

@@ -1,12 +1,12 @@
 -- Worked rows of lines and reports, computed.
-use Rattle.std.proofs.Common.{◌≡◌, ℕ, Bool, true, false, List, [], ◌∷◌, ◌++◌, Option, Some, None, refl, codes}
+use Rattle.std.proofs.Common.{◌≡◌, ℕ, Bool, true, false, List, [], ◌∷◌, Some, None, refl, codes}
 use Rattle.std.specs.Str.{bytes_eq}
 use Rattle.std.specs.Fmt.{digits}
-use Rattle.cs_tools.specs.declared.jobs.Style.{Style}
+use Rattle.cs_words.specs.declared.jobs.Style.{Style}
 use Rattle.cs_tools.specs.declared.grep_fault.ReadFault.{ReadFault}
 use Rattle.cs_tools.specs.declared.grep_fault.ReadFault.TheVariants.{Read}
 use Rattle.cs_tools.specs.Lines.{lines, ended_lines}
-use Rattle.cs_tools.specs.Report.{Report, report, printed, hits_from, hit_line, name_line, count_line}
+use Rattle.cs_tools.specs.Report.{report, printed, hits_from, hit_line, name_line, count_line}
 
 lines_of_two : lines (codes "ab\ncd\n") ≡ codes "ab" ∷ codes "cd" ∷ []
 unfolding lines

@@ -1,14 +1,13 @@
 -- What was printed at the hits, and at the end, is what the report prints.
-use Rattle.std.proofs.Common.{◌≡◌, ℕ, zero, suc, ◌+◌, ◌<◌, ◌≤◌, Bool, true, false, cond, nat_lt, List, [], ◌∷◌, ◌++◌, length, refl, sym, ap, subst, ◌∙◌, arith, append-nil, Option, Some, None, ⊎_elim, ◌⊎◌, inl, inr, codes, decimal, is_none}
+use Rattle.std.proofs.Common.{◌≡◌, ℕ, ◌+◌, ◌≤◌, Bool, true, false, cond, nat_lt, List, [], ◌∷◌, ◌++◌, length, refl, sym, ap, subst, ◌∙◌, arith, append-nil, Option, Some, None, ⊎_elim, codes, decimal, is_none}
 use Rattle.std.specs.Prelude.{◌&&◌}
 use Rattle.std.specs.List.{flat_map}
 use Rattle.std.proofs.lemmas.Bool.{lt-ltb, cases_Bool}
 use Rattle.cs_tree.specs.Told.{Grows}
 use Rattle.cs_tree.proofs.Growing.{Grows-chain}
-use Rattle.cs_tools.specs.declared.jobs.Style.{Style}
+use Rattle.cs_words.specs.declared.jobs.Style.{Style}
 use Rattle.cs_tools.specs.declared.tally.Tally.{Tally}
 use Rattle.cs_tools.specs.declared.grep_fault.ReadFault.{ReadFault}
-use Rattle.cs_tools.specs.declared.grepped.Grepped.{Grepped}
 use Rattle.cs_tools.specs.Lines.{newline, lines, ended_lines}
 use Rattle.cs_tools.specs.Rest.{unended, last_line}
 use Rattle.cs_tools.specs.Report.{Hit, hits_from, some_hit, hit_line, name_line, count_line, printed, tested, report}

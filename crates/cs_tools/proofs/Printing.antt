@@ -1,5 +1,5 @@
 -- Writes one after another.
-use Rattle.std.proofs.Common.{◌≡◌, ℕ, List, [], ◌++◌, ◌∷◌, sym, ap, ◌∙◌, Option, Some, None, append-nil}
+use Rattle.std.proofs.Common.{ℕ, List, [], sym, Option, Some, None, append-nil}
 use Rattle.cs_tree.specs.Told.{Grows}
 use Rattle.cs_tree.proofs.Growing.{Grows-chain}
 

@@ -1,11 +1,11 @@
 -- An input that is read piece by piece.
-use Rattle.std.proofs.Common.{◌≡◌, ℕ, zero, suc, ◌+◌, ◌-◌, ◌<◌, ◌≤◌, Bool, true, false, nat_lt, cond, List, [], ◌∷◌, ◌++◌, length, take, drop, refl, sym, ap, subst, ◌∙◌, arith, append_assoc, append-nil, length-append, length-take, length-drop, Option, Some, None, ◌⊎◌, ⊎_elim, inl, inr}
+use Rattle.std.proofs.Common.{◌≡◌, ℕ, ◌+◌, ◌-◌, ◌≤◌, Bool, true, false, nat_lt, cond, List, [], ◌++◌, length, take, drop, refl, sym, ap, subst, ◌∙◌, arith, append_assoc, append-nil, length-append, length-take, length-drop, Option, Some, None, ◌⊎◌, ⊎_elim}
 use Rattle.std.proofs.lemmas.List.{take_at, drop_at, take-append-drop, take-take, take_all, drop-drop}
 use Rattle.std.proofs.lemmas.Bool.{le-ltb, lt-ltb}
-use Rattle.cs_tree.specs.Told.{Told, Loses, IsAt, Ending, ends, fails, LosesAtMost}
+use Rattle.cs_tree.specs.Told.{Told, Loses, IsAt, Ending, LosesAtMost}
 use Rattle.cs_tree.proofs.Growing.{take_on}
 use Rattle.cs_tree.proofs.Losing.{Loses_few}
-use Rattle.cs_tools.specs.declared.jobs.Style.{Style}
+use Rattle.cs_words.specs.declared.jobs.Style.{Style}
 use Rattle.cs_tools.specs.declared.tally.Tally.{Tally}
 use Rattle.cs_tools.specs.declared.grep_fault.ReadFault.TheVariants.{Read, TooLong}
 use Rattle.cs_tools.specs.declared.stop.Stop.{Stop}

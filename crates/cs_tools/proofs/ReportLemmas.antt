@@ -1,5 +1,5 @@
 -- Hits of lines that are tested one after another.
-use Rattle.std.proofs.Common.{◌≡◌, ℕ, zero, suc, ◌+◌, ◌<◌, ◌≤◌, Bool, true, false, cond, List, [], ◌∷◌, ◌++◌, length, refl, sym, ap, subst, ◌∙◌, arith, append_assoc, length-append, add-zero}
+use Rattle.std.proofs.Common.{◌≡◌, ℕ, ◌+◌, Bool, true, false, cond, List, [], ◌∷◌, ◌++◌, length, refl, sym, ap, ◌∙◌, arith, add-zero}
 use Rattle.cs_tools.specs.Report.{Hit, hits_from, some_hit}
 
 cond-append : (b : Bool) (hit : Hit) (xs ys : List Hit) → cond b (hit ∷ (xs ++ ys)) (xs ++ ys) ≡ cond b (hit ∷ xs) xs ++ ys

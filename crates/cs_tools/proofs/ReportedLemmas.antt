@@ -1,7 +1,7 @@
 -- A search that stops has the report of what was told.
-use Rattle.std.proofs.Common.{◌≡◌, ℕ, ◌+◌, ◌<◌, Bool, true, nat_lt, List, [], ◌∷◌, ◌++◌, length, take, refl, sym, ap, subst, ◌∙◌, Option, Some, None}
+use Rattle.std.proofs.Common.{◌≡◌, ℕ, Bool, true, nat_lt, List, take, sym, subst, Option, Some, None}
 use Rattle.cs_tree.specs.Told.{Told, Grows}
-use Rattle.cs_tools.specs.declared.jobs.Style.{Style}
+use Rattle.cs_words.specs.declared.jobs.Style.{Style}
 use Rattle.cs_tools.specs.declared.tally.Tally.{Tally}
 use Rattle.cs_tools.specs.declared.grep_fault.ReadFault.{ReadFault}
 use Rattle.cs_tools.specs.declared.stop.Stop.TheVariants.{Settled, End, Left}

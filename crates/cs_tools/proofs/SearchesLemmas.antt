@@ -8,15 +8,15 @@ use Rattle.cs_tree.specs.Snapshot.{Snapshot, item_at}
 use Rattle.cs_tree.specs.Trees.{Opens, OpensAs, OpenedAs, opening_of, told_by, tree_counted}
 use Rattle.cs_tree.specs.declared.fault.TreeFault.{TreeFault}
 use Rattle.cs_tree.specs.declared.fault.TreeFault.TheVariants as tree
-use Rattle.cs_tools.specs.declared.jobs.Tool.{Tool}
-use Rattle.cs_tools.specs.declared.jobs.Style.{Style}
-use Rattle.cs_tools.specs.declared.fault.FileFault.{FileFault}
+use Rattle.cs_words.specs.declared.jobs.Tool.{Tool}
+use Rattle.cs_words.specs.declared.jobs.Style.{Style}
+use Rattle.cs_words.specs.declared.fault.FileFault.{FileFault}
 use Rattle.cs_tools.specs.declared.grep_fault.ReadFault.{ReadFault}
 use Rattle.cs_tools.specs.declared.grep_fault.ReadFault.TheVariants.{Read, TooLong}
 use Rattle.cs_tools.specs.declared.grepped.Grepped.{Grepped}
 use Rattle.cs_tools.specs.Searched.{Reports, told_report, counted_at}
-use Rattle.cs_tools.specs.Messages.{fault_line_of}
-use Rattle.cs_tools.specs.Searches.{left_fault, open_fault, fault_text, Prints, IsPrinted, Printed, then, all_printed, input_printed, opened_printed, file_printed, NamedFault, fault_lines, failures_at, failures_of, TellsFaults}
+use Rattle.cs_words.specs.Messages.{fault_line_of}
+use Rattle.cs_tools.specs.Searches.{left_fault, open_fault, fault_text, Prints, IsPrinted, Printed, then, nothing, all_printed, input_printed, opened_printed, file_printed, NamedFault, fault_lines, failures_at, failures_of, TellsFaults}
 use Rattle.cs_tree.proofs.Growing.{Grows-chain}
 use Rattle.cs_tools.proofs.Printing.{Grows-same}
 
@@ -64,6 +64,12 @@ or_or false b c = refl
 
 same_printed : (output output' errors errors' : List ℕ) (matched matched' : Bool) → output ≡ output' → errors ≡ errors' → matched ≡ matched' → ◌≡◌ {A = Printed} (record { output = output; errors = errors; matched = matched }) (record { output = output'; errors = errors'; matched = matched' })
 same_printed output output' errors errors' matched matched' o e m = rw (o, e, m) refl
+
+pub then_nothing : (printed : Printed) → then printed nothing ≡ printed
+then_nothing printed = same_printed _ _ _ _ _ _ (append-nil printed.output) (append-nil printed.errors) (or_false printed.matched)
+
+pub then_then : (a b c : Printed) → then a (then b c) ≡ then (then a b) c
+then_then a b c = same_printed _ _ _ _ _ _ (sym (append_assoc a.output b.output c.output)) (sym (append_assoc a.errors b.errors c.errors)) (or_or a.matched b.matched c.matched)
 
 pub all_more : (printed : List ℕ → Printed) (names : List (List ℕ)) (name : List ℕ) → all_printed printed (names ++ name ∷ []) ≡ then (all_printed printed names) (printed name)
 unfolding all_printed

@@ -5,7 +5,7 @@ use Rattle.std.proofs.lemmas.List.Concat.{flat_map-append}
 use Rattle.cs_tree.specs.Told.{Grows}
 use Rattle.cs_tree.proofs.Growing.{Grows-chain}
 use Rattle.cs_tools.specs.Lines.{newline}
-use Rattle.cs_tools.specs.declared.jobs.Style.{Style}
+use Rattle.cs_words.specs.declared.jobs.Style.{Style}
 use Rattle.cs_tools.specs.declared.tally.Tally.{Tally}
 use Rattle.cs_tools.specs.Report.{Hit, hits_from, some_hit}
 use Rattle.cs_tools.specs.Testing.{shown, Tests, Settles}

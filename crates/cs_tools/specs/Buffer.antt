@@ -1,5 +1,5 @@
 -- The bytes of a line buffer that were read and not yet searched.
-use Rattle.std.specs.Prelude.{ℕ, ◌≡◌, ◌+◌, List, [], length, take, drop, slice_range, Option, Result, MatchResult}
+use Rattle.std.specs.Prelude.{ℕ, ◌≡◌, ◌+◌, List, [], length, take, slice_range, Option, Result, MatchResult}
 use Rattle.cs_tree.specs.declared.fault.IoFault.{IoFault}
 use Rattle.cs_tree.specs.Told.{Told, Loses, IsAt, ends, RefusedBy}
 use Rattle.cs_tools.specs.declared.buffer.LineBuffer.{LineBuffer}

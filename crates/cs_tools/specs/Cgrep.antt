@@ -1,22 +1,18 @@
 -- What cgrep prints and answers. docs/PROMISES.md, "What is printed".
-use Rattle.std.specs.Prelude.{ℕ, ◌≡◌, ◌≢◌, ◌⊎◌, ◌≤◌, Bool, true, false, if◌then◌else◌, List, map, codes, Option, Some, None, option_map, string_bytes, Result, Ok, Err}
+use Rattle.std.specs.Prelude.{ℕ, ◌≡◌, ◌≢◌, ◌⊎◌, ◌≤◌, Bool, true, false, if◌then◌else◌, List, map, codes, Option, option_map, string_bytes, Result, Ok, Err}
 use Rattle.cs_syntax.specs.Matching.{Tree}
 use Rattle.cs_syntax.specs.Weight.{weight}
 use Rattle.cs_syntax.specs.Reading.{Reads}
 use Rattle.cs_syntax.specs.Refusal.{IsRefused}
 use Rattle.cs_syntax.specs.declared.fault.PatternFault.TheVariants as pattern
-use Rattle.cs_syntax.specs.declared.fault.PatternFault.{PatternFault}
-use Rattle.cs_syntax.specs.declared.fault.PatternError.{PatternError}
-use Rattle.cs_tree.specs.declared.fault.IoFault.{IoFault}
-use Rattle.cs_tree.specs.declared.fault.IoFault.TheVariants as io
 use Rattle.cs_tools.specs.declared.grep_fault.GrepFault.{GrepFault}
 use Rattle.cs_tools.specs.declared.grep_fault.GrepFault.TheVariants as grep
 use Rattle.cs_tree.specs.Told.{Told, risen}
 use Rattle.cs_tree.specs.Snapshot.{Snapshot}
-use Rattle.cs_tools.specs.declared.jobs.Tool.TheVariants.{Cgrep}
-use Rattle.cs_tools.specs.declared.jobs.GrepJob.{GrepJob}
-use Rattle.cs_tools.specs.declared.fault.ToolFault.{ToolFault}
-use Rattle.cs_tools.specs.declared.fault.ToolFault.TheVariants.{Pattern, FilePattern, NoIndex, BadIndex, Write, Memory}
+use Rattle.cs_words.specs.declared.jobs.Tool.TheVariants.{Cgrep}
+use Rattle.cs_words.specs.declared.jobs.GrepJob.{GrepJob}
+use Rattle.cs_words.specs.declared.fault.ToolFault.{ToolFault}
+use Rattle.cs_words.specs.declared.fault.ToolFault.TheVariants.{Pattern, Write, Memory}
 use Rattle.cs_tools.specs.Searches.{Printed, input_printed, file_printed, all_printed, TellsFaults}
 
 abbrev pub standard_name : List ℕ
@@ -50,21 +46,9 @@ abbrev pub WritesCounted : {A : Type 0} → Result A ToolFault → ℕ → ℕ �
 WritesCounted (Err Write) out out' err err' = ((out' ≡ risen out) × (err' ≡ err)) ⊎ ((out' ≡ out) × (err' ≡ risen err))
 WritesCounted answer out out' err err' = (out' ≡ out) × (err' ≡ err)
 
-abbrev pub written_fault : IoFault → ToolFault
-written_fault io.Failed = Write
-written_fault io.Memory = Memory
-
 abbrev pub searched_fault : GrepFault → ToolFault
 searched_fault grep.Write = Write
 searched_fault grep.Memory = Memory
-
-abbrev pub refused_at : PatternFault → PatternError → ToolFault
-refused_at pattern.Memory error = Memory
-refused_at fault error = Pattern error
-
--- want of memory is a fault of its own
-abbrev pub pattern_fault : PatternError → ToolFault
-pattern_fault error = refused_at error.fault error
 
 -- A search is refused for a write that has failed, or for want of memory.
 abbrev pub IsSearchFault : {A : Type 0} → Result A ToolFault → Type 0

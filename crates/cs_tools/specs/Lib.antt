@@ -4,14 +4,11 @@ pub mod Report
 pub mod Searched
 pub mod Searches
 pub mod Cgrep
-pub mod Words
-pub mod Division
-pub mod Jobs
-pub mod Messages
+pub mod Csearch
 -- What functions inside promise each other.
 pub mod Rest
 pub mod Testing
 pub mod Buffer
 pub mod Stops
 pub mod Searching
-pub mod Settings
+pub mod Names

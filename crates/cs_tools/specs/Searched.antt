@@ -4,7 +4,7 @@ use Rattle.std.specs.Prelude.{ℕ, ◌≡◌, nat_lt, if◌then◌else◌, Bool,
 use Rattle.cs_tree.specs.Told.{Told, Ending, ends, fails, Grows, risen}
 use Rattle.cs_tree.specs.declared.fault.IoFault.{IoFault}
 use Rattle.cs_tree.specs.declared.fault.IoFault.TheVariants as io
-use Rattle.cs_tools.specs.declared.jobs.Style.{Style}
+use Rattle.cs_words.specs.declared.jobs.Style.{Style}
 use Rattle.cs_tools.specs.declared.grep_fault.ReadFault.{ReadFault}
 use Rattle.cs_tools.specs.declared.grep_fault.ReadFault.TheVariants.{Read, TooLong}
 use Rattle.cs_tools.specs.declared.grep_fault.GrepFault.{GrepFault}

@@ -1,23 +1,23 @@
 -- What a tool prints and answers of the inputs that it searches, one after another.
 -- docs/PROMISES.md, "What is printed".
-use Rattle.std.specs.Prelude.{ℕ, ◌≡◌, Bool, true, false, ◌||◌, List, [], ◌∷◌, ◌++◌, codes, Option, Some, None, option_map, Result, Ok, Err}
+use Rattle.std.specs.Prelude.{ℕ, ◌≡◌, Bool, true, false, ◌||◌, List, [], ◌∷◌, ◌++◌, Option, Some, None, option_map, Result, Ok, Err}
 use Rattle.std.specs.List.{flat_map}
 use Rattle.cs_tree.specs.Told.{Told, Grows, risen}
 use Rattle.cs_tree.specs.Snapshot.{Snapshot, item_at}
 use Rattle.cs_tree.specs.Trees.{opening_of}
 use Rattle.cs_tree.specs.declared.fault.TreeFault.{TreeFault}
 use Rattle.cs_tree.specs.declared.fault.TreeFault.TheVariants as tree
-use Rattle.cs_tools.specs.declared.jobs.Tool.{Tool}
-use Rattle.cs_tools.specs.declared.jobs.Style.{Style}
-use Rattle.cs_tools.specs.declared.fault.FileFault.{FileFault}
-use Rattle.cs_tools.specs.declared.fault.FileFault.TheVariants.{Missing, Denied, Failed, InputTooLong}
+use Rattle.cs_words.specs.declared.jobs.Tool.{Tool}
+use Rattle.cs_words.specs.declared.jobs.Style.{Style}
+use Rattle.cs_words.specs.declared.fault.FileFault.{FileFault}
+use Rattle.cs_words.specs.declared.fault.FileFault.TheVariants.{Missing, Denied, Failed, InputTooLong}
 use Rattle.cs_tools.specs.declared.grep_fault.ReadFault.{ReadFault}
 use Rattle.cs_tools.specs.declared.grep_fault.ReadFault.TheVariants.{Read, TooLong}
 use Rattle.cs_tools.specs.declared.status.Status.{Status}
 use Rattle.cs_tools.specs.declared.status.Status.TheVariants.{Matched, NoMatch}
 use Rattle.cs_tools.specs.Report.{Report}
 use Rattle.cs_tools.specs.Searched.{told_report}
-use Rattle.cs_tools.specs.Messages.{fault_line_of}
+use Rattle.cs_words.specs.Messages.{fault_line_of}
 
 -- the fault of an input as that of a file
 abbrev pub left_fault : ReadFault → FileFault

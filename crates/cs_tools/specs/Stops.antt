@@ -1,7 +1,7 @@
 -- How far the reading of an input has come, and where it stops.
 use Rattle.std.specs.Prelude.{ℕ, ◌+◌, ◌<◌, ◌≤◌, ◌≡◌, Bool, List, [], ◌++◌, length, take, Option, Some, None, Result, Ok, Err}
 use Rattle.cs_tree.specs.Told.{Told, ends, fails}
-use Rattle.cs_tools.specs.declared.jobs.Style.{Style}
+use Rattle.cs_words.specs.declared.jobs.Style.{Style}
 use Rattle.cs_tools.specs.declared.tally.Tally.{Tally}
 use Rattle.cs_tools.specs.declared.grep_fault.ReadFault.{ReadFault}
 use Rattle.cs_tools.specs.declared.grep_fault.ReadFault.TheVariants.{Read, TooLong}

@@ -2,7 +2,7 @@
 use Rattle.std.specs.Prelude.{ℕ, ◌+◌, ◌<◌, ◌≡◌, nat_lt, true, if◌then◌else◌, Bool, List, [], ◌∷◌, ◌++◌, length, Option, codes, decimal}
 use Rattle.std.specs.List.{flat_map}
 use Rattle.cs_tree.specs.Told.{Grows}
-use Rattle.cs_tools.specs.declared.jobs.Style.{Style}
+use Rattle.cs_words.specs.declared.jobs.Style.{Style}
 use Rattle.cs_tools.specs.declared.tally.Tally.{Tally}
 use Rattle.cs_tools.specs.Lines.{newline}
 use Rattle.cs_tools.specs.Report.{Hit, hits_from, hit_line, some_hit}

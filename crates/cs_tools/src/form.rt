@@ -7,8 +7,8 @@ ghost use Rattle.cs_tools.specs.Searched.{write_counted};
 ghost use Rattle.cs_tools.specs.Testing.{shown, total};
 
 use crate::grep_fault::GrepFault;
-use crate::jobs::Style;
 use cs_tree::{Sink, write_all};
+use cs_words::Style;
 use itoa::Buffer;
 
 /// The name of an input, and what is printed of it.

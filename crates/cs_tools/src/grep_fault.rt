@@ -2,6 +2,7 @@
 ghost use Rattle.std.specs.Prelude.{◌≡◌};
 
 use cs_tree::IoFault;
+use cs_words::ToolFault;
 use std::alloc::AllocError;
 use thiserror::Error;
 
@@ -48,5 +49,18 @@ impl From<AllocError> for GrepFault {
 
     fn from(_e: AllocError) -> GrepFault {
         GrepFault::Memory
+    }
+}
+
+impl From<GrepFault> for ToolFault {
+    ghost use Rattle.cs_tools.specs.Cgrep.{searched_fault};
+
+    ghost from_gives = { λ grep fault. fault ≡ searched_fault grep };
+
+    fn from(grep: GrepFault) -> ToolFault {
+        match grep {
+            GrepFault::Write => ToolFault::Write,
+            GrepFault::Memory => ToolFault::Memory,
+        }
     }
 }

@@ -1,7 +1,20 @@
 // Laws of the definitions.
-ghost use Rattle.std.specs.Prelude.{◌≡◌, ◌∷◌, ◌++◌, [], ℕ, List};
+ghost use Rattle.std.specs.Prelude.{◌≡◌, ◌∷◌, ◌++◌, [], ℕ, Bool, List, map, filter};
+ghost use Rattle.std.specs.List.{AllByRecursion};
+ghost use Rattle.cs_syntax.specs.Matching.{Tree};
+ghost use Rattle.cs_match.specs.Finding.{Decides};
+ghost use Rattle.cs_tree.specs.Snapshot.{Snapshot};
+ghost use Rattle.cs_trigram.specs.Query.{holds};
+ghost use Rattle.cs_trigram.specs.declared.queries.Query.{Query};
+ghost use Rattle.cs_query.specs.Query.{LosesNoLine};
+ghost use Rattle.cs_index.specs.Image.{Entry, has};
+ghost use Rattle.cs_words.specs.declared.jobs.Tool.{Tool};
+ghost use Rattle.cs_words.specs.declared.jobs.Style.{Style};
+ghost use Rattle.cs_tools.specs.Csearch.{ReadsAs};
+ghost use Rattle.cs_tools.specs.Searches.{all_printed, file_printed};
 ghost use Rattle.cs_tools.specs.Lines.{newline, lines, ended_lines, IsPart};
-ghost use Rattle.cs_tools.specs.Division.{WordsAreDivided};
+
+use crate::report::MOST_SEARCHED;
 
 /// The lines of a text are its longest parts without a newline. An empty part at the end is no line.
 pub fn lines_are_parts()
@@ -16,7 +29,11 @@ pub fn ended_lines_are_parts()
     ensures last { (part : List ℕ) → IsPart part → ended_lines part ≡ [] }
 {}
 
-/// Words are option items, then nothing or `--`, and then the rest; each item stands at its place.
-pub fn words_are_divided()
-    ensures { WordsAreDivided }
+/// Where files read as they were indexed, those that do not meet a query which loses no line may be left out, and any
+/// tool prints the same.
+pub fn files_may_be_left_out()
+    ensures { (style : Style) (finds keeps : List ℕ → Bool) (tree : Snapshot) (query : Query) (pattern : Tree) →
+        LosesNoLine query pattern → Decides finds pattern → (a b : Tool) (files : List Entry) → AllByRecursion (ReadsAs tree) files →
+        all_printed (file_printed MOST_SEARCHED a style finds tree) (filter keeps (map (λ (e : Entry). e.0) (filter (λ (e : Entry). holds query (has e.1)) files)))
+        ≡ all_printed (file_printed MOST_SEARCHED b style finds tree) (filter keeps (map (λ (e : Entry). e.0) files)) }
 {}

@@ -11,12 +11,12 @@ use crate::buffer::LineBuffer;
 use crate::form::Form;
 use crate::grep_fault::GrepFault;
 use crate::grepped::Grepped;
-use crate::jobs::Style;
 use crate::reading::search_input;
 use crate::stop::Stop;
 use crate::tally::Tally;
 use cs_match::Matcher;
 use cs_tree::{Sink, Source};
+use cs_words::Style;
 use std::alloc::Global;
 
 /// How many bytes of one input are searched: 2^30.

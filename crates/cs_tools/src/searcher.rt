@@ -3,18 +3,16 @@ ghost use Rattle.std.specs.Prelude.{◌≡◌, ◌≢◌, ℕ, Bool, List, IfOk,
 ghost use Rattle.cs_match.specs.Finding.{Decides};
 ghost use Rattle.cs_tree.specs.Told.{Grows};
 ghost use Rattle.cs_tools.specs.Cgrep.{WritesCounted, IsSearchFault, failures_after};
-ghost use Rattle.cs_tools.specs.Messages.{fault_line_of};
+ghost use Rattle.cs_words.specs.Messages.{fault_line_of};
 ghost use Rattle.cs_tools.specs.Searches.{Prints, input_printed, file_printed, all_printed, left_fault, open_fault, TellsFaults};
 
 use crate::buffer::LineBuffer;
-use crate::fault::{FileFault, ToolFault};
 use crate::form::Form;
 use crate::grep_fault::ReadFault;
-use crate::jobs::{Style, Tool};
-use crate::messages::fault_line;
 use crate::report::{MOST_SEARCHED, grep_within};
 use cs_match::{Matcher, Program};
 use cs_tree::{Sink, Source, Tree, TreeFault, TreeReader, write_all};
+use cs_words::{FileFault, Style, Tool, ToolFault, fault_line};
 use std::alloc::{AllocError, Global};
 
 /// A tool's matcher and read buffer, which serve for one input after another.

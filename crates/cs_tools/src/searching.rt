@@ -5,16 +5,15 @@ ghost use Rattle.cs_syntax.specs.Reading.{Reads};
 ghost use Rattle.cs_match.specs.Finding.{Decides};
 ghost use Rattle.cs_tree.specs.Told.{Grows};
 ghost use Rattle.cs_tools.specs.Cgrep.{cgrep_printed, PatternFirst, QuietAtPattern, WritesCounted, IsSearchFault, TellsFaultsOf};
-ghost use Rattle.cs_tools.specs.Searches.{Prints, PrintsStatus};
+ghost use Rattle.cs_tools.specs.Searches.{Prints, PrintsStatus, status_of};
 
-use crate::fault::ToolFault;
-use crate::jobs::{GrepJob, Tool};
 use crate::report::MOST_SEARCHED;
 use crate::searcher::Searcher;
 use crate::status::Status;
 use cs_match::Program;
 use cs_syntax::parse;
 use cs_tree::{Sink, Source, Tree};
+use cs_words::{GrepJob, Tool, ToolFault};
 use std::alloc::Global;
 
 /// Prints the lines that match the pattern of the job: those of standard input, or those of its files in the order of
@@ -44,6 +43,22 @@ pub fn cgrep<T: Tree, R: Source, O: Sink, E: Sink>(
     let program = Program::compile(alloc, &pattern)?;
     let mut searcher = Searcher::new(alloc, Tool::Cgrep, job.style, &program)?;
     let matched = search_job(&mut searcher, job, tree, input, out, err)?;
+    let status = finish(matched, out, err)?;
+    Ok(status)
+}
+
+/// The end of a search: both outputs are flushed.
+pub(crate) fn finish<O: Sink, E: Sink>(
+    matched: bool,
+    out: &mut O,
+    err: &mut E,
+) -> Result<Status, ToolFault>
+    ensures status { IfOk result (λ status. status ≡ status_of matched) }
+    ensures out { Grows (O.taken out.old) (O.taken out.new) [] }
+    ensures err { Grows (E.taken err.old) (E.taken err.new) [] }
+    ensures writes { WritesCounted result (O.failed out.old) (O.failed out.new) (E.failed err.old) (E.failed err.new) }
+    ensures only { IsSearchFault result }
+{
     out.flush()?;
     err.flush()?;
     Ok(Status::of(matched))

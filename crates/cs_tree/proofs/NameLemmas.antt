@@ -1,6 +1,6 @@
 -- The names that a folder lists, and those of them whose paths another path covers.
-use Rattle.std.proofs.Common.{◌≡◌, ◌≢◌, ℕ, ◌+◌, Bool, true, false, not, ◌&&◌, ◌||◌, List, [], ◌∷◌, ◌++◌, length, map, drop, get_or, refl, sym, ap, subst, ◌∙◌, eqb, cond, inl, inr, ◌⊎◌, arith, length-append}
-use Rattle.std.proofs.lemmas.Bool.{cases_Bool, true≢false, and_parts, and_from, or_left, or_right, false_from_ne_true, not-true, not_from_false}
+use Rattle.std.proofs.Common.{◌≡◌, ℕ, Bool, true, false, not, ◌&&◌, ◌||◌, List, [], ◌∷◌, ◌++◌, length, map, drop, get_or, refl, sym, ap, subst, ◌∙◌, eqb, cond, inl, inr, ◌⊎◌, arith, length-append}
+use Rattle.std.proofs.lemmas.Bool.{cases_Bool, true≢false, and_parts, and_from, or_right, not-true}
 use Rattle.std.proofs.lemmas.List.{map-append}
 use Rattle.std.proofs.lemmas.List.Folds.{list_all-append, list_any-append}
 use Rattle.std.specs.Prelude.{filter}
@@ -9,8 +9,8 @@ use Rattle.std.specs.Cmp.Lexicographic.{bytes_decides}
 use Rattle.std.specs.List.{list_any, list_all}
 use Rattle.cs_tree.specs.Cover.{slash, same, begins, covers, Covers, itself, below, root}
 use Rattle.cs_tree.specs.Snapshot.{are_names, are_distinct, is_name, child, stem_of}
-use Rattle.cs_tree.proofs.Covering.{covers_says, covers_from, covers_chain, covers_itself, begins_rest}
-use Rattle.cs_tree.proofs.Splitting.{NoSlash, no_slash_parts, stem-other}
+use Rattle.cs_tree.proofs.Covering.{covers_says, covers_from, covers_chain, begins_rest}
+use Rattle.cs_tree.proofs.Splitting.{NoSlash, stem-other}
 
 -- ---- lists
 

@@ -1,13 +1,13 @@
 -- The items of a tree in memory, and its snapshot.
-use Rattle.std.proofs.Common.{◌≡◌, ℕ, zero, suc, ◌+◌, ◌<◌, ◌≤◌, Bool, true, false, not, cond, ◌||◌, ◌&&◌, List, [], ◌∷◌, ◌++◌, length, map, set, take, drop, add-one, get_or, refl, sym, ap, subst, ◌∙◌, inl, inr, Option, Some, None, Ok, arith, length-take, eqb}
+use Rattle.std.proofs.Common.{◌≡◌, ℕ, zero, suc, ◌+◌, ◌<◌, ◌≤◌, Bool, true, false, not, cond, List, [], ◌∷◌, ◌++◌, length, map, set, take, drop, add-one, get_or, refl, sym, ap, subst, ◌∙◌, inl, inr, Option, Some, None, Ok, arith, length-take}
 use Rattle.std.proofs.lemmas.Bool.{true≢false, ltb-true, ltb-false, or_cases, or_left, or_right}
 use Rattle.std.proofs.lemmas.List.{map-append, drop-drop, drop_at}
 use Rattle.std.proofs.lemmas.Str.{IsUtf8-string_bytes}
 use Rattle.std.specs.declared.alloc.Global.{Global}
-use Rattle.std.specs.Prelude.{string_bytes, nat_lt, slice_get, option_map, filter, is_some, unwrap_or, option_and_then, IsUtf8, IsSome, String, ◌↔◌}
+use Rattle.std.specs.Prelude.{string_bytes, nat_lt, slice_get, option_map, filter, unwrap_or, option_and_then, IsUtf8, IsSome, String, ◌↔◌}
 use Rattle.std.specs.Cmp.{both_ways as same_tests}
 use Rattle.std.specs.Cmp.Lexicographic.{bytes_decides, nat_list_cmp_total}
-use Rattle.std.specs.List.{position, position_or_len, list_any, AllByRecursion}
+use Rattle.std.specs.List.{position_or_len, list_any, AllByRecursion}
 use Rattle.std.specs.Ordering.{eq_by_cmp}
 use Rattle.std.specs.FinMap.{find, get, insert, from_entries, get-from_entries, get-insert, get-empty, empty, from_entries_push, same_map}
 use Rattle.cs_tree.specs.Cover.{bytes_cmp, slash, same}

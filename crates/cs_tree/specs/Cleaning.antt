@@ -24,7 +24,12 @@ CleanAnswers None (Ok path) = Unit {0}
 CleanAnswers None (Err Memory) = Unit {0}
 CleanAnswers None (Err fault) = ⊥
 
--- the same of a text whose elements follow those of another one
+-- Cleaning takes the path and leaves it as it is, whatever the folder is.
+pub record IsSettled (path : List ℕ) : Type 0 where
+  pub accepted : (folder : List ℕ) → clean_fault folder path ≡ None
+  pub unchanged : (folder : List ℕ) → cleaned folder path ≡ path
+
+-- the fault and the path of a text whose elements follow those of another one
 abbrev pub parts_path : List ℕ → List ℕ → List ℕ
 parts_path folder text = path_of (steps (steps [] (elements folder)) (elements text))
 

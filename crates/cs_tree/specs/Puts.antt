@@ -1,5 +1,5 @@
 -- When an item can be put into a tree in memory. docs/FORMAT.md, "Paths and names".
-use Rattle.std.specs.Prelude.{◌≡◌, Bool, not, ◌&&◌, ◌||◌, ℕ, List, if◌then◌else◌, Option, Some, None, Result, Ok, Err}
+use Rattle.std.specs.Prelude.{◌≡◌, not, ◌&&◌, ◌||◌, ℕ, List, if◌then◌else◌, Option, Some, None, Result, Ok, Err}
 use Rattle.cs_tree.specs.Clean.{is_clean, has_nul}
 use Rattle.cs_tree.specs.Snapshot.{Snapshot, Item, item_at, is_folder, has_entries, parent_of}
 use Rattle.cs_tree.specs.declared.mem_tree.PutFault.{PutFault}

@@ -1,6 +1,6 @@
 -- What a walk of a tree finds: what it comes to from the paths that it is given, by names that are
 -- listed and not left out. docs/FORMAT.md, "Paths and names".
-use Rattle.std.specs.Prelude.{ℕ, ◌+◌, Bool, true, false, not, ◌&&◌, ◌||◌, nat_eq, nat_le, cond, if◌then◌else◌, List, [], ◌∷◌, ◌++◌, length, drop, Option, None, option_map, filter_map}
+use Rattle.std.specs.Prelude.{ℕ, ◌+◌, Bool, true, false, not, ◌&&◌, ◌||◌, nat_eq, nat_le, cond, if◌then◌else◌, List, [], ◌∷◌, length, drop, Option, None, option_map, filter_map}
 use Rattle.std.specs.List.{list_any}
 use Rattle.std.specs.FinMap as map
 use Rattle.cs_tree.specs.PathSet as set

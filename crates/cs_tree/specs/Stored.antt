@@ -1,5 +1,5 @@
 -- How a tree in memory keeps its snapshot: a list of items, each with its path.
-use Rattle.std.specs.Prelude.{◌≡◌, ℕ, ◌<◌, List, [], Option, Some, None, map, string_bytes, length, drop, false, slice_get, option_map, option_and_then, position}
+use Rattle.std.specs.Prelude.{ℕ, List, [], Option, Some, None, map, string_bytes, drop, false, slice_get, option_and_then, position}
 use Rattle.std.specs.FinMap as map'
 use Rattle.cs_tree.specs.Cover.{same}
 use Rattle.cs_tree.specs.Snapshot.{Snapshot, Item, folder, file, cut, other, bad, denied, unlisting}

@@ -1,11 +1,11 @@
 // Paths made absolute and clean.
-ghost use Rattle.std.specs.Prelude.{◌≡◌, ◌≤◌, ◌∷◌, [], true, reverse, map, string_bytes, length, vec_len, OnOk, OnErr, IfOk};
-ghost use Rattle.cs_tree.specs.Cover.{begins, slash};
-ghost use Rattle.cs_tree.specs.Clean.{absolute, cleaned, elements, stepped, steps, path_of, longest_path};
-ghost use Rattle.cs_tree.specs.Cleaning.{clean_fault, parts_fault, parts_path, CleanAnswers, texts};
+ghost use Rattle.std.specs.Prelude.{◌≡◌, ◌≤◌, ◌↔◌, ◌||◌, ◌∷◌, [], true, false, IsTrue, reverse, map, string_bytes, length, vec_len, OnOk, OnErr, IfOk};
+ghost use Rattle.cs_tree.specs.Cover.{begins, same, slash};
+ghost use Rattle.cs_tree.specs.Clean.{absolute, cleaned, elements, stepped, steps, path_of, longest_path, has_nul as has_nul', is_clean as is_clean'};
+ghost use Rattle.cs_tree.specs.Cleaning.{clean_fault, parts_fault, parts_path, CleanAnswers, IsSettled, texts};
 ghost use Rattle.cs_tree.specs.declared.cleaning.PathFault.TheVariants as path;
 
-use crate::paths::{has_nul, is_absolute};
+use crate::paths::{has_nul, is_absolute, is_clean};
 use std::alloc::{AllocError, AllocFailed, Global};
 use thiserror::Error;
 
@@ -115,4 +115,24 @@ fn joined(alloc: Global, above: &[&str]) -> Result<String, AllocError>
         path.push_str(element)?;
     }
     Ok(path)
+}
+
+/// Whether cleaning takes the path and leaves it as it is, whatever the folder is. Takes no memory.
+pub fn is_settled(path: &str) -> bool
+    ensures { IsTrue result ↔ IsSettled path.now }
+{
+    is_whole(path) && is_root_or_clean(path)
+}
+
+/// Whether the path has no NUL, and is short enough.
+fn is_whole(path: &str) -> bool
+    ensures { IsTrue result ↔ ((has_nul' path.now ≡ false) × (length path.now ≤ longest_path)) }
+{
+    !has_nul(path) && path.len() <= LONGEST_PATH
+}
+
+fn is_root_or_clean(path: &str) -> bool
+    ensures { result ≡ (same path.now (slash ∷ []) || is_clean' path.now) }
+{
+    path == "/" || is_clean(path)
 }

@@ -1,5 +1,7 @@
 // The real disk as a tree.
-ghost use Rattle.std.specs.Prelude.{◌≡◌, ◌≤◌, ℕ, IfOk, length, None};
+ghost use Rattle.std.specs.Prelude.{◌≡◌, ◌≤◌, ℕ, IfOk, length, map, string_bytes, None};
+ghost use Rattle.std.specs.List.Sorted.{IsStrictlySortedBy};
+ghost use Rattle.cs_tree.specs.PathSet.{bytes_cmp};
 ghost use Rattle.cs_tree.specs.Trees.{tree_counted};
 
 use crate::fault::{TreeFault, counted_answer};
@@ -113,7 +115,16 @@ fn list_folder<R: Files + AllocGlobal + Clone + Drop>(
             Err(error) => return Err(fault_of(error.kind())),
         }
     }
+    order_names(&mut names);
     Ok(Listing { names, unnamed })
+}
+
+/// Has each name once: a folder that changes while it is read may give one twice.
+fn order_names(names: &mut Vec<String>)
+    ensures { IsStrictlySortedBy bytes_cmp (map string_bytes names.new.items) }
+{
+    names.sort_unstable();
+    names.dedup();
 }
 
 /// Opens what stands at a path, unless it is a folder.

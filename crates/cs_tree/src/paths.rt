@@ -72,7 +72,7 @@ pub(crate) fn is_clean(path: &str) -> bool
 }
 
 /// Whether the path begins with a slash.
-pub(crate) fn is_absolute(path: &str) -> bool
+pub fn is_absolute(path: &str) -> bool
     ensures { result ≡ begins (slash ∷ []) path.now }
 {
     match path.as_bytes().split_first() {

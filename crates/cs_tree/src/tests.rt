@@ -1,10 +1,12 @@
 // Each call once with ample memory, and readers and writers that fail in mid-stream.
 use crate::{
     DiskTree, IoFault, Item, Kind, MemSink, MemSource, MemTree, PathFault, PutFault, Sink, Source,
-    StdSink, StdSource, Tree, TreeFault, TreeReader, clean, covers, read_all, write_all,
+    StdSink, StdSource, Tree, TreeFault, TreeReader, clean, covers, is_settled, read_all, reduce,
+    write_all,
 };
 use std::alloc::{AllocError, Global};
 use std::io::{Read, Write};
+use std::os::unix::fs::symlink;
 use std::test::*;
 use std::{fs, io};
 
@@ -258,6 +260,47 @@ fn the_real_disk(rt: HostRuntime) -> Result<(), Fail> {
 }
 
 #[test]
+fn links_are_neither_files_nor_folders(rt: HostRuntime) -> Result<(), Fail> {
+    let folder = "cs_tree_link_test";
+    let _absent = fs::remove_dir_all(&rt, folder);
+    fs::create_dir(&rt, folder)?;
+    fs::write(&rt, "cs_tree_link_test/x", "ab\n")?;
+    symlink(&rt, "x", "cs_tree_link_test/file")?;
+    symlink(&rt, ".", "cs_tree_link_test/circle")?;
+    symlink(&rt, "none", "cs_tree_link_test/broken")?;
+    symlink(&rt, "itself", "cs_tree_link_test/itself")?;
+    let mut tree = DiskTree::new(rt.clone()?);
+    for path in [
+        "cs_tree_link_test/file",
+        "cs_tree_link_test/circle",
+        "cs_tree_link_test/broken",
+        "cs_tree_link_test/itself",
+    ] {
+        assert_eq!(rt; tree.kind(path), Ok(Kind::Other), "{path}");
+    }
+    assert_eq!(rt;
+        names_in(&rt, &mut tree, folder)?.as_str(),
+        "broken circle file itself x "
+    );
+    assert_eq!(rt; tree.open("cs_tree_link_test/file"), Ok(()));
+    assert_eq!(rt;
+        rest_of(rt.alloc(), &mut tree)?.as_slice(),
+        b"ab\n".as_slice()
+    );
+    assert_eq!(rt;
+        tree.open("cs_tree_link_test/broken"),
+        Err(TreeFault::Missing)
+    );
+    assert_eq!(rt;
+        tree.open("cs_tree_link_test/itself"),
+        Err(TreeFault::Failed)
+    );
+    assert_eq!(rt; tree.failures(), 2);
+    fs::remove_dir_all(&rt, folder)?;
+    Ok(())
+}
+
+#[test]
 fn paths_are_cleaned(rt: HostRuntime) {
     for (folder, text, want) in [
         ("/w", "a/./b/../c/", Ok("/w/a/c")),
@@ -273,5 +316,52 @@ fn paths_are_cleaned(rt: HostRuntime) {
             (Ok(path), Ok(want)) => assert_eq!(rt; path.as_str(), want, "{folder} and {text}"),
             (answer, want) => assert_eq!(rt; answer.err(), want.err(), "{folder} and {text}"),
         }
+    }
+}
+
+fn strings(alloc: Global, texts: &[&str]) -> Result<Vec<String>, AllocError> {
+    let mut strings = Vec::new(alloc);
+    for text in texts {
+        strings.push(String::from_str(alloc, text)?)?;
+    }
+    Ok(strings)
+}
+
+#[test]
+fn paths_are_reduced(rt: HostRuntime) -> Result<(), Fail> {
+    let rows: [(&[&str], &[&str]); 8] = [
+        (&["/a/bc", "/a/b", "/a/b", "/a/b/c"], &["/a/b", "/a/bc"]),
+        (&["/a/b", "/a"], &["/a"]),
+        (&["/a/b", "/a/b-x", "/a/b/c"], &["/a/b", "/a/b-x"]),
+        (&["/", "/a"], &["/"]),
+        (&["/a", "/"], &["/"]),
+        (&["/b/c/d", "/b", "/a"], &["/a", "/b"]),
+        (&["/a", "", "b"], &["", "b"]),
+        (&[], &[]),
+    ];
+    for (paths, want) in rows {
+        let kept = reduce(rt.alloc(), &strings(rt.alloc(), paths)?)?;
+        let want = strings(rt.alloc(), want)?;
+        assert_eq!(rt; kept, want, "{paths:?}");
+    }
+    Ok(())
+}
+
+#[test]
+fn settled_paths(rt: HostRuntime) {
+    for (path, want) in [
+        ("/", true),
+        ("/a/b-x", true),
+        ("/a/..b", true),
+        ("", false),
+        ("a", false),
+        ("//", false),
+        ("/a/", false),
+        ("/a//b", false),
+        ("/./a", false),
+        ("/a/..", false),
+        ("/a\0", false),
+    ] {
+        assert_eq!(rt; is_settled(path), want, "{path:?}");
     }
 }

@@ -2,11 +2,11 @@
 use crate::buffer::LineBuffer;
 use crate::form::Form;
 use crate::grep_fault::ReadFault;
-use crate::jobs::Style;
 use crate::report::{grep, grep_within};
 use cs_match::{Matcher, Program};
 use cs_syntax::parse;
 use cs_tree::{MemSink, MemSource, Source};
+use cs_words::Style;
 use std::alloc::Global;
 use std::process::Abort;
 use std::test::Fail;

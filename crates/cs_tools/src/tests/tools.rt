@@ -1,11 +1,9 @@
 // Whole runs of the tools over inputs and trees in memory.
-use crate::fault::ToolFault;
-use crate::jobs::{GrepJob, Job, Tool};
 use crate::searching::cgrep;
 use crate::status::Status;
-use crate::words::read_words;
 use cs_syntax::{PatternError, PatternFault};
 use cs_tree::{IoFault, Item, MemSink, MemSource, MemTree, Sink};
+use cs_words::{GrepJob, Job, Tool, ToolFault, read_words};
 use std::alloc::{AllocError, Global};
 use std::process::Abort;
 use std::test::Fail;

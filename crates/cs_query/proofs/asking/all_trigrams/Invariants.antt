@@ -1,7 +1,7 @@
 use Rattle.std.proofs.Common.{◌≡◌, ◌≤◌, ◌-◌, ◌&&◌, ℕ, Bool, true, drop, length}
 use Rattle.std.specs.List.{list_all}
-use Rattle.cs_query.specs.Trigram.{windows}
-use Rattle.cs_query.specs.Query.{are_trigrams}
+use Rattle.cs_trigram.specs.Trigram.{windows}
+use Rattle.cs_trigram.specs.Query.{are_trigrams}
 use Rattle.cs_query.specs.Sample.{all_hold}
 use Rattle.cs_query.proofs.asking.all_trigrams.Given as goal
 

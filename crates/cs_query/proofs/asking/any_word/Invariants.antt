@@ -1,6 +1,6 @@
 use Rattle.std.proofs.Common.{◌≡◌, ◌||◌, ℕ, Bool, true, drop}
 use Rattle.std.specs.List.{list_all}
-use Rattle.cs_query.specs.Query.{are_trigrams}
+use Rattle.cs_trigram.specs.Query.{are_trigrams}
 use Rattle.cs_query.specs.Sample.{some_holds, has_any}
 use Rattle.cs_query.proofs.asking.any_word.Given as goal
 

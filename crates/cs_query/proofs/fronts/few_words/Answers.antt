@@ -1,13 +1,13 @@
 use Rattle.std.proofs.Common.{◌≡◌, ℕ, List, length, sym, ap, ◌∙◌, false, true}
 use Rattle.cs_syntax.specs.Node.{tree_of}
 use Rattle.cs_query.specs.Sample.{is_few}
-use Rattle.cs_query.proofs.FewLemmas.{tree_words, tree_not_few, tree_not_plain}
+use Rattle.cs_query.proofs.FewLemmas.{tree_words, tree_not_few, tree_not_finite}
 use Rattle.cs_query.proofs.NodeLemmas.{none_of, some_of}
 use Rattle.cs_query.proofs.fronts.few_words.Goals as goal
 
 pub returns-in_default : goal.returns-in_default
 returns-in_default c =
-    tree_not_plain (tree_of c.args.node.now) (none_of c.in_ok-words.field-0 _ _ c.in_ok-words.ensures c.in_default.not-Some)
+    tree_not_finite (tree_of c.args.node.now) (none_of c.in_ok-words.field-0 _ _ c.in_ok-words.ensures c.in_default.not-Some)
 
 pub returns-then-not-are_few : goal.returns-then-not-are_few
 returns-then-not-are_few c =

@@ -1,4 +1,4 @@
-use Rattle.std.proofs.Common.{◌≡◌, ◌+◌, ◌-◌, ◌≤◌, ◌∷◌, ◌++◌, [], Bool, List, ℕ, length, take, drop, refl, sym, ap, subst, ◌∙◌, inl, inr, arith}
+use Rattle.std.proofs.Common.{◌≡◌, ◌+◌, ◌-◌, ◌∷◌, ◌++◌, [], Bool, List, ℕ, length, drop, refl, sym, ap, subst, ◌∙◌, inl, inr, arith}
 use Rattle.cs_match.specs.Finding.{Decides}
 use Rattle.cs_tree.specs.Told.{ends, fails, RefusedBy}
 use Rattle.cs_tools.specs.declared.grep_fault.ReadFault.TheVariants.{Read}

@@ -1,4 +1,4 @@
-use Rattle.std.proofs.Common.{sym, subst, ◌∙◌}
+use Rattle.std.proofs.Common.{sym, subst}
 use Rattle.cs_match.specs.Finding.{Decides}
 use Rattle.cs_tools.specs.declared.stop.Stop.TheVariants.{End}
 use Rattle.cs_tools.specs.Stops.{Stops}

@@ -3,7 +3,6 @@ use Rattle.std.proofs.lemmas.Bool.{eqb-true}
 use Rattle.cs_tools.specs.Rest.{last_line}
 use Rattle.cs_tools.specs.Testing.{Tests}
 use Rattle.cs_tools.proofs.TestingLemmas.{Tests-none}
-use Rattle.cs_tools.proofs.PrintedLemmas.{reported_end}
 use Rattle.cs_tools.proofs.report.search_rest.Goals as goal
 
 empty : (l : List ℕ) → length l ≡ 0 → l ≡ []

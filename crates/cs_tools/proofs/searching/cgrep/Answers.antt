@@ -1,4 +1,4 @@
-use Rattle.std.proofs.Common.{sym, ap, subst, ◌∙◌}
+use Rattle.std.proofs.Common.{sym, subst}
 use Rattle.std.specs.Prelude.{string_bytes}
 use Rattle.std.proofs.lemmas.Result.{err_from_is_err_and}
 use Rattle.cs_syntax.specs.Reading.{Reads}
@@ -21,4 +21,4 @@ returns-clause-prints g c = λ pattern finds reads decides.
     let same = read_once _ job.fold c.in_ok-pattern.pattern pattern read reads in
     let program = Decides-program finds c.in_ok-pattern.pattern c.in_ok-program.program pattern c.in_ok-program.ensures same decides in
     let matcher = subst (Decides finds) (sym c.in_ok-searcher.ensures.matcher) program in
-    PrintsStatus-flushed _ _ (g.O.Sink.taken c.search_job.new.out) _ _ (g.E.Sink.taken c.search_job.new.err) _ c.in_ok-matched.matched c.of.result (c.in_ok-matched.ensures.prints finds matcher) c.in_ok-flush.ensures.bytes c.in_ok-flush-2.ensures.bytes c.of.ensures
+    PrintsStatus-flushed _ _ (g.O.Sink.taken c.search_job.new.out) _ _ (g.E.Sink.taken c.search_job.new.err) _ c.in_ok-matched.matched c.in_ok-status.status (c.in_ok-matched.ensures.prints finds matcher) c.in_ok-status.ensures.out c.in_ok-status.ensures.err c.in_ok-status.ensures.status

@@ -1,8 +1,8 @@
-use Rattle.std.proofs.Common.{sym, ap, subst, ◌∙◌, List, Option}
+use Rattle.std.proofs.Common.{sym, subst, Option}
 use Rattle.std.specs.Prelude.{option_map, map, string_bytes}
 use Rattle.cs_tree.specs.Snapshot.{Snapshot}
 use Rattle.cs_tools.specs.declared.report.TheConstants.{MOST_SEARCHED}
-use Rattle.cs_tools.specs.declared.jobs.Tool.TheVariants.{Cgrep}
+use Rattle.cs_words.specs.declared.jobs.Tool.TheVariants.{Cgrep}
 use Rattle.cs_tools.specs.Cgrep.{standard_name}
 use Rattle.cs_tools.specs.Searches.{Printed, Prints, input_printed, file_printed, all_printed}
 use Rattle.cs_tools.proofs.CgrepLemmas.{cgrep_standard, cgrep_files}

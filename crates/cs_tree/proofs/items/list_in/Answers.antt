@@ -1,4 +1,4 @@
-use Rattle.std.proofs.Common.{rules, ◌≡◌, ap, sym, refl, ◌∙◌, Some, None}
+use Rattle.std.proofs.Common.{◌≡◌, ap, sym, ◌∙◌, Some, None}
 use Rattle.std.specs.Prelude.{string_bytes, false}
 use Rattle.std.proofs.lemmas.Bool.{true≢false}
 use Rattle.std.specs.FinMap.{insert}

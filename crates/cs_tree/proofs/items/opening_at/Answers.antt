@@ -1,6 +1,5 @@
-use Rattle.std.proofs.Common.{rules, ◌≡◌, ap, sym, subst, refl, ◌∙◌, Some, None}
-use Rattle.cs_tree.specs.Snapshot.{item_at}
-use Rattle.cs_tree.specs.Stored.{snapshot_of, place_at, item_of, left_at, left_of}
+use Rattle.std.proofs.Common.{ap, sym, subst, ◌∙◌, Some}
+use Rattle.cs_tree.specs.Stored.{left_at}
 use Rattle.cs_tree.specs.Trees.{opening_of, OpenedAs}
 use Rattle.cs_tree.proofs.PlaceLemmas.{item_placed, item_unplaced, left_placed}
 use Rattle.cs_tree.proofs.items.opening_at.Goals as goal

@@ -1,8 +1,5 @@
-use Rattle.std.proofs.Common.{rules, ◌≡◌, ap, sym, map, ◌∙◌, arith}
-use Rattle.std.proofs.lemmas.List.{length-set}
-use Rattle.std.specs.Prelude.{string_bytes}
-use Rattle.cs_tree.specs.Snapshot.{unlisting}
-use Rattle.cs_tree.specs.Stored.{pair_of, unlisted_pair, item_of}
+use Rattle.std.proofs.Common.{rules, ◌≡◌, ap, map, ◌∙◌, arith}
+use Rattle.cs_tree.specs.Stored.{pair_of, unlisted_pair}
 use Rattle.cs_tree.proofs.PlaceLemmas.{changed_more}
 use Rattle.cs_tree.proofs.items.unlist_all.Goals as goal
 

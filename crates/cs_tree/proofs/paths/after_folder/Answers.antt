@@ -1,4 +1,4 @@
-use Rattle.std.proofs.Common.{◌≡◌, true, sym, ◌∙◌}
+use Rattle.std.proofs.Common.{sym, ◌∙◌}
 use Rattle.cs_tree.proofs.Splitting.{after_other}
 use Rattle.cs_tree.proofs.paths.after_folder.Goals as goal
 

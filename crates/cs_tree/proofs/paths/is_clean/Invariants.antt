@@ -1,8 +1,7 @@
-use Rattle.std.proofs.Common.{◌≡◌, length, ◌∷◌}
+use Rattle.std.proofs.Common.{◌≡◌, length}
 use denote.Text.{Utf8}
 use denote.Shadow.{shadow}
 use Rattle.std.specs.List.{list_all}
-use Rattle.cs_tree.specs.Cover.{slash}
 use Rattle.cs_tree.specs.Clean.{elements, is_proper, is_clean}
 use Rattle.cs_tree.proofs.paths.is_clean.Given as goal
 

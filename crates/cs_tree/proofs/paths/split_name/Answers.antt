@@ -1,4 +1,4 @@
-use Rattle.std.proofs.Common.{◌≡◌, sym, ◌∙◌, ap}
+use Rattle.std.proofs.Common.{sym, ◌∙◌}
 use Rattle.std.proofs.lemmas.Bool.{eqb-true, eq-eqb, true≢false}
 use Rattle.cs_tree.proofs.Splitting.{rsplit_says, name_of-last, parent_root, parent_front}
 use Rattle.cs_tree.proofs.paths.split_name.Goals as goal

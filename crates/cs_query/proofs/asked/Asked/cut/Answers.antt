@@ -2,13 +2,13 @@ use Rattle.std.proofs.Common.{◌≡◌, ◌&&◌, ℕ, Bool, List, [], ◌∷�
 use Rattle.cs_syntax.specs.Matching.{more}
 use Rattle.std.specs.List.{list_all}
 use Rattle.std.proofs.lemmas.Bool.{and_from}
-use Rattle.cs_query.specs.Query.{holds, are_trigrams}
+use Rattle.cs_trigram.specs.Query.{holds, are_trigrams}
 use Rattle.cs_query.specs.Sample.{IsAsked, all_hold, has_any}
 use Rattle.cs_query.proofs.AskedLemmas.{asked_cut}
 use Rattle.cs_query.proofs.asked.Asked.cut.Goals as goal
 
-pub returns : goal.returns
-returns c = λ t ts no_few own asked.
+pub returns-clause-asks : goal.returns-clause-asks
+returns-clause-asks c = λ t ts no_few own asked.
     let front = c.args.self.now.front.items in
     let needs : (ℕ → Bool) → Bool = λ set. all_hold c.args.self.now.needs.items set in
     let later : (ℕ → Bool) → Bool = λ set. all_hold c.need-2.new.self.needs.items set in

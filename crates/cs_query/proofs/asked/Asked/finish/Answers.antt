@@ -1,9 +1,9 @@
 use Rattle.std.proofs.Common.{◌≡◌, ◌&&◌, ℕ, Bool, ap, ◌∙◌}
 use Rattle.std.specs.List.{list_all}
 use Rattle.std.proofs.lemmas.Bool.{and_from}
-use Rattle.cs_query.specs.Query.{holds, are_trigrams}
+use Rattle.cs_trigram.specs.Query.{holds, are_trigrams}
 use Rattle.cs_query.specs.Sample.{all_hold, has_any}
-use Rattle.cs_query.specs.declared.queries.Query.TheVariants.{And}
+use Rattle.cs_trigram.specs.declared.queries.Query.TheVariants.{And}
 use Rattle.cs_query.proofs.QueryLemmas.{holds-And, numbers-And}
 use Rattle.cs_query.proofs.AskedLemmas.{asked_whole}
 use Rattle.cs_query.proofs.asked.Asked.finish.Goals as goal

@@ -2,23 +2,23 @@ use Rattle.std.proofs.Common.{◌≡◌, ◌&&◌, ◌≤◌, ℕ, Bool, List, [
 use Rattle.cs_syntax.specs.Matching.{Trees, more}
 use Rattle.std.specs.List.{list_all}
 use Rattle.std.proofs.lemmas.Bool.{and_from}
-use Rattle.cs_query.specs.Query.{are_trigrams}
+use Rattle.cs_trigram.specs.Query.{are_trigrams}
 use Rattle.cs_query.specs.Sample.{IsAsked, IsFront, all_hold, has_any, with_words, joinings}
 use Rattle.cs_query.proofs.AskedLemmas.{asked_join, asked_pass, few_tree}
 use Rattle.cs_query.proofs.asked.Asked.join.Goals as goal
 
-pub returns-then-len-le-FEW : goal.returns-then-len-le-FEW
-returns-then-len-le-FEW c = λ t ts is words asked.
+pub returns-then-len-le-FEW-clause-asks : goal.returns-then-len-le-FEW-clause-asks
+returns-then-len-le-FEW-clause-asks c = λ t ts is words asked.
     let front = c.args.self.now.front.items in
     let needs : (ℕ → Bool) → Bool = λ set. all_hold c.args.self.now.needs.items set in
     let us = c.args.words.now in
     let same : c.in_ok-joined.joined.items ≡ with_words [] (joinings us front) =
     c.in_ok-joined.ensures ∙ ap (λ (vs : List (List ℕ)). with_words [] (joinings us vs)) c.deref.ensures.value in
-    let few : length (with_words [] (joinings us front)) ≤ 8 = subst (λ (ws : List (List ℕ)). length ws ≤ 8) same (omega arith) in
+    let few : length (with_words [] (joinings us front)) ≤ 20 = subst (λ (ws : List (List ℕ)). length ws ≤ 20) same (omega arith) in
     (subst (λ (ws : List (List ℕ)). IsAsked ws needs (more t ts)) (sym same) (asked_join front needs needs t ts asked.0 us words few), asked.1)
 
-pub returns : goal.returns
-returns c = λ t ts is words asked.
+pub returns-clause-asks : goal.returns-clause-asks
+returns-clause-asks c = λ t ts is words asked.
     let front = c.args.self.now.front.items in
     let needs : (ℕ → Bool) → Bool = λ set. all_hold c.args.self.now.needs.items set in
     let later : (ℕ → Bool) → Bool = λ set. all_hold c.need.new.self.needs.items set in

@@ -1,6 +1,6 @@
-use Rattle.std.proofs.Common.{◌≡◌, ◌++◌, ◌-◌, ◌+◌, List, ℕ, take, drop, length, ap, sym, subst, ◌∙◌, arith, length-take, length-drop}
+use Rattle.std.proofs.Common.{◌++◌, ◌-◌, ◌+◌, take, drop, ap, sym, subst, ◌∙◌, arith, length-take, length-drop}
 use Rattle.cs_tree.specs.Told.{Loses}
-use Rattle.cs_tools.specs.Buffer.{pending, Gains}
+use Rattle.cs_tools.specs.Buffer.{pending}
 use Rattle.cs_tools.proofs.BufferLemmas.{refilled, pending_same, pending_more, Gains-append, gained, on_err_of}
 use Rattle.cs_tools.proofs.buffer.LineBuffer.fill.Goals as goal
 

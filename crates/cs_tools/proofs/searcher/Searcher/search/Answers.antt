@@ -1,7 +1,7 @@
-use Rattle.std.proofs.Common.{◌≡◌, sym, ap, subst, ◌∙◌}
+use Rattle.std.proofs.Common.{◌≡◌, sym, subst}
 use Rattle.std.specs.Prelude.{option_map}
 use Rattle.cs_tree.specs.Told.{Grows}
-use Rattle.cs_tools.specs.Messages.{fault_line_of}
+use Rattle.cs_words.specs.Messages.{fault_line_of}
 use Rattle.cs_tools.specs.Searched.{counted_at}
 use Rattle.cs_tools.specs.Searches.{left_fault, fault_text}
 use Rattle.cs_tools.proofs.Printing.{Grows-same}

@@ -1,9 +1,9 @@
-use Rattle.std.proofs.Common.{sym, ap, subst, ◌∙◌}
+use Rattle.std.proofs.Common.{ap, subst, ◌∙◌}
 use Rattle.std.specs.Prelude.{option_map}
 use Rattle.cs_tree.specs.Told.{Grows}
 use Rattle.cs_tree.specs.Trees.{told_by}
 use Rattle.cs_tools.specs.declared.report.TheConstants.{MOST_SEARCHED}
-use Rattle.cs_tools.specs.Messages.{fault_line_of}
+use Rattle.cs_words.specs.Messages.{fault_line_of}
 use Rattle.cs_tools.specs.Searches.{Prints, input_printed}
 use Rattle.cs_tools.proofs.SearchesLemmas.{Prints-opened, Prints-refused, Tells-open}
 use Rattle.cs_tools.proofs.searcher.Searcher.search_file.Goals as goal

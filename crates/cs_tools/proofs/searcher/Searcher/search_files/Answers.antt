@@ -1,11 +1,10 @@
-use Rattle.std.proofs.Common.{◌≡◌, ◌+◌, ◌∷◌, ◌++◌, [], ℕ, List, take, get_or, refl, sym, ap, subst, ◌∙◌, arith}
+use Rattle.std.proofs.Common.{◌+◌, ℕ, List, take, refl, sym, ap, subst, ◌∙◌}
 use Rattle.std.specs.Prelude.{option_map, map, string_bytes}
-use Rattle.std.proofs.lemmas.List.{take_more, take_all}
+use Rattle.std.proofs.lemmas.List.{take_all}
 use Rattle.cs_match.specs.Finding.{Decides}
 use Rattle.cs_tree.specs.Snapshot.{Snapshot}
 use Rattle.cs_tools.specs.declared.report.TheConstants.{MOST_SEARCHED}
-use Rattle.cs_tools.specs.Searches.{Prints, file_printed, all_printed, then, TellsFaults}
-use Rattle.cs_tools.specs.Searching.{IsKept}
+use Rattle.cs_tools.specs.Searches.{Prints, file_printed, all_printed, TellsFaults}
 use Rattle.cs_tools.proofs.SearchesLemmas.{Prints-none, Prints-then, all_more, mapped_more, Tells-none, Tells-more}
 use Rattle.cs_tools.proofs.searcher.Searcher.search_files.Goals as goal
 

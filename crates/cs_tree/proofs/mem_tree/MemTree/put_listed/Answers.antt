@@ -1,4 +1,4 @@
-use Rattle.std.proofs.Common.{◌≡◌, ap, sym, ◌∙◌}
+use Rattle.std.proofs.Common.{ap, ◌∙◌}
 use Rattle.cs_tree.specs.Snapshot.{is_name}
 use Rattle.cs_tree.proofs.Splitting.{clean_name}
 use Rattle.cs_tree.proofs.mem_tree.MemTree.put_listed.Goals as goal

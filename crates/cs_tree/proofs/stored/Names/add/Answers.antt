@@ -1,7 +1,5 @@
-use Rattle.std.proofs.Common.{◌≡◌, Bool, true, false, cond, List, [], ◌∷◌, ◌++◌, map, ℕ, ap, sym, ◌∙◌, refl}
-use Rattle.std.proofs.lemmas.List.{map-append}
+use Rattle.std.proofs.Common.{cond, [], ◌∷◌, ◌++◌, ap, sym, ◌∙◌}
 use Rattle.std.specs.Prelude.{string_bytes, is_ok}
-use Rattle.std.specs.List.{list_any}
 use Rattle.cs_tree.specs.Cover.{same}
 use Rattle.cs_tree.specs.Stored.{listed_names}
 use Rattle.cs_tree.proofs.NameLemmas.{list_any-map, pushed_names, added_names}

@@ -1,6 +1,6 @@
-use Rattle.std.proofs.Common.{rules, ◌≡◌, Bool, true, false, not, map, ap, sym, subst, ◌∙◌, refl}
+use Rattle.std.proofs.Common.{rules, not, map, ap, sym, ◌∙◌}
 use Rattle.std.proofs.lemmas.Fn.{filter_same}
-use Rattle.std.specs.Prelude.{string_bytes, filter}
+use Rattle.std.specs.Prelude.{string_bytes}
 use Rattle.cs_tree.specs.Cover.{same}
 use Rattle.cs_tree.specs.Snapshot.{child, are_names}
 use Rattle.cs_tree.specs.Stored.{listed_names}

@@ -1,0 +1,130 @@
+-- One job after another.
+use Rattle.std.proofs.Common.{◌≡◌, ℕ, ◌+◌, ◌<◌, List, [], ◌∷◌, ◌++◌, length, map, take, set, get_or, refl, sym, ap, subst, ◌∙◌, arith, Option}
+use Rattle.std.proofs.lemmas.List.{take_more, take_more_set, length-take-le, get_or-map, length-map}
+use Rattle.std.specs.List.{AllByRecursion, AllZip}
+use Rattle.cs_tree.specs.Snapshot.{Snapshot, Tells}
+use Rattle.cs_words.specs.declared.jobs.IndexJob.{IndexJob}
+use Rattle.cs_words.specs.declared.jobs.Reply.{Reply}
+use Rattle.cs_history.specs.History.{History, index_of}
+use Rattle.cs_history.specs.Jobs.{followed, told, IsFitting}
+use Rattle.cs_history.specs.Headline.{Premises, Indexes}
+use Rattle.cs_history.proofs.FollowingLemmas.{followed-push, later_premises}
+use Rattle.cs_history.proofs.RefusalLemmas.{right_more}
+use Rattle.cs_cindex.specs.Steps.{RightAfter, RightAll, Standing, Seen, seen, IsStep, Steps}
+
+all_front : {A : Type 0} (P : A → Type 0) (xs ys : List A) → AllByRecursion P (xs ++ ys) → AllByRecursion P xs
+all_front P [] ys all = tt
+all_front P (x ∷ xs) ys all = (all.0, all_front P xs ys all.1)
+
+all_back : {A : Type 0} (P : A → Type 0) (xs ys : List A) → AllByRecursion P (xs ++ ys) → AllByRecursion P ys
+all_back P [] ys all = all
+all_back P (x ∷ xs) ys all = all_back P xs ys all.1
+
+zip_push : {A B : Type 0} (R : A → B → Type 0) (xs : List A) (ys : List B) (x : A) (y : B) → AllZip R xs ys → R x y → AllZip R (xs ++ x ∷ []) (ys ++ y ∷ [])
+zip_push R [] [] x y all h = (h, tt)
+zip_push R [] (b ∷ ys) x y all h = absurd all
+zip_push R (a ∷ xs) [] x y all h = absurd all
+zip_push R (a ∷ xs) (b ∷ ys) x y all h = (all.0, zip_push R xs ys x y all.1 h)
+
+map_push : {A B : Type 0} (f : A → B) (xs : List A) (x : A) → map f (xs ++ x ∷ []) ≡ map f xs ++ f x ∷ []
+map_push f [] x = refl
+map_push f (y ∷ xs) x = ap (λ ys. f y ∷ ys) (map_push f xs x)
+
+module _ (jobs : List IndexJob) (trees : List (Option Snapshot)) (replies : List Reply) (job : IndexJob) (tree : Option Snapshot) (reply : Reply) (old mid : Option (List ℕ)) where
+  -- the premises of the jobs, and of one more
+  front_premises : (earlier : History) → Premises (trees ++ tree ∷ []) old earlier → Premises trees old earlier
+  front_premises earlier p = record { trees_tell = all_front Tells trees (tree ∷ []) p.trees_tell; jobs_were = p.jobs_were; they_left = p.they_left; short = p.short }
+
+  last_premises : (earlier : History) → Premises (trees ++ tree ∷ []) old earlier → Indexes jobs trees replies old mid → Premises (tree ∷ []) mid (followed earlier jobs (map told trees) replies)
+  last_premises earlier p so_far = later_premises jobs trees (tree ∷ []) replies old mid earlier (front_premises earlier p) so_far (all_back Tells trees (tree ∷ []) p.trees_tell)
+
+  told_more : length trees ≡ length jobs → length (map told trees) ≡ length jobs
+  told_more e = length-map trees told ∙ e
+
+  pub indexes_push : (new : Option (List ℕ)) → length trees ≡ length jobs → length replies ≡ length jobs → Indexes jobs trees replies old mid → Indexes (job ∷ []) (tree ∷ []) (reply ∷ []) mid new → Indexes (jobs ++ job ∷ []) (trees ++ tree ∷ []) (replies ++ reply ∷ []) old new
+  indexes_push new e f so_far here = record {
+    index = λ earlier p.
+        here.index (followed earlier jobs (map told trees) replies) (last_premises earlier p so_far)
+        ∙ ap index_of (sym (ap (λ ts. followed earlier (jobs ++ job ∷ []) ts (replies ++ reply ∷ [])) (map_push told trees tree)
+        ∙ followed-push earlier jobs (map told trees) replies job (told tree) reply (told_more e) f));
+    fitting = zip_push IsFitting jobs replies job reply so_far.fitting here.fitting.0;
+    short = λ h. here.short (so_far.short h);
+  }
+
+  pub right_push : length trees ≡ length jobs → length replies ≡ length jobs → Indexes jobs trees replies old mid → RightAll trees old jobs replies → RightAfter tree mid job reply → RightAll (trees ++ tree ∷ []) old (jobs ++ job ∷ []) (replies ++ reply ∷ [])
+  right_push e f so_far right here earlier p =
+      subst (λ ts. Rattle.cs_history.specs.Refusals.AreRightReplies earlier (jobs ++ job ∷ []) ts (replies ++ reply ∷ [])) (sym (map_push told trees tree))
+      (right_more earlier jobs (map told trees) replies job (told tree) reply (told_more e) f (right earlier (front_premises earlier p))
+      (here (followed earlier jobs (map told trees) replies) (last_premises earlier p so_far)))
+
+-- ---- the step of a loop over the jobs: the job at i over the tree at i
+
+-- the lists up to i and one more
+module _ {T : Type 0} (snapshot : T → Option Snapshot) (jobs : List IndexJob) (trees : List T) (replies : List Reply) (i : ℕ) (job : IndexJob) (tree : T) (reply : Reply) where
+  -- what holds of the lists up to i with one more holds of those up to i + 1
+  one_more : (P : List IndexJob → List (Option Snapshot) → List Reply → Type 0) → length trees ≡ length jobs → length replies ≡ length jobs → i < length jobs → job ≡ get_or jobs i job → tree ≡ get_or trees i tree → P (take i jobs ++ job ∷ []) (take i (map snapshot trees) ++ snapshot tree ∷ []) (take i replies ++ reply ∷ []) → P (take (i + 1) jobs) (take (i + 1) (map snapshot trees)) (take (i + 1) (set replies i reply))
+  one_more P e f within is_job is_tree h =
+      let l = length-map trees snapshot in
+      let js : take (i + 1) jobs ≡ take i jobs ++ job ∷ [] = take_more jobs i job within ∙ ap (λ j. take i jobs ++ j ∷ []) (sym is_job) in
+      let here : get_or (map snapshot trees) i (snapshot tree) ≡ snapshot tree = get_or-map snapshot trees i tree (snapshot tree) (omega (arith, e, within)) ∙ ap snapshot (sym is_tree) in
+      let ts : take (i + 1) (map snapshot trees) ≡ take i (map snapshot trees) ++ snapshot tree ∷ [] = take_more (map snapshot trees) i (snapshot tree) (omega (arith, l, e, within)) ∙ ap (λ t. take i (map snapshot trees) ++ t ∷ []) here in
+      let rs : take (i + 1) (set replies i reply) ≡ take i replies ++ reply ∷ [] = take_more_set replies i reply (omega (arith, f, within)) in
+      subst (λ xs. P xs (take (i + 1) (map snapshot trees)) (take (i + 1) (set replies i reply))) (sym js)
+      (subst (λ xs. P (take i jobs ++ job ∷ []) xs (take (i + 1) (set replies i reply))) (sym ts)
+      (subst (λ xs. P (take i jobs ++ job ∷ []) (take i (map snapshot trees) ++ snapshot tree ∷ []) xs) (sym rs) h))
+
+  trees_taken : length trees ≡ length jobs → i < length jobs → length (take i (map snapshot trees)) ≡ length (take i jobs)
+  trees_taken e within =
+      let l = length-map trees snapshot in
+      length-take-le i (map snapshot trees) (omega (arith, l, e, within)) ∙ sym (length-take-le i jobs (omega (arith, within)))
+
+  replies_taken : length replies ≡ length jobs → i < length jobs → length (take i replies) ≡ length (take i jobs)
+  replies_taken f within = length-take-le i replies (omega (arith, f, within)) ∙ sym (length-take-le i jobs (omega (arith, within)))
+
+  pub indexes_more : (old mid new : Option (List ℕ)) → length trees ≡ length jobs → length replies ≡ length jobs → i < length jobs → job ≡ get_or jobs i job → tree ≡ get_or trees i tree → Indexes (take i jobs) (take i (map snapshot trees)) (take i replies) old mid → Indexes (job ∷ []) (snapshot tree ∷ []) (reply ∷ []) mid new → Indexes (take (i + 1) jobs) (take (i + 1) (map snapshot trees)) (take (i + 1) (set replies i reply)) old new
+  indexes_more old mid new e f within is_job is_tree so_far here =
+      one_more (λ js ts rs. Indexes js ts rs old new) e f within is_job is_tree
+      (indexes_push (take i jobs) (take i (map snapshot trees)) (take i replies) job (snapshot tree) reply old mid new (trees_taken e within) (replies_taken f within) so_far here)
+
+  pub right_all_more : (old mid : Option (List ℕ)) → length trees ≡ length jobs → length replies ≡ length jobs → i < length jobs → job ≡ get_or jobs i job → tree ≡ get_or trees i tree → Indexes (take i jobs) (take i (map snapshot trees)) (take i replies) old mid → RightAll (take i (map snapshot trees)) old (take i jobs) (take i replies) → RightAfter (snapshot tree) mid job reply → RightAll (take (i + 1) (map snapshot trees)) old (take (i + 1) jobs) (take (i + 1) (set replies i reply))
+  right_all_more old mid e f within is_job is_tree so_far right here =
+      one_more (λ js ts rs. RightAll ts old js rs) e f within is_job is_tree
+      (right_push (take i jobs) (take i (map snapshot trees)) (take i replies) job (snapshot tree) reply old mid (trees_taken e within) (replies_taken f within) so_far right here)
+
+pub indexes_none : (index : Option (List ℕ)) → Indexes [] [] [] index index
+indexes_none index = record { index = λ earlier p. sym p.they_left; fitting = tt; short = λ h. h }
+
+-- ---- one step after another
+
+module _ (job : IndexJob) (tree : Seen) (reply : Reply) (mid new : Standing) where
+  pub steps_push : (jobs : List IndexJob) (trees : List Seen) (replies : List Reply) (old : Standing) → Steps jobs trees replies old mid → IsStep job tree reply mid new → Steps (jobs ++ job ∷ []) (trees ++ tree ∷ []) (replies ++ reply ∷ []) old new
+  steps_push [] [] [] old h step = (new, subst (λ (m : Standing). IsStep job tree reply m new) h step, refl)
+  steps_push [] [] (r ∷ rs) old h step = absurd h
+  steps_push [] (t ∷ ts) rs old h step = absurd h
+  steps_push (j ∷ js) [] rs old h step = absurd h
+  steps_push (j ∷ js) (t ∷ ts) [] old h step = absurd h
+  steps_push (j ∷ js) (t ∷ ts) (r ∷ rs) old h step = (h.0, h.1, steps_push js ts rs h.0 h.2 step)
+
+module _ {T : Type 0} (snapshot : T → Option Snapshot) (failed : T → ℕ) where
+  seen_push : (trees later : List T) (tree then : T) → length later ≡ length trees → seen snapshot failed (trees ++ tree ∷ []) (later ++ then ∷ []) ≡ seen snapshot failed trees later ++ record { snapshot = snapshot tree; failed = failed tree; failed_then = failed then } ∷ []
+  seen_push [] [] tree then e = refl
+  seen_push [] (u ∷ us) tree then e = absurd (omega (arith, e))
+  seen_push (t ∷ ts) [] tree then e = absurd (omega (arith, e))
+  seen_push (t ∷ ts) (u ∷ us) tree then e = ap (λ rest. record { snapshot = snapshot t; failed = failed t; failed_then = failed u } ∷ rest) (seen_push ts us tree then (omega (arith, e)))
+
+  pub steps_more : (jobs : List IndexJob) (trees later : List T) (replies : List Reply) (i : ℕ) (job : IndexJob) (tree then : T) (reply : Reply) (old mid new : Standing) → length trees ≡ length jobs → length later ≡ length jobs → length replies ≡ length jobs → i < length jobs → job ≡ get_or jobs i job → tree ≡ get_or trees i tree → Steps (take i jobs) (seen snapshot failed (take i trees) (take i later)) (take i replies) old mid → IsStep job (record { snapshot = snapshot tree; failed = failed tree; failed_then = failed then }) reply mid new → Steps (take (i + 1) jobs) (seen snapshot failed (take (i + 1) trees) (take (i + 1) (set later i then))) (take (i + 1) (set replies i reply)) old new
+  steps_more jobs trees later replies i job tree then reply old mid new e g f within is_job is_tree so_far step =
+      let one : Seen = record { snapshot = snapshot tree; failed = failed tree; failed_then = failed then } in
+      let js : take (i + 1) jobs ≡ take i jobs ++ job ∷ [] = take_more jobs i job within ∙ ap (λ j. take i jobs ++ j ∷ []) (sym is_job) in
+      let ts : take (i + 1) trees ≡ take i trees ++ tree ∷ [] = take_more trees i tree (omega (arith, e, within)) ∙ ap (λ t. take i trees ++ t ∷ []) (sym is_tree) in
+      let us : take (i + 1) (set later i then) ≡ take i later ++ then ∷ [] = take_more_set later i then (omega (arith, g, within)) in
+      let rs : take (i + 1) (set replies i reply) ≡ take i replies ++ reply ∷ [] = take_more_set replies i reply (omega (arith, f, within)) in
+      let both : length (take i later) ≡ length (take i trees) = length-take-le i later (omega (arith, g, within)) ∙ sym (length-take-le i trees (omega (arith, e, within))) in
+      let ss : seen snapshot failed (take (i + 1) trees) (take (i + 1) (set later i then)) ≡ seen snapshot failed (take i trees) (take i later) ++ one ∷ [] =
+      ap (λ xs. seen snapshot failed xs (take (i + 1) (set later i then))) ts
+      ∙ ap (λ xs. seen snapshot failed (take i trees ++ tree ∷ []) xs) us
+      ∙ seen_push (take i trees) (take i later) tree then both in
+      subst (λ xs. Steps xs (seen snapshot failed (take (i + 1) trees) (take (i + 1) (set later i then))) (take (i + 1) (set replies i reply)) old new) (sym js)
+      (subst (λ xs. Steps (take i jobs ++ job ∷ []) xs (take (i + 1) (set replies i reply)) old new) (sym ss)
+      (subst (λ xs. Steps (take i jobs ++ job ∷ []) (seen snapshot failed (take i trees) (take i later) ++ one ∷ []) xs old new) (sym rs)
+      (steps_push job one reply mid new (take i jobs) (seen snapshot failed (take i trees) (take i later)) (take i replies) old so_far step)))

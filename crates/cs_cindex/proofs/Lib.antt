@@ -1,0 +1,7 @@
+pub mod PathLemmas
+pub mod OldLemmas
+pub mod GoingLemmas
+pub mod ToldLemmas
+pub mod JobLemmas
+pub mod OutcomeLemmas
+pub mod CallLemmas

@@ -1,0 +1,23 @@
+use Rattle.std.proofs.Common.{◌≡◌, ◌≢◌, ◌<◌, length, get_or, arith, ◌∙◌, get_or-set_other}
+use Rattle.std.proofs.lemmas.List.{get_or_default}
+use Rattle.cs_cindex.proofs.CallLemmas.{indexes_more, right_all_more, steps_more}
+use Rattle.cs_cindex.proofs.cindexing.cindex.Goals as goal
+
+pub jobs-preserved : goal.jobs-preserved
+jobs-preserved g c =
+    let snapshot = g.T.Tree.snapshot in
+    let inv = c.jobs.invariant in
+    let within : c.jobs.i < length c.args.jobs.now = omega arith in
+    let in_trees : c.jobs.i < length c.args.trees.now = omega (arith, c.requires.trees) in
+    let tree = get_or c.jobs.trees c.jobs.i c.index-trees-i.result in
+    let is_tree : tree ≡ get_or c.args.trees.now c.jobs.i c.index-trees-i.result = inv.rest c.jobs.i c.index-trees-i.result (omega arith) in
+    let again : tree ≡ get_or c.args.trees.now c.jobs.i tree = is_tree ∙ get_or_default c.args.trees.now c.jobs.i c.index-trees-i.result tree in_trees in
+    record {
+      rest = λ k d h. let other : k ≢ c.jobs.i = omega arith in rw get_or-set_other (inv.rest k d (omega arith));
+      index = indexes_more snapshot c.args.jobs.now c.args.trees.now c.jobs.replies c.jobs.i c.index-jobs-i.result tree c.do_job-next.result.1 _ _ _
+          c.requires.trees (c.jobs.auto.replies ∙ c.requires.replies) within c.index-jobs-i.is again inv.index c.do_job-next.ensures.indexes;
+      steps = steps_more snapshot g.T.Tree.failed c.args.jobs.now c.args.trees.now c.jobs.trees c.jobs.replies c.jobs.i c.index-jobs-i.result tree c.do_job-next.new.tree c.do_job-next.result.1 _ _ _
+          c.requires.trees (c.jobs.auto.trees ∙ c.requires.trees) (c.jobs.auto.replies ∙ c.requires.replies) within c.index-jobs-i.is again inv.steps c.do_job-next.ensures.step;
+      right = right_all_more snapshot c.args.jobs.now c.args.trees.now c.jobs.replies c.jobs.i c.index-jobs-i.result tree c.do_job-next.result.1 _ _
+          c.requires.trees (c.jobs.auto.replies ∙ c.requires.replies) within c.index-jobs-i.is again inv.index inv.right c.do_job-next.ensures.replies;
+    }

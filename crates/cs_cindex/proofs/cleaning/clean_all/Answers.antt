@@ -1,0 +1,29 @@
+use Rattle.std.proofs.Common.{◌≡◌, ◌<◌, ◌∙◌, length, map, get_or, [], ap, sym, subst, arith, below_more}
+use Rattle.std.specs.Prelude.{string_bytes, is_some}
+use Rattle.std.proofs.lemmas.Result.{err_from_is_err_and}
+use Rattle.std.proofs.lemmas.List.{length-map}
+use Rattle.cs_tree.specs.Clean.{cleaned}
+use Rattle.cs_cindex.specs.Walked.{IsCleanFault}
+use Rattle.cs_tree.specs.Cleaning.{clean_fault}
+use Rattle.cs_cindex.proofs.PathLemmas.{refusal_at, none_bad, cleaned_more, text_at}
+use Rattle.cs_cindex.proofs.cleaning.clean_all.Goals as goal
+
+pub returns-in_err-cleaned-clause-fault : goal.returns-in_err-cleaned-clause-fault
+returns-in_err-cleaned-clause-fault c =
+    let p = err_from_is_err_and c.from_residual.result c.from_residual.ensures.1 in
+    let within : c.paths.place < length c.args.paths.now = omega arith in
+    let inside : c.paths.place < length (map string_bytes c.args.paths.now) = (let l = length-map c.args.paths.now string_bytes in omega (arith, l, within)) in
+    let text : c.deref.result.now ≡ get_or (map string_bytes c.args.paths.now) c.paths.place [] = c.deref.ensures ∙ text_at c.args.paths.now c.paths.place c.index-paths-place.result within c.index-paths-place.is in
+    rw (p.1, p.2) (refusal_at c.args.folder.now (map string_bytes c.args.paths.now) c.paths.place c.in_err-cleaned.field-0.0 inside c.paths.invariant.good (subst (λ t. IsCleanFault c.args.folder.now t c.paths.place c.in_err-cleaned.field-0.0) text c.in_err-cleaned.ensures.fault))
+
+pub paths-preserved : goal.paths-preserved
+paths-preserved c =
+    let within : c.paths.place < length c.args.paths.now = omega arith in
+    let text : c.deref.result.now ≡ get_or (map string_bytes c.args.paths.now) c.paths.place [] = c.deref.ensures ∙ text_at c.args.paths.now c.paths.place c.index-paths-place.result within c.index-paths-place.is in
+    record {
+      cleaned_are = cleaned_more c.args.folder.now c.args.paths.now c.paths.place c.index-paths-place.result (map string_bytes c.paths.given.items) _ (string_bytes c.in_ok-cleaned.cleaned) within c.index-paths-place.is c.paths.invariant.cleaned_are (c.in_ok-cleaned.ensures.cleaned ∙ ap (λ t. cleaned c.args.folder.now t) c.deref.ensures) c.in_ok-hold.ensures;
+      good = below_more _ _ c.paths.invariant.good (ap is_some (ap (clean_fault c.args.folder.now) (sym text) ∙ c.in_ok-cleaned.ensures.fault));
+    }
+
+pub returns-clause-fault : goal.returns-clause-fault
+returns-clause-fault c = none_bad c.args.folder.now (map string_bytes c.args.paths.now) (λ k h. c.paths.invariant.good k (let l = length-map c.args.paths.now string_bytes in omega (arith, l, h, c.paths-test.false)))

@@ -1,0 +1,27 @@
+use Rattle.std.proofs.Common.{◌≡◌, ◌∙◌, ◌++◌, refl, ap, rules, []}
+use Rattle.std.specs.Prelude.{codes}
+use Rattle.std.proofs.lemmas.Result.{err_from_is_err_and}
+use Rattle.cs_cindex.specs.Told.{path_lines}
+use Rattle.cs_cindex.proofs.ToldLemmas.{grows_none, grows_both, lines_more, lines_cut, lines_end}
+use Rattle.cs_cindex.proofs.job.print_paths.Goals as goal
+
+pub paths-init : goal.paths-init
+paths-init g c =
+    let all : c.into_iter-path-iterator.result ≡ c.args.index.now.paths = search rules in
+    record { done = []; grows = grows_none (g.O.Sink.taken c.args.out.now); whole = ap path_lines all; failures = refl }
+
+pub paths-preserved : goal.paths-preserved
+paths-preserved g c = record {
+  done = c.paths.invariant.done ++ (c.in-Some.path.now ++ codes "\n");
+  grows = grows_both _ _ _ c.paths.invariant.done (c.in-Some.path.now ++ codes "\n") c.paths.invariant.grows c.in_ok-print_line.ensures.out;
+  whole = lines_more c.paths.invariant.done c.in-Some.path.now (path_lines c.args.index.now.paths) c.paths.path-iterator c.next.new.self c.in-Some.ensures.steps c.paths.invariant.whole;
+  failures = c.in_ok-print_line.ensures.writes ∙ c.paths.invariant.failures;
+}
+
+pub returns-in_err-print_line-clause-out : goal.returns-in_err-print_line-clause-out
+returns-in_err-print_line-clause-out g c =
+    let p = err_from_is_err_and c.from_residual.result c.from_residual.ensures.1 in
+    rw p.1 (lines_cut c.paths.invariant.done c.in-Some.path.now (path_lines c.args.index.now.paths) c.paths.path-iterator c.next.new.self _ _ _ c.in-Some.ensures.steps c.paths.invariant.whole c.paths.invariant.grows c.in_err-print_line.ensures.out)
+
+pub returns-clause-out : goal.returns-clause-out
+returns-clause-out g c = lines_end c.paths.invariant.done (path_lines c.args.index.now.paths) c.paths.path-iterator _ _ c.in-None.ensures.steps.0 c.paths.invariant.whole c.paths.invariant.grows

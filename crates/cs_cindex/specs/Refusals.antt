@@ -1,0 +1,129 @@
+-- Why a job is refused, whatever bytes the old index has.
+-- docs/PROMISES.md, "Refusals of cindex"; the comment of the command cindex.
+use Rattle.std.specs.Prelude.{◌≡◌, ◌⊎◌, ℕ, false, not, ◌&&◌, if◌then◌else◌, List, position, Option, Some, None, option_map, is_some, Result, Ok, Err, string_bytes}
+use Rattle.std.specs.List.{list_all}
+use Rattle.std.specs.Option.{option_or}
+use Rattle.cs_tree.specs.Cleaning.{clean_fault}
+use Rattle.cs_tree.specs.Snapshot.{Snapshot, Tells}
+use Rattle.cs_index.specs.Opening.{Parts, are_whole, names_ascend, opened}
+use Rattle.cs_index.specs.declared.fault.IndexFault.{IndexFault}
+use Rattle.cs_index.specs.declared.fault.IndexFault.TheVariants.{BadPaths, BadList}
+use Rattle.cs_words.specs.Faults.{unopened}
+use Rattle.cs_words.specs.declared.jobs.IndexJob.{IndexJob}
+use Rattle.cs_words.specs.declared.jobs.Reply.{Reply}
+use Rattle.cs_words.specs.declared.jobs.Reply.TheVariants.{Done, Refused}
+use Rattle.cs_words.specs.declared.fault.CindexFault.{CindexFault}
+use Rattle.cs_words.specs.declared.fault.CindexFault.TheVariants.{NoIndex, BadIndex, Unsorted, TooLarge, BadPath, Write, Memory}
+use Rattle.cs_history.specs.Jobs.{texts, has_no_path}
+use Rattle.cs_cindex.specs.Settled.{is_settled}
+
+-- ---- what a job is
+
+pub data Kind : Type 0 where
+  -- `-list`, whatever stands beside it
+  lists : Kind
+  -- `-reset` without paths
+  clears : Kind
+  -- any other job
+  walks : Kind
+
+abbrev pub kind_of : IndexJob → Kind
+kind_of job = if job.list then lists else (if job.reset && has_no_path job then clears else walks)
+
+-- the index that a job that walks goes on from: none with `-reset`
+abbrev pub base : IndexJob → Option (List ℕ) → Option (List ℕ)
+base job old = if job.reset then None else old
+
+-- ---- before anything is printed
+
+-- the place of the first text that cleaning refuses
+abbrev pub first_bad : List ℕ → List (List ℕ) → Option ℕ
+first_bad folder texts = position (λ text. is_some (clean_fault folder text)) texts
+
+-- what a test says of an index that opens; one that does not open is bad
+abbrev pub opened_fault : (Parts → Option CindexFault) → Result Parts IndexFault → Option CindexFault
+opened_fault test (Ok parts) = test parts
+opened_fault test (Err fault) = Some (unopened fault)
+
+-- An index is not gone on from where cleaning would refuse or change one of its paths, or where its
+-- names do not strictly ascend.
+abbrev pub parts_fault : Parts → Option CindexFault
+parts_fault parts =
+    if not (list_all is_settled parts.paths) then Some (BadIndex BadPaths)
+    else (if not (names_ascend parts.names) then Some Unsorted else None)
+
+-- `-list` needs an index that opens.
+abbrev pub list_fault : Option (List ℕ) → Option CindexFault
+list_fault None = Some NoIndex
+list_fault (Some bytes) = opened_fault (λ _. None) (opened bytes)
+
+-- A job without paths needs an index to go on from.
+abbrev pub base_fault : IndexJob → Option (List ℕ) → Option CindexFault
+base_fault job None = if has_no_path job then Some NoIndex else None
+base_fault job (Some bytes) = opened_fault parts_fault (opened bytes)
+
+-- why a job is refused before it walks: for its paths, and then for the index that it goes on from
+abbrev pub walk_fault : IndexJob → Option (List ℕ) → Option CindexFault
+walk_fault job old = option_or (option_map (λ place. BadPath place) (first_bad (string_bytes job.cwd) (texts job))) (base_fault job old)
+
+-- why a job is refused before it prints anything
+abbrev pub early_fault_of : Kind → IndexJob → Option (List ℕ) → Option CindexFault
+early_fault_of lists job old = list_fault old
+early_fault_of clears job old = None
+early_fault_of walks job old = walk_fault job (base job old)
+
+abbrev pub early_fault : IndexJob → Option (List ℕ) → Option CindexFault
+early_fault job old = early_fault_of (kind_of job) job old
+
+-- ---- later
+
+-- an output failed, or memory ran out
+abbrev pub IsOutputFault : CindexFault → Type 0
+IsOutputFault Write = Unit {0}
+IsOutputFault Memory = Unit {0}
+IsOutputFault NoIndex = ⊥
+IsOutputFault (BadIndex fault) = ⊥
+IsOutputFault Unsorted = ⊥
+IsOutputFault TooLarge = ⊥
+IsOutputFault (BadPath place) = ⊥
+
+-- some list of the index is damaged
+abbrev pub IsDamagedIf : Result Parts IndexFault → Type 0
+IsDamagedIf (Ok parts) = are_whole parts ≡ false
+IsDamagedIf (Err fault) = ⊥
+
+abbrev pub IsDamaged : Option (List ℕ) → Type 0
+IsDamaged None = ⊥
+IsDamaged (Some bytes) = IsDamagedIf (opened bytes)
+
+-- A job that walks is also refused for a damaged list of the index that it goes on from, or for size. Where
+-- its tree tells nothing, what the walk gave may itself not be joined.
+abbrev pub IsWalkFault : Option Snapshot → Option (List ℕ) → CindexFault → Type 0
+IsWalkFault tree old (BadIndex fault) = Tells tree → (fault ≡ BadList) × IsDamaged old
+IsWalkFault tree old TooLarge = Unit {0}
+IsWalkFault tree old Write = Unit {0}
+IsWalkFault tree old Memory = Unit {0}
+IsWalkFault tree old NoIndex = ⊥
+IsWalkFault tree old Unsorted = Tells tree → ⊥
+IsWalkFault tree old (BadPath place) = ⊥
+
+abbrev pub IsLateFault : Kind → IndexJob → Option Snapshot → Option (List ℕ) → CindexFault → Type 0
+IsLateFault lists job tree old fault = IsOutputFault fault
+IsLateFault clears job tree old fault = IsOutputFault fault
+IsLateFault walks job tree old fault = IsWalkFault tree (base job old) fault
+
+-- ---- replies
+
+-- A job that has an early fault is refused for it, unless memory runs out before.
+abbrev pub IsEarly : CindexFault → CindexFault → Type 0
+IsEarly NoIndex fault = fault ≡ NoIndex
+IsEarly early fault = (fault ≡ early) ⊎ (fault ≡ Memory)
+
+abbrev pub EarlyOr : Option CindexFault → Type 0 → CindexFault → Type 0
+EarlyOr None late fault = late
+EarlyOr (Some early) late fault = IsEarly early fault
+
+-- A job that has an early fault is not done, and each refusal has its cause.
+abbrev pub HasCause : IndexJob → Option Snapshot → Option (List ℕ) → Reply → Type 0
+HasCause job tree old Done = early_fault job old ≡ None
+HasCause job tree old (Refused fault) = EarlyOr (early_fault job old) (IsLateFault (kind_of job) job tree old fault) fault

@@ -1,0 +1,93 @@
+-- What a job prints. docs/PROMISES.md, "What is printed".
+use Rattle.std.specs.Prelude.{◌≡◌, ◌⊎◌, ℕ, if◌then◌else◌, List, [], ◌++◌, codes, take, Option, Some, None, Result, Ok, Err}
+use Rattle.std.specs.List.{flat_map}
+use Rattle.cs_tree.specs.PathSet as set
+use Rattle.cs_tree.specs.Cover.{Paths, least}
+use Rattle.cs_tree.specs.Snapshot.{Snapshot}
+use Rattle.cs_tree.specs.Told.{Grows, risen}
+use Rattle.cs_index.specs.Opening.{Parts, opened}
+use Rattle.cs_index.specs.declared.fault.IndexFault.{IndexFault}
+use Rattle.cs_words.specs.declared.jobs.IndexJob.{IndexJob}
+use Rattle.cs_words.specs.declared.jobs.Reply.{Reply}
+use Rattle.cs_words.specs.declared.jobs.Reply.TheVariants.{Done, Refused}
+use Rattle.cs_words.specs.declared.fault.CindexFault.{CindexFault}
+use Rattle.cs_words.specs.declared.fault.CindexFault.TheVariants.{Write}
+use Rattle.cs_history.specs.Jobs.{given, has_no_path}
+use Rattle.cs_indexing.specs.Lines.{AreLinesIn, BeginLinesIn, Prints, PrintsFront}
+use Rattle.cs_cindex.specs.Refusals.{Kind, lists, clears, walks, base, walk_fault}
+
+-- ---- standard output
+
+-- each path on a line
+abbrev pub path_lines : List (List ℕ) → List ℕ
+path_lines paths = flat_map (λ path. path ++ codes "\n") paths
+
+abbrev pub opened_lines : Result Parts IndexFault → List ℕ
+opened_lines (Ok parts) = path_lines parts.paths
+opened_lines (Err fault) = []
+
+abbrev pub index_lines : Option (List ℕ) → List ℕ
+index_lines None = []
+index_lines (Some bytes) = opened_lines (opened bytes)
+
+-- `-list` prints the paths of the index, in its order
+abbrev pub list_lines : Kind → Option (List ℕ) → List ℕ
+list_lines lists old = index_lines old
+list_lines clears old = []
+list_lines walks old = []
+
+-- an output has taken a front of these bytes
+pub record TakesFront (bytes : List ℕ) (taken later : Option (List ℕ)) : Type 0 where
+  pub count : ℕ
+  pub grows : Grows taken later (take count bytes)
+
+-- An output has taken these bytes, and where the job is refused, a front of them.
+abbrev pub TakesBy : Reply → List ℕ → Option (List ℕ) → Option (List ℕ) → Type 0
+TakesBy Done bytes taken later = Grows taken later bytes
+TakesBy (Refused fault) bytes taken later = TakesFront bytes taken later
+
+-- ---- standard error
+
+-- the paths of an index
+abbrev pub recorded : Result Parts IndexFault → Paths
+recorded (Ok parts) = set.from_list parts.paths
+recorded (Err fault) = set.empty
+
+abbrev pub recorded_in : Option (List ℕ) → Paths
+recorded_in None = set.empty
+recorded_in (Some bytes) = recorded (opened bytes)
+
+-- what a job walks that goes on from an index: its own paths, or where it has none those of the index
+abbrev pub paths_walked : IndexJob → Option (List ℕ) → Paths
+paths_walked job old = least (if has_no_path job then recorded_in old else given job)
+
+-- a job that walks has printed the lines that are due, of what its walk leaves and of its files
+abbrev pub WalkPrints : IndexJob → Option Snapshot → Option (List ℕ) → ℕ → ℕ → Option (List ℕ) → Option (List ℕ) → Type 0
+WalkPrints job tree old failed failed_then err later = Prints (AreLinesIn job.log_skip tree (paths_walked job old)) failed failed_then err later
+
+-- a front of them
+abbrev pub WalkPrintsFront : IndexJob → Option Snapshot → Option (List ℕ) → ℕ → ℕ → Option (List ℕ) → Option (List ℕ) → Type 0
+WalkPrintsFront job tree old failed failed_then err later = PrintsFront (BeginLinesIn job.log_skip tree (paths_walked job old)) failed failed_then err later
+
+-- A refused one has printed nothing where it was refused early, and else all of them or a front.
+abbrev pub WalkPrintsSome : Option CindexFault → IndexJob → Option Snapshot → Option (List ℕ) → ℕ → ℕ → Option (List ℕ) → Option (List ℕ) → Type 0
+WalkPrintsSome None job tree old failed failed_then err later =
+    WalkPrints job tree old failed failed_then err later ⊎ WalkPrintsFront job tree old failed failed_then err later
+WalkPrintsSome (Some early) job tree old failed failed_then err later = Grows err later []
+
+abbrev pub WalkPrintsBy : Reply → IndexJob → Option Snapshot → Option (List ℕ) → ℕ → ℕ → Option (List ℕ) → Option (List ℕ) → Type 0
+WalkPrintsBy Done job tree old failed failed_then err later = WalkPrints job tree old failed failed_then err later
+WalkPrintsBy (Refused fault) job tree old failed failed_then err later = WalkPrintsSome (walk_fault job old) job tree old failed failed_then err later
+
+-- No other job prints there.
+abbrev pub TellsBy : Kind → Reply → IndexJob → Option Snapshot → Option (List ℕ) → ℕ → ℕ → Option (List ℕ) → Option (List ℕ) → Type 0
+TellsBy lists reply job tree old failed failed_then err later = Grows err later []
+TellsBy clears reply job tree old failed failed_then err later = Grows err later []
+TellsBy walks reply job tree old failed failed_then err later = WalkPrintsBy reply job tree (base job old) failed failed_then err later
+
+-- ---- outputs that fail
+
+-- A job is refused for an output exactly where a call of one of them failed.
+abbrev pub CountsWrites : Reply → ℕ → ℕ → ℕ → ℕ → Type 0
+CountsWrites (Refused Write) out out_then err err_then = ((out_then ≡ risen out) × (err_then ≡ err)) ⊎ ((out_then ≡ out) × (err_then ≡ risen err))
+CountsWrites reply out out_then err err_then = (out_then ≡ out) × (err_then ≡ err)

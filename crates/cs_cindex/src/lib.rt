@@ -1,0 +1,17 @@
+//! `cindex`: lists of jobs, each over its own tree, on the bytes of the old index. Read
+//! `specs/Headline.antt` of `cs_history` first: the main promise. Then `specs/Refusals.antt`: why a job
+//! is refused, whatever bytes the old index has; and `specs/Steps.antt`: what one job does to the index
+//! and to the outputs.
+#![tactic(auto)]
+
+mod cindexing;
+mod cleaning;
+mod job;
+mod old;
+mod outcome;
+mod walked;
+
+pub use cindexing::cindex;
+
+#[cfg(test)]
+mod tests;

@@ -1,0 +1,32 @@
+// What a job makes of the index.
+ghost use Rattle.std.specs.Prelude.{◌≡◌};
+ghost use Rattle.cs_cindex.specs.Outcomes.{bytes_in, index_from, reply_of};
+
+use cs_words::{CindexFault, Reply};
+
+/// What becomes of the index.
+#[derive(Drop)]
+pub enum Outcome {
+    /// It stays as it was.
+    Kept,
+    /// There is none.
+    Gone,
+    /// It is this.
+    Index(Vec<u8>),
+}
+
+/// The index after a job, and its reply. A refused job leaves the old index.
+pub fn settled(
+    old: Option<Vec<u8>>,
+    outcome: Result<Outcome, CindexFault>,
+) -> (Option<Vec<u8>>, Reply)
+    ensures index { bytes_in result.0 ≡ index_from (bytes_in old) outcome }
+    ensures reply { result.1 ≡ reply_of outcome }
+{
+    match outcome {
+        Ok(Outcome::Kept) => (old, Reply::Done),
+        Ok(Outcome::Gone) => (None, Reply::Done),
+        Ok(Outcome::Index(index)) => (Some(index), Reply::Done),
+        Err(fault) => (old, Reply::Refused(fault)),
+    }
+}

@@ -1,0 +1,150 @@
+// Jobs that walk.
+ghost use Rattle.std.specs.Prelude.{◌≡◌, ◌<◌, ◌^◌, ◌∷◌, [], true, Some, None, map, string_bytes, length, IfOk, MatchResult};
+ghost use Rattle.std.specs.Option.{option_copied};
+ghost use Rattle.cs_tree.specs.PathSet as set;
+ghost use Rattle.cs_tree.specs.Cover.{begins, slash, least};
+ghost use Rattle.cs_index.specs.Opening.{names_ascend, opened};
+ghost use Rattle.cs_cindex.specs.Joins.{IsJoinFault, JoinsTo, refusal_of};
+ghost use Rattle.cs_cindex.specs.Refusals.{EarlyOr, IsWalkFault, base_fault, walk_fault};
+ghost use Rattle.cs_cindex.specs.Told.{WalkPrints, WalkPrintsSome};
+ghost use Rattle.cs_indexing.specs.Indexed.{write_counted};
+ghost use Rattle.cs_cindex.specs.Walked.{AreCleaned, GoesOn, IsLargeIf, chosen};
+
+use crate::cleaning::clean_all;
+use crate::old::{open_old, recorded_paths};
+use cs_index::{Index, IndexFault};
+use cs_indexing::index_paths;
+use cs_merge::{MergeFault, merge};
+use cs_tree::{Sink, Tree, reduce};
+use cs_words::{CindexFault, IndexJob};
+use std::alloc::{AllocError, Global};
+
+/// The index after a job that walks, from the index that it goes on from.
+#[tactic(auto, using(crate::proofs::ToldLemmas::nothing_printed))]
+pub fn walked_index<T: Tree, E: Sink>(
+    alloc: Global,
+    old: Option<&[u8]>,
+    job: &IndexJob,
+    tree: &mut T,
+    err: &mut E,
+) -> Result<Vec<u8>, CindexFault>
+    requires { begins (slash ∷ []) (string_bytes job.now.cwd) ≡ true }
+    ensures index { IfOk result (λ index. GoesOn job.now (T.snapshot tree.old) (option_copied old.entry) index.items) }
+    ensures short { IfOk result (λ index. length index.items < 2 ^ 32) }
+    ensures refusal { MatchResult result (λ _. walk_fault job.now (option_copied old.entry) ≡ None)
+        (λ fault. EarlyOr (walk_fault job.now (option_copied old.entry)) (IsWalkFault (T.snapshot tree.old) (option_copied old.entry) fault) fault) }
+    ensures large { MatchResult result (λ _. Unit {0}) (λ fault. IsLargeIf job.now (T.snapshot tree.old) (option_copied old.entry) fault) }
+    ensures prints { MatchResult result (λ _. WalkPrints job.now (T.snapshot tree.old) (option_copied old.entry) (T.failed tree.old) (T.failed tree.new) (E.taken err.old) (E.taken err.new))
+        (λ _. WalkPrintsSome (walk_fault job.now (option_copied old.entry)) job.now (T.snapshot tree.old) (option_copied old.entry) (T.failed tree.old) (T.failed tree.new) (E.taken err.old) (E.taken err.new)) }
+    ensures writes { E.failed err.new ≡ write_counted result (E.failed err.old) }
+{
+    let given = clean_all(alloc, &job.cwd, &job.paths)?;
+    match old {
+        None => {
+            let index = index_anew(alloc, &given, job, tree, err)?;
+            Ok(index)
+        }
+        Some(bytes) => {
+            let index = index_onto(alloc, bytes, &given, job, tree, err)?;
+            Ok(index)
+        }
+    }
+}
+
+// The index of what the job finds below its cleaned paths, where there is none to join it to.
+#[tactic(auto, using(crate::proofs::ToldLemmas::nothing_printed))]
+fn index_anew<T: Tree, E: Sink>(
+    alloc: Global,
+    given: &[String],
+    job: &IndexJob,
+    tree: &mut T,
+    err: &mut E,
+) -> Result<Vec<u8>, CindexFault>
+    requires { AreCleaned job.now (map string_bytes given.now) }
+    ensures index { IfOk result (λ index. GoesOn job.now (T.snapshot tree.old) None index.items) }
+    ensures short { IfOk result (λ index. length index.items < 2 ^ 32) }
+    ensures refusal { MatchResult result (λ _. base_fault job.now None ≡ None) (λ fault. EarlyOr (base_fault job.now None) (IsWalkFault (T.snapshot tree.old) None fault) fault) }
+    ensures large { MatchResult result (λ _. Unit {0}) (λ fault. IsLargeIf job.now (T.snapshot tree.old) None fault) }
+    ensures prints { MatchResult result (λ _. WalkPrints job.now (T.snapshot tree.old) None (T.failed tree.old) (T.failed tree.new) (E.taken err.old) (E.taken err.new))
+        (λ _. WalkPrintsSome (base_fault job.now None) job.now (T.snapshot tree.old) None (T.failed tree.old) (T.failed tree.new) (E.taken err.old) (E.taken err.new)) }
+    ensures writes { E.failed err.new ≡ write_counted result (E.failed err.old) }
+{
+    if given.is_empty() {
+        return Err(CindexFault::NoIndex);
+    }
+    let paths = reduce(alloc, given)?;
+    let index = index_paths(alloc, tree, &paths, job.log_skip, err)?;
+    Ok(index)
+}
+
+// The old index, joined with what the job finds below its cleaned paths or those of the old index.
+#[tactic(auto, using(crate::proofs::ToldLemmas::nothing_printed))]
+fn index_onto<T: Tree, E: Sink>(
+    alloc: Global,
+    old: &[u8],
+    given: &[String],
+    job: &IndexJob,
+    tree: &mut T,
+    err: &mut E,
+) -> Result<Vec<u8>, CindexFault>
+    requires { AreCleaned job.now (map string_bytes given.now) }
+    ensures index { IfOk result (λ index. GoesOn job.now (T.snapshot tree.old) (Some old.now) index.items) }
+    ensures short { IfOk result (λ index. length index.items < 2 ^ 32) }
+    ensures refusal { MatchResult result (λ _. base_fault job.now (Some old.now) ≡ None)
+        (λ fault. EarlyOr (base_fault job.now (Some old.now)) (IsWalkFault (T.snapshot tree.old) (Some old.now) fault) fault) }
+    ensures large { MatchResult result (λ _. Unit {0}) (λ fault. IsLargeIf job.now (T.snapshot tree.old) (Some old.now) fault) }
+    ensures prints { MatchResult result (λ _. WalkPrints job.now (T.snapshot tree.old) (Some old.now) (T.failed tree.old) (T.failed tree.new) (E.taken err.old) (E.taken err.new))
+        (λ _. WalkPrintsSome (base_fault job.now (Some old.now)) job.now (T.snapshot tree.old) (Some old.now) (T.failed tree.old) (T.failed tree.new) (E.taken err.old) (E.taken err.new)) }
+    ensures writes { E.failed err.new ≡ write_counted result (E.failed err.old) }
+{
+    let index = open_old(old)?;
+    let paths = paths_to_walk(alloc, &index, given)?;
+    let newer = index_paths(alloc, tree, &paths, job.log_skip, err)?;
+    let joined = join(alloc, &index, &newer)?;
+    Ok(joined)
+}
+
+// The paths that a job walks, reduced: its own, or where it has none those of the index.
+fn paths_to_walk(
+    alloc: Global,
+    index: &Index<'_>,
+    given: &[String],
+) -> Result<Vec<String>, AllocError>
+    ensures { IfOk result (λ paths. map string_bytes paths.items ≡ set.items (least (set.from_list (chosen (map string_bytes given.now) index.now.paths)))) }
+{
+    if !given.is_empty() {
+        let paths = reduce(alloc, given)?;
+        return Ok(paths);
+    }
+    let recorded = recorded_paths(alloc, index)?;
+    let paths = reduce(alloc, &recorded)?;
+    Ok(paths)
+}
+
+// The index of the old one and of the bytes of a newer one, whose names ascend and lie under its paths.
+fn join(alloc: Global, old: &Index<'_>, newer: &[u8]) -> Result<Vec<u8>, CindexFault>
+    requires { names_ascend old.now.names ≡ true }
+    ensures joined { IfOk result (λ index. JoinsTo old.now (opened newer.now) index.items) }
+    ensures short { IfOk result (λ index. length index.items < 2 ^ 32) }
+    ensures fault { MatchResult result (λ _. Unit {0}) (λ fault. IsJoinFault old.now (opened newer.now) fault) }
+{
+    let newer = Index::open(newer)?;
+    match merge(alloc, old, &newer) {
+        Ok(index) => Ok(index),
+        Err(fault) => Err(merge_refusal(fault)),
+    }
+}
+
+// A fault of joining as that of a job. The newer index is one of a walk, so that the names of both are
+// in order, and the newer ones lie under their paths.
+fn merge_refusal(fault: MergeFault) -> CindexFault
+    ensures { result ≡ refusal_of fault }
+{
+    match fault {
+        MergeFault::Unsorted => CindexFault::Unsorted,
+        MergeFault::Uncovered => CindexFault::BadIndex(IndexFault::BadNames),
+        MergeFault::Index(fault) => CindexFault::from(fault),
+        MergeFault::TooLarge => CindexFault::TooLarge,
+        MergeFault::Memory => CindexFault::Memory,
+    }
+}

@@ -1,0 +1,46 @@
+-- What the fields of an index say.
+use Rattle.std.proofs.Common.{◌≡◌, ℕ, ◌+◌, ◌-◌, ◌*◌, ◌/◌, ◌<◌, ◌^◌, true, false, not, cond, eqb, List, length, map, ◌%◌, ◌&&◌, Option, Some, Err, sym, ap, ◌∙◌, arith, slice_get}
+use Rattle.std.proofs.lemmas.Bool.{and_parts, eqb-true}
+use Rattle.std.specs.Prelude.{option_map, nat_eq}
+use Rattle.std.specs.List.{list_all, starts_with}
+use Rattle.cs_index.specs.declared.fault.IndexFault.TheVariants.{BadMagic, BadTrailer}
+use Rattle.cs_tree.specs.Cover.{same}
+use Rattle.cs_index.specs.Image.{magic, Sections, ListEntry, starts_from, ended}
+use Rattle.cs_index.specs.Spelling.{Ids, read_list}
+use Rattle.cs_index.specs.Opening.{Parts, IsRead, is_name_index, is_list_index, is_entry, rises, entries_in, entry_at, trigram_at, ids_read, parts_of, texts_of, has_trailer, cut_of, cut_ended, cut_before, numbers_from}
+use Rattle.cs_index.proofs.EntryLemmas.{get-in}
+
+pub no_magic : (bytes : List ℕ) → starts_with nat_eq bytes magic ≡ false → cut_of bytes ≡ Err BadMagic
+unfolding cut_of
+no_magic bytes h = ap (λ b. cond (not b) (Err BadMagic) (cut_ended bytes)) h
+
+pub no_trailer : (bytes : List ℕ) → starts_with nat_eq bytes magic ≡ true → has_trailer bytes ≡ false → cut_of bytes ≡ Err BadTrailer
+unfolding cut_of
+no_trailer bytes h g = ap (λ b. cond (not b) (Err BadMagic) (cut_ended bytes)) h ∙ ap (λ b. cond (not b) (Err BadTrailer) (cut_before bytes (length bytes - 36))) g
+
+pub cut_there : (bytes : List ℕ) → starts_with nat_eq bytes magic ≡ true → has_trailer bytes ≡ true → cut_of bytes ≡ cut_before bytes (length bytes - 36)
+unfolding cut_of
+cut_there bytes h g = ap (λ b. cond (not b) (Err BadMagic) (cut_ended bytes)) h ∙ ap (λ b. cond (not b) (Err BadTrailer) (cut_before bytes (length bytes - 36))) g
+
+pub name_count : (bytes : List ℕ) (names : List (List ℕ)) → is_name_index bytes names ≡ true → length bytes ≡ 4 * (length names + 1)
+unfolding is_name_index
+name_count bytes names h =
+    let both = and_parts (eqb (length bytes) (0 + 4 * (length names + 1))) (same (numbers_from bytes 0 (length names)) (starts_from 0 (map ended names))) h in
+    let long = eqb-true (length bytes) (0 + 4 * (length names + 1)) both.0 in
+    omega (arith, long)
+
+pub entries_rise : (room : ℕ) (bytes : List ℕ) → is_list_index room bytes ≡ true → rises (entries_in bytes) ≡ true
+unfolding is_list_index
+entries_rise room bytes h =
+    (and_parts (rises (entries_in bytes)) (list_all (is_entry room) (entries_in bytes)) (and_parts (eqb (length bytes % 11) 0) (rises (entries_in bytes) && list_all (is_entry room) (entries_in bytes)) h).1).0
+
+pub few_read : (s : Sections) → IsRead s → length (texts_of s.names) < 2 ^ 31
+few_read s is = let long = name_count s.name_index (texts_of s.names) is.name_index in omega (arith, long, is.few_names)
+
+pub list_given : (s : Sections) (now : Parts) (place names g : ℕ) → parts_of s ≡ now → place < length s.list_index / 11 → names ≡ length now.names → g ≡ trigram_at s.list_index (11 * place) → ◌≡◌ {A = Option (ℕ × Ids)} (Some (g, read_list s.postings names (entry_at s.list_index (11 * place)))) (option_map (λ (e : ListEntry). (e.trigram, ids_read now e)) (slice_get now.entries place))
+list_given s now place names g is h count tri =
+    (λ i. Some (tri i, read_list (postings i) (count i) (entry_at s.list_index (11 * place))))
+    ∙ sym (ap (option_map (λ (e : ListEntry). (e.trigram, ids_read now e))) (ap (λ (p : Parts). slice_get p.entries place) (sym is) ∙ get-in s.list_index place h))
+  where
+    postings : s.postings ≡ now.postings
+    postings = ap (λ (p : Parts). p.postings) is

@@ -1,0 +1,436 @@
+-- Bytes open where they are spelled.
+use Rattle.std.proofs.Common.{◌≡◌, ℕ, zero, suc, ◌+◌, ◌-◌, ◌*◌, ◌/◌, ◌%◌, ◌<◌, ◌≤◌, ◌^◌, Bool, true, false, not, cond, ◌&&◌, ◌||◌, eqb, ltb, leb, List, [], ◌∷◌, ◌++◌, length, map, take, drop, get_or, Result, Ok, Err, refl, sym, ap, subst, ◌∙◌, ◌⊎◌, inl, inr, arith, append_assoc, length-append, length-drop, length-take}
+use Rattle.std.proofs.lemmas.Bool.{or_cases, and_parts, and_from, eqb-true, eq-eqb, leb-true, le-leb, ltb-true, ltb-false, lt-ltb}
+use Rattle.std.proofs.lemmas.List.{take_at, drop_at, append-nil, drop_all, length-map}
+use Rattle.std.proofs.lemmas.List.Folds.{drop_split}
+use Rattle.std.specs.Prelude.{flat_map, slice_range}
+use Rattle.std.specs.List.{AllByRecursion, list_all, starts_with, ends_with}
+use Rattle.std.specs.Cmp.Lexicographic.{bytes_decides}
+use Rattle.cs_tree.specs.Cover.{same}
+use Rattle.cs_index.specs.declared.fault.IndexFault.{IndexFault}
+use Rattle.cs_index.specs.declared.fault.IndexFault.TheVariants.{BadMagic, BadTrailer, BadOffsets, BadPaths, BadNames, BadNameIndex, BadListIndex}
+use Rattle.cs_index.specs.Image.{four_bytes, joined, ended, starts_from, in_order, Sections, magic, trailer, trailer_magic, laid_out, strings_section, ListEntry, entry_bytes, name_offsets}
+use Rattle.cs_index.specs.Spelling.{Ascends, IsEntry, IsString}
+use Rattle.cs_index.specs.Opening.{AreBytes, Parts, SpellsParts, are_starts, cut_at, cut_before, cut_ended, cut_of, entries_from, entries_in, entry_at, has_trailer, is_entry, is_list_index, is_name_index, is_section, number_at, numbers_from, opened, parts_of, read_cut, read_sections, rises, texts_of}
+use Rattle.cs_index.proofs.OnceLemmas.{lengths, starts_fit}
+use Rattle.cs_index.proofs.PlaceLemmas.{Fits, entries_back, entries_laid, length-entries, length-fours, number_small, numbers_back, numbers_laid, slice_laid, slice_small}
+use Rattle.cs_index.proofs.ListReadLemmas.{Small, trigram_small}
+use Rattle.cs_index.proofs.StringLemmas.{length-starts_from}
+use Rattle.cs_index.proofs.TextLemmas.{formed_spelled, section_read, section_spelled, texts_spelled}
+use Rattle.cs_index.proofs.OpenLemmas.{cut_there, name_count}
+
+-- ---- sections that are laid out are cut
+
+cut_sections : (bytes : List ℕ) (a b c d e at : ℕ) (s : Sections) → are_starts a b c d e at ≡ true → slice_range bytes a b ≡ s.paths → slice_range bytes b c ≡ s.names → slice_range bytes c d ≡ s.postings → slice_range bytes d e ≡ s.name_index → slice_range bytes e at ≡ s.list_index → cut_at bytes a b c d e at ≡ Ok s
+cut_sections bytes a b c d e at s starts paths names postings name_index list_index =
+    (λ i. cond (starts i) (Ok (record { paths = paths i; names = names i; postings = postings i; name_index = name_index i; list_index = list_index i })) (Err BadOffsets))
+
+rising : (a b c d e at : ℕ) → a ≡ 16 → a ≤ b → b ≤ c → c ≤ d → d ≤ e → e ≤ at → are_starts a b c d e at ≡ true
+rising a b c d e at first ab bc cd de ea =
+    and_from (eqb a 16) _ (eq-eqb a 16 first)
+    (and_from (leb a b) _ (le-leb a b ab)
+    (and_from (leb b c) _ (le-leb b c bc)
+    (and_from (leb c d) _ (le-leb c d cd)
+    (and_from (leb d e) (leb e at) (le-leb d e de) (le-leb e at ea)))))
+
+-- where each section begins
+starts : Sections → List ℕ
+starts s = starts_from 16 (in_order s)
+
+in_a_row : (s : Sections) → laid_out s ≡ magic ++ (s.paths ++ (s.names ++ (s.postings ++ (s.name_index ++ (s.list_index ++ trailer s)))))
+in_a_row s =
+    let r : List ℕ = trailer s in
+    ap (λ bs. magic ++ bs) (append_assoc s.paths (s.names ++ (s.postings ++ (s.name_index ++ (s.list_index ++ [])))) r
+    ∙ ap (λ bs. s.paths ++ bs) (append_assoc s.names (s.postings ++ (s.name_index ++ (s.list_index ++ []))) r
+    ∙ ap (λ bs. s.names ++ bs) (append_assoc s.postings (s.name_index ++ (s.list_index ++ [])) r
+    ∙ ap (λ bs. s.postings ++ bs) (append_assoc s.name_index (s.list_index ++ []) r
+    ∙ ap (λ bs. s.name_index ++ bs) (append_assoc s.list_index [] r)))))
+
+has_magic : (s : Sections) → starts_with eqb (laid_out s) magic ≡ true
+has_magic s = (bytes_decides magic (take 16 (laid_out s))).1 (sym (take_at magic (joined (in_order s) ++ trailer s) 16 refl))
+
+has_end : (s : Sections) → length (laid_out s) < 2 ^ 32 → has_trailer (laid_out s) ≡ true
+has_end s short =
+    let l = lengths s in
+    let fours : List ℕ = flat_map four_bytes (starts_from 16 (in_order s)) in
+    let front : List ℕ = magic ++ (joined (in_order s) ++ fours) in
+    let whole : laid_out s ≡ front ++ trailer_magic = ap (λ bs. magic ++ bs) (sym (append_assoc (joined (in_order s)) fours trailer_magic)) in
+    let long : length front ≡ length (laid_out s) - 16 = let a = ap length whole in let b = length-append front trailer_magic in omega (arith, a, b) in
+    and_from (leb 52 (length (laid_out s))) _ (le-leb 52 (length (laid_out s)) (omega (arith, l.laid)))
+    (and_from (ltb (length (laid_out s)) 4294967296) _ (lt-ltb (length (laid_out s)) 4294967296 short)
+    ((bytes_decides trailer_magic (drop (length (laid_out s) - 16) (laid_out s))).1 (sym (ap (drop (length (laid_out s) - 16)) whole ∙ drop_at front trailer_magic (length (laid_out s) - 16) long))))
+
+-- the numbers of the trailer
+trailer_numbers : (s : Sections) (at : ℕ) → length (laid_out s) < 2 ^ 32 → at ≡ length (laid_out s) - 36 → numbers_from (laid_out s) at 5 ≡ starts_from 16 (in_order s)
+trailer_numbers s at short is =
+    let l = lengths s in
+    let front : List ℕ = magic ++ joined (in_order s) in
+    let whole : laid_out s ≡ front ++ (flat_map four_bytes (starts_from 16 (in_order s)) ++ trailer_magic) = sym (append_assoc magic (joined (in_order s)) (trailer s)) in
+    let place : at ≡ length front = let a = length-append magic (joined (in_order s)) in omega (arith, a, is, l.laid) in
+    (λ i. numbers_from (whole i) (place i) 5) ∙ numbers_laid front (starts_from 16 (in_order s)) trailer_magic (starts_fit s short)
+
+cut_laid : (s : Sections) (at : ℕ) → length (laid_out s) < 2 ^ 32 → at ≡ length (laid_out s) - 36 → cut_before (laid_out s) at ≡ Ok s
+cut_laid s at short is =
+    let l = lengths s in
+    let bytes : List ℕ = laid_out s in
+    let numbers = trailer_numbers s at short is in
+    let b : ℕ = 16 + length s.paths in
+    let c : ℕ = b + length s.names in
+    let d : ℕ = c + length s.postings in
+    let e : ℕ = d + length s.name_index in
+    let one : number_at bytes at ≡ 16 = ap (λ ns. get_or ns 0 0) numbers in
+    let two : number_at bytes (at + 4) ≡ b = ap (λ ns. get_or ns 1 0) numbers in
+    let three : number_at bytes (at + 8) ≡ c = ap (number_at bytes) (let z : at + 8 ≡ at + 4 + 4 = omega arith in z) ∙ ap (λ ns. get_or ns 2 0) numbers in
+    let four : number_at bytes (at + 12) ≡ d = ap (number_at bytes) (let z : at + 12 ≡ at + 4 + 4 + 4 = omega arith in z) ∙ ap (λ ns. get_or ns 3 0) numbers in
+    let five : number_at bytes (at + 16) ≡ e = ap (number_at bytes) (let z : at + 16 ≡ at + 4 + 4 + 4 + 4 = omega arith in z) ∙ ap (λ ns. get_or ns 4 0) numbers in
+    let last : e + length s.list_index ≡ at = omega (arith, is, l.whole, l.laid) in
+    let r : List ℕ = trailer s in
+    let row = in_a_row s in
+    let row1 = row ∙ sym (append_assoc magic s.paths (s.names ++ (s.postings ++ (s.name_index ++ (s.list_index ++ r))))) in
+    let f1 : List ℕ = magic ++ s.paths in
+    let row2 = row1 ∙ sym (append_assoc f1 s.names (s.postings ++ (s.name_index ++ (s.list_index ++ r)))) in
+    let f2 : List ℕ = f1 ++ s.names in
+    let row3 = row2 ∙ sym (append_assoc f2 s.postings (s.name_index ++ (s.list_index ++ r))) in
+    let f3 : List ℕ = f2 ++ s.postings in
+    let row4 = row3 ∙ sym (append_assoc f3 s.name_index (s.list_index ++ r)) in
+    let f4 : List ℕ = f3 ++ s.name_index in
+    let l1 : length f1 ≡ b = length-append magic s.paths in
+    let l2 : length f2 ≡ c = length-append f1 s.names ∙ ap (λ n. n + length s.names) l1 in
+    let l3 : length f3 ≡ d = length-append f2 s.postings ∙ ap (λ n. n + length s.postings) l2 in
+    let l4 : length f4 ≡ e = length-append f3 s.name_index ∙ ap (λ n. n + length s.name_index) l3 in
+    (λ i. cut_at bytes (one i) (two i) (three i) (four i) (five i) at)
+    ∙ cut_sections bytes 16 b c d e at s (rising 16 b c d e at refl (omega arith) (omega arith) (omega arith) (omega arith) (omega (arith, last)))
+    (slice_laid bytes magic s.paths (s.names ++ (s.postings ++ (s.name_index ++ (s.list_index ++ r)))) 16 b row refl refl)
+    (slice_laid bytes f1 s.names (s.postings ++ (s.name_index ++ (s.list_index ++ r))) b c row1 l1 refl)
+    (slice_laid bytes f2 s.postings (s.name_index ++ (s.list_index ++ r)) c d row2 l2 refl)
+    (slice_laid bytes f3 s.name_index (s.list_index ++ r) d e row3 l3 refl)
+    (slice_laid bytes f4 s.list_index r e at row4 l4 last)
+
+cut_spelled : (s : Sections) → length (laid_out s) < 2 ^ 32 → cut_of (laid_out s) ≡ Ok s
+cut_spelled s short = cut_there (laid_out s) (has_magic s) (has_end s short) ∙ cut_laid s (length (laid_out s) - 36) short refl
+
+-- ---- sections that are spelled are read
+
+starts_small : (at : ℕ) (texts : List (List ℕ)) → at + length (joined (map ended texts)) < 2 ^ 32 → AllByRecursion (λ n. n < 2 ^ 32) (starts_from at (map ended texts))
+starts_small at [] h = tt
+starts_small at (text ∷ texts) h =
+    let l = length-append (ended text) (joined (map ended texts)) in
+    (omega (arith, h), starts_small (at + length (ended text)) texts (omega (arith, h, l)))
+
+name_index_spelled : (names : List (List ℕ)) (last : List ℕ) → length last ≡ 4 → length (joined (map ended names)) < 2 ^ 32 → is_name_index (name_offsets names ++ last) names ≡ true
+unfolding is_name_index
+name_index_spelled names last four short =
+    let starts : List ℕ = starts_from 0 (map ended names) in
+    let bytes : List ℕ = flat_map four_bytes starts ++ last in
+    let count : length starts ≡ length names = length-starts_from 0 (map ended names) ∙ length-map names ended in
+    let numbers : numbers_from bytes 0 (length names) ≡ starts = ap (numbers_from bytes 0) (sym count) ∙ numbers_laid [] starts last (starts_small 0 names (omega (arith, short))) in
+    let long : length bytes ≡ 0 + 4 * (length names + 1) = let a = length-append (flat_map four_bytes starts) last in let b = length-fours starts in omega (arith, a, b, four, count) in
+    and_from (eqb (length bytes) (0 + 4 * (length names + 1))) (same (numbers_from bytes 0 (length names)) starts) (eq-eqb (length bytes) (0 + 4 * (length names + 1)) long) ((bytes_decides (numbers_from bytes 0 (length names)) starts).1 numbers)
+
+entries_fit : (postings : List ℕ) (es : List ListEntry) → AllByRecursion (IsEntry postings) es → AllByRecursion Fits es
+entries_fit postings [] all = tt
+entries_fit postings (e ∷ es) all = ((all.0.trigram, all.0.count, all.0.offset), entries_fit postings es all.1)
+
+entries_spelled : (postings : List ℕ) (es : List ListEntry) → AllByRecursion (IsEntry postings) es → entries_in (flat_map entry_bytes es) ≡ es
+unfolding entries_in
+entries_spelled postings es all =
+    let bytes : List ℕ = flat_map entry_bytes es in
+    let count : length bytes / 11 ≡ length es = let l = length-entries es in omega (arith, l) in
+    (λ i. entries_from (sym (append-nil bytes) i) 0 (count i)) ∙ entries_laid [] [] es (entries_fit postings es all)
+
+rise_spelled : (es : List ListEntry) → Ascends (map (λ (e : ListEntry). e.trigram) es) → rises es ≡ true
+rise_spelled [] up = refl
+rise_spelled (d ∷ []) up = refl
+rise_spelled (d ∷ e ∷ es) up = and_from (ltb d.trigram e.trigram) (rises (e ∷ es)) (lt-ltb d.trigram e.trigram up.0) (rise_spelled (e ∷ es) up.1)
+
+or_true : (a b : Bool) → (a ≡ false → b ≡ true) → (a || b) ≡ true
+or_true true b h = refl
+or_true false b h = h refl
+
+all_entries : (postings : List ℕ) (es : List ListEntry) → AllByRecursion (IsEntry postings) es → list_all (is_entry (length postings)) es ≡ true
+all_entries postings [] all = refl
+all_entries postings (e ∷ es) all =
+    and_from (is_entry (length postings) e) (list_all (is_entry (length postings)) es)
+    (and_from (leb (e.offset + 4) (length postings)) (ltb e.trigram 16777215 || eqb e.count 0)
+    (le-leb (e.offset + 4) (length postings) all.0.room)
+    (or_true (ltb e.trigram 16777215) (eqb e.count 0) (λ f. eq-eqb e.count 0 (all.0.closing (last e.trigram f all.0.trigram)))))
+    (all_entries postings es all.1)
+  where
+    last : (g : ℕ) → ltb g 16777215 ≡ false → g < 2 ^ 24 → g ≡ 16777215
+    last g f h = let more = ltb-false g 16777215 f in omega (arith, more, h)
+
+list_index_spelled : (postings list_index : List ℕ) (es : List ListEntry) → list_index ≡ flat_map entry_bytes es → AllByRecursion (IsEntry postings) es → Ascends (map (λ (e : ListEntry). e.trigram) es) → is_list_index (length postings) list_index ≡ true
+unfolding is_list_index
+list_index_spelled postings list_index es is all up =
+    let entries : entries_in list_index ≡ es = ap entries_in is ∙ entries_spelled postings es all in
+    let long : length list_index % 11 ≡ 0 = let a = ap length is in let b = length-entries es in omega (arith, a, b) in
+    and_from (eqb (length list_index % 11) 0) (rises (entries_in list_index) && list_all (is_entry (length postings)) (entries_in list_index)) (eq-eqb (length list_index % 11) 0 long)
+    (and_from (rises (entries_in list_index)) (list_all (is_entry (length postings)) (entries_in list_index)) (ap rises entries ∙ rise_spelled es up) (ap (list_all (is_entry (length postings))) entries ∙ all_entries postings es all))
+
+-- each test passes
+all_tests : (s : Sections) (parts : Parts) → is_section (0 ∷ []) s.paths ≡ true → (is_section (0 ∷ []) s.names || is_section [] s.names) ≡ true → is_name_index s.name_index (texts_of s.names) ≡ true → is_list_index (length s.postings) s.list_index ≡ true → parts_of s ≡ parts → read_sections s ≡ Ok parts
+all_tests s parts paths names name_index list_index is =
+    (λ i. cond (not (paths i)) (Err BadPaths)
+    (cond (not (names i)) (Err BadNames)
+    (cond (not (name_index i)) (Err BadNameIndex)
+    (cond (not (list_index i)) (Err BadListIndex) (Ok (is i))))))
+
+-- a section of names with one NUL more, or without
+tail_of : (section : List ℕ) (names : List (List ℕ)) → (section ≡ strings_section names) ⊎ (section ≡ joined (map ended names)) → (closing : List ℕ) × ((closing ≡ []) ⊎ (closing ≡ 0 ∷ [])) × (section ≡ joined (map ended names) ++ closing)
+tail_of section names (inl e) = (0 ∷ [], inr refl, e)
+tail_of section names (inr e) = ([], inl refl, e ∙ sym (append-nil (joined (map ended names))))
+
+opens_sections : (s : Sections) (parts : Parts) → s.postings ≡ parts.postings → s.paths ≡ strings_section parts.paths → AllByRecursion IsString parts.paths → (s.names ≡ strings_section parts.names) ⊎ (s.names ≡ joined (map ended parts.names)) → AllByRecursion IsString parts.names → (last : List ℕ) → length last ≡ 4 → s.name_index ≡ name_offsets parts.names ++ last → s.list_index ≡ flat_map entry_bytes parts.entries → AllByRecursion (IsEntry s.postings) parts.entries → Ascends (map (λ (e : ListEntry). e.trigram) parts.entries) → length s.names < 2 ^ 32 → read_sections s ≡ Ok parts
+opens_sections s parts postings paths each_path names each_name last four name_index list_index each_entry up short =
+    let tail = tail_of s.names parts.names names in
+    let texts : texts_of s.names ≡ parts.names = ap texts_of tail.2 ∙ texts_spelled parts.names tail.0 each_name tail.1 in
+    let few : length (joined (map ended parts.names)) < 2 ^ 32 = let a = ap length tail.2 in let b = length-append (joined (map ended parts.names)) tail.0 in omega (arith, a, b, short) in
+    let path_texts : texts_of s.paths ≡ parts.paths = ap texts_of paths ∙ texts_spelled parts.paths (0 ∷ []) each_path (inr refl) in
+    let entries : entries_in s.list_index ≡ parts.entries = ap entries_in list_index ∙ entries_spelled s.postings parts.entries each_entry in
+    all_tests s parts
+    (ap (is_section (0 ∷ [])) paths ∙ section_spelled parts.paths (0 ∷ []) each_path (inr refl))
+    ((λ i. is_section (0 ∷ []) (tail.2 i) || is_section [] (tail.2 i)) ∙ formed_spelled parts.names tail.0 each_name tail.1)
+    ((λ i. is_name_index (name_index i) (texts i)) ∙ name_index_spelled parts.names last four few)
+    (list_index_spelled s.postings s.list_index parts.entries list_index each_entry up)
+    (λ i. record { paths = path_texts i; names = texts i; entries = entries i; postings = postings i })
+
+pub opens_spelled : (bytes : List ℕ) (parts : Parts) → SpellsParts bytes parts → opened bytes ≡ Ok parts
+unfolding opened
+opens_spelled bytes parts h =
+    let spelled = h.spelled in
+    let s : Sections = spelled.sections in
+    let short : length (laid_out s) < 2 ^ 32 = subst (λ (bs : List ℕ). length bs < 2 ^ 32) spelled.laid spelled.short in
+    let cut : cut_of bytes ≡ Ok s = ap cut_of spelled.laid ∙ cut_spelled s short in
+    let l = lengths s in
+    ap read_cut cut ∙ opens_sections s parts h.postings spelled.paths_are spelled.each_path spelled.names_are spelled.each_name spelled.last_offset spelled.last_is_four spelled.name_index_is spelled.list_index_is spelled.each_entry spelled.ascending (omega (arith, l.whole, l.laid, short))
+
+-- ---- what opens is laid out
+
+-- a test that was passed
+passed : {X : Type 0} (b : Bool) (f : IndexFault) (r : Result X IndexFault) (x : X) → cond (not b) (Err f) r ≡ Ok x → (b ≡ true) × (r ≡ Ok x)
+passed true f r x h = (refl, h)
+passed false f r x h = cc
+
+granted : {X : Type 0} (b : Bool) (f : IndexFault) (r : Result X IndexFault) (x : X) → cond b r (Err f) ≡ Ok x → (b ≡ true) × (r ≡ Ok x)
+granted true f r x h = (refl, h)
+granted false f r x h = cc
+
+slice_length : (bytes : List ℕ) (a b : ℕ) → b ≤ length bytes → length (slice_range bytes a b) ≡ b - a
+slice_length bytes a b h = let l = length-take (b - a) (drop a bytes) in let m = length-drop a bytes in omega (arith, l, m, h)
+
+-- the sections from place to place
+between : List ℕ → ℕ → ℕ → ℕ → ℕ → ℕ → ℕ → Sections
+between bytes a b c d e at = record { paths = slice_range bytes a b; names = slice_range bytes b c; postings = slice_range bytes c d; name_index = slice_range bytes d e; list_index = slice_range bytes e at }
+
+-- places that rise from 16 to the start of the trailer
+record Rise (a b c d e at : ℕ) : Type 0 where
+  first : a ≡ 16
+  ab : a ≤ b
+  bc : b ≤ c
+  cd : c ≤ d
+  de : d ≤ e
+  ea : e ≤ at
+
+rise_from : (a b c d e at : ℕ) → are_starts a b c d e at ≡ true → Rise a b c d e at
+rise_from a b c d e at h =
+    let one = and_parts (eqb a 16) _ h in
+    let two = and_parts (leb a b) _ one.1 in
+    let three = and_parts (leb b c) _ two.1 in
+    let four = and_parts (leb c d) _ three.1 in
+    let five = and_parts (leb d e) (leb e at) four.1 in
+    record { first = eqb-true a 16 one.0; ab = leb-true a b two.0; bc = leb-true b c three.0; cd = leb-true c d four.0; de = leb-true d e five.0; ea = leb-true e at five.1 }
+
+starts_between : (bytes : List ℕ) (a b c d e at : ℕ) → Rise a b c d e at → at ≤ length bytes → a ∷ b ∷ c ∷ d ∷ e ∷ [] ≡ starts_from 16 (in_order (between bytes a b c d e at))
+unfolding between
+starts_between bytes a b c d e at rise within =
+    let ab = slice_length bytes a b (omega (arith, rise.bc, rise.cd, rise.de, rise.ea, within)) in
+    let bc = slice_length bytes b c (omega (arith, rise.cd, rise.de, rise.ea, within)) in
+    let cd = slice_length bytes c d (omega (arith, rise.de, rise.ea, within)) in
+    let de = slice_length bytes d e (omega (arith, rise.ea, within)) in
+    let two : b ≡ 16 + length (slice_range bytes a b) = omega (arith, ab, rise.first, rise.ab) in
+    let three : c ≡ 16 + length (slice_range bytes a b) + length (slice_range bytes b c) = omega (arith, two, bc, rise.bc) in
+    let four : d ≡ 16 + length (slice_range bytes a b) + length (slice_range bytes b c) + length (slice_range bytes c d) = omega (arith, three, cd, rise.cd) in
+    let five : e ≡ 16 + length (slice_range bytes a b) + length (slice_range bytes b c) + length (slice_range bytes c d) + length (slice_range bytes d e) = omega (arith, four, de, rise.de) in
+    λ i. rise.first i ∷ two i ∷ three i ∷ four i ∷ five i ∷ []
+
+laid_between : (bytes : List ℕ) (a b c d e at : ℕ) → Small bytes → Rise a b c d e at → 52 ≤ length bytes → at ≡ length bytes - 36 → magic ≡ take 16 bytes → trailer_magic ≡ drop (length bytes - 16) bytes → numbers_from bytes at 5 ≡ a ∷ b ∷ c ∷ d ∷ e ∷ [] → bytes ≡ laid_out (between bytes a b c d e at)
+unfolding between
+laid_between bytes a b c d e at small rise enough is front end numbers =
+    let s : Sections = between bytes a b c d e at in
+    let last : drop (at + 4 * 5) bytes ≡ trailer_magic = ap (λ k. drop k bytes) (let z : at + 4 * 5 ≡ length bytes - 16 = omega (arith, is, enough) in z) ∙ sym end in
+    let tail : drop at bytes ≡ trailer s =
+    numbers_back bytes at 5 (omega (arith, is, enough)) small
+    ∙ (λ i. flat_map four_bytes ((numbers ∙ starts_between bytes a b c d e at rise (omega (arith, is))) i) ++ last i) in
+    (drop_split bytes 0 16 (omega arith) ∙ ap (λ bs. bs ++ drop 16 bytes) (sym front))
+    ∙ ap (λ bs. magic ++ bs) (ap (λ k. drop k bytes) (sym rise.first)
+    ∙ drop_split bytes a b rise.ab ∙ ap (λ bs. s.paths ++ bs) (drop_split bytes b c rise.bc
+    ∙ ap (λ bs. s.names ++ bs) (drop_split bytes c d rise.cd
+    ∙ ap (λ bs. s.postings ++ bs) (drop_split bytes d e rise.de
+    ∙ ap (λ bs. s.name_index ++ bs) (drop_split bytes e at rise.ea
+    ∙ ap (λ bs. s.list_index ++ bs) tail)))))
+    ∙ sym (in_a_row s)
+
+-- Sections that were cut from bytes.
+record CutFrom (bytes : List ℕ) (s : Sections) : Type 0 where
+  laid : bytes ≡ laid_out s
+  short : length bytes < 2 ^ 32
+  name_index : Small s.name_index
+  list_index : Small s.list_index
+
+five_numbers : (bytes : List ℕ) (at : ℕ) → numbers_from bytes at 5 ≡ number_at bytes at ∷ number_at bytes (at + 4) ∷ number_at bytes (at + 8) ∷ number_at bytes (at + 12) ∷ number_at bytes (at + 16) ∷ []
+five_numbers bytes at =
+    let three : at + 4 + 4 ≡ at + 8 = omega arith in
+    let four : at + 4 + 4 + 4 ≡ at + 12 = omega arith in
+    let five : at + 4 + 4 + 4 + 4 ≡ at + 16 = omega arith in
+    λ i. number_at bytes at ∷ number_at bytes (at + 4) ∷ number_at bytes (three i) ∷ number_at bytes (four i) ∷ number_at bytes (five i) ∷ []
+
+cut_from : (bytes : List ℕ) (s : Sections) → Small bytes → cut_of bytes ≡ Ok s → CutFrom bytes s
+unfolding cut_of between
+cut_from bytes s small h =
+    let at : ℕ = length bytes - 36 in
+    let a : ℕ = number_at bytes at in
+    let b : ℕ = number_at bytes (at + 4) in
+    let c : ℕ = number_at bytes (at + 8) in
+    let d : ℕ = number_at bytes (at + 12) in
+    let e : ℕ = number_at bytes (at + 16) in
+    let one = passed (starts_with eqb bytes magic) BadMagic (cut_ended bytes) s h in
+    let two = passed (has_trailer bytes) BadTrailer (cut_before bytes at) s one.1 in
+    let three = granted (are_starts a b c d e at) BadOffsets (Ok (between bytes a b c d e at)) s two.1 in
+    let is : between bytes a b c d e at ≡ s = let o = three.1 in cc in
+    let ends = and_parts (leb 52 (length bytes)) (ltb (length bytes) 4294967296 && ends_with eqb bytes trailer_magic) two.0 in
+    let more = and_parts (ltb (length bytes) 4294967296) (ends_with eqb bytes trailer_magic) ends.1 in
+    subst (CutFrom bytes) is (record {
+      laid = laid_between bytes a b c d e at small (rise_from a b c d e at three.0) (leb-true 52 (length bytes) ends.0) refl
+          ((bytes_decides magic (take 16 bytes)).0 one.0) ((bytes_decides trailer_magic (drop (length bytes - 16) bytes)).0 more.1) (five_numbers bytes at);
+      short = ltb-true (length bytes) 4294967296 more.0;
+      name_index = slice_small bytes d e small;
+      list_index = slice_small bytes e at small;
+    })
+
+-- ---- sections that are read are spelled
+
+-- Sections pass each test.
+record Pass (s : Sections) (parts : Parts) : Type 0 where
+  paths : is_section (0 ∷ []) s.paths ≡ true
+  names : (is_section (0 ∷ []) s.names || is_section [] s.names) ≡ true
+  name_index : is_name_index s.name_index (texts_of s.names) ≡ true
+  list_index : is_list_index (length s.postings) s.list_index ≡ true
+  are : parts_of s ≡ parts
+
+pass_from : (s : Sections) (parts : Parts) → read_sections s ≡ Ok parts → Pass s parts
+pass_from s parts h =
+    let one = passed (is_section (0 ∷ []) s.paths) BadPaths _ parts h in
+    let two = passed (is_section (0 ∷ []) s.names || is_section [] s.names) BadNames _ parts one.1 in
+    let three = passed (is_name_index s.name_index (texts_of s.names)) BadNameIndex _ parts two.1 in
+    let four = passed (is_list_index (length s.postings) s.list_index) BadListIndex (Ok (parts_of s)) parts three.1 in
+    record { paths = one.0; names = two.0; name_index = three.0; list_index = four.0; are = let o = four.1 in cc }
+
+-- A name index is the offsets of the names and four bytes.
+record Offsets (bytes : List ℕ) (names : List (List ℕ)) (last : List ℕ) : Type 0 where
+  is : bytes ≡ name_offsets names ++ last
+  four : length last ≡ 4
+
+offsets_read : (bytes : List ℕ) (names : List (List ℕ)) → Small bytes → is_name_index bytes names ≡ true → Offsets bytes names (drop (4 * length names) bytes)
+unfolding is_name_index
+offsets_read bytes names small h =
+    let starts : List ℕ = starts_from 0 (map ended names) in
+    let long = name_count bytes names h in
+    let both = and_parts (eqb (length bytes) (0 + 4 * (length names + 1))) (same (numbers_from bytes 0 (length names)) starts) h in
+    let numbers : numbers_from bytes 0 (length names) ≡ starts = (bytes_decides (numbers_from bytes 0 (length names)) starts).0 both.1 in
+    let at : 0 + 4 * length names ≡ 4 * length names = omega arith in
+    record {
+      is = numbers_back bytes 0 (length names) (omega (arith, long)) small ∙ (λ i. flat_map four_bytes (numbers i) ++ drop (at i) bytes);
+      four = let l = length-drop (4 * length names) bytes in omega (arith, l, long);
+    }
+
+pub rise_read : (es : List ListEntry) → rises es ≡ true → Ascends (map (λ (e : ListEntry). e.trigram) es)
+rise_read [] h = tt
+rise_read (d ∷ []) h = tt
+rise_read (d ∷ e ∷ es) h = let both = and_parts (ltb d.trigram e.trigram) (rises (e ∷ es)) h in (ltb-true d.trigram e.trigram both.0, rise_read (e ∷ es) both.1)
+
+entry_read : (postings : List ℕ) (e : ListEntry) → Fits e → is_entry (length postings) e ≡ true → IsEntry postings e
+entry_read postings e fits h =
+    let both = and_parts (leb (e.offset + 4) (length postings)) (ltb e.trigram 16777215 || eqb e.count 0) h in
+    record {
+      trigram = fits.0;
+      count = fits.1;
+      offset = fits.2;
+      closing = λ last. elim (or_cases (ltb e.trigram 16777215) (eqb e.count 0) both.1) [
+        | inl less ↦ let below = ltb-true e.trigram 16777215 less in absurd (omega (arith, below, last))
+        | inr none ↦ eqb-true e.count 0 none
+      ];
+      room = leb-true (e.offset + 4) (length postings) both.0;
+    }
+
+entries_read : (postings bytes : List ℕ) (at n : ℕ) → Small bytes → list_all (is_entry (length postings)) (entries_from bytes at n) ≡ true → AllByRecursion (IsEntry postings) (entries_from bytes at n)
+entries_read postings bytes at zero small h = tt
+entries_read postings bytes at (suc n) small h =
+    let e : ListEntry = entry_at bytes at in
+    let both = and_parts (is_entry (length postings) e) (list_all (is_entry (length postings)) (entries_from bytes (at + 11) n)) h in (
+      entry_read postings e (trigram_small bytes at small, number_small bytes (at + 3) small, number_small bytes (at + 7) small) both.0,
+      entries_read postings bytes (at + 11) n small both.1,
+    )
+
+-- A list index is its entries.
+record Listed (postings bytes : List ℕ) : Type 0 where
+  is : bytes ≡ flat_map entry_bytes (entries_in bytes)
+  each : AllByRecursion (IsEntry postings) (entries_in bytes)
+  ascend : Ascends (map (λ (e : ListEntry). e.trigram) (entries_in bytes))
+
+list_index_read : (postings bytes : List ℕ) → Small bytes → is_list_index (length postings) bytes ≡ true → Listed postings bytes
+unfolding is_list_index entries_in
+list_index_read postings bytes small h =
+    let n : ℕ = length bytes / 11 in
+    let es : List ListEntry = entries_from bytes 0 n in
+    let one = and_parts (eqb (length bytes % 11) 0) (rises es && list_all (is_entry (length postings)) es) h in
+    let two = and_parts (rises es) (list_all (is_entry (length postings)) es) one.1 in
+    let long : 0 + 11 * n ≡ length bytes = let z = eqb-true (length bytes % 11) 0 one.0 in omega (arith, z) in
+    record {
+      is = entries_back bytes 0 n (omega (arith, long)) small ∙ ap (λ bs. flat_map entry_bytes es ++ bs) (drop_all (0 + 11 * n) bytes (omega (arith, long))) ∙ append-nil (flat_map entry_bytes es);
+      each = entries_read postings bytes 0 n small two.1;
+      ascend = rise_read es two.0;
+    }
+
+-- names are read with one NUL more, or without
+record NamesRead (section : List ℕ) : Type 0 where
+  are : (section ≡ strings_section (texts_of section)) ⊎ (section ≡ joined (map ended (texts_of section)))
+  each : AllByRecursion IsString (texts_of section)
+
+names_read : (section : List ℕ) → (is_section (0 ∷ []) section || is_section [] section) ≡ true → NamesRead section
+names_read section h = elim (or_cases (is_section (0 ∷ []) section) (is_section [] section) h) [
+  | inl closed ↦ let r = section_read (0 ∷ []) section closed in record { are = inl r.bytes; each = r.each }
+  | inr bare ↦ let r = section_read [] section bare in record { are = inr (r.bytes ∙ append-nil (joined (map ended (texts_of section)))); each = r.each }
+]
+
+spells_parts : (bytes : List ℕ) (s : Sections) (parts : Parts) → CutFrom bytes s → Pass s parts → SpellsParts bytes parts
+spells_parts bytes s parts cut pass =
+    let paths = section_read (0 ∷ []) s.paths pass.paths in
+    let names = names_read s.names pass.names in
+    let offsets = offsets_read s.name_index (texts_of s.names) cut.name_index pass.name_index in
+    let lists = list_index_read s.postings s.list_index cut.list_index pass.list_index in
+    subst (SpellsParts bytes) pass.are (record {
+      spelled = record {
+        sections = s;
+        laid = cut.laid;
+        short = cut.short;
+        paths_are = paths.bytes;
+        each_path = paths.each;
+        names_are = names.are;
+        each_name = names.each;
+        last_offset = drop (4 * length (texts_of s.names)) s.name_index;
+        last_is_four = offsets.four;
+        name_index_is = offsets.is;
+        list_index_is = lists.is;
+        each_entry = lists.each;
+        ascending = lists.ascend;
+      };
+      postings = refl;
+    })
+
+pub spells_opened : (bytes : List ℕ) (parts : Parts) → AreBytes bytes → opened bytes ≡ Ok parts → SpellsParts bytes parts
+unfolding opened
+spells_opened bytes parts small h = from_cut (cut_of bytes) refl h
+  where
+    from_cut : (r : Result Sections IndexFault) → cut_of bytes ≡ r → read_cut r ≡ Ok parts → SpellsParts bytes parts
+    from_cut (Ok s) is read = spells_parts bytes s parts (cut_from bytes s small is) (pass_from s parts read)
+    from_cut (Err fault) is read = cc

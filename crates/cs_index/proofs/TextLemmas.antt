@@ -1,0 +1,128 @@
+-- Sections that are strings in a row.
+use Rattle.std.proofs.Common.{◌≡◌, ℕ, zero, suc, ◌+◌, ◌<◌, ◌≤◌, Bool, true, false, ◌||◌, List, [], ◌∷◌, ◌++◌, length, map, drop, get_or, refl, sym, ap, subst, ◌∙◌, arith, append_assoc, length-append, inl, inr, ◌⊎◌, Option, Some, Result, Ok, Err, Bor}
+use Rattle.std.proofs.lemmas.Bool.{and_parts, and_from}
+use Rattle.std.proofs.lemmas.List.{drop_at}
+use Rattle.std.proofs.lemmas.Str.{IsUtf8-from_is_utf8, is_utf8-from_IsUtf8}
+use Rattle.std.specs.List.{AllByRecursion, list_all}
+use Rattle.std.specs.Prelude.{IsUtf8, MatchResult}
+use Rattle.std.specs.Result.{result_ok}
+use Rattle.std.specs.Str.{is_utf8}
+use Rattle.std.specs.Cmp.Lexicographic.{bytes_decides}
+use Rattle.cs_tree.specs.Cover.{same}
+use Rattle.cs_index.specs.Image.{joined, ended, starts_from}
+use Rattle.cs_index.specs.Spelling.{IsString}
+use Rattle.cs_index.specs.Strings.{texts_in, onto_first}
+use Rattle.cs_index.specs.Opening.{before_empty, is_section, texts_of}
+use Rattle.cs_index.proofs.ReadingLemmas.{texts_step, formed}
+
+abbrev Above : List ℕ → Type 0
+Above text = AllByRecursion (λ b. 0 < b) text
+
+-- ---- what a section says of its strings
+
+onto_above : (b : ℕ) (texts : List (List ℕ)) → 0 < b → AllByRecursion Above texts → AllByRecursion Above (onto_first b texts)
+onto_above b [] h all = ((h, tt), tt)
+onto_above b (text ∷ texts) h all = ((h, all.0), all.1)
+
+each_above : (bytes : List ℕ) → AllByRecursion Above (texts_in bytes)
+unfolding texts_in
+each_above [] = tt
+each_above (zero ∷ bytes) = (tt, each_above bytes)
+each_above (suc b ∷ bytes) = onto_above (suc b) (texts_in bytes) (omega arith) (each_above bytes)
+
+front_strings : (texts : List (List ℕ)) → AllByRecursion Above texts → list_all is_utf8 (before_empty texts) ≡ true → AllByRecursion IsString (before_empty texts)
+front_strings [] all utf8 = tt
+front_strings ([] ∷ texts) all utf8 = tt
+front_strings ((b ∷ text) ∷ texts) all utf8 =
+    let both = and_parts (is_utf8 (b ∷ text)) (list_all is_utf8 (before_empty texts)) utf8 in
+    (((λ e. cc), all.0, IsUtf8-from_is_utf8 (b ∷ text) both.0), front_strings texts all.1 both.1)
+
+-- Bytes that are strings, each with its NUL, and then some more.
+pub record AreRead (closing section : List ℕ) : Type 0 where
+  pub bytes : section ≡ joined (map ended (texts_of section)) ++ closing
+  pub each : AllByRecursion IsString (texts_of section)
+
+pub section_read : (closing section : List ℕ) → is_section closing section ≡ true → AreRead closing section
+unfolding is_section texts_of
+section_read closing section h =
+    let both = and_parts (same section (joined (map ended (texts_of section)) ++ closing)) (list_all is_utf8 (texts_of section)) h in
+    record {
+      bytes = (bytes_decides section (joined (map ended (texts_of section)) ++ closing)).0 both.0;
+      each = front_strings (texts_in section) (each_above section) both.1;
+    }
+
+-- ---- sections of strings
+
+texts_end : (closing : List ℕ) → (closing ≡ []) ⊎ (closing ≡ 0 ∷ []) → texts_of closing ≡ []
+unfolding texts_of texts_in
+texts_end closing (inl e) = ap texts_of e
+texts_end closing (inr e) = ap texts_of e
+
+pub texts_spelled : (texts : List (List ℕ)) (closing : List ℕ) → AllByRecursion IsString texts → (closing ≡ []) ⊎ (closing ≡ 0 ∷ []) → texts_of (joined (map ended texts) ++ closing) ≡ texts
+texts_spelled [] closing all tail = texts_end closing tail
+texts_spelled (text ∷ texts) closing all tail =
+    ap texts_of (append_assoc (ended text) (joined (map ended texts)) closing)
+    ∙ texts_step text (joined (map ended texts) ++ closing) all.0.1 all.0.0
+    ∙ ap (λ ts. text ∷ ts) (texts_spelled texts closing all.1 tail)
+
+all_utf8 : (texts : List (List ℕ)) → AllByRecursion IsString texts → list_all is_utf8 texts ≡ true
+all_utf8 [] all = refl
+all_utf8 (text ∷ texts) all = and_from (is_utf8 text) (list_all is_utf8 texts) (is_utf8-from_IsUtf8 text all.0.2) (all_utf8 texts all.1)
+
+pub section_spelled : (texts : List (List ℕ)) (closing : List ℕ) → AllByRecursion IsString texts → (closing ≡ []) ⊎ (closing ≡ 0 ∷ []) → is_section closing (joined (map ended texts) ++ closing) ≡ true
+unfolding is_section
+section_spelled texts closing all tail =
+    let section : List ℕ = joined (map ended texts) ++ closing in
+    let is : texts ≡ texts_of section = sym (texts_spelled texts closing all tail) in
+    and_from (same section (joined (map ended (texts_of section)) ++ closing)) (list_all is_utf8 (texts_of section))
+    ((bytes_decides section (joined (map ended (texts_of section)) ++ closing)).1 (ap (λ (ts : List (List ℕ)). joined (map ended ts) ++ closing) is))
+    (ap (list_all is_utf8) (sym is) ∙ all_utf8 texts all)
+
+or_left : (a b : Bool) → a ≡ true → (a || b) ≡ true
+or_left a b h = ap (λ t. t || b) h
+
+or_right : (a b : Bool) → b ≡ true → (a || b) ≡ true
+or_right true b h = refl
+or_right false b h = h
+
+-- whether there is one NUL more or none
+pub formed_spelled : (texts : List (List ℕ)) (closing : List ℕ) → AllByRecursion IsString texts → (closing ≡ []) ⊎ (closing ≡ 0 ∷ []) → formed (joined (map ended texts) ++ closing) ≡ true
+formed_spelled texts closing all (inl e) =
+    let section : List ℕ = joined (map ended texts) ++ closing in
+    or_right (is_section (0 ∷ []) section) (is_section [] section) (ap (λ c. is_section c section) (sym e) ∙ section_spelled texts closing all (inl e))
+formed_spelled texts closing all (inr e) =
+    let section : List ℕ = joined (map ended texts) ++ closing in
+    or_left (is_section (0 ∷ []) section) (is_section [] section) (ap (λ c. is_section c section) (sym e) ∙ section_spelled texts closing all (inr e))
+
+-- ---- where a string begins
+
+-- The string at an id begins at the offset.
+pub record Begins (section : List ℕ) (texts : List (List ℕ)) (closing : List ℕ) (offset id : ℕ) : Type 0 where
+  pub within : offset ≤ length section
+  pub rest : drop offset section ≡ joined (map ended (drop id texts)) ++ closing
+
+begins_from : (front : List ℕ) (texts : List (List ℕ)) (closing : List ℕ) (id : ℕ) → id < length texts → Begins (front ++ (joined (map ended texts) ++ closing)) texts closing (get_or (starts_from (length front) (map ended texts)) id 0) id
+begins_from front [] closing id h = absurd (omega (arith, h))
+begins_from front (text ∷ texts) closing zero h =
+    let long = length-append front (joined (map ended (text ∷ texts)) ++ closing) in
+    record { within = omega (arith, long); rest = drop_at front (joined (map ended (text ∷ texts)) ++ closing) (length front) refl }
+begins_from front (text ∷ texts) closing (suc id) h =
+    let grown : length (front ++ ended text) ≡ length front + length (ended text) = length-append front (ended text) in
+    let rest = begins_from (front ++ ended text) texts closing id (omega (arith, h)) in
+    let bytes : (front ++ ended text) ++ (joined (map ended texts) ++ closing) ≡ front ++ (joined (map ended (text ∷ texts)) ++ closing) =
+    append_assoc front (ended text) (joined (map ended texts) ++ closing) ∙ ap (λ bs. front ++ bs) (sym (append_assoc (ended text) (joined (map ended texts)) closing)) in
+    let place : get_or (starts_from (length (front ++ ended text)) (map ended texts)) id 0 ≡ get_or (starts_from (length front + length (ended text)) (map ended texts)) id 0 = ap (λ n. get_or (starts_from n (map ended texts)) id 0) grown in
+    record {
+      within = subst (λ n. n ≤ length (front ++ (joined (map ended (text ∷ texts)) ++ closing))) place (subst (λ (bs : List ℕ). get_or (starts_from (length (front ++ ended text)) (map ended texts)) id 0 ≤ length bs) bytes rest.within);
+      rest = (λ i. drop (sym place i) (sym bytes i)) ∙ rest.rest;
+    }
+
+pub string_begins : (texts : List (List ℕ)) (closing : List ℕ) (id : ℕ) → id < length texts → Begins (joined (map ended texts) ++ closing) texts closing (get_or (starts_from 0 (map ended texts)) id 0) id
+string_begins texts closing id h = begins_from [] texts closing id h
+
+-- ---- a string that is lent
+
+-- UTF-8 is lent as text
+pub lent_some : {Y : Type 0} (B : Y → Type 0) (r : Result (Bor (List ℕ)) Y) (o : Option (Bor (List ℕ))) (bytes : List ℕ) → o ≡ result_ok r → MatchResult r (λ x. (x.now ≡ bytes) × IsUtf8 bytes) (λ y. ¬ (IsUtf8 bytes) × B y) → is_utf8 bytes ≡ true → (x : Bor (List ℕ)) × (o ≡ Some x) × (x.now ≡ bytes)
+lent_some B (Ok x) o bytes e h u = (x, e, h.0)
+lent_some B (Err y) o bytes e h u = absurd (h.0 (IsUtf8-from_is_utf8 bytes u))

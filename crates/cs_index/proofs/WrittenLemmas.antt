@@ -1,0 +1,63 @@
+-- What is written of paths and entries opens as them.
+use Rattle.std.proofs.Common.{◌≡◌, ℕ, zero, suc, ◌+◌, ◌<◌, true, ◌&&◌, List, [], ◌∷◌, length, map, get_or, Ok, refl, ap, ◌∙◌, arith}
+use Rattle.std.proofs.lemmas.List.{length-map}
+use Rattle.std.specs.List.{AllByRecursion, AllZip, list_all}
+use Rattle.cs_index.specs.Image.{Entry, ListEntry, Posting, image_of, list_entries, names_of, postings_of, posting_list, Sections}
+use Rattle.cs_index.specs.Spelling.{Ascends, IsIndexable, IsList, entries_of, read_list, set_at}
+use Rattle.cs_index.specs.Opening.{Has, Parts, lists_in, opened, parts_written}
+use Rattle.cs_index.proofs.ListedLemmas.{image_lists}
+use Rattle.cs_index.proofs.OpenedLemmas.{opens_spelled}
+use Rattle.cs_index.proofs.SpellingLemmas.{image_sections, image_spelled}
+use Rattle.cs_index.proofs.TransposeLemmas.{set_back}
+
+pub image_opens : (paths : List (List ℕ)) (entries : List Entry) → IsIndexable paths entries → opened (image_of paths entries) ≡ Ok (parts_written paths entries)
+unfolding parts_written
+image_opens paths entries h = opens_spelled (image_of paths entries) (parts_written paths entries) (record { spelled = image_spelled paths entries h; postings = ap (λ (s : Sections). s.postings) (image_sections paths entries h) })
+
+-- ---- lists
+
+lists_back : (section : List ℕ) (names offset : ℕ) (ps : List Posting) → AllZip (λ (e : ListEntry) (p : Posting). IsList section names e p.1) (list_entries offset ps) ps → map (λ (e : ListEntry). (e.trigram, (read_list section names e).ids)) (list_entries offset ps) ≡ ps
+lists_back section names offset [] all = refl
+lists_back section names offset (p ∷ ps) all =
+    let rest = lists_back section names (offset + length (posting_list p)) ps all.1 in
+    λ i. (p.0, (all.0 i).ids) ∷ rest i
+
+whole_back : (section : List ℕ) (names offset : ℕ) (ps : List Posting) → AllZip (λ (e : ListEntry) (p : Posting). IsList section names e p.1) (list_entries offset ps) ps → list_all (λ (e : ListEntry). (read_list section names e).whole) (list_entries offset ps) ≡ true
+whole_back section names offset [] all = refl
+whole_back section names offset (p ∷ ps) all =
+    let rest = whole_back section names (offset + length (posting_list p)) ps all.1 in
+    λ i. (all.0 i).whole && rest i
+
+-- ---- sets
+
+-- the set of the entry at each place stands in the lists, where the first has the id `first`
+AreSets : ℕ → List Entry → List Posting → Type 0
+AreSets first entries postings = (k : ℕ) (d : Entry) → k < length entries → set_at (first + k) postings ≡ (get_or entries k d).1
+
+files_back : (first : ℕ) (entries : List Entry) (postings : List Posting) → AreSets first entries postings → entries_of first (names_of entries) postings ≡ entries
+unfolding AreSets
+files_back first [] postings sets = refl
+files_back first (entry ∷ entries) postings sets =
+    let here : set_at first postings ≡ entry.1 = ap (λ k. set_at k postings) (let z : first ≡ first + 0 = omega arith in z) ∙ sets 0 entry (omega arith) in
+    let rest = files_back (first + 1) entries postings (λ k d l. ap (λ n. set_at n postings) (let z : first + 1 + k ≡ first + suc k = omega arith in z) ∙ sets (suc k) d (omega (arith, l))) in
+    λ i. (entry.0, here i) ∷ rest i
+
+set_ascends : (entries : List Entry) (k : ℕ) (d : Entry) → k < length entries → AllByRecursion (λ (entry : Entry). Ascends entry.1) entries → Ascends (get_or entries k d).1
+set_ascends [] k d h all = absurd (omega (arith, h))
+set_ascends (entry ∷ entries) zero d h all = all.0
+set_ascends (entry ∷ entries) (suc k) d h all = set_ascends entries k d (omega (arith, h)) all.1
+
+pub image_has : (paths : List (List ℕ)) (entries : List Entry) → IsIndexable paths entries → Has (parts_written paths entries) paths entries
+unfolding parts_written AreSets
+image_has paths entries h =
+    let parts : Parts = parts_written paths entries in
+    let postings : List Posting = postings_of entries in
+    let count : length (names_of entries) ≡ length entries = length-map entries (λ (entry : Entry). entry.0) in
+    let lists : lists_in parts ≡ postings = ap (λ n. map (λ (e : ListEntry). (e.trigram, (read_list parts.postings n e).ids)) (list_entries 0 postings)) count ∙ lists_back parts.postings (length entries) 0 postings (image_lists entries h.few) in
+    record {
+      has_paths = refl;
+      has_names = refl;
+      has_lists = lists;
+      whole = ap (λ n. list_all (λ (e : ListEntry). (read_list parts.postings n e).whole) (list_entries 0 postings)) count ∙ whole_back parts.postings (length entries) 0 postings (image_lists entries h.few);
+      has_files = λ sets. ap (entries_of 0 (names_of entries)) lists ∙ files_back 0 entries postings (λ k d l. ap (λ n. set_at n postings) (let z : 0 + k ≡ k = omega arith in z) ∙ set_back entries k d l (set_ascends entries k d l sets));
+    }

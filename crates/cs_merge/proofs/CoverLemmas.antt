@@ -1,0 +1,72 @@
+-- Which names are covered by the paths of an index.
+use Rattle.std.proofs.Common.{◌≡◌, ℕ, Bool, true, false, ◌&&◌, ◌||◌, List, [], ◌∷◌, ◌++◌, sym, ap, ◌∙◌, inl, inr}
+use Rattle.std.proofs.lemmas.Bool.{true≢false, or_cases, or_left, or_right}
+use Rattle.std.proofs.lemmas.List.Folds.{list_any-append}
+use Rattle.std.specs.Prelude.{is_some}
+use Rattle.std.specs.Cmp.{both_ways as same_tests}
+use Rattle.std.specs.Cmp.Lexicographic.{nat_list_cmp_total}
+use Rattle.std.specs.FinMap as map'
+use Rattle.std.specs.List.{AllByRecursion, list_all, list_any}
+use Rattle.std.specs.Ordering.{eq_by_cmp}
+use Rattle.cs_tree.specs.PathSet as set
+use Rattle.cs_tree.specs.Cover.{bytes_cmp, covered, covers, least, Paths}
+use Rattle.cs_tree.proofs.Sets.{some_member, member_passes, tied_same, same_set, contains-union}
+use Rattle.cs_index.specs.Opening.{Parts}
+use Rattle.cs_merge.specs.Content.{paths_in}
+use Rattle.cs_merge.specs.Join.{join_paths}
+use Rattle.cs_merge.proofs.HoldingLemmas.{from_list_all, marked_items}
+
+-- ---- sets that are made of lists
+
+contains_listed : (ps : List (List ℕ)) (q : List ℕ) → set.contains (set.from_list ps) q ≡ list_any (eq_by_cmp bytes_cmp q) ps
+contains_listed ps q = ap is_some (map'.get-from_entries nat_list_cmp_total (set.marked ps) q) ∙ marked_items q ps
+
+-- an item that passes makes the test of the list pass
+each_counts : (test : List ℕ → Bool) (ps qs : List (List ℕ)) → (list_any test qs ≡ true → list_any test ps ≡ true) → AllByRecursion (λ q. test q ≡ true → list_any test ps ≡ true) qs
+each_counts test ps [] up = tt
+each_counts test ps (q ∷ qs) up = ((λ t. up (or_left (test q) (list_any test qs) t)), each_counts test ps qs (λ t. up (or_right (test q) (list_any test qs) t)))
+
+-- a list of which each item is a member
+passes_on : (paths : Paths) (test : List ℕ → Bool) (qs : List (List ℕ)) → ((q : List ℕ) → list_any (eq_by_cmp bytes_cmp q) qs ≡ true → set.contains paths q ≡ true) → list_any test qs ≡ true → list_any test (set.items paths) ≡ true
+passes_on paths test [] member h = absurd (true≢false (sym h))
+passes_on paths test (q ∷ qs) member h =
+    elim (or_cases (test q) (list_any test qs) h) [
+      | inl here ↦ member_passes paths test q (member q (or_left (eq_by_cmp bytes_cmp q q) (list_any (eq_by_cmp bytes_cmp q) qs) (tied_same q))) here
+      | inr there ↦ passes_on paths test qs (λ r m. member r (or_right (eq_by_cmp bytes_cmp r q) (list_any (eq_by_cmp bytes_cmp r) qs) m)) there
+    ]
+
+covered_list : (ps : List (List ℕ)) (name : List ℕ) → covered (set.from_list ps) name ≡ list_any (λ path. covers path name) ps
+covered_list ps name = same_tests _ _ down up
+  where
+    down : covered (set.from_list ps) name ≡ true → list_any (λ path. covers path name) ps ≡ true
+    down h =
+        let found = some_member (set.from_list ps) (λ path. covers path name) h in
+        from_list_all (λ q. covers q name ≡ true → list_any (λ path. covers path name) ps ≡ true) ps (each_counts (λ path. covers path name) ps ps (λ t. t)) found.path found.member found.passes
+
+    up : list_any (λ path. covers path name) ps ≡ true → covered (set.from_list ps) name ≡ true
+    up h = passes_on (set.from_list ps) (λ path. covers path name) ps (λ q m. contains_listed ps q ∙ m) h
+
+pub covered_in : (parts : Parts) (name : List ℕ) → covered (paths_in parts) name ≡ list_any (λ path. covers path name) parts.paths
+unfolding paths_in
+covered_in parts name = covered_list parts.paths name
+
+-- ---- tests of lists, item by item
+
+pub any_first : (test : List ℕ → Bool) (rest later : List (List ℕ)) (text : List ℕ) → rest ≡ text ∷ later → test text ≡ true → list_any test rest ≡ true
+any_first test rest later text e t = ap (list_any test) e ∙ or_left (test text) (list_any test later) t
+
+pub all_first : (test : List ℕ → Bool) (rest later : List (List ℕ)) (text : List ℕ) → rest ≡ text ∷ later → test text ≡ false → list_all test rest ≡ false
+all_first test rest later text e t = ap (list_all test) e ∙ ap (λ b. b && list_all test later) t
+
+-- ---- the paths of both
+
+listed_union : (ps qs : List (List ℕ)) → set.from_list (ps ++ qs) ≡ set.union (set.from_list ps) (set.from_list qs)
+listed_union ps qs = same_set (set.from_list (ps ++ qs)) (set.union (set.from_list ps) (set.from_list qs)) (λ q.
+    contains_listed (ps ++ qs) q
+    ∙ list_any-append (eq_by_cmp bytes_cmp q) ps qs
+    ∙ (λ i. sym (contains_listed ps q) i || sym (contains_listed qs q) i)
+    ∙ sym (contains-union (set.from_list ps) (set.from_list qs) q))
+
+pub paths_joined : (old newer : Parts) → least (set.from_list (old.paths ++ newer.paths)) ≡ join_paths (paths_in old) (paths_in newer)
+unfolding paths_in
+paths_joined old newer = ap least (listed_union old.paths newer.paths)

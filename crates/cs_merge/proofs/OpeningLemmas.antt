@@ -1,0 +1,100 @@
+-- What opens as an index holds what the index has.
+use Rattle.std.proofs.Common.{◌≡◌, ℕ, ◌+◌, ◌<◌, ◌^◌, true, List, [], ◌∷◌, length, map, Ok, refl, sym, ap, subst, ◌∙◌}
+use Rattle.std.proofs.lemmas.Bool.{and_from, and_parts}
+use Rattle.std.specs.FinMap as map'
+use Rattle.std.specs.List.{AllZip, list_all}
+use Rattle.std.specs.Ordering.{is_lt}
+use Rattle.cs_tree.specs.PathSet as set
+use Rattle.cs_tree.specs.Cover.{bytes_cmp, Paths}
+use Rattle.cs_index.specs.Image.{Files, ListEntry, Posting, Sections}
+use Rattle.cs_index.specs.Opening.{AreBytes, Parts, SpellsParts, are_whole, ids_read, lists_in, names_ascend, opened}
+use Rattle.cs_index.specs.Spelling.{Ids, entries_of}
+use Rattle.cs_index.proofs.OnceLemmas.{sections_once, spelled_once}
+use Rattle.cs_index.proofs.OpenedLemmas.{opens_spelled, spells_opened}
+use Rattle.cs_merge.specs.Content.{IsListOf, Holds, HasContent, Opens, files_in, paths_in}
+use Rattle.cs_merge.proofs.GatheringLemmas.{read_posting}
+use Rattle.cs_merge.proofs.InterleavingLemmas.{Up, sorted_up, up_named, up_sorted}
+
+-- names that stand in order ascend
+names_up : (first : ℕ) (names : List (List ℕ)) (lists : List Posting) → Up (entries_of first names lists) → names_ascend names ≡ true
+names_up first [] lists up = refl
+names_up first (name ∷ []) lists up = refl
+names_up first (name ∷ next ∷ names) lists up = and_from (is_lt (bytes_cmp name next)) (names_ascend (next ∷ names)) up.0.0 (names_up (first + 1) (next ∷ names) lists up.1)
+
+-- the lists of entries are those that are read
+lists_read : (parts : Parts) (es : List ListEntry) (ps : List Posting) → AllZip (IsListOf parts.postings (length parts.names)) es ps → ◌≡◌ {A = List Posting} (map (read_posting parts) es) ps
+lists_read parts [] [] all = refl
+lists_read parts [] (p ∷ ps) all = absurd all
+lists_read parts (e ∷ es) [] all = absurd all
+lists_read parts (e ∷ es) (p ∷ ps) all =
+    let head : ◌≡◌ {A = Posting} (read_posting parts e) p = λ i. (all.0.0 i, (all.0.1 i).ids) in
+    let rest = lists_read parts es ps all.1 in
+    λ i. head i ∷ rest i
+
+lists_whole : (parts : Parts) (es : List ListEntry) (ps : List Posting) → AllZip (IsListOf parts.postings (length parts.names)) es ps → list_all (λ (e : ListEntry). (ids_read parts e).whole) es ≡ true
+lists_whole parts [] [] all = refl
+lists_whole parts [] (p ∷ ps) all = absurd all
+lists_whole parts (e ∷ es) [] all = absurd all
+lists_whole parts (e ∷ es) (p ∷ ps) all =
+    and_from ((ids_read parts e).whole) (list_all (λ (d : ListEntry). (ids_read parts d).whole) es) (ap (λ (r : Ids). r.whole) all.0.1) (lists_whole parts es ps all.1)
+
+whole_lists : (parts : Parts) (es : List ListEntry) → list_all (λ (e : ListEntry). (ids_read parts e).whole) es ≡ true → AllZip (IsListOf parts.postings (length parts.names)) es (map (read_posting parts) es)
+whole_lists parts [] h = tt
+whole_lists parts (e ∷ es) h =
+    let both = and_parts ((ids_read parts e).whole) (list_all (λ (d : ListEntry). (ids_read parts d).whole) es) h in
+    let all : ids_read parts e ≡ record { ids = (ids_read parts e).ids; whole = true } = λ i. record { ids = (ids_read parts e).ids; whole = both.0 i } in
+    ((refl, all), whole_lists parts es both.1)
+
+has_content : (bytes : List ℕ) (parts : Parts) (paths : Paths) (files : Files) → SpellsParts bytes parts → Holds bytes paths files → HasContent parts paths files
+unfolding paths_in files_in
+has_content bytes parts paths files s h =
+    let once = spelled_once bytes parts.paths h.path_list parts.names h.names parts.entries h.entries s.spelled h.spells in
+    let sections = sections_once s.spelled.sections h.spells.sections (subst (λ bs. length bs < 2 ^ 32) s.spelled.laid s.spelled.short) (subst (λ bs. length bs < 2 ^ 32) h.spells.laid h.spells.short) (sym s.spelled.laid ∙ h.spells.laid) in
+    let section : parts.postings ≡ h.spells.sections.postings = sym s.postings ∙ ap (λ (t : Sections). t.postings) sections in
+    let each : AllZip (IsListOf parts.postings (length parts.names)) parts.entries h.lists =
+    subst (λ bs. AllZip (IsListOf bs (length parts.names)) parts.entries h.lists) (sym section)
+    (subst (λ names. AllZip (IsListOf h.spells.sections.postings (length names)) parts.entries h.lists) (sym once.1)
+    (subst (λ es. AllZip (IsListOf h.spells.sections.postings (length h.names)) es h.lists) (sym once.2) h.each_list)) in
+    let lists = lists_read parts parts.entries h.lists each in
+    record {
+      paths_are = ap set.from_list once.0 ∙ sym h.paths_are;
+      files_are = (λ i. map'.from_entries (entries_of 0 (once.1 i) (lists i))) ∙ sym h.files_are;
+      ascend = ap names_ascend once.1 ∙ names_up 0 h.names h.lists (up_sorted (entries_of 0 h.names h.lists) h.ascend);
+      whole = lists_whole parts parts.entries h.lists each;
+    }
+
+holds_from : (bytes : List ℕ) (parts : Parts) → SpellsParts bytes parts → names_ascend parts.names ≡ true → are_whole parts ≡ true → Holds bytes (paths_in parts) (files_in parts)
+unfolding paths_in files_in
+holds_from bytes parts s ascend whole = record {
+  path_list = parts.paths;
+  names = parts.names;
+  entries = parts.entries;
+  lists = lists_in parts;
+  spells = s.spelled;
+  each_list = subst (λ bs. AllZip (IsListOf bs (length parts.names)) parts.entries (lists_in parts)) (sym s.postings) (whole_lists parts parts.entries whole);
+  ascend = sorted_up (entries_of 0 parts.names (lists_in parts)) (up_named 0 parts.names (lists_in parts) ascend);
+  paths_are = refl;
+  files_are = refl;
+}
+
+-- the parts that the bytes spell
+parts_held : (bytes : List ℕ) (paths : Paths) (files : Files) → Holds bytes paths files → Parts
+parts_held bytes paths files h = record { paths = h.path_list; names = h.names; entries = h.entries; postings = h.spells.sections.postings }
+
+spells_held : (bytes : List ℕ) (paths : Paths) (files : Files) (h : Holds bytes paths files) → SpellsParts bytes (parts_held bytes paths files h)
+unfolding parts_held
+spells_held bytes paths files h = record { spelled = h.spells; postings = refl }
+
+pub held_opens : (bytes : List ℕ) (paths : Paths) (files : Files) → Holds bytes paths files → Opens bytes paths files
+held_opens bytes paths files h =
+    let parts : Parts = parts_held bytes paths files h in
+    let spells = spells_held bytes paths files h in
+    record { parts = parts; opened = opens_spelled bytes parts spells; has = has_content bytes parts paths files spells h }
+
+pub opens_held : (bytes : List ℕ) (paths : Paths) (files : Files) → AreBytes bytes → Opens bytes paths files → Holds bytes paths files
+opens_held bytes paths files small o =
+    subst (Holds bytes paths) o.has.files_are
+    (subst (λ p. Holds bytes p (files_in o.parts)) o.has.paths_are (holds_from bytes o.parts (spells_opened bytes o.parts small o.opened) o.has.ascend o.has.whole))
+
+pub opened_has : (bytes : List ℕ) (parts : Parts) (paths : Paths) (files : Files) → AreBytes bytes → opened bytes ≡ Ok parts → Holds bytes paths files → HasContent parts paths files
+opened_has bytes parts paths files small e h = has_content bytes parts paths files (spells_opened bytes parts small e) h

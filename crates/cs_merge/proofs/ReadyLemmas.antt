@@ -1,0 +1,127 @@
+-- What is read of an index can be built again.
+use Rattle.std.proofs.Common.{◌≡◌, ℕ, ◌+◌, ◌<◌, true, false, not, cond, ◌||◌, eqb, ltb, List, [], ◌∷◌, length, map, take, drop, refl, sym, ap, subst, ◌∙◌, inl, inr, arith}
+use Rattle.std.proofs.lemmas.Bool.{true≢false, and_parts, and_from, or_cases, cases_Bool, eqb-true, ne_eqb, ltb-true, lt-ltb}
+use Rattle.std.specs.Prelude.{is_some, nat_le}
+use Rattle.std.specs.FinMap as map'
+use Rattle.std.specs.FinMap.Entries.{below_all, is_sorted}
+use Rattle.std.specs.List.{AllByRecursion, list_all}
+use Rattle.std.specs.Ordering.{is_lt, is_eq}
+use Rattle.std.specs.declared.cmp.Ordering.{Ordering}
+use Rattle.std.specs.declared.cmp.Ordering.TheVariants.{Less, Equal, Greater}
+use Rattle.cs_tree.specs.PathSet as set
+use Rattle.cs_tree.specs.Cover.{bytes_cmp, covers, least, same, Paths}
+use Rattle.cs_tree.proofs.Least.{IsLeast, least_says}
+use Rattle.cs_tree.proofs.Sets.{contains-union, tied_same}
+use Rattle.cs_index.specs.Image.{Entry, ListEntry, Posting, three_bytes}
+use Rattle.cs_index.specs.Built.{are_paths, are_reduced, is_before, is_storable}
+use Rattle.cs_index.specs.Opening.{Parts, files_read, ids_read, is_entry, lists_in, rises}
+use Rattle.cs_index.specs.Parts.{AreParts}
+use Rattle.cs_index.specs.Spelling.{Ascends, IsString, damaged, read_ids, set_at}
+use Rattle.cs_merge.specs.Content.{IsTrigramSet, paths_in}
+use Rattle.cs_merge.specs.Interleaving.{CanAdd}
+use Rattle.cs_merge.specs.Join.{join_paths}
+use Rattle.cs_merge.proofs.ContentLemmas.{all_paths, each_of_map}
+use Rattle.cs_merge.proofs.GatheringLemmas.{read_posting}
+use Rattle.cs_merge.proofs.HoldingLemmas.{Fits, all_files, from_list_all, is_true, set_ascends, set_fits}
+
+-- ---- sets of trigrams
+
+rise_ascends : (entries : List ListEntry) → rises entries ≡ true → Ascends (map (λ (e : ListEntry). e.trigram) entries)
+rise_ascends [] h = tt
+rise_ascends (e ∷ []) h = tt
+rise_ascends (d ∷ e ∷ es) h =
+    let both = and_parts (ltb d.trigram e.trigram) (rises (e ∷ es)) h in
+    (ltb-true d.trigram e.trigram both.0, rise_ascends (e ∷ es) both.1)
+
+same_keys : (parts : Parts) (es : List ListEntry) → map (λ (p : Posting). p.0) (map (read_posting parts) es) ≡ map (λ (e : ListEntry). e.trigram) es
+same_keys parts [] = refl
+same_keys parts (e ∷ es) = ap (λ rest. e.trigram ∷ rest) (same_keys parts es)
+
+no_ids : (parts : Parts) (e : ListEntry) → e.count ≡ 0 → (ids_read parts e).ids ≡ []
+no_ids parts e h =
+    elim (same (take 3 (drop e.offset parts.postings)) (three_bytes e.trigram)) as (λ b. (cond b (read_ids (length parts.names) e.count 0 (drop (e.offset + 3) parts.postings)) damaged).ids ≡ []) [
+      | true ↦ ap (λ n. (read_ids (length parts.names) n 0 (drop (e.offset + 3) parts.postings)).ids) h
+      | false ↦ refl
+    ]
+
+list_fits : (parts : Parts) (e : ListEntry) → is_entry (length parts.postings) e ≡ true → Fits (read_posting parts e)
+list_fits parts e h =
+    let both = and_parts (nat_le (e.offset + 4) (length parts.postings)) (ltb e.trigram 16777215 || eqb e.count 0) h in
+    elim (or_cases (ltb e.trigram 16777215) (eqb e.count 0) both.1) [
+      | inl below ↦ inl (ltb-true e.trigram 16777215 below)
+      | inr none ↦ inr (no_ids parts e (eqb-true e.count 0 none))
+    ]
+
+lists_fit : (parts : Parts) (es : List ListEntry) → list_all (λ (e : ListEntry). is_entry (length parts.postings) e) es ≡ true → AllByRecursion Fits (map (read_posting parts) es)
+lists_fit parts [] h = tt
+lists_fit parts (e ∷ es) h =
+    let both = and_parts (is_entry (length parts.postings) e) (list_all (λ (d : ListEntry). is_entry (length parts.postings) d) es) h in
+    (list_fits parts e both.0, lists_fit parts es both.1)
+
+sets_read : (parts : Parts) → AreParts parts → (id : ℕ) → IsTrigramSet (set_at id (lists_in parts))
+sets_read parts are id = (
+  set_ascends id (lists_in parts) (subst Ascends (sym (same_keys parts parts.entries)) (rise_ascends parts.entries are.rise)),
+  set_fits id (lists_in parts) (lists_fit parts parts.entries are.fit),
+)
+
+-- ---- names
+
+all_above : (text : List ℕ) → AllByRecursion (λ b. 0 < b) text → list_all (λ b. ltb 0 b) text ≡ true
+all_above [] all = refl
+all_above (b ∷ text) all = and_from (ltb 0 b) (list_all (λ c. ltb 0 c) text) (lt-ltb 0 b all.0) (all_above text all.1)
+
+storable : (text : List ℕ) → IsString text → is_storable text ≡ true
+storable [] is = absurd (is.0 refl)
+storable (b ∷ text) is =
+    and_from (not (eqb (length (b ∷ text)) 0)) (list_all (λ c. ltb 0 c) (b ∷ text)) (ap not (ne_eqb (length (b ∷ text)) 0 (λ e. absurd (omega (arith, e))))) (all_above (b ∷ text) is.1)
+
+each_storable : (texts : List (List ℕ)) → AllByRecursion IsString texts → list_all is_storable texts ≡ true
+each_storable [] all = refl
+each_storable (text ∷ texts) all = and_from (is_storable text) (list_all is_storable texts) (storable text all.0) (each_storable texts all.1)
+
+can_add : (files : List Entry) → AllByRecursion (λ (file : Entry). IsString file.0 × IsTrigramSet file.1) files → AllByRecursion CanAdd files
+can_add [] all = tt
+can_add (file ∷ files) all = (record { storable = storable file.0 all.0.0; ascend = all.0.1.0; below = all.0.1.1 }, can_add files all.1)
+
+-- what is read of an index can be added to another
+pub files_can_add : (parts : Parts) → AreParts parts → AllByRecursion CanAdd (files_read parts)
+files_can_add parts are = can_add (files_read parts) (all_files IsString IsTrigramSet 0 parts.names (lists_in parts) are.each_name (sets_read parts are))
+
+-- ---- paths
+
+never_both : (o : Ordering) → is_lt o ≡ true → is_eq o ≡ true → ⊥
+never_both Less h g = true≢false (sym g)
+never_both Equal h g = true≢false (sym h)
+never_both Greater h g = true≢false (sym h)
+
+before_each : (paths : Paths) (path : List ℕ) (es : List (List ℕ × Unit {0})) → below_all bytes_cmp path es ≡ true → set.contains paths path ≡ true → AllByRecursion (λ (e : List ℕ × Unit {0}). IsLeast paths e.0) es → list_all (is_before path) (map (λ (e : List ℕ × Unit {0}). e.0) es) ≡ true
+before_each paths path [] below member all = refl
+before_each paths path (e ∷ es) below member all =
+    let both = and_parts (is_lt (bytes_cmp path e.0)) (below_all bytes_cmp path es) below in
+    let apart : not (covers path e.0) ≡ true = elim (cases_Bool (covers path e.0)) [
+      | inl covering ↦ absurd (never_both (bytes_cmp path e.0) both.0 (ap (λ p. is_eq (bytes_cmp path p)) (sym (all.0.alone path member covering)) ∙ tied_same path))
+      | inr none ↦ ap not none
+    ] in
+    and_from (is_before path e.0) (list_all (is_before path) (map (λ (d : List ℕ × Unit {0}). d.0) es)) (and_from (is_lt (bytes_cmp path e.0)) (not (covers path e.0)) both.0 apart) (before_each paths path es both.1 member all.1)
+
+reduced_from : (paths : Paths) (es : List (List ℕ × Unit {0})) → is_sorted bytes_cmp es ≡ true → AllByRecursion (λ (e : List ℕ × Unit {0}). IsLeast paths e.0) es → are_reduced (map (λ (e : List ℕ × Unit {0}). e.0) es) ≡ true
+reduced_from paths [] up all = refl
+reduced_from paths (e ∷ es) up all =
+    let both = and_parts (below_all bytes_cmp e.0 es) (is_sorted bytes_cmp es) up in
+    and_from (list_all (is_before e.0) (map (λ (d : List ℕ × Unit {0}). d.0) es)) (are_reduced (map (λ (d : List ℕ × Unit {0}). d.0) es)) (before_each paths e.0 es both.0 all.0.member all.1) (reduced_from paths es both.1 all.1)
+
+least_listed : (paths : Paths) → ((path : List ℕ) → set.contains paths path ≡ true → IsString path) → are_paths (set.items (least paths)) ≡ true
+least_listed paths are =
+    and_from (list_all is_storable (set.items (least paths))) (are_reduced (set.items (least paths)))
+    (each_storable (set.items (least paths)) (all_paths (least paths) (λ path h. are path (least_says paths path h).member)))
+    (reduced_from paths (map'.entries (least paths)) (is_true _ (map'.entries_sorted (least paths))) (each_of_map (λ (path : List ℕ) (mark : Unit {0}). IsLeast paths path) (least paths) (λ path mark there. least_says paths path (ap is_some there))))
+
+-- the paths of both can be those of an index
+pub paths_listed : (old newer : Parts) → AreParts old → AreParts newer → are_paths (set.items (join_paths (paths_in old) (paths_in newer))) ≡ true
+unfolding paths_in
+paths_listed old newer a b =
+    least_listed (set.union (set.from_list old.paths) (set.from_list newer.paths)) (λ path h.
+    elim (or_cases (set.contains (set.from_list old.paths) path) (set.contains (set.from_list newer.paths) path) (sym (contains-union (set.from_list old.paths) (set.from_list newer.paths) path) ∙ h)) [
+      | inl here ↦ from_list_all IsString old.paths a.each_path path here
+      | inr there ↦ from_list_all IsString newer.paths b.each_path path there
+    ])

@@ -1,0 +1,35 @@
+-- Which indexes are joined, and what the index of both is.
+-- docs/PROMISES.md, "Joining".
+use Rattle.std.specs.Prelude.{◌≡◌, ℕ, Bool, true, ◌&&◌, List}
+use Rattle.std.specs.List.{list_all}
+use Rattle.cs_tree.specs.Cover.{covered}
+use Rattle.cs_index.specs.Image.{image}
+use Rattle.cs_index.specs.Opening.{Parts, are_whole, names_ascend}
+use Rattle.cs_merge.specs.Content.{files_in, paths_in}
+use Rattle.cs_merge.specs.Join.{join_files, join_paths}
+
+-- the names of both strictly ascend
+abbrev pub both_ascend : Parts → Parts → Bool
+both_ascend old newer = names_ascend old.names && names_ascend newer.names
+
+-- each name lies under some path
+unfoldable pub are_covered : Parts → Bool
+are_covered parts = list_all (λ name. covered (paths_in parts) name) parts.names
+
+-- each list of both is whole
+abbrev pub both_whole : Parts → Parts → Bool
+both_whole old newer = are_whole old && are_whole newer
+
+-- The tests that come before any list is read.
+pub record AreTested (old newer : Parts) : Type 0 where
+  pub ascend : both_ascend old newer ≡ true
+  pub covered : are_covered newer ≡ true
+
+-- What can be joined.
+pub record AreJoinable (old newer : Parts) : Type 0 where
+  pub tested : AreTested old newer
+  pub whole : both_whole old newer ≡ true
+
+-- the index of what both have
+abbrev pub joined_index : Parts → Parts → List ℕ
+joined_index old newer = image (join_paths (paths_in old) (paths_in newer)) (join_files (paths_in newer) (files_in old) (files_in newer))

@@ -1,0 +1,21 @@
+-- What the joining of two indexes answers.
+use Rattle.std.specs.Prelude.{◌≡◌, ℕ, ◌<◌, ◌≤◌, true, false, List, length}
+use Rattle.cs_index.specs.Opening.{Parts}
+use Rattle.cs_index.specs.declared.fault.IndexFault.TheVariants.{BadList}
+use Rattle.cs_merge.specs.declared.fault.MergeFault.{MergeFault}
+use Rattle.cs_merge.specs.declared.fault.MergeFault.TheVariants.{Unsorted, Uncovered, Index, TooLarge, Memory}
+use Rattle.cs_merge.specs.Joinable.{are_covered, both_ascend, both_whole, joined_index, AreJoinable, AreTested}
+
+-- The bytes are the index of what both have, and no more than a number of them.
+pub record IsJoined (old newer : Parts) (most : ℕ) (bytes : List ℕ) : Type 0 where
+  pub joinable : AreJoinable old newer
+  pub are : bytes ≡ joined_index old newer
+  pub short : length bytes ≤ most
+
+-- Why two indexes are not joined, each fault where all tests before it hold.
+pub data IsJoinFault (old newer : Parts) (most : ℕ) (fault : MergeFault) : Type 0 where
+  unsorted : fault ≡ Unsorted → both_ascend old newer ≡ false → IsJoinFault old newer most fault
+  uncovered : fault ≡ Uncovered → both_ascend old newer ≡ true → are_covered newer ≡ false → IsJoinFault old newer most fault
+  damaged : fault ≡ Index BadList → AreTested old newer → both_whole old newer ≡ false → IsJoinFault old newer most fault
+  long : fault ≡ TooLarge → AreJoinable old newer → most < length (joined_index old newer) → IsJoinFault old newer most fault
+  refused : fault ≡ Memory → AreTested old newer → IsJoinFault old newer most fault

@@ -1,0 +1,177 @@
+-- Paths that cleaning leaves as they are.
+use Rattle.std.proofs.Common.{◌≡◌, ℕ, ◌<◌, ◌≤◌, Bool, true, false, not, cond, ◌&&◌, ◌||◌, List, [], ◌∷◌, ◌++◌, length, drop, get_or, eqb, Option, Some, None, refl, sym, ap, subst, ◌∙◌, ◌⊎◌, inl, inr, arith, append_assoc, append-nil}
+use Rattle.std.specs.Prelude.{codes, nat_lt}
+use Rattle.std.specs.List.{list_all, list_any, AllByRecursion}
+use Rattle.std.specs.Cmp.Lexicographic.{bytes_decides}
+use Rattle.std.proofs.lemmas.Bool.{true≢false, and_parts, and_from, or_cases, or_left, or_right, cond_both, eqb-true, not-true, le-ltb, ltb-false}
+use Rattle.std.proofs.lemmas.List.Folds.{list_all-append}
+use Rattle.cs_tree.specs.Cover.{slash, same, begins}
+use Rattle.cs_tree.specs.Clean.{elements, onto_first, without_first, stepped, steps, slashed, path_of, absolute, cleaned, is_proper, is_clean, has_nul, longest_path}
+use Rattle.cs_tree.specs.Cleaning.{IsSettled}
+use Rattle.cs_tree.specs.declared.cleaning.PathFault.{PathFault}
+use Rattle.cs_tree.specs.declared.cleaning.PathFault.TheVariants.{Empty, Nul, TooLong}
+use Rattle.cs_tree.proofs.Splitting.{NoSlash, elements-append, elements-one, elements-some, HasFirst, proper_last}
+
+-- ---- what cleaning gives is clean
+
+-- an element that cleaning keeps
+record IsElement (name : List ℕ) : Type 0 where
+  proper : is_proper name ≡ true
+  apart : NoSlash name
+
+all_without : (above : List (List ℕ)) → AllByRecursion IsElement above → AllByRecursion IsElement (without_first above)
+all_without [] all = tt
+all_without (x ∷ above) all = all.1
+
+all_stepped : (above : List (List ℕ)) (name : List ℕ) → AllByRecursion IsElement above → NoSlash name → AllByRecursion IsElement (stepped above name)
+all_stepped above name all apart =
+    cond_both (same name [] || same name (codes ".")) above (cond (same name (codes "..")) (without_first above) (name ∷ above)) (AllByRecursion IsElement)
+    (λ _. all)
+    (λ plain. cond_both (same name (codes "..")) (without_first above) (name ∷ above) (AllByRecursion IsElement)
+    (λ _. all_without above all)
+    (λ down. (record { proper = and_from (not (same name [] || same name (codes "."))) _ (ap not plain) (ap not down); apart = apart }, all)))
+
+all_steps : (above names : List (List ℕ)) → AllByRecursion IsElement above → AllByRecursion NoSlash names → AllByRecursion IsElement (steps above names)
+all_steps above [] all apart = all
+all_steps above (name ∷ names) all apart = all_steps (stepped above name) names (all_stepped above name all apart.0) apart.1
+
+elements_apart : (text : List ℕ) → AllByRecursion NoSlash (elements text)
+elements_apart [] = (refl, tt)
+elements_apart (b ∷ rest) =
+    cond_both (eqb b slash) ([] ∷ elements rest) (onto_first b (elements rest)) (AllByRecursion NoSlash) (λ _. (refl, elements_apart rest)) (λ apart. onto apart (elements rest) (elements_apart rest))
+  where
+    onto : eqb b slash ≡ false → (pieces : List (List ℕ)) → AllByRecursion NoSlash pieces → AllByRecursion NoSlash (onto_first b pieces)
+    onto apart [] all = (ap (λ t. t || false) apart, tt)
+    onto apart (piece ∷ pieces) all = (ap (λ t. t || list_any (λ x. eqb x slash) piece) apart ∙ all.0, all.1)
+
+clean_stem : (above : List (List ℕ)) (name : List ℕ) → AllByRecursion IsElement above → IsElement name → is_clean (slashed above ++ slash ∷ name) ≡ true
+clean_stem [] name all good = proper_last name (elements-one name good.apart) ∙ good.proper
+clean_stem (top ∷ above) name all good = on (slashed (top ∷ above)) (clean_stem above top all.1 all.0)
+  where
+    on : (front : List ℕ) → is_clean front ≡ true → is_clean (front ++ slash ∷ name) ≡ true
+    on [] h = absurd (true≢false (sym h))
+    on (b ∷ front) h =
+        let parts = and_parts (eqb b slash) (list_all is_proper (elements front)) h in
+        and_from (eqb b slash) _ parts.0
+        (ap (list_all is_proper) (elements-append front name)
+        ∙ list_all-append is_proper (elements front) (elements name)
+        ∙ and_from (list_all is_proper (elements front)) _ parts.1 (proper_last name (elements-one name good.apart) ∙ good.proper))
+
+clean_path : (above : List (List ℕ)) → AllByRecursion IsElement above → (path_of above ≡ slash ∷ []) ⊎ (is_clean (path_of above) ≡ true)
+clean_path [] all = inl refl
+clean_path (name ∷ above) all = inr (clean_stem above name all.1 all.0)
+
+pub cleaned_clean : (folder text : List ℕ) → (cleaned folder text ≡ slash ∷ []) ⊎ (is_clean (cleaned folder text) ≡ true)
+cleaned_clean folder text = clean_path (steps [] (elements (absolute folder text))) (all_steps [] (elements (absolute folder text)) tt (elements_apart (absolute folder text)))
+
+-- ---- what is clean is left as it is
+
+-- a slash before each element
+after_slashes : List (List ℕ) → List ℕ
+after_slashes [] = []
+after_slashes (name ∷ names) = slash ∷ name ++ after_slashes names
+
+slashes-elements : (rest : List ℕ) → after_slashes (elements rest) ≡ slash ∷ rest
+unfolding after_slashes
+slashes-elements [] = refl
+slashes-elements (b ∷ rest) = step (eqb b slash) refl (slashes-elements rest) (elements-some rest)
+  where
+    step : (t : Bool) → eqb b slash ≡ t → after_slashes (elements rest) ≡ slash ∷ rest → HasFirst (elements rest) → after_slashes (cond t ([] ∷ elements rest) (onto_first b (elements rest))) ≡ slash ∷ b ∷ rest
+    step true here whole some = ap (λ tail. slash ∷ tail) whole ∙ ap (λ c. slash ∷ c ∷ rest) (sym (eqb-true b slash here))
+    step false apart whole some =
+        ap (λ pieces. after_slashes (onto_first b pieces)) some.is
+        ∙ ap (λ tail. slash ∷ b ∷ tail) (sym (ap (λ pieces. drop 1 (after_slashes pieces)) some.is) ∙ ap (drop 1) whole)
+
+proper_step : (above : List (List ℕ)) (name : List ℕ) → is_proper name ≡ true → stepped above name ≡ name ∷ above
+proper_step above name proper =
+    let parts = and_parts (not (same name [] || same name (codes "."))) (not (same name (codes ".."))) proper in
+    ap (λ t. cond t above (cond (same name (codes "..")) (without_first above) (name ∷ above))) (not-true _ parts.0)
+    ∙ ap (λ t. cond t (without_first above) (name ∷ above)) (not-true _ parts.1)
+
+slashed-steps : (above names : List (List ℕ)) → list_all is_proper names ≡ true → slashed (steps above names) ≡ slashed above ++ after_slashes names
+unfolding after_slashes
+slashed-steps above [] proper = sym (append-nil (slashed above))
+slashed-steps above (name ∷ names) proper =
+    let parts = and_parts (is_proper name) (list_all is_proper names) proper in
+    ap (λ now. slashed (steps now names)) (proper_step above name parts.0)
+    ∙ slashed-steps (name ∷ above) names parts.1
+    ∙ append_assoc (slashed above) (slash ∷ name) (after_slashes names)
+
+filled_path : (above : List (List ℕ)) (rest : List ℕ) → slashed above ≡ slash ∷ rest → path_of above ≡ slash ∷ rest
+filled_path [] rest e = cc
+filled_path (name ∷ above) rest e = e
+
+settled_rest : (folder rest : List ℕ) → list_all is_proper (elements rest) ≡ true → cleaned folder (slash ∷ rest) ≡ slash ∷ rest
+settled_rest folder rest proper = filled_path (steps [] (elements rest)) rest (slashed-steps [] (elements rest) proper ∙ slashes-elements rest)
+
+pub settled_clean : (folder path : List ℕ) → is_clean path ≡ true → cleaned folder path ≡ path
+settled_clean folder [] h = absurd (true≢false (sym h))
+settled_clean folder (b ∷ rest) h =
+    let parts = and_parts (eqb b slash) (list_all is_proper (elements rest)) h in
+    subst (λ c. cleaned folder (c ∷ rest) ≡ c ∷ rest) (sym (eqb-true b slash parts.0)) (settled_rest folder rest parts.1)
+
+pub settled_either : (path : List ℕ) → (path ≡ slash ∷ []) ⊎ (is_clean path ≡ true) → (folder : List ℕ) → cleaned folder path ≡ path
+settled_either path (inl is) folder = subst (λ p. cleaned folder p ≡ p) (sym is) refl
+settled_either path (inr clean) folder = settled_clean folder path clean
+
+pub either_settled : (path : List ℕ) → ((folder : List ℕ) → cleaned folder path ≡ path) → (path ≡ slash ∷ []) ⊎ (is_clean path ≡ true)
+either_settled path h = subst (λ p. (p ≡ slash ∷ []) ⊎ (is_clean p ≡ true)) (h []) (cleaned_clean [] path)
+
+-- cleaning twice is cleaning once, whatever the folders are
+pub cleaned_settled : (folder text other : List ℕ) → cleaned other (cleaned folder text) ≡ cleaned folder text
+cleaned_settled folder text other = settled_either (cleaned folder text) (cleaned_clean folder text) other
+
+-- ---- what cleaning takes
+
+starts_clean : (path : List ℕ) → is_clean path ≡ true → begins (slash ∷ []) path ≡ true
+starts_clean [] h = absurd (true≢false (sym h))
+starts_clean (b ∷ rest) h = subst (λ c. begins (slash ∷ []) (c ∷ rest) ≡ true) (sym (eqb-true b slash (and_parts (eqb b slash) (list_all is_proper (elements rest)) h).0)) refl
+
+starts_either : (path : List ℕ) → (path ≡ slash ∷ []) ⊎ (is_clean path ≡ true) → begins (slash ∷ []) path ≡ true
+starts_either path (inl is) = subst (λ p. begins (slash ∷ []) p ≡ true) (sym is) refl
+starts_either path (inr clean) = starts_clean path clean
+
+filled_begins : (path : List ℕ) → begins (slash ∷ []) path ≡ true → same path [] ≡ false
+filled_begins [] h = absurd (true≢false (sym h))
+filled_begins (b ∷ rest) h = refl
+
+absolute-begins : (folder path : List ℕ) → begins (slash ∷ []) path ≡ true → absolute folder path ≡ path
+absolute-begins folder path h = ap (λ b. cond b path (folder ++ slash ∷ path)) h
+
+abbrev fault_at : Bool → Bool → Bool → Option PathFault
+fault_at empty nul long = cond empty (Some Empty) (cond nul (Some Nul) (cond long (Some TooLong) None))
+
+no_fault : (empty nul long : Bool) → empty ≡ false → nul ≡ false → long ≡ false → fault_at empty nul long ≡ None
+no_fault empty nul long e f g = ap (λ b. fault_at b nul long) e ∙ ap (λ b. fault_at false b long) f ∙ ap (λ b. fault_at false false b) g
+
+no_fault_parts : (empty nul long : Bool) → fault_at empty nul long ≡ None → (nul ≡ false) × (long ≡ false)
+no_fault_parts true nul long e = cc
+no_fault_parts false true long e = cc
+no_fault_parts false false true e = cc
+no_fault_parts false false false e = (refl, refl)
+
+pub settled_from : (path : List ℕ) → ((folder : List ℕ) → cleaned folder path ≡ path) → has_nul path ≡ false → length path ≤ longest_path → IsSettled path
+settled_from path unchanged plain short =
+    let starts = starts_either path (either_settled path unchanged) in
+    record {
+      unchanged = unchanged;
+      accepted = λ folder. no_fault (same path []) (has_nul (absolute folder path)) (nat_lt longest_path (length (cleaned folder path))) (filled_begins path starts)
+          (ap has_nul (absolute-begins folder path starts) ∙ plain)
+          (ap (λ p. nat_lt longest_path (length p)) (unchanged folder) ∙ le-ltb longest_path (length path) short);
+    }
+
+-- no NUL, and not too long
+pub settled_whole : (path : List ℕ) → IsSettled path → (has_nul path ≡ false) × (length path ≤ longest_path)
+settled_whole path h =
+    let starts = starts_either path (either_settled path h.unchanged) in
+    let parts = no_fault_parts (same path []) (has_nul (absolute [] path)) (nat_lt longest_path (length (cleaned [] path))) (h.accepted []) in
+    (sym (ap has_nul (absolute-begins [] path starts)) ∙ parts.0, ltb-false longest_path (length path) (sym (ap (λ p. nat_lt longest_path (length p)) (h.unchanged [])) ∙ parts.1))
+
+-- ---- by a test
+
+pub either_test : (path : List ℕ) → (same path (slash ∷ []) || is_clean path) ≡ true → (path ≡ slash ∷ []) ⊎ (is_clean path ≡ true)
+either_test path h = elim (or_cases (same path (slash ∷ [])) (is_clean path) h) [ inl is ↦ inl ((bytes_decides path (slash ∷ [])).0 is) | inr clean ↦ inr clean ]
+
+pub test_either : (path : List ℕ) → (path ≡ slash ∷ []) ⊎ (is_clean path ≡ true) → (same path (slash ∷ []) || is_clean path) ≡ true
+test_either path (inl is) = or_left (same path (slash ∷ [])) _ ((bytes_decides path (slash ∷ [])).1 is)
+test_either path (inr clean) = or_right (same path (slash ∷ [])) _ clean

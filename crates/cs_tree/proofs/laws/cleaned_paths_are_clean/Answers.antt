@@ -1,0 +1,5 @@
+use Rattle.cs_tree.proofs.SettledLemmas.{cleaned_clean}
+use Rattle.cs_tree.proofs.laws.cleaned_paths_are_clean.Goals as goal
+
+pub returns : goal.returns
+returns c = cleaned_clean

@@ -1,0 +1,18 @@
+use Rattle.std.proofs.Common.{◌≡◌, List, ℕ, map, ap, sym, subst, ◌∙◌}
+use Rattle.std.specs.Prelude.{string_bytes, IfOk}
+use Rattle.std.specs.List.Sorted.{IsStrictlySortedBy}
+use Rattle.cs_tree.specs.Cover.{bytes_cmp}
+use Rattle.cs_tree.specs.Cleaning.{texts}
+use Rattle.cs_tree.specs.PathSet as set
+use Rattle.cs_tree.proofs.ReduceLemmas.{sorted-items, filter-least}
+use Rattle.cs_tree.proofs.reducing.reduce.Goals as goal
+
+pub uncovered-requires : goal.uncovered-requires
+uncovered-requires c =
+    subst (IsStrictlySortedBy bytes_cmp) (sym (ap texts c.deref.ensures.value ∙ c.in_ok-ordered.ensures)) (sorted-items (set.from_list (map string_bytes c.args.paths.now)))
+
+pub returns : goal.returns
+returns c =
+    subst (λ (least : List (List ℕ)). IfOk c.uncovered.result (λ kept. map string_bytes kept.items ≡ least))
+    (filter-least (set.from_list (map string_bytes c.args.paths.now)) (texts c.deref.result.now) (ap texts c.deref.ensures.value ∙ c.in_ok-ordered.ensures))
+    c.uncovered.ensures

@@ -1,0 +1,27 @@
+use Rattle.std.proofs.Common.{map, take, refl, arith, sym, subst, ◌∙◌}
+use Rattle.std.specs.Prelude.{string_bytes}
+use Rattle.cs_tree.specs.Reached.{reaches}
+use Rattle.cs_tree.specs.Visits.{GathersIn, reaches_by}
+use Rattle.cs_tree.proofs.Gathering.{more_in, none_in, counts_chain}
+use Rattle.cs_tree.proofs.Finding.{named_more}
+use Rattle.cs_tree.proofs.walking.visit_all.Goals as goal
+
+pub paths-init : goal.paths-init
+paths-init g c = record {
+  gathers = none_in (g.T.Tree.snapshot c.args.tree.now) c.args.walked.now;
+  counted = λ start below all. all;
+  rises = omega arith;
+  keeps = refl;
+}
+
+pub paths-preserved : goal.paths-preserved
+paths-preserved g c = record {
+  gathers =
+      subst (λ paths. GathersIn (g.T.Tree.snapshot c.args.tree.now) (λ told. reaches_by told paths) c.args.walked.now c.visit_named.new.walked)
+      (sym (named_more c.args.paths.now c.paths.path-index c.path-item.result c.paths-test.true c.path-item.is))
+      (more_in reaches (g.T.Tree.snapshot c.args.tree.now) (g.T.Tree.snapshot c.paths.tree) (map string_bytes (take c.paths.path-index c.args.paths.now)) (string_bytes c.path-item.result) c.args.walked.now c.paths.walked c.visit_named.new.walked c.paths.invariant.keeps c.paths.invariant.gathers
+      (subst (λ path. GathersIn (g.T.Tree.snapshot c.paths.tree) (λ told. reaches told path) c.paths.walked c.visit_named.new.walked) c.as_str.ensures.value c.in_ok-visit_named.ensures.gathers));
+  counted = counts_chain (g.T.Tree.failed c.args.tree.now) (g.T.Tree.failed c.paths.tree) (g.T.Tree.failed c.visit_named.new.tree) c.args.walked.now c.paths.walked c.visit_named.new.walked c.paths.invariant.rises c.paths.invariant.counted c.in_ok-visit_named.ensures.counted;
+  rises = omega (arith, c.paths.invariant.rises, c.visit_named.ensures.rises);
+  keeps = c.visit_named.ensures.keeps ∙ c.paths.invariant.keeps;
+}

@@ -1,0 +1,19 @@
+use Rattle.std.proofs.Common.{sym, ap, subst, ◌∙◌}
+use Rattle.cs_tree.specs.Reached.{is_left_out}
+use Rattle.cs_tree.specs.Visits.{GathersIn, comes}
+use Rattle.cs_tree.proofs.CleanLemmas.{on_ok}
+use Rattle.cs_tree.proofs.Gathering.{skipped_in, kept_in}
+use Rattle.cs_tree.proofs.walking.visit_named.Goals as goal
+
+pub returns-then-is_left_out-clause-gathers : goal.returns-then-is_left_out-clause-gathers
+returns-then-is_left_out-clause-gathers g c =
+    skipped_in (g.T.Tree.snapshot c.args.tree.now) c.args.path.now c.args.walked.now
+    (sym (c.is_left_out.ensures ∙ ap is_left_out c.last_element.ensures) ∙ c.if-is_left_out.true)
+
+pub returns-clause-gathers : goal.returns-clause-gathers
+returns-clause-gathers g c =
+    on_ok c.visit.result
+    (λ h. kept_in (g.T.Tree.snapshot c.args.tree.now) c.args.path.now c.args.walked.now c.visit.new.walked
+    (sym (c.is_left_out.ensures ∙ ap is_left_out c.last_element.ensures) ∙ c.if-is_left_out.false)
+    (subst (λ path. GathersIn (g.T.Tree.snapshot c.args.tree.now) (λ told. comes told path) c.args.walked.now c.visit.new.walked) c.in_ok-from_str.ensures.ok h))
+    c.visit.ensures.gathers

@@ -1,0 +1,125 @@
+-- What a walk gathers on its way: from the paths that it has come to so far, on top of what it had.
+use Rattle.std.specs.Prelude.{◌≡◌, ◌<◌, ◌≤◌, ℕ, Bool, true, false, not, ◌&&◌, ◌||◌, nat_le, if◌then◌else◌, List, [], ◌∷◌, map, filter, length, is_some, Option, Some, None, string_bytes}
+use Rattle.std.specs.List.{list_any, AllByRecursion}
+use Rattle.cs_tree.specs.Cover.{same, covers}
+use Rattle.cs_tree.specs.Clean.{longest_path}
+use Rattle.cs_tree.specs.Snapshot.{Snapshot, Item, IsTree, item_at, folder, file, cut, other, bad, child}
+use Rattle.cs_tree.specs.Reached.{elements_under, is_left_out, leads, reaches}
+use Rattle.cs_tree.specs.Walks.{Left, trouble_at, is_file, is_among, left_paths, names_of, faults_of, CountsFault, CountsFaults}
+use Rattle.cs_tree.specs.declared.walking.Walked.{Walked}
+use Rattle.cs_tree.specs.declared.walking.WalkFault.{WalkFault}
+use Rattle.cs_tree.specs.declared.walking.WalkFault.TheVariants.{Unnamed}
+use Rattle.cs_tree.specs.declared.walking.Sight.{Sight}
+use Rattle.cs_tree.specs.declared.walking.Sight.TheVariants as sight
+
+-- ---- from one path
+
+-- whether a walk that has come to the path comes to the name
+abbrev pub comes : Snapshot → List ℕ → List ℕ → Bool
+comes tree path name = covers path name && leads tree path (elements_under path name)
+
+abbrev pub comes_by : Snapshot → List (List ℕ) → List ℕ → Bool
+comes_by tree paths name = list_any (λ path. comes tree path name) paths
+
+abbrev pub reaches_by : Snapshot → List (List ℕ) → List ℕ → Bool
+reaches_by tree paths name = list_any (λ path. reaches tree path name) paths
+
+-- whether a file stands at a path that is short enough
+abbrev pub is_taken : Snapshot → List ℕ → Bool
+is_taken tree path = nat_le (length path) longest_path && is_file (item_at tree path)
+
+abbrev pub is_left : Snapshot → List ℕ → Bool
+is_left tree path = is_some (trouble_at path (item_at tree path))
+
+-- ---- what is gathered
+
+-- the new names are the old ones, and those that pass
+abbrev pub Gains : List (List ℕ) → List (List ℕ) → (List ℕ → Bool) → Type 0
+Gains old new test = (name : List ℕ) → is_among new name ≡ (is_among old name || test name)
+
+abbrev pub AreRight : Snapshot → List Left → Type 0
+AreRight tree faults = AllByRecursion (λ (left : Left). trouble_at left.0 (item_at tree left.0) ≡ Some left.1) faults
+
+pub record Gathers (tree : Snapshot) (come : List ℕ → Bool) (old new : Walked) : Type 0 where
+  pub names : Gains (names_of old) (names_of new) (λ name. come name && is_taken tree name)
+  pub paths : Gains (left_paths (faults_of old)) (left_paths (faults_of new)) (λ path. come path && is_left tree path)
+  pub right : AreRight tree (faults_of old) → AreRight tree (faults_of new)
+
+abbrev pub GathersIn : Option Snapshot → (Snapshot → List ℕ → Bool) → Walked → Walked → Type 0
+GathersIn None come old new = Unit {0}
+GathersIn (Some tree) come old new = IsTree tree → Gathers tree (come tree) old new
+
+-- where each fault was counted from a start on, each is still
+abbrev pub KeepsCounts : ℕ → ℕ → Walked → Walked → Type 0
+KeepsCounts count later old new = (start : ℕ) → start ≤ count → CountsFaults (faults_of old) start count → CountsFaults (faults_of new) start later
+
+-- ---- what is seen at one path
+
+abbrev pub is_file_seen : Sight → Bool
+is_file_seen sight.File = true
+is_file_seen (sight.Folder listing) = false
+is_file_seen sight.Other = false
+is_file_seen (sight.Left fault) = false
+
+abbrev pub fault_seen : Sight → Option WalkFault
+fault_seen sight.File = None
+fault_seen (sight.Folder listing) = if listing.unnamed then Some Unnamed else None
+fault_seen sight.Other = None
+fault_seen (sight.Left fault) = Some fault
+
+abbrev pub names_seen : Sight → List (List ℕ)
+names_seen sight.File = []
+names_seen (sight.Folder listing) = map string_bytes listing.names.items
+names_seen sight.Other = []
+names_seen (sight.Left fault) = []
+
+abbrev pub names_listed : Item → List (List ℕ)
+names_listed (folder names unnamed) = names
+names_listed (file bytes) = []
+names_listed (cut bytes) = []
+names_listed other = []
+names_listed (bad fault) = []
+
+-- what is seen is what stands there
+pub record Shows (tree : Snapshot) (path : List ℕ) (sight : Sight) : Type 0 where
+  pub file : is_file_seen sight ≡ is_taken tree path
+  pub fault : fault_seen sight ≡ trouble_at path (item_at tree path)
+  pub names : names_seen sight ≡ (if nat_le (length path) longest_path then names_listed (item_at tree path) else [])
+
+abbrev pub ShowsIn : Option Snapshot → List ℕ → Sight → Type 0
+ShowsIn None path sight = Unit {0}
+ShowsIn (Some tree) path sight = Shows tree path sight
+
+-- only a path that is short enough is entered
+abbrev pub IsEntered : List ℕ → Sight → Type 0
+IsEntered path sight.File = Unit {0}
+IsEntered path (sight.Folder listing) = length path ≤ longest_path
+IsEntered path sight.Other = Unit {0}
+IsEntered path (sight.Left fault) = Unit {0}
+
+abbrev pub CountsSight : Sight → ℕ → ℕ → Type 0
+CountsSight sight.File old new = Unit {0}
+CountsSight (sight.Folder listing) old new = Unit {0}
+CountsSight sight.Other old new = Unit {0}
+CountsSight (sight.Left fault) old new = CountsFault fault old new
+
+-- ---- where it goes on
+
+abbrev pub is_walked : List ℕ → Bool
+is_walked name = not (same name []) && not (is_left_out name)
+
+-- the paths of what a folder lists, without what is left out
+abbrev pub children : List ℕ → List (List ℕ) → List (List ℕ)
+children path names = map (child path) (filter is_walked names)
+
+abbrev pub named_if : Bool → List ℕ → List (List ℕ)
+named_if true path = path ∷ []
+named_if false path = []
+
+abbrev pub left_if : Option WalkFault → List ℕ → List Left
+left_if None path = []
+left_if (Some fault) path = (path, fault) ∷ []
+
+-- each path is longer than one that is short enough
+abbrev pub AreDeeper : List ℕ → List (List ℕ) → Type 0
+AreDeeper path paths = AllByRecursion (λ deeper. (length path ≤ longest_path) × (length path < length deeper)) paths

@@ -1,0 +1,115 @@
+-- What a walk finds below its paths: the files that it comes to, and why other paths are left.
+-- docs/FORMAT.md, "Paths and names".
+use Rattle.std.specs.Prelude.{◌≡◌, ◌⊎◌, ◌<◌, ◌≤◌, ℕ, Bool, true, false, ◌&&◌, nat_le, if◌then◌else◌, List, [], ◌∷◌, map, length, Option, Some, None, String, string_bytes}
+use Rattle.std.specs.List.{list_any, AllByRecursion}
+use Rattle.std.specs.Ordering.{is_lt}
+use Rattle.std.specs.declared.alloc.Global.{Global}
+use Rattle.cs_tree.specs.PathSet as set
+use Rattle.cs_tree.specs.Cover.{bytes_cmp, Paths, same}
+use Rattle.cs_tree.specs.Clean.{longest_path}
+use Rattle.cs_tree.specs.Snapshot.{Snapshot, Item, IsTree, item_at, folder, file, cut, other, bad, lists, child, name_of}
+use Rattle.cs_tree.specs.Trees.{fault_of}
+use Rattle.cs_tree.specs.Reached.{is_left_out, is_reached}
+use Rattle.cs_tree.specs.declared.walking.Walked.{Walked}
+use Rattle.cs_tree.specs.declared.walking.WalkFault.{WalkFault}
+use Rattle.cs_tree.specs.declared.walking.WalkFault.TheVariants.{Tree, Unnamed, TooLong}
+
+-- ---- what is reached
+
+-- A walk comes to each of its paths whose last element is not left out, and to what it finds listed in a
+-- folder that it comes to, unless the name is left out or the folder's path is too long.
+pub data Reached (tree : Snapshot) (paths : Paths) : List ℕ → Type 0 where
+  named : (path : List ℕ) → set.contains paths path ≡ true → is_left_out (name_of path) ≡ false → Reached tree paths path
+  listed : (path name : List ℕ) → Reached tree paths path → length path ≤ longest_path → lists (item_at tree path) name ≡ true → is_left_out name ≡ false → Reached tree paths (child path name)
+
+-- ---- what is found
+
+-- what is wrong with what stands at a path: it can't be looked at, or is a folder with a name that is no text
+abbrev pub item_trouble : Item → Option WalkFault
+item_trouble (folder names true) = Some Unnamed
+item_trouble (folder names false) = None
+item_trouble (file bytes) = None
+item_trouble (cut bytes) = None
+item_trouble other = None
+item_trouble (bad fault) = Some (Tree (fault_of fault))
+
+-- why a path that a walk comes to is left; a path that is too long is not looked at
+abbrev pub trouble_at : List ℕ → Item → Option WalkFault
+trouble_at path item = if nat_le (length path) longest_path then item_trouble item else Some TooLong
+
+abbrev pub is_file : Item → Bool
+is_file (folder names unnamed) = false
+is_file (file bytes) = true
+is_file (cut bytes) = true
+is_file other = false
+is_file (bad fault) = false
+
+-- whether a walk from the paths finds the name: it comes to it, and a file stands there
+abbrev pub is_found : Snapshot → Paths → List ℕ → Bool
+is_found tree paths name = is_reached tree paths name && (nat_le (length name) longest_path && is_file (item_at tree name))
+
+-- why a walk from the paths leaves the path, if it comes to it and has to leave it
+abbrev pub fault_at : Snapshot → Paths → List ℕ → Option WalkFault
+fault_at tree paths path = if is_reached tree paths path then trouble_at path (item_at tree path) else None
+
+-- ---- lists of what was found
+
+-- a path, and why it is left
+abbrev pub Left : Type 0
+Left = List ℕ × WalkFault
+
+-- each name is below the next one
+abbrev pub ascend : List (List ℕ) → Bool
+ascend [] = true
+ascend (a ∷ []) = true
+ascend (a ∷ b ∷ names) = is_lt (bytes_cmp a b) && ascend (b ∷ names)
+
+abbrev pub is_among : List (List ℕ) → List ℕ → Bool
+is_among names name = list_any (λ one. same one name) names
+
+-- why the path is left, by the first entry that has it
+abbrev pub fault_among : List Left → List ℕ → Option WalkFault
+fault_among [] path = None
+fault_among (left ∷ faults) path = if same left.0 path then Some left.1 else fault_among faults path
+
+abbrev pub left_paths : List Left → List (List ℕ)
+left_paths faults = map (λ (left : Left). left.0) faults
+
+-- The names are those that a walk finds, and the faults those of the paths that it leaves, each once
+-- and in order.
+pub record Finds (tree : Snapshot) (paths : Paths) (names : List (List ℕ)) (faults : List Left) : Type 0 where
+  pub names_ascend : ascend names ≡ true
+  pub names_are : (name : List ℕ) → is_among names name ≡ is_found tree paths name
+  pub faults_ascend : ascend (left_paths faults) ≡ true
+  pub faults_are : (path : List ℕ) → fault_among faults path ≡ fault_at tree paths path
+
+-- Where a tree tells nothing, nothing is asked.
+abbrev pub FindsIn : Option Snapshot → Paths → List (List ℕ) → List Left → Type 0
+FindsIn None paths names faults = Unit {0}
+FindsIn (Some tree) paths names faults = IsTree tree → Finds tree paths names faults
+
+-- ---- what is counted
+
+-- some call has failed: the count of failures rose, or stands at its end
+abbrev pub HasFailed : ℕ → ℕ → Type 0
+HasFailed old new = (old < new) ⊎ (18446744073709551615 ≤ new)
+
+-- a fault of the tree was counted
+abbrev pub CountsFault : WalkFault → ℕ → ℕ → Type 0
+CountsFault (Tree fault) old new = HasFailed old new
+CountsFault Unnamed old new = Unit {0}
+CountsFault TooLong old new = Unit {0}
+
+abbrev pub CountsFaults : List Left → ℕ → ℕ → Type 0
+CountsFaults faults old new = AllByRecursion (λ (left : Left). CountsFault left.1 old new) faults
+
+-- ---- what the code has found
+
+abbrev pub left_entry : String Global × WalkFault → Left
+left_entry entry = (string_bytes entry.0, entry.1)
+
+abbrev pub names_of : Walked → List (List ℕ)
+names_of walked = map string_bytes walked.names.items
+
+abbrev pub faults_of : Walked → List Left
+faults_of walked = map left_entry walked.faults.items

@@ -1,0 +1,259 @@
+// What stands below paths.
+ghost use Rattle.std.specs.Prelude.{◌≡◌, ◌≢◌, ◌≤◌, ◌++◌, ℕ, List, true, map, string_bytes, OnOk, IfOk, MatchResult, Contains};
+ghost use Rattle.cs_tree.specs.PathSet as set;
+ghost use Rattle.cs_tree.specs.Snapshot.{child, name_of};
+ghost use Rattle.cs_tree.specs.Reached.{reaches, is_left_out as is_left_out', ends_in_tilde as ends_in_tilde'};
+ghost use Rattle.cs_tree.specs.Walks.{FindsIn, Left, CountsFaults, ascend, is_among, left_entry, left_paths, names_of, faults_of};
+ghost use Rattle.cs_tree.specs.Visits.{GathersIn, KeepsCounts, ShowsIn, CountsSight, IsEntered, comes, reaches_by, is_file_seen, fault_seen, names_seen, children, named_if, left_if, is_walked as is_walked'};
+
+use crate::cleaning::LONGEST_PATH;
+use crate::fault::TreeFault;
+use crate::tree::{Kind, Listing, Tree};
+use std::alloc::{AllocError, Global};
+
+/// Why a path that a walk comes to is left.
+#[derive(Clone, Copy, Debug, PartialEq, Eq)]
+pub enum WalkFault {
+    /// What stands there can't be looked at. It is not `TreeFault::Memory`.
+    Tree(TreeFault),
+    /// A folder has an entry whose name is not text. Its other entries are walked.
+    Unnamed,
+    /// The path has more than 4095 bytes, and was not looked at.
+    TooLong,
+}
+
+/// What a walk finds.
+#[derive(Debug, Drop)]
+pub struct Walked {
+    /// The paths of the files, ascending.
+    pub names: Vec<String>,
+    /// The paths that are left, ascending, each with the reason.
+    pub faults: Vec<(String, WalkFault)>,
+}
+
+/// What a walk sees at a path.
+#[derive(Drop)]
+enum Sight {
+    File,
+    Folder(Listing),
+    /// Neither, as a link.
+    Other,
+    /// The path is left.
+    Left(WalkFault),
+}
+
+/// What stands at the paths and below them: from each path whose last element is not left out, by the
+/// names that folders list and that are not left out. A name is left out where it begins with `.`,
+/// `#` or `~`, or ends with `~`. The paths may be in any order, and may cover each other. `kind` is
+/// asked once at each path that is come to, and each folder is listed once, for each path that covers
+/// it. Refused for want of memory alone, the tree's too.
+pub fn walk<T: Tree>(alloc: Global, tree: &mut T, paths: &[String]) -> Result<Walked, AllocError>
+    ensures finds { IfOk result (λ walked. FindsIn (T.snapshot tree.old) (set.from_list (map string_bytes paths.now)) (names_of walked) (faults_of walked)) }
+    ensures names_ascend { IfOk result (λ walked. ascend (names_of walked) ≡ true) }
+    ensures faults_ascend { IfOk result (λ walked. ascend (left_paths (faults_of walked)) ≡ true) }
+    ensures counted { IfOk result (λ walked. CountsFaults (faults_of walked) (T.failed tree.old) (T.failed tree.new)) }
+    ensures rises { T.failed tree.old ≤ T.failed tree.new }
+    ensures keeps { T.snapshot tree.new ≡ T.snapshot tree.old }
+{
+    let mut walked = Walked {
+        names: Vec::new(alloc),
+        faults: Vec::new(alloc),
+    };
+    visit_all(alloc, tree, paths, &mut walked)?;
+    order_names(&mut walked.names);
+    order_faults(&mut walked.faults);
+    Ok(walked)
+}
+
+/// Visits each path, unless its last element is left out.
+fn visit_all<T: Tree>(
+    alloc: Global,
+    tree: &mut T,
+    paths: &[String],
+    walked: &mut Walked,
+) -> Result<(), AllocError>
+    ensures gathers { OnOk result (GathersIn (T.snapshot tree.old) (λ told. reaches_by told (map string_bytes paths.now)) walked.old walked.new) }
+    ensures counted { OnOk result (KeepsCounts (T.failed tree.old) (T.failed tree.new) walked.old walked.new) }
+    ensures rises { T.failed tree.old ≤ T.failed tree.new }
+    ensures keeps { T.snapshot tree.new ≡ T.snapshot tree.old }
+{
+    'paths: for path in paths {
+        visit_named(alloc, tree, path.as_str(), walked)?;
+    }
+    Ok(())
+}
+
+/// Visits a path, unless its last element is left out.
+fn visit_named<T: Tree>(
+    alloc: Global,
+    tree: &mut T,
+    path: &str,
+    walked: &mut Walked,
+) -> Result<(), AllocError>
+    ensures gathers { OnOk result (GathersIn (T.snapshot tree.old) (λ told. reaches told path.now) walked.old walked.new) }
+    ensures counted { OnOk result (KeepsCounts (T.failed tree.old) (T.failed tree.new) walked.old walked.new) }
+    ensures rises { T.failed tree.old ≤ T.failed tree.new }
+    ensures keeps { T.snapshot tree.new ≡ T.snapshot tree.old }
+{
+    if is_left_out(last_element(path)) {
+        return Ok(());
+    }
+    visit(alloc, tree, String::from_str(alloc, path)?, walked)
+}
+
+/// Gathers what stands at a path and below it.
+fn visit<T: Tree>(
+    alloc: Global,
+    tree: &mut T,
+    path: String,
+    walked: &mut Walked,
+) -> Result<(), AllocError>
+    ensures gathers { OnOk result (GathersIn (T.snapshot tree.old) (λ told. comes told (string_bytes path)) walked.old walked.new) }
+    ensures counted { OnOk result (KeepsCounts (T.failed tree.old) (T.failed tree.new) walked.old walked.new) }
+    ensures rises { T.failed tree.old ≤ T.failed tree.new }
+    ensures keeps { T.snapshot tree.new ≡ T.snapshot tree.old }
+{
+    let sight = look(alloc, tree, path.as_str())?;
+    let deeper = walked.note(alloc, path, sight)?;
+    'deeper: for path in deeper {
+        visit(alloc, tree, path, walked)?;
+    }
+    Ok(())
+}
+
+/// Looks at what stands at a path, once. A folder's names are listed, once.
+fn look<T: Tree>(alloc: Global, tree: &mut T, path: &str) -> Result<Sight, AllocError>
+    ensures shows { IfOk result (λ sight. ShowsIn (T.snapshot tree.old) path.now sight) }
+    ensures entered { IfOk result (λ sight. IsEntered path.now sight) }
+    ensures counted { IfOk result (λ sight. CountsSight sight (T.failed tree.old) (T.failed tree.new)) }
+    ensures rises { T.failed tree.old ≤ T.failed tree.new }
+    ensures keeps { T.snapshot tree.new ≡ T.snapshot tree.old }
+{
+    if path.len() > LONGEST_PATH {
+        return Ok(Sight::Left(WalkFault::TooLong));
+    }
+    match tree.kind(path) {
+        Ok(Kind::Folder) => match tree.entries(alloc, path) {
+            Ok(listing) => Ok(Sight::Folder(listing)),
+            Err(fault) => left_for(fault),
+        },
+        Ok(Kind::File) => Ok(Sight::File),
+        Ok(Kind::Other) => Ok(Sight::Other),
+        Err(fault) => left_for(fault),
+    }
+}
+
+/// A path is left for a tree's fault, but want of memory ends the walk.
+fn left_for(fault: TreeFault) -> Result<Sight, AllocError>
+    ensures { MatchResult result (λ sight. (fault ≢ TreeFault.Memory) × (sight ≡ Sight.Left (WalkFault.Tree fault))) (λ _. fault ≡ TreeFault.Memory) }
+{
+    match fault {
+        TreeFault::Memory => Err(AllocError),
+        fault => Ok(Sight::Left(WalkFault::Tree(fault))),
+    }
+}
+
+impl Walked {
+    /// Takes down what was seen at a path, and gives the paths at which the walk goes on.
+    fn note(&mut self, alloc: Global, path: String, sight: Sight) -> Result<Vec<String>, AllocError>
+        ensures names { OnOk result (names_of self.new ≡ names_of self.old ++ named_if (is_file_seen sight) (string_bytes path)) }
+        ensures faults { OnOk result (faults_of self.new ≡ faults_of self.old ++ left_if (fault_seen sight) (string_bytes path)) }
+        ensures children { IfOk result (λ deeper. map string_bytes deeper.items ≡ children (string_bytes path) (names_seen sight)) }
+    {
+        let mut deeper = Vec::new(alloc);
+        match sight {
+            Sight::File => self.names.push(path)?,
+            Sight::Folder(listing) => {
+                deeper = children_of(alloc, path.as_str(), &listing.names)?;
+                if listing.unnamed {
+                    self.faults.push((path, WalkFault::Unnamed))?;
+                }
+            }
+            Sight::Other => {}
+            Sight::Left(fault) => self.faults.push((path, fault))?,
+        }
+        Ok(deeper)
+    }
+}
+
+/// The paths of what a folder lists, without what is left out.
+fn children_of(alloc: Global, folder: &str, names: &[String]) -> Result<Vec<String>, AllocError>
+    ensures { IfOk result (λ paths. map string_bytes paths.items ≡ children folder.now (map string_bytes names.now)) }
+{
+    let mut paths = Vec::new(alloc);
+    'names: for name in names {
+        if is_walked(name.as_str()) {
+            paths.push(child_path(alloc, folder, name.as_str())?)?;
+        }
+    }
+    Ok(paths)
+}
+
+/// The path of what a folder lists under a name.
+fn child_path(alloc: Global, folder: &str, name: &str) -> Result<String, AllocError>
+    ensures { IfOk result (λ path. string_bytes path ≡ child folder.now name.now) }
+{
+    let mut path = String::new(alloc);
+    if folder != "/" {
+        path.push_str(folder)?;
+    }
+    path.push('/')?;
+    path.push_str(name)?;
+    Ok(path)
+}
+
+/// Whether a walk goes on by a name: it is not left out, and not empty, so that the path gets longer.
+fn is_walked(name: &str) -> bool
+    ensures { result ≡ is_walked' name.now }
+{
+    !name.is_empty() && !is_left_out(name)
+}
+
+/// Whether a name begins with `.`, `#` or `~`, or ends with `~`.
+fn is_left_out(name: &str) -> bool
+    ensures { result ≡ is_left_out' name.now }
+{
+    match name.as_bytes().first() {
+        Some(b'.' | b'#' | b'~') => true,
+        Some(_) => ends_in_tilde(name),
+        None => false,
+    }
+}
+
+fn ends_in_tilde(name: &str) -> bool
+    ensures { result ≡ ends_in_tilde' name.now }
+{
+    match name.as_bytes().last() {
+        Some(byte) => *byte == b'~',
+        None => false,
+    }
+}
+
+/// What follows the last slash of a path.
+fn last_element(path: &str) -> &str
+    ensures { result.now ≡ name_of path.now }
+{
+    match path.rsplit_once('/') {
+        Some((_, name)) => name,
+        None => path,
+    }
+}
+
+/// Puts names in order, each once.
+fn order_names(names: &mut Vec<String>)
+    ensures ascend { ascend (map string_bytes names.new.items) ≡ true }
+    ensures same { (name : List ℕ) → is_among (map string_bytes names.new.items) name ≡ is_among (map string_bytes names.old.items) name }
+{
+    names.sort_unstable();
+    names.dedup();
+}
+
+/// Puts faults in the order of their paths, each path once.
+fn order_faults(faults: &mut Vec<(String, WalkFault)>)
+    ensures ascend { ascend (left_paths (map left_entry faults.new.items)) ≡ true }
+    ensures same { (path : List ℕ) → is_among (left_paths (map left_entry faults.new.items)) path ≡ is_among (left_paths (map left_entry faults.old.items)) path }
+    ensures kept { (left : Left) → Contains (map left_entry faults.new.items) left → Contains (map left_entry faults.old.items) left }
+{
+    faults.sort_unstable_by(|a, b| a.0.cmp(&b.0));
+    faults.dedup_by(|a, b| a.0 == b.0);
+}

@@ -1,0 +1,4 @@
+mod WordExamples
+pub mod MessageLemmas
+pub mod WordsLemmas
+pub mod DivisionLemmas

@@ -1,0 +1,69 @@
+// What options set.
+use crate::jobs::Style;
+use crate::options::Switch;
+
+/// What one option asks for.
+#[derive(Clone, Copy, Drop)]
+pub enum Setting<'a> {
+    Turns(Switch, bool),
+    Names(&'a str),
+}
+
+/// What the options that are read ask for.
+#[derive(Clone, Copy, Drop)]
+pub struct Settings<'a> {
+    pub list: bool,
+    pub reset: bool,
+    pub log_skip: bool,
+    pub style: Style,
+    pub fold: bool,
+    pub brute: bool,
+    pub file: Option<&'a str>,
+}
+
+/// What no option asks for.
+pub const NOTHING: Settings<'static> = Settings {
+    list: false,
+    reset: false,
+    log_skip: false,
+    style: Style {
+        count: false,
+        list: false,
+        number: false,
+        bare: false,
+    },
+    fold: false,
+    brute: false,
+    file: None,
+};
+
+impl<'a> Settings<'a> {
+    ghost use Rattle.std.specs.Prelude.{◌≡◌};
+    ghost use Rattle.cs_words.specs.Settings.{turned, with_setting};
+
+    /// Takes in one more option, in place of what it was set to before.
+    pub fn set(&mut self, setting: Setting<'a>)
+        ensures { self.new ≡ with_setting setting.entry self.old }
+    {
+        match setting {
+            Setting::Turns(switch, on) => self.turn(switch, on),
+            Setting::Names(pattern) => self.file = Some(pattern),
+        }
+    }
+
+    fn turn(&mut self, switch: Switch, on: bool)
+        ensures { self.new ≡ turned switch on self.old }
+    {
+        match switch {
+            Switch::List => self.list = on,
+            Switch::Reset => self.reset = on,
+            Switch::LogSkip => self.log_skip = on,
+            Switch::Count => self.style.count = on,
+            Switch::Bare => self.style.bare = on,
+            Switch::Fold => self.fold = on,
+            Switch::Names => self.style.list = on,
+            Switch::Number => self.style.number = on,
+            Switch::Brute => self.brute = on,
+        }
+    }
+}

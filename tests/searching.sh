@@ -1,0 +1,97 @@
+# Searches through an index of a real tree. A part of end_to_end.sh, which says what `try`, `same` and `holds` do.
+
+# ---- options ----------------------------------------------------------------------------------------------------------
+mkdir trees/s
+printf 'one\ntwo\none\n' > trees/s/p
+printf 'Two\n' > trees/s/q
+printf 'three\none' > trees/s/r
+cindex -reset trees/s
+p=$home/trees/s/p
+q=$home/trees/s/q
+r=$home/trees/s/r
+try 0 "$p:one\n$p:one\n$r:one\n" '' "csearch one"
+try 0 "$p: 2\n$r: 1\n" '' "csearch -c one"
+try 0 "$p\n$r\n" '' "csearch -l one"
+try 0 'one\none\none\n' '' "csearch -h one"
+try 0 "$p:1:one\n$p:3:one\n$r:2:one\n" '' "csearch -n one"
+try 0 '1:one\n3:one\n2:one\n' '' "csearch -n -h one"
+try 0 "$p:two\n$q:Two\n" '' "csearch -i TWO"
+try 0 "$r:one\n" '' "csearch -f '[rq]\$' one"
+try 1 '' '' "csearch -i -f '/R\$' one"
+try 0 "$r:one\n" '' "csearch -f=/r one"
+try 0 "$p:two\n" '' "csearch -brute two"
+try 0 "$p\n$q\n$r\n" '' "csearch -l ''"
+try 1 '' '' "csearch four"
+try 2 '' 'csearch: no pattern\n' "csearch"
+try 2 '' 'csearch: extra word y\n' "csearch x y"
+try 2 '' 'csearch: option -f needs a value\n' "csearch -f"
+try 2 '' 'csearch: pattern at 2: stacked repeat\n' "csearch -f '(' 'a**'"
+try 2 '' 'csearch: file pattern at 0: group not closed\n' "csearch -f '(' x"
+try 2 '' 'csearch: pattern at 2: stacked repeat\n' "CSEARCHINDEX=\$home/none csearch 'a**'"
+if [ -w /dev/full ]; then
+    try 2 '' 'csearch: output failed\n' "csearch one > /dev/full"
+fi
+
+# ---- files that have changed since --------------------------------------------------------------------------------------
+printf 'four\n' > trees/s/p
+try 0 "$r:one\n" '' "csearch one"
+try 1 '' '' "csearch four"
+try 0 "$p:four\n" '' "csearch -brute four"
+rm trees/s/p
+try 0 "$r:one\n" "csearch: $p: no such file\n" "csearch one"
+mkdir trees/s/p
+try 0 "$r:one\n" "csearch: $p: cannot be read\n" "csearch one"
+try 0 "$q:Two\n" '' "csearch Two"
+
+# ---- no line is lost: a search by trigrams lists the files that a search of all files lists -----------------------------------
+mkdir trees/table
+cp "$root"/docs/* "$root"/tests/*.sh "$root/tests/queries.txt" trees/table
+cindex -reset trees/table
+while read -r pattern; do
+    csearch -brute -l -- "$pattern" > results/wanted.out 2> results/wanted.err
+    wanted=$?
+    csearch -l -- "$pattern" > results/out 2> results/err
+    came=$?
+    verdict "csearch -l -- '$pattern'    (as with -brute)"
+done < "$root/tests/queries.txt"
+
+# ---- the same lines as grep, over a real tree ---------------------------------------------------------------------------
+cindex -reset trees/real
+find "$home/trees/real" -type f -size +0 | LC_ALL=C sort > results/names
+while read -r pattern; do
+    same "csearch -n '$pattern'" "LC_ALL=C xargs grep -aEHn '$pattern' < results/names"
+    same "csearch -brute '$pattern'" "xargs \"\$program\" cgrep '$pattern' < results/names"
+done <<'PATTERNS'
+requires
+ensures
+fn [a-z_]+\(
+^use .*specs
+(length|take) [a-z]
+TheVariants
+abbrev pub [a-z]+_of
+[Tt]rigram
+Option<.*>
+^#!\[tactic
+[0-9]{3}
+(from|into)_[a-z]+
+x?yz|abc
+match [a-z]+ \{$
+\bindex\b
+Err\(.*Fault
+[Bb]uild(er)?s?
+wo+rd
+(one|two|three)s
+[^ -~]+ →
+^}$
+pub (fn|struct|enum)
+a.c.e
+(ab|cd)(ef|gh)
+must-fail|proofs
+Ok\(\(\)\)
+while let Some
+// .*\.$
+^ghost use
+String::from_str
+PATTERNS
+same "csearch -i REQUIRES" "LC_ALL=C xargs grep -aiEH REQUIRES < results/names"
+same "csearch -l -f '\.rt\$' unsafe; true" "grep '\.rt\$' results/names | LC_ALL=C xargs grep -aEl unsafe; true"

@@ -52,10 +52,15 @@ abbrev pub StillReads : History → Snapshot → Type 0
 StillReads history tree =
     (name trigrams : List ℕ) → map'.get (files_of history) name ≡ Some trigrams → read_item (text_trigrams limits) (item_at tree name) ≡ Some trigrams
 
+-- What the last part rests on: the earlier jobs left the index, and every file that it names still reads as it was.
+pub record SearchPremises (tree : Option Snapshot) (index : Option (List ℕ)) (earlier : History) : Type 0 where
+  pub jobs_left : Premises (tree ∷ []) index earlier
+  pub still_reads : StillReads earlier (told tree)
+
 -- `searched` is what cgrep prints over some names in a tree, with a pattern and a style, and `chosen`
 -- is whether `-f` takes a name.
 module _ {Printed : Type 0} (searched : Snapshot → List (List ℕ) → Printed) (chosen : List ℕ → Bool) where
   -- What is printed is what cgrep prints over the indexed names that are chosen, in their order.
   abbrev pub SearchesLikeGrep : Option Snapshot → Option (List ℕ) → Printed → Type 0
   SearchesLikeGrep tree index printed =
-      (earlier : History) → Premises (tree ∷ []) index earlier → StillReads earlier (told tree) → printed ≡ searched (told tree) (filter chosen (indexed_names earlier))
+      (earlier : History) → SearchPremises tree index earlier → printed ≡ searched (told tree) (filter chosen (indexed_names earlier))

@@ -97,7 +97,7 @@ module _ (history : History) (bytes : List ℕ) (is : IsHistory history) (left :
 
 module _ (job : SearchJob) (index : Option (List ℕ)) (tree : Option Snapshot) (finds keeps : List ℕ → Bool) (asks : Asks job index) (tests : Seeks job finds keeps) where
   promised : (snapshot : Snapshot) → tree ≡ Some snapshot → SearchesLikeGrep (searched_by_cgrep MOST_SEARCHED job.style finds) keeps tree index (all_printed (file_printed MOST_SEARCHED Csearch job.style finds snapshot) (filter keeps (names_asked asks.parts asks.query)))
-  promised snapshot tells earlier premises still = by_bytes index refl asks.opens premises.they_left premises.short
+  promised snapshot tells earlier premises = by_bytes index refl asks.opens premises.jobs_left.they_left premises.jobs_left.short
     where
       snapshot_is : snapshot ≡ told tree
       snapshot_is = sym (ap told tells)
@@ -108,10 +108,10 @@ module _ (job : SearchJob) (index : Option (List ℕ)) (tree : Option Snapshot) 
       by_bytes (Some bytes) e opens left short =
           let left' : index_of earlier ≡ Some bytes = left ∙ e in
           let short' = subst IsShort e short in
-          let agrees = agrees_still earlier bytes premises.jobs_were left' short' asks.parts snapshot opens (subst (StillReads earlier) (sym snapshot_is) still) in
+          let agrees = agrees_still earlier bytes premises.jobs_left.jobs_were left' short' asks.parts snapshot opens (subst (StillReads earlier) (sym snapshot_is) premises.still_reads) in
           alike job index finds keeps asks tests snapshot agrees
           ∙ ap (λ (s : Snapshot). searched_by_cgrep MOST_SEARCHED job.style finds s (filter keeps asks.parts.names)) snapshot_is
-          ∙ ap (λ (names : List (List ℕ)). searched_by_cgrep MOST_SEARCHED job.style finds (told tree) (filter keeps names)) (named earlier bytes premises.jobs_were left' short' asks.parts opens)
+          ∙ ap (λ (names : List (List ℕ)). searched_by_cgrep MOST_SEARCHED job.style finds (told tree) (filter keeps names)) (named earlier bytes premises.jobs_left.jobs_were left' short' asks.parts opens)
 
 module _ (job : SearchJob) (index : Option (List ℕ)) (tree : Option Snapshot) (Prints : Option Printed → Type 0) (by_index : PrintsAsked MOST_SEARCHED job index tree Prints) where
   pub as_promised : PrintsAsPromised MOST_SEARCHED job index tree Prints

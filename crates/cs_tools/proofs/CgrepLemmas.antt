@@ -15,7 +15,7 @@ use Rattle.cs_words.specs.declared.jobs.Tool.TheVariants.{Cgrep}
 use Rattle.cs_words.specs.declared.jobs.GrepJob.{GrepJob}
 use Rattle.cs_tools.specs.declared.status.Status.{Status}
 use Rattle.cs_tools.specs.Searches.{Printed, Prints, PrintsStatus, status_of, input_printed, file_printed, all_printed}
-use Rattle.cs_tools.specs.Cgrep.{cgrep_printed, standard_name, PatternFirst}
+use Rattle.cs_tools.specs.Cgrep.{cgrep_printed, searched_by_cgrep, standard_name, PatternFirst}
 use Rattle.cs_words.specs.Faults.{pattern_fault, refused_at}
 
 module _ (most : ℕ) (job : GrepJob) (finds : List ℕ → Bool) (snapshot : Option Snapshot) (input : Option Told) where
@@ -24,7 +24,7 @@ module _ (most : ℕ) (job : GrepJob) (finds : List ℕ → Bool) (snapshot : Op
   cgrep_standard e = rw e refl
 
   pub cgrep_files : job.standard ≡ false → cgrep_printed most job finds snapshot input ≡ option_map (λ (s : Snapshot). all_printed (file_printed most Cgrep job.style finds s) (map string_bytes job.files.items)) snapshot
-  unfolding cgrep_printed
+  unfolding cgrep_printed searched_by_cgrep
   cgrep_files e = rw e refl
 
 -- a pattern that is refused

@@ -24,7 +24,8 @@ use Rattle.cs_history.proofs.HistoryLemmas.{history_content, index_is}
 use Rattle.cs_words.specs.declared.jobs.Tool.TheVariants.{Csearch, Cgrep}
 use Rattle.cs_words.specs.declared.jobs.SearchJob.{SearchJob}
 use Rattle.cs_tools.specs.declared.report.TheConstants.{MOST_SEARCHED}
-use Rattle.cs_tools.specs.Csearch.{OpensWith, IsQueryOf, Asks, Seeks, ReadsAs, Agrees, names_asked, csearch_printed, searched_by_cgrep, PrintsAsked, PrintsLikeCgrep, PrintsAsPromised}
+use Rattle.cs_tools.specs.Cgrep.{searched_by_cgrep}
+use Rattle.cs_tools.specs.Csearch.{OpensWith, IsQueryOf, Asks, Seeks, ReadsAs, Agrees, names_asked, csearch_printed, PrintsAsked, PrintsLikeCgrep, PrintsAsPromised}
 use Rattle.cs_tools.specs.Searches.{Printed, all_printed, file_printed}
 use Rattle.cs_tools.proofs.AgreementLemmas.{search_alike}
 use Rattle.cs_tools.proofs.CsearchLemmas.{names_of_files}

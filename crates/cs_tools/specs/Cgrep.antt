@@ -11,6 +11,7 @@ use Rattle.cs_tree.specs.Told.{Told, risen}
 use Rattle.cs_tree.specs.Snapshot.{Snapshot}
 use Rattle.cs_words.specs.declared.jobs.Tool.TheVariants.{Cgrep}
 use Rattle.cs_words.specs.declared.jobs.GrepJob.{GrepJob}
+use Rattle.cs_words.specs.declared.jobs.Style.{Style}
 use Rattle.cs_words.specs.declared.fault.ToolFault.{ToolFault}
 use Rattle.cs_words.specs.declared.fault.ToolFault.TheVariants.{Pattern, Write, Memory}
 use Rattle.cs_tools.specs.Searches.{Printed, input_printed, file_printed, all_printed, TellsFaults}
@@ -18,11 +19,15 @@ use Rattle.cs_tools.specs.Searches.{Printed, input_printed, file_printed, all_pr
 abbrev pub standard_name : List ℕ
 standard_name = codes "<standard input>"
 
+-- what is printed of files with these names, in this order
+unfoldable pub searched_by_cgrep : ℕ → Style → (List ℕ → Bool) → Snapshot → List (List ℕ) → Printed
+searched_by_cgrep most style finds tree names = all_printed (file_printed most Cgrep style finds tree) names
+
 -- what is printed: of standard input, or of the files in the order of the words
 unfoldable pub cgrep_printed : ℕ → GrepJob → (List ℕ → Bool) → Option Snapshot → Option Told → Option Printed
 cgrep_printed most job finds tree input =
     if job.standard then option_map (input_printed most Cgrep job.style finds standard_name) input
-    else option_map (λ (tree : Snapshot). all_printed (file_printed most Cgrep job.style finds tree) (map string_bytes job.files.items)) tree
+    else option_map (λ (tree : Snapshot). searched_by_cgrep most job.style finds tree (map string_bytes job.files.items)) tree
 
 -- the text reads as a tree that is not too heavy
 abbrev pub IsAccepted : List ℕ → Bool → Type 0

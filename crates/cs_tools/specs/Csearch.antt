@@ -20,13 +20,13 @@ use Rattle.cs_index.specs.Opening.{Parts, opened, files_read}
 use Rattle.cs_index.specs.declared.fault.IndexFault.{IndexFault}
 use Rattle.cs_index.specs.declared.fault.IndexFault.TheVariants.{BadList}
 use Rattle.cs_history.specs.Headline.{SearchesLikeGrep}
-use Rattle.cs_words.specs.declared.jobs.Tool.TheVariants.{Csearch, Cgrep}
+use Rattle.cs_words.specs.declared.jobs.Tool.TheVariants.{Csearch}
 use Rattle.cs_words.specs.declared.jobs.Style.{Style}
 use Rattle.cs_words.specs.declared.jobs.SearchJob.{SearchJob}
 use Rattle.cs_words.specs.declared.fault.ToolFault.{ToolFault}
 use Rattle.cs_words.specs.declared.fault.ToolFault.TheVariants.{Pattern, FilePattern, NoIndex, BadIndex, Write, Memory}
 use Rattle.cs_index.specs.Candidates.{is_answerable}
-use Rattle.cs_tools.specs.Cgrep.{IsAccepted}
+use Rattle.cs_tools.specs.Cgrep.{IsAccepted, searched_by_cgrep}
 use Rattle.cs_tools.specs.Searches.{Printed, file_printed, all_printed}
 
 -- ---- which files are searched
@@ -85,10 +85,6 @@ module _ (most : ℕ) (style : Style) (finds : List ℕ → Bool) where
   unfoldable pub csearch_printed : (List ℕ → Bool) → Parts → Query → Option Snapshot → Option Printed
   csearch_printed keeps parts query tree =
       option_map (λ (tree : Snapshot). all_printed (file_printed most Csearch style finds tree) (filter keeps (names_asked parts query))) tree
-
-  -- by cgrep, of these names
-  unfoldable pub searched_by_cgrep : Snapshot → List (List ℕ) → Printed
-  searched_by_cgrep tree names = all_printed (file_printed most Cgrep style finds tree) names
 
 -- `Prints` says that something was printed and answered.
 module _ (most : ℕ) (job : SearchJob) (index : Option (List ℕ)) (tree : Option Snapshot) (Prints : Option Printed → Type 0) where

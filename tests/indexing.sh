@@ -67,7 +67,9 @@ if [ "$(id -u)" -eq 0 ]; then
 else
     mkdir trees/closed trees/closed/in trees/closed/out
     printf 'words\n' | tee trees/closed/in/f trees/closed/out/f > trees/closed/shut
+    try 0 '' '' "cindex -reset trees/closed"
     chmod 000 trees/closed/in trees/closed/shut
+    try 0 "$home/trees/closed/out/f\n" "csearch: $home/trees/closed/in/f: permission denied\ncsearch: $home/trees/closed/shut: permission denied\n" "csearch -l words"
     try 0 '' "cindex: $home/trees/closed/in: permission denied\ncindex: $home/trees/closed/shut: permission denied\n" "cindex -reset trees/closed"
     try 0 "$home/trees/closed/out/f\n" '' "csearch -l words"
     chmod 700 trees/closed/in trees/closed/shut

@@ -43,16 +43,25 @@ mkdir trees/s/p
 try 0 "$r:one\n" "csearch: $p: cannot be read\n" "csearch one"
 try 0 "$q:Two\n" '' "csearch Two"
 
-# ---- no line is lost: a search by trigrams lists the files that a search of all files lists -----------------------------------
+# ---- no line is lost: a search by trigrams lists the files that cgrep lists -------------------------------------------------
+# A row of queries.txt has a pattern, a text with a match and, but for a pattern that every line matches, a near miss: a
+# text without one that shares its trigrams or letters. Texts are as printf's %b reads them. Row n gives the files
+# match-n and miss-n; each pattern is asked of the files of all rows.
 mkdir trees/table
-cp "$root"/docs/* "$root"/tests/*.sh "$root/tests/queries.txt" trees/table
-cindex -reset trees/table
-while read -r pattern; do
-    csearch -brute -l -- "$pattern" > results/wanted.out 2> results/wanted.err
-    wanted=$?
-    csearch -l -- "$pattern" > results/out 2> results/err
-    came=$?
-    verdict "csearch -l -- '$pattern'    (as with -brute)"
+row=0
+while IFS=$tab read -r pattern text miss; do
+    row=$((row + 1))
+    printf '%b' "$text" > trees/table/match-$row
+    [ -z "$miss" ] || printf '%b' "$miss" > trees/table/miss-$row
+done < "$root/tests/queries.txt"
+try 0 '' '' "cindex -reset -logskip trees/table"
+find "$home/trees/table" -type f | LC_ALL=C sort > results/names
+row=0
+while IFS=$tab read -r pattern text miss; do
+    row=$((row + 1))
+    xargs "$program" cgrep -l -- "$pattern" < results/names > results/listed
+    holds "grep -q '/match-$row\$' results/listed && ! grep -q '/miss-$row\$' results/listed"
+    same "csearch -l -- '$pattern'" "cat results/listed"
 done < "$root/tests/queries.txt"
 
 # ---- the same lines as grep, over a real tree ---------------------------------------------------------------------------

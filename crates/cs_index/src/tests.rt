@@ -85,10 +85,15 @@ fn limits_are_kept(rt: HostRuntime) -> Result<(), Fail> {
         Err(BuildFault::TooLarge)
     );
     assert_eq!(rt; builder.add_within(3, "/d", &[]), Ok(2));
-    for (most, want) in [(64, None), (65, Some(65))] {
+    // At 24 the lists have no room, at 64 the trailer.
+    for (most, want) in [
+        (24, Err(BuildFault::TooLarge)),
+        (64, Err(BuildFault::TooLarge)),
+        (65, Ok(65)),
+    ] {
         let empty = Builder::new(rt.alloc(), &strings(rt.alloc(), &["/a"])?)?;
         let index = empty.finish_within(most);
-        assert_eq!(rt; index.ok().map(|index| index.len()), want, "at {most}");
+        assert_eq!(rt; index.map(|index| index.len()), want, "at {most}");
     }
     Ok(())
 }

@@ -107,16 +107,29 @@ fn unclosed_names_are_read(rt: HostRuntime) -> Result<(), Fail> {
 
 #[test]
 fn varints_are_read(rt: HostRuntime) {
-    let mut long = Postings::new(&[0x81, 0x00, 0x00], 1, 1);
-    assert_eq!(rt; long.next(), Some(Ok(0)));
-    assert_eq!(rt; long.next(), None);
-    let mut ending = Postings::new(&[0x01, 0x80, 0x80, 0x80, 0x80, 0x00], 1, 1);
-    assert_eq!(rt; ending.next(), Some(Ok(0)));
-    assert_eq!(rt; ending.next(), None);
-    let mut large = Postings::new(&[0x80, 0x80, 0x80, 0x80, 0x10, 0x00], 1, 1);
-    assert_eq!(rt; large.next(), Some(Err(IndexFault::BadList)));
-    assert_eq!(rt; large.next(), None);
-    let mut past = Postings::new(&[0x02, 0x00], 1, 1);
-    assert_eq!(rt; past.next(), Some(Err(IndexFault::BadList)));
-    assert_eq!(rt; past.next(), None);
+    for (bytes, first, second) in [
+        ([0x81, 0x00, 0x00].as_slice(), Ok(0), None),
+        (&[0x01, 0x80, 0x80, 0x80, 0x80, 0x00], Ok(0), None),
+        (
+            &[0x01, 0x80, 0x80, 0x80, 0x80, 0x10],
+            Ok(0),
+            Some(Err(IndexFault::BadList)),
+        ),
+        (
+            &[0x01, 0x80, 0x80, 0x80, 0x80, 0x80, 0x00],
+            Ok(0),
+            Some(Err(IndexFault::BadList)),
+        ),
+        (
+            &[0x80, 0x80, 0x80, 0x80, 0x10, 0x00],
+            Err(IndexFault::BadList),
+            None,
+        ),
+        (&[0x02, 0x00], Err(IndexFault::BadList), None),
+    ] {
+        let mut ids = Postings::new(bytes, 1, 1);
+        assert_eq!(rt; ids.next(), Some(first), "of {bytes:?}");
+        assert_eq!(rt; ids.next(), second, "of {bytes:?}");
+        assert_eq!(rt; ids.next(), None, "of {bytes:?}");
+    }
 }

@@ -127,13 +127,15 @@ fn most_trigrams(rt: HostRuntime) -> Result<(), Fail> {
 #[test]
 fn used_again(rt: HostRuntime) -> Result<(), Fail> {
     let mut scanner = Scanner::new(rt.alloc())?;
-    for (file, cut) in [
-        (&b"abc\x00"[..], false),
-        (&b"ab\xff"[..], false),
-        (&b"abc"[..], true),
-        (&b"bcd"[..], false),
+    for (file, cut, want) in [
+        (&b"abc\x00"[..], false, Ok(Scan::Skip(Reason::Nul))),
+        (&b"ab\xff"[..], false, Ok(Scan::Skip(Reason::Utf8))),
+        (&b"abc"[..], true, Err(ScanFault::Read)),
+        (&b"bcd"[..], false, Ok(text(&rt, &[b"bcd"], 3)?)),
+        (&b"abcd"[..], false, Ok(text(&rt, &[b"abc", b"bcd"], 4)?)),
     ] {
-        let _ = scanner.scan(&mut MemSource::new(file, 2, cut));
+        let first = scanner.scan(&mut MemSource::new(file, 2, cut));
+        assert_eq!(rt; first, want, "at {file:?}");
         let scan = scanner.scan(&mut MemSource::new(b"bcd", 2, false))?;
         assert_eq!(rt; scan, text(&rt, &[b"bcd"], 3)?, "after {file:?}");
     }

@@ -105,6 +105,13 @@ fn queries_of_patterns(rt: HostRuntime) -> Result<(), Fail> {
         ("0x[0-9a-f]+", "", false),
         ("[0-9]{3}-[0-9]{4}", "012 12- 2-3 -34 345 456", true),
         ("[0-9]{3}-[0-9]{4}", "", false),
+        ("[a-h]bc", "hbc", true),
+        ("[a-h]bc", "ibc", false),
+        ("[a-h]bc", "", false),
+        // Nine words: a sharp query may leave them out, and this one asks for them up to twenty.
+        ("[a-i]bc", "abc", true),
+        ("[a-i]bc", "ibc", true),
+        ("[a-i]bc", "", false),
     ] {
         assert_eq!(rt;
             query_holds(&rt, pattern, false, set)?,
@@ -118,6 +125,26 @@ fn queries_of_patterns(rt: HostRuntime) -> Result<(), Fail> {
             want,
             "in both cases of {set}"
         );
+    }
+    Ok(())
+}
+
+/// Each trigram of two words with anything between them is asked for.
+#[test]
+fn query_of_two_words_apart(rt: HostRuntime) -> Result<(), Fail> {
+    let pattern = "Google.*Search";
+    for (set, want) in [
+        ("Goo oog ogl gle Sea ear arc rch", true),
+        ("oog ogl gle Sea ear arc rch", false),
+        ("Goo ogl gle Sea ear arc rch", false),
+        ("Goo oog gle Sea ear arc rch", false),
+        ("Goo oog ogl Sea ear arc rch", false),
+        ("Goo oog ogl gle ear arc rch", false),
+        ("Goo oog ogl gle Sea arc rch", false),
+        ("Goo oog ogl gle Sea ear rch", false),
+        ("Goo oog ogl gle Sea ear arc", false),
+    ] {
+        assert_eq!(rt; query_holds(&rt, pattern, false, set)?, want, "of {set}");
     }
     Ok(())
 }

@@ -149,6 +149,38 @@ fn query_of_two_words_apart(rt: HostRuntime) -> Result<(), Fail> {
     Ok(())
 }
 
+/// How many trigrams the query asks for, where it asks for nothing else and for all of them.
+fn count_trigrams(query: &Query) -> Option<usize> {
+    let Query::And(members) = query else {
+        return None;
+    };
+    for member in members {
+        if !matches!(member, Query::Tri(_)) {
+            return None;
+        }
+    }
+    Some(members.len())
+}
+
+/// The index narrows by the rarest of the trigrams first, where they stand side by side, and reads
+/// each list once, where each stands once.
+#[test]
+fn trigrams_stand_side_by_side(rt: HostRuntime) -> Result<(), Fail> {
+    for (pattern, want) in [
+        ("hello", Some(3)),
+        ("Google.*Search", Some(8)),
+        ("={70}", Some(1)),
+        ("(abc){1000}", Some(3)),
+        ("foo.*foo", Some(1)),
+        ("abc|abd", None),
+    ] {
+        let parsed = parse(rt.alloc(), pattern, false).ok().ok_or("pattern")?;
+        let query = query(rt.alloc(), &parsed)?;
+        assert_eq!(rt; count_trigrams(&query), want, "of {pattern}");
+    }
+    Ok(())
+}
+
 /// A word of the greatest weight.
 #[test]
 fn query_of_a_long_word(rt: HostRuntime) -> Result<(), Fail> {

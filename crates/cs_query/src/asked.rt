@@ -10,7 +10,7 @@ ghost use Rattle.cs_query.specs.Edges.{FitsSome, AreEdgesOfAll};
 ghost use Rattle.cs_query.specs.declared.edges.Side.TheVariants.{Front, Back};
 ghost use Rattle.cs_query.specs.Sample.{all_hold, IsRight, TreeWords};
 
-use crate::asking::any_word;
+use crate::asking::{add_query, any_word};
 use crate::borders::edges_of;
 use crate::crossings::any_crossing;
 use crate::edges::{Edge, Side, are_empty, joined_edges, no_edge};
@@ -59,11 +59,22 @@ impl Asked {
     {
         match query {
             Query::All => Ok(()),
-            query => {
-                self.needs.push(query)?;
-                Ok(())
-            }
+            Query::And(members) => self.need_each(members),
+            query => add_query(&mut self.needs, query),
         }
+    }
+
+    /// Asks for each of the queries too.
+    fn need_each(&mut self, queries: Vec<Query>) -> Result<(), AllocError>
+        ensures front { OnOk result (self.new.front ≡ self.old.front) }
+        ensures begin { OnOk result (self.new.begin ≡ self.old.begin) }
+        ensures needs { OnOk result ((set : ℕ → Bool) → all_hold self.new.needs.items set ≡ (all_hold self.old.needs.items set && all_hold queries.items set)) }
+        ensures numbers { OnOk result (list_all are_trigrams self.new.needs.items ≡ (list_all are_trigrams self.old.needs.items && list_all are_trigrams queries.items)) }
+    {
+        for query in queries {
+            add_query(&mut self.needs, query)?;
+        }
+        Ok(())
     }
 
     /// A part that has not few words goes before, with its own query.

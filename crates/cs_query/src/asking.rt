@@ -1,9 +1,10 @@
 // Queries that ask for words, and what the parts of a sequence ask.
-ghost use Rattle.std.specs.Prelude.{◌≡◌, ◌≤◌, ◌<◌, ◌&&◌, [], ◌∷◌, ℕ, Bool, true, IfOk, OnOk, length};
+ghost use Rattle.std.specs.Prelude.{◌≡◌, ◌<◌, ◌&&◌, ℕ, Bool, true, Contains, IsTrue, IfOk, OnOk};
 ghost use Rattle.std.specs.List.{list_all};
 ghost use Rattle.cs_trigram.specs.Trigram.{trigram, windows};
 ghost use Rattle.cs_trigram.specs.Query.{holds, are_trigrams};
-ghost use Rattle.cs_query.specs.Sample.{has_any};
+ghost use Rattle.cs_trigram.specs.declared.queries.Query.TheVariants.{Tri};
+ghost use Rattle.cs_query.specs.Sample.{all_hold, some_holds, has_any};
 
 use crate::words::Word;
 use cs_trigram::Query;
@@ -17,6 +18,46 @@ fn trigram(a: u8, b: u8, c: u8) -> u32
     65536 * a as u32 + 256 * b as u32 + c as u32
 }
 
+/// Whether the trigram is one of the members.
+fn has_trigram(members: &[Query], number: u32) -> bool
+    ensures { IsTrue result → Contains members.now (Tri number) }
+{
+    for member in members {
+        if let Query::Tri(other) = member
+            && *other == number
+        {
+            return true;
+        }
+    }
+    false
+}
+
+/// Asks for the trigram too, where it is not a member yet.
+fn add_trigram(members: &mut Vec<Query>, number: u32) -> Result<(), AllocError>
+    ensures asks { OnOk result ((set : ℕ → Bool) → all_hold members.new.items set ≡ (all_hold members.old.items set && holds (Tri number) set)) }
+    ensures numbers { OnOk result (list_all are_trigrams members.new.items ≡ (list_all are_trigrams members.old.items && are_trigrams (Tri number))) }
+{
+    if has_trigram(members, number) {
+        return Ok(());
+    }
+    members.push(Query::Tri(number))?;
+    Ok(())
+}
+
+/// Asks for the query too. A trigram is asked for once.
+pub fn add_query(members: &mut Vec<Query>, query: Query) -> Result<(), AllocError>
+    ensures asks { OnOk result ((set : ℕ → Bool) → all_hold members.new.items set ≡ (all_hold members.old.items set && holds query set)) }
+    ensures numbers { OnOk result (list_all are_trigrams members.new.items ≡ (list_all are_trigrams members.old.items && are_trigrams query)) }
+{
+    match query {
+        Query::Tri(number) => add_trigram(members, number),
+        query => {
+            members.push(query)?;
+            Ok(())
+        }
+    }
+}
+
 /// The text's trigrams are all there.
 pub fn all_trigrams(alloc: Global, text: &[u8]) -> Result<Query, AllocError>
     ensures asks { IfOk result (λ query. (set : ℕ → Bool) → holds query set ≡ list_all set (windows text.now)) }
@@ -25,10 +66,23 @@ pub fn all_trigrams(alloc: Global, text: &[u8]) -> Result<Query, AllocError>
     let mut members = Vec::new(alloc);
     let mut at = 0;
     while text.len() - at > 2 {
-        members.push(Query::Tri(trigram(text[at], text[at + 1], text[at + 2])))?;
+        add_trigram(&mut members, trigram(text[at], text[at + 1], text[at + 2]))?;
         at += 1;
     }
     Ok(Query::And(members))
+}
+
+/// Some member is met. One member alone is what it asks.
+fn any_of(mut members: Vec<Query>) -> Query
+    ensures asks { (set : ℕ → Bool) → holds result set ≡ some_holds members.items set }
+    ensures numbers { are_trigrams result ≡ list_all are_trigrams members.items }
+{
+    if members.len() == 1
+        && let Some(only) = members.pop()
+    {
+        return only;
+    }
+    Query::Or(members)
 }
 
 /// The trigrams of some word are all there.
@@ -43,5 +97,5 @@ pub fn any_word(alloc: Global, words: &[Word]) -> Result<Query, AllocError>
         }
         members.push(all_trigrams(alloc, word.bytes())?)?;
     }
-    Ok(Query::Or(members))
+    Ok(any_of(members))
 }

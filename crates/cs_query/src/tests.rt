@@ -105,6 +105,13 @@ fn queries_of_patterns(rt: HostRuntime) -> Result<(), Fail> {
         ("0x[0-9a-f]+", "", false),
         ("[0-9]{3}-[0-9]{4}", "012 12- 2-3 -34 345 456", true),
         ("[0-9]{3}-[0-9]{4}", "", false),
+        ("[a-h]bc", "hbc", true),
+        ("[a-h]bc", "ibc", false),
+        ("[a-h]bc", "", false),
+        // Nine words: a sharp query may leave them out, and this one asks for them up to twenty.
+        ("[a-i]bc", "abc", true),
+        ("[a-i]bc", "ibc", true),
+        ("[a-i]bc", "", false),
     ] {
         assert_eq!(rt;
             query_holds(&rt, pattern, false, set)?,
@@ -118,6 +125,58 @@ fn queries_of_patterns(rt: HostRuntime) -> Result<(), Fail> {
             want,
             "in both cases of {set}"
         );
+    }
+    Ok(())
+}
+
+/// Each trigram of two words with anything between them is asked for.
+#[test]
+fn query_of_two_words_apart(rt: HostRuntime) -> Result<(), Fail> {
+    let pattern = "Google.*Search";
+    for (set, want) in [
+        ("Goo oog ogl gle Sea ear arc rch", true),
+        ("oog ogl gle Sea ear arc rch", false),
+        ("Goo ogl gle Sea ear arc rch", false),
+        ("Goo oog gle Sea ear arc rch", false),
+        ("Goo oog ogl Sea ear arc rch", false),
+        ("Goo oog ogl gle ear arc rch", false),
+        ("Goo oog ogl gle Sea arc rch", false),
+        ("Goo oog ogl gle Sea ear rch", false),
+        ("Goo oog ogl gle Sea ear arc", false),
+    ] {
+        assert_eq!(rt; query_holds(&rt, pattern, false, set)?, want, "of {set}");
+    }
+    Ok(())
+}
+
+/// How many trigrams the query asks for, where it asks for nothing else and for all of them.
+fn count_trigrams(query: &Query) -> Option<usize> {
+    let Query::And(members) = query else {
+        return None;
+    };
+    for member in members {
+        if !matches!(member, Query::Tri(_)) {
+            return None;
+        }
+    }
+    Some(members.len())
+}
+
+/// The index narrows by the rarest of the trigrams first, where they stand side by side, and reads
+/// each list once, where each stands once.
+#[test]
+fn trigrams_stand_side_by_side(rt: HostRuntime) -> Result<(), Fail> {
+    for (pattern, want) in [
+        ("hello", Some(3)),
+        ("Google.*Search", Some(8)),
+        ("={70}", Some(1)),
+        ("(abc){1000}", Some(3)),
+        ("foo.*foo", Some(1)),
+        ("abc|abd", None),
+    ] {
+        let parsed = parse(rt.alloc(), pattern, false).ok().ok_or("pattern")?;
+        let query = query(rt.alloc(), &parsed)?;
+        assert_eq!(rt; count_trigrams(&query), want, "of {pattern}");
     }
     Ok(())
 }

@@ -1,6 +1,6 @@
 use Rattle.std.proofs.Common.{◌+◌, ◌||◌, ℕ, List, ◌≤◌, drop, length, sym, ◌∙◌, ap, arith, drop_of_length-le}
 use Rattle.cs_query.specs.Sample.{some_holds, has_any}
-use Rattle.cs_query.proofs.QueryLemmas.{holds-All, holds-Or, numbers-Or, word_end, short_there}
+use Rattle.cs_query.proofs.QueryLemmas.{holds-All, word_end, short_there}
 use Rattle.cs_query.proofs.SampleLemmas.{words_from}
 use Rattle.cs_query.proofs.asking.any_word.Goals as goal
 
@@ -19,9 +19,9 @@ pub returns-clause-asks : goal.returns-clause-asks
 returns-clause-asks c = λ set.
     let words = c.args.words.now in
     let some = some_holds c.loop-word.members.items set in
-    holds-Or set c.loop-word.members ∙ sym (word_end set c.loop-word.members.items)
+    c.any_of.ensures.asks set ∙ sym (word_end set c.loop-word.members.items)
     ∙ ap (λ (ws : List (List ℕ)). some || has_any set ws) (sym (drop_of_length-le words {i = c.loop-word.word-index} (omega arith)))
     ∙ c.loop-word.invariant.0 set
 
 pub returns-clause-numbers : goal.returns-clause-numbers
-returns-clause-numbers c = numbers-Or c.loop-word.members ∙ c.loop-word.invariant.1
+returns-clause-numbers c = c.any_of.ensures.numbers ∙ c.loop-word.invariant.1

@@ -20,20 +20,21 @@ impl Desk {
         })
     }
 
+    /// Puts an item into the tree.
+    pub fn item(&mut self, path: &str, item: Item) -> Result<(), Fail> {
+        self.tree.put(path, item).ok().ok_or("no item")?;
+        Ok(())
+    }
+
     /// Puts a folder into the tree.
     pub fn folder(&mut self, path: &str) -> Result<(), Fail> {
-        self.tree.put(path, Item::Folder).ok().ok_or("no folder")?;
-        Ok(())
+        self.item(path, Item::Folder)
     }
 
     /// Puts a file into the tree.
     pub fn file(&mut self, rt: &impl AllocGlobal, path: &str, text: &[u8]) -> Result<(), Fail> {
         let bytes = text.to_vec(rt.alloc())?;
-        self.tree
-            .put(path, Item::File(bytes))
-            .ok()
-            .ok_or("no file")?;
-        Ok(())
+        self.item(path, Item::File(bytes))
     }
 
     /// Calls a tool, and does with the index what it asks.

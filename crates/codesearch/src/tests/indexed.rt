@@ -1,6 +1,7 @@
 // Searches through an index.
 use crate::tests::desk::Desk;
 use crate::tests::ends;
+use cs_tree::Item;
 use std::test::Fail;
 
 fn of_one_file(rt: &impl AllocGlobal) -> Result<Desk, Fail> {
@@ -31,7 +32,13 @@ fn files_that_have_changed(rt: HostRuntime) -> Result<(), Fail> {
     desk.does(&rt, &["csearch", "abc"], ends(1, "", ""))?;
     desk.tree.remove("/a/x");
     let lines = "csearch: /a/x: no such file\n";
-    desk.does(&rt, &["csearch", "abc"], ends(1, "", lines))
+    desk.does(&rt, &["csearch", "abc"], ends(1, "", lines))?;
+    desk.item("/a/x", Item::Denied)?;
+    let lines = "csearch: /a/x: permission denied\n";
+    desk.does(&rt, &["csearch", "abc"], ends(1, "", lines))?;
+    desk.item("/a/x", Item::Cut(b"abcd\nab".to_vec(rt.alloc())?))?;
+    let lines = "csearch: /a/x: cannot be read\n";
+    desk.does(&rt, &["csearch", "abc"], ends(0, "/a/x:abcd\n", lines))
 }
 
 #[test]

@@ -1,8 +1,9 @@
 // Searches of an index over trees in memory.
 use crate::csearching::csearch;
 use crate::status::Status;
-use cs_index::{Builder, IndexFault};
-use cs_syntax::{PatternError, PatternFault};
+use cs_index::{Builder, Index, IndexFault};
+use cs_query::query;
+use cs_syntax::{PatternError, PatternFault, parse};
 use cs_tree::{Item, MemSink, MemSource, MemTree, Sink};
 use cs_trigram::{Scan, Scanner};
 use cs_words::{Job, SearchJob, Tool, ToolFault, read_words};
@@ -28,6 +29,21 @@ const GOOGLE: Files<'static> = &[
     ("/g/1", b"Google Search\n"),
     ("/g/2", b"Google\n"),
     ("/g/3", b"Search\n"),
+];
+
+/// One file with the eight trigrams of `Google.*Search`, eight files that each lack another one of them, and one that
+/// has them all and no match.
+const LACKING: Files<'static> = &[
+    ("/g/0", b"Google Search\n"),
+    ("/g/1", b"oogle Search\n"),
+    ("/g/2", b"Goo ogle Search\n"),
+    ("/g/3", b"Goog gle Search\n"),
+    ("/g/4", b"Googl Search\n"),
+    ("/g/5", b"Google earch\n"),
+    ("/g/6", b"Google Sea arch\n"),
+    ("/g/7", b"Google Sear rch\n"),
+    ("/g/8", b"Google Searc\n"),
+    ("/g/9", b"Search\nGoogle\n"),
 ];
 
 /// The job of the words of csearch, between spaces.
@@ -183,6 +199,23 @@ fn only_candidates_are_opened(rt: HostRuntime) -> Result<(), Fail> {
         tree,
         (found, "", matched),
     )
+}
+
+#[test]
+fn candidates_have_each_trigram(rt: HostRuntime) -> Result<(), Fail> {
+    let alloc = rt.alloc();
+    let pattern = parse(alloc, "Google.*Search", false).ok().ok_or("pattern")?;
+    let query = query(alloc, &pattern)?;
+    for (files, ids) in [(GOOGLE, &[0_u32] as &[u32]), (LACKING, &[0, 9])] {
+        let bytes = index_of(alloc, "/g", files)?;
+        let index = Index::open(&bytes)?;
+        let candidates = index.candidates(alloc, &query)?;
+        assert_eq!(rt; candidates.as_slice(), ids, "of {files:?}");
+    }
+    let bytes = index_of(alloc, "/g", LACKING)?;
+    let tree = &mut tree_of(alloc, LACKING)?;
+    let found = ("/g/0:Google Search\n", "", Ok(Status::Matched));
+    run(&rt, alloc, "Google.*Search", Some(&bytes), tree, found)
 }
 
 #[test]

@@ -14,7 +14,7 @@ use Rattle.cs_cindex.specs.Refusals.{HasCause, kind_of}
 use Rattle.cs_cindex.specs.Told.{TakesBy, TellsBy, CountsWrites, list_lines}
 use Rattle.cs_history.specs.History.{History}
 use Rattle.cs_history.specs.Jobs.{given, has_no_path, told}
-use Rattle.cs_history.specs.Headline.{Premises}
+use Rattle.cs_history.specs.Headline.{Indexes, Premises}
 use Rattle.cs_history.specs.Refusals.{IsTooLarge, IsRightReply, AreRightReplies}
 
 -- ---- the index
@@ -68,9 +68,10 @@ seen snapshot failed [] later = []
 seen snapshot failed (tree ∷ trees) [] = []
 seen snapshot failed (tree ∷ trees) (then ∷ later) = record { snapshot = snapshot tree; failed = failed tree; failed_then = failed then } ∷ seen snapshot failed trees later
 
--- What a job does: its refusal has a cause, the index is kept where it has to be, and the lines that are due
--- are printed.
+-- What a job does: the index after it is that of its history, its refusal has a cause, the index is kept
+-- where it has to be, and the lines that are due are printed.
 pub record IsStep (job : IndexJob) (tree : Seen) (reply : Reply) (old new : Standing) : Type 0 where
+  pub index : Indexes (job ∷ []) (tree.snapshot ∷ []) (reply ∷ []) old.index new.index
   pub cause : HasCause job tree.snapshot old.index reply
   pub keeps : KeepsIndex job reply old.index new.index
   pub begun : reply ≡ Done → IsBegun job tree.snapshot new.index

@@ -27,7 +27,6 @@ pub fn do_job<T: Tree, O: Sink, E: Sink>(
     err: &mut E,
 ) -> (Option<Vec<u8>>, Reply)
     requires { begins (slash ∷ []) (string_bytes job.now.cwd) ≡ true }
-    ensures indexes { Indexes (job.now ∷ []) (T.snapshot tree.old ∷ []) (result.1 ∷ []) (bytes_in old) (bytes_in result.0) }
     ensures replies { RightAfter (T.snapshot tree.old) (bytes_in old) job.now result.1 }
     ensures step { IsStep job.now (record { snapshot = T.snapshot tree.old; failed = T.failed tree.old; failed_then = T.failed tree.new }) result.1
         (record { index = bytes_in old; out = O.taken out.old; err = E.taken err.old; out_failed = O.failed out.old; err_failed = E.failed err.old })

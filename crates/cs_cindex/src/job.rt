@@ -31,6 +31,7 @@ pub fn do_job<T: Tree, O: Sink, E: Sink>(
     ensures step { IsStep job.now (record { snapshot = T.snapshot tree.old; failed = T.failed tree.old; failed_then = T.failed tree.new }) result.1
         (record { index = bytes_in old; out = O.taken out.old; err = E.taken err.old; out_failed = O.failed out.old; err_failed = E.failed err.old })
         (record { index = bytes_in result.0; out = O.taken out.new; err = E.taken err.new; out_failed = O.failed out.new; err_failed = E.failed err.new }) }
+    ensures tree_keeps { T.snapshot tree.new ≡ T.snapshot tree.old }
 {
     let outcome = run_job(alloc, old.as_deref(), job, tree, out, err);
     settled(old, outcome)
@@ -54,6 +55,7 @@ fn run_job<T: Tree, O: Sink, E: Sink>(
     ensures out { TakesBy (reply_of result) (list_lines (kind_of job.now) (option_copied old.entry)) (O.taken out.old) (O.taken out.new) }
     ensures err { TellsBy (kind_of job.now) (reply_of result) job.now (T.snapshot tree.old) (option_copied old.entry) (T.failed tree.old) (T.failed tree.new) (E.taken err.old) (E.taken err.new) }
     ensures writes { CountsWrites (reply_of result) (O.failed out.old) (O.failed out.new) (E.failed err.old) (E.failed err.new) }
+    ensures tree_keeps { T.snapshot tree.new ≡ T.snapshot tree.old }
 {
     let outcome = outcome_of(alloc, old, job, tree, out, err)?;
     out.flush()?;
@@ -79,6 +81,7 @@ fn outcome_of<T: Tree, O: Sink, E: Sink>(
     ensures out { TakesBy (reply_of result) (list_lines (kind_of job.now) (option_copied old.entry)) (O.taken out.old) (O.taken out.new) }
     ensures err { TellsBy (kind_of job.now) (reply_of result) job.now (T.snapshot tree.old) (option_copied old.entry) (T.failed tree.old) (T.failed tree.new) (E.taken err.old) (E.taken err.new) }
     ensures writes { CountsWrites (reply_of result) (O.failed out.old) (O.failed out.new) (E.failed err.old) (E.failed err.new) }
+    ensures tree_keeps { T.snapshot tree.new ≡ T.snapshot tree.old }
 {
     if job.list {
         list_paths(old, out)?;

@@ -37,6 +37,7 @@ pub fn walked_index<T: Tree, E: Sink>(
     ensures prints { MatchResult result (λ _. WalkPrints job.now (T.snapshot tree.old) (option_copied old.entry) (T.failed tree.old) (T.failed tree.new) (E.taken err.old) (E.taken err.new))
         (λ _. WalkPrintsSome (walk_fault job.now (option_copied old.entry)) job.now (T.snapshot tree.old) (option_copied old.entry) (T.failed tree.old) (T.failed tree.new) (E.taken err.old) (E.taken err.new)) }
     ensures writes { E.failed err.new ≡ write_counted result (E.failed err.old) }
+    ensures tree_keeps { T.snapshot tree.new ≡ T.snapshot tree.old }
 {
     let given = clean_all(alloc, &job.cwd, &job.paths)?;
     match old {
@@ -68,6 +69,7 @@ fn index_anew<T: Tree, E: Sink>(
     ensures prints { MatchResult result (λ _. WalkPrints job.now (T.snapshot tree.old) None (T.failed tree.old) (T.failed tree.new) (E.taken err.old) (E.taken err.new))
         (λ _. WalkPrintsSome (base_fault job.now None) job.now (T.snapshot tree.old) None (T.failed tree.old) (T.failed tree.new) (E.taken err.old) (E.taken err.new)) }
     ensures writes { E.failed err.new ≡ write_counted result (E.failed err.old) }
+    ensures tree_keeps { T.snapshot tree.new ≡ T.snapshot tree.old }
 {
     if given.is_empty() {
         return Err(CindexFault::NoIndex);
@@ -96,6 +98,7 @@ fn index_onto<T: Tree, E: Sink>(
     ensures prints { MatchResult result (λ _. WalkPrints job.now (T.snapshot tree.old) (Some old.now) (T.failed tree.old) (T.failed tree.new) (E.taken err.old) (E.taken err.new))
         (λ _. WalkPrintsSome (base_fault job.now (Some old.now)) job.now (T.snapshot tree.old) (Some old.now) (T.failed tree.old) (T.failed tree.new) (E.taken err.old) (E.taken err.new)) }
     ensures writes { E.failed err.new ≡ write_counted result (E.failed err.old) }
+    ensures tree_keeps { T.snapshot tree.new ≡ T.snapshot tree.old }
 {
     let index = open_old(old)?;
     let paths = paths_to_walk(alloc, &index, given)?;

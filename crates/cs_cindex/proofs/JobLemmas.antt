@@ -197,11 +197,12 @@ done_early job earlier old left e needs = ap (early_fault job) (sym left ∙ ap 
 is_reply : (fault other : CindexFault) → Refused fault ≡ Refused other → fault ≡ other
 is_reply fault other e = cc
 
-pub right_reply : (earlier : History) (job : IndexJob) (tree : Option Snapshot) (old : Option (List ℕ)) (reply : Reply) → Tells tree → IsHistory earlier → index_of earlier ≡ old → IsShort old → HasCause job tree old reply → (reply ≡ Refused TooLarge → IsTooLarge earlier job (told tree)) → IsRightReply earlier job (told tree) reply
-right_reply earlier job tree old Done tells is left short cause large = record {
+pub right_reply : (earlier : History) (job : IndexJob) (tree : Option Snapshot) (old : Option (List ℕ)) (reply : Reply) → Tells tree → IsHistory earlier → index_of earlier ≡ old → IsShort old → HasCause job tree old reply → (reply ≡ Refused TooLarge → IsTooLarge earlier job (told tree)) → (reply ≡ Done → IsTooLarge earlier job (told tree) → ⊥) → IsRightReply earlier job (told tree) reply
+right_reply earlier job tree old Done tells is left short cause large fits = record {
   no_index = (λ e. absurd (never NoIndex e), λ h. absurd (never_none (sym cause ∙ done_early job earlier old left h.0 h.1)));
   bad_path = λ place e. absurd (never (BadPath place) e);
   too_large = large;
+  fits = fits;
   bad_index = λ fault e. never (BadIndex fault) e;
   unsorted = λ e. never Unsorted e;
 }
@@ -211,7 +212,7 @@ right_reply earlier job tree old Done tells is left short cause large = record {
 
     never_none : None ≡ Some NoIndex → ⊥
     never_none e = cc
-right_reply earlier job tree old (Refused fault) tells is left short cause large = record {
+right_reply earlier job tree old (Refused fault) tells is left short cause large fits = record {
   no_index = (
     λ e. none_cause earlier job (early NoIndex (λ h. cc) (late_none (kind_of job) job tree old) e),
     λ h.
@@ -220,6 +221,7 @@ right_reply earlier job tree old (Refused fault) tells is left short cause large
   );
   bad_path = λ place e. path_cause earlier job place (early (BadPath place) (λ h. cc) (late_path (kind_of job) job tree old place) e);
   too_large = large;
+  fits = fits;
   bad_index = λ bad e. no_bad earlier job bad (early (BadIndex bad) (λ h. cc) (late_bad earlier (kind_of job) job tree old bad tells is left short) e);
   unsorted = λ e. no_order earlier job (early Unsorted (λ h. cc) (late_order (kind_of job) job tree old tells) e);
 }

@@ -15,7 +15,8 @@ use Rattle.cs_history.specs.Jobs.{given}
 use Rattle.cs_indexing.specs.Lines.{AreLinesIn, BeginLinesIn, Prints, PrintsFront}
 use Rattle.cs_cindex.specs.Refusals.{Kind, lists, clears, walks, base, early_fault_of}
 use Rattle.cs_cindex.specs.Walked.{AreCleaned, chosen}
-use Rattle.cs_cindex.specs.Told.{path_lines, TakesFront, recorded, recorded_in, paths_walked, WalkPrints, WalkPrintsFront, WalkPrintsSome, TellsBy}
+use Rattle.cs_cindex.specs.Next.{recorded, recorded_in, paths_walked}
+use Rattle.cs_cindex.specs.Told.{path_lines, TakesFront, WalkPrints, WalkPrintsFront, WalkPrintsSome, TellsBy}
 use Rattle.cs_cindex.proofs.GoingLemmas.{listed_walk, count_texts}
 
 -- ---- bytes that an output takes

@@ -1,5 +1,6 @@
 -- what public contracts rest on
 pub mod Settled
+pub mod Next
 pub mod Refusals
 pub mod Told
 pub mod Steps

@@ -14,8 +14,9 @@ use Rattle.cs_words.specs.declared.jobs.Reply.{Reply}
 use Rattle.cs_words.specs.declared.jobs.Reply.TheVariants.{Done, Refused}
 use Rattle.cs_words.specs.declared.fault.CindexFault.{CindexFault}
 use Rattle.cs_words.specs.declared.fault.CindexFault.TheVariants.{NoIndex, BadIndex, Unsorted, TooLarge, BadPath, Write, Memory}
-use Rattle.cs_history.specs.Jobs.{texts, has_no_path}
+use Rattle.cs_history.specs.Jobs.{texts, has_no_path, told}
 use Rattle.cs_cindex.specs.Settled.{is_settled}
+use Rattle.cs_cindex.specs.Next.{IsNextLong}
 
 -- ---- what a job is
 
@@ -98,19 +99,19 @@ IsDamaged (Some bytes) = IsDamagedIf (opened bytes)
 
 -- A job that walks is also refused for a damaged list of the index that it goes on from, or for size. Where
 -- its tree tells nothing, what the walk gave may itself not be joined.
-abbrev pub IsWalkFault : Option Snapshot → Option (List ℕ) → CindexFault → Type 0
-IsWalkFault tree old (BadIndex fault) = Tells tree → (fault ≡ BadList) × IsDamaged old
-IsWalkFault tree old TooLarge = Unit {0}
-IsWalkFault tree old Write = Unit {0}
-IsWalkFault tree old Memory = Unit {0}
-IsWalkFault tree old NoIndex = ⊥
-IsWalkFault tree old Unsorted = Tells tree → ⊥
-IsWalkFault tree old (BadPath place) = ⊥
+abbrev pub IsWalkFault : IndexJob → Option Snapshot → Option (List ℕ) → CindexFault → Type 0
+IsWalkFault job tree old (BadIndex fault) = Tells tree → (fault ≡ BadList) × IsDamaged old
+IsWalkFault job tree old TooLarge = Tells tree → IsNextLong job (told tree) old
+IsWalkFault job tree old Write = Unit {0}
+IsWalkFault job tree old Memory = Unit {0}
+IsWalkFault job tree old NoIndex = ⊥
+IsWalkFault job tree old Unsorted = Tells tree → ⊥
+IsWalkFault job tree old (BadPath place) = ⊥
 
 abbrev pub IsLateFault : Kind → IndexJob → Option Snapshot → Option (List ℕ) → CindexFault → Type 0
 IsLateFault lists job tree old fault = IsOutputFault fault
 IsLateFault clears job tree old fault = IsOutputFault fault
-IsLateFault walks job tree old fault = IsWalkFault tree (base job old) fault
+IsLateFault walks job tree old fault = IsWalkFault job tree (base job old) fault
 
 -- ---- replies
 

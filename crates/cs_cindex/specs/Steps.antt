@@ -1,29 +1,19 @@
 -- What one job does, and jobs one after another, whatever bytes the old index has.
 -- docs/PROMISES.md, "Jobs of cindex".
-use Rattle.std.specs.Prelude.{◌≡◌, ℕ, true, false, List, [], ◌∷◌, map, Option, None, Some}
-use Rattle.cs_tree.specs.Cover.{least}
-use Rattle.cs_tree.specs.Snapshot.{Snapshot, Tells}
-use Rattle.cs_tree.specs.Reached.{found}
-use Rattle.cs_trigram.specs.Text.{text_trigrams, limits}
-use Rattle.cs_index.specs.Image.{image}
+use Rattle.std.specs.Prelude.{◌≡◌, ℕ, true, false, List, [], ◌∷◌, map, Option, None}
+use Rattle.cs_tree.specs.Snapshot.{Snapshot}
 use Rattle.cs_words.specs.declared.jobs.IndexJob.{IndexJob}
 use Rattle.cs_words.specs.declared.jobs.Reply.{Reply}
 use Rattle.cs_words.specs.declared.jobs.Reply.TheVariants.{Done, Refused}
-use Rattle.cs_words.specs.declared.fault.CindexFault.TheVariants.{TooLarge}
-use Rattle.cs_cindex.specs.Refusals.{HasCause, kind_of}
+use Rattle.cs_cindex.specs.Next.{IsNext}
+use Rattle.cs_cindex.specs.Refusals.{HasCause, kind_of, base}
 use Rattle.cs_cindex.specs.Told.{TakesBy, TellsBy, CountsWrites, list_lines}
 use Rattle.cs_history.specs.History.{History}
-use Rattle.cs_history.specs.Jobs.{given, has_no_path, told}
-use Rattle.cs_history.specs.Headline.{Premises}
-use Rattle.cs_history.specs.Refusals.{IsTooLarge, IsRightReply, AreRightReplies}
+use Rattle.cs_history.specs.Jobs.{has_no_path, told}
+use Rattle.cs_history.specs.Headline.{Indexes, Premises}
+use Rattle.cs_history.specs.Refusals.{Walks, IsRightReply, AreRightReplies}
 
 -- ---- the index
-
--- `-reset` with paths leaves the index of what stands below these alone, whatever the old bytes are.
-abbrev pub IsBegun : IndexJob → Option Snapshot → Option (List ℕ) → Type 0
-IsBegun job tree new =
-    job.list ≡ false → job.reset ≡ true → has_no_path job ≡ false → Tells tree →
-    new ≡ Some (image (least (given job)) (found (text_trigrams limits) (told tree) (least (given job))))
 
 -- `-list` and a refused job leave the index as it was, and a bare `-reset` leaves none.
 abbrev pub KeepsIndex : IndexJob → Reply → Option (List ℕ) → Option (List ℕ) → Type 0
@@ -36,10 +26,6 @@ KeepsIndex job Done old new =
 -- the reply is right, whichever jobs left the index
 abbrev pub RightAfter : Option Snapshot → Option (List ℕ) → IndexJob → Reply → Type 0
 RightAfter tree old job reply = (earlier : History) → Premises (tree ∷ []) old earlier → IsRightReply earlier job (told tree) reply
-
--- 32 bits do not count the bytes of the job's own index, or of the one after it, whichever jobs left the index
-abbrev pub LargeAfter : Option Snapshot → Option (List ℕ) → IndexJob → Reply → Type 0
-LargeAfter tree old job reply = reply ≡ Refused TooLarge → (earlier : History) → Premises (tree ∷ []) old earlier → IsTooLarge earlier job (told tree)
 
 -- each reply is right after the jobs before it, whichever jobs left the old index
 abbrev pub RightAll : List (Option Snapshot) → Option (List ℕ) → List IndexJob → List Reply → Type 0
@@ -68,12 +54,13 @@ seen snapshot failed [] later = []
 seen snapshot failed (tree ∷ trees) [] = []
 seen snapshot failed (tree ∷ trees) (then ∷ later) = record { snapshot = snapshot tree; failed = failed tree; failed_then = failed then } ∷ seen snapshot failed trees later
 
--- What a job does: its refusal has a cause, the index is kept where it has to be, and the lines that are due
--- are printed.
+-- What a job does: the index after it is that of its history, its refusal has a cause, the index is kept
+-- where it has to be and joined where the job walks, and the lines that are due are printed.
 pub record IsStep (job : IndexJob) (tree : Seen) (reply : Reply) (old new : Standing) : Type 0 where
+  pub index : Indexes (job ∷ []) (tree.snapshot ∷ []) (reply ∷ []) old.index new.index
   pub cause : HasCause job tree.snapshot old.index reply
   pub keeps : KeepsIndex job reply old.index new.index
-  pub begun : reply ≡ Done → IsBegun job tree.snapshot new.index
+  pub walked : reply ≡ Done → Walks job → IsNext job tree.snapshot (base job old.index) new.index
   pub out : TakesBy reply (list_lines (kind_of job) old.index) old.out new.out
   pub err : TellsBy (kind_of job) reply job tree.snapshot old.index tree.failed tree.failed_then old.err new.err
   pub writes : CountsWrites reply old.out_failed new.out_failed old.err_failed new.err_failed

@@ -1,8 +1,6 @@
 -- What a job prints. docs/PROMISES.md, "What is printed".
-use Rattle.std.specs.Prelude.{◌≡◌, ◌⊎◌, ℕ, if◌then◌else◌, List, [], ◌++◌, codes, take, Option, Some, None, Result, Ok, Err}
+use Rattle.std.specs.Prelude.{◌≡◌, ◌⊎◌, ℕ, List, [], ◌++◌, codes, take, Option, Some, None, Result, Ok, Err}
 use Rattle.std.specs.List.{flat_map}
-use Rattle.cs_tree.specs.PathSet as set
-use Rattle.cs_tree.specs.Cover.{Paths, least}
 use Rattle.cs_tree.specs.Snapshot.{Snapshot}
 use Rattle.cs_tree.specs.Told.{Grows, risen}
 use Rattle.cs_index.specs.Opening.{Parts, opened}
@@ -12,8 +10,8 @@ use Rattle.cs_words.specs.declared.jobs.Reply.{Reply}
 use Rattle.cs_words.specs.declared.jobs.Reply.TheVariants.{Done, Refused}
 use Rattle.cs_words.specs.declared.fault.CindexFault.{CindexFault}
 use Rattle.cs_words.specs.declared.fault.CindexFault.TheVariants.{Write}
-use Rattle.cs_history.specs.Jobs.{given, has_no_path}
 use Rattle.cs_indexing.specs.Lines.{AreLinesIn, BeginLinesIn, Prints, PrintsFront}
+use Rattle.cs_cindex.specs.Next.{paths_walked}
 use Rattle.cs_cindex.specs.Refusals.{Kind, lists, clears, walks, base, walk_fault}
 
 -- ---- standard output
@@ -47,19 +45,6 @@ TakesBy Done bytes taken later = Grows taken later bytes
 TakesBy (Refused fault) bytes taken later = TakesFront bytes taken later
 
 -- ---- standard error
-
--- the paths of an index
-abbrev pub recorded : Result Parts IndexFault → Paths
-recorded (Ok parts) = set.from_list parts.paths
-recorded (Err fault) = set.empty
-
-abbrev pub recorded_in : Option (List ℕ) → Paths
-recorded_in None = set.empty
-recorded_in (Some bytes) = recorded (opened bytes)
-
--- what a job walks that goes on from an index: its own paths, or where it has none those of the index
-abbrev pub paths_walked : IndexJob → Option (List ℕ) → Paths
-paths_walked job old = least (if has_no_path job then recorded_in old else given job)
 
 -- a job that walks has printed the lines that are due, of what its walk leaves and of its files
 abbrev pub WalkPrints : IndexJob → Option Snapshot → Option (List ℕ) → ℕ → ℕ → Option (List ℕ) → Option (List ℕ) → Type 0

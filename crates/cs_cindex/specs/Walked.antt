@@ -1,15 +1,11 @@
--- What a job that walks is refused for, and what comes of it.
-use Rattle.std.specs.Prelude.{◌≡◌, ◌≢◌, ◌≤◌, ◌^◌, ◌⊎◌, ℕ, true, List, [], ◌∷◌, length, map, Option, Some, None, is_some, string_bytes, IfSome}
+-- The paths of a job that walks, and what it is refused for over them.
+use Rattle.std.specs.Prelude.{◌≡◌, ◌≢◌, ℕ, true, List, [], ◌∷◌, map, Some, None, is_some, string_bytes}
 use Rattle.cs_tree.specs.Clean.{cleaned}
 use Rattle.cs_tree.specs.Cleaning.{clean_fault}
-use Rattle.cs_tree.specs.Snapshot.{Snapshot}
-use Rattle.cs_index.specs.Image.{image}
 use Rattle.cs_words.specs.declared.jobs.IndexJob.{IndexJob}
 use Rattle.cs_words.specs.declared.fault.CindexFault.{CindexFault}
 use Rattle.cs_words.specs.declared.fault.CindexFault.TheVariants.{NoIndex, BadIndex, Unsorted, TooLarge, BadPath, Write, Memory}
-use Rattle.cs_history.specs.History.{History, walked, files_found, index_of}
-use Rattle.cs_history.specs.Jobs.{texts, visit_of, told}
-use Rattle.cs_history.specs.Headline.{Premises}
+use Rattle.cs_history.specs.Jobs.{texts}
 use Rattle.cs_cindex.specs.Refusals.{first_bad}
 
 -- ---- the paths
@@ -43,18 +39,3 @@ pub record AreCleaned (job : IndexJob) (given : List (List ℕ)) : Type 0 where
 abbrev pub chosen : List (List ℕ) → List (List ℕ) → List (List ℕ)
 chosen [] recorded = recorded
 chosen (path ∷ given) recorded = path ∷ given
-
--- ---- the index
-
--- These bytes are the index after the job, whichever jobs left the index that it goes on from.
-abbrev pub GoesOn : IndexJob → Option Snapshot → Option (List ℕ) → List ℕ → Type 0
-GoesOn job tree old bytes = (earlier : History) → Premises (tree ∷ []) old earlier → Some bytes ≡ index_of (visit_of job (told tree) ∷ earlier)
-
--- 32 bits do not count the bytes of the index of what the job finds, or of the one after it
-abbrev pub IsLarge : History → IndexJob → Snapshot → Type 0
-IsLarge earlier job tree =
-    (2 ^ 32 ≤ length (image (walked (visit_of job tree) earlier) (files_found (visit_of job tree) earlier)))
-    ⊎ IfSome (index_of (visit_of job tree ∷ earlier)) (λ bytes. 2 ^ 32 ≤ length bytes)
-
-abbrev pub IsLargeIf : IndexJob → Option Snapshot → Option (List ℕ) → CindexFault → Type 0
-IsLargeIf job tree old fault = fault ≡ TooLarge → (earlier : History) → Premises (tree ∷ []) old earlier → IsLarge earlier job (told tree)

@@ -32,6 +32,7 @@ pub fn cindex<T: Tree, O: Sink, E: Sink>(
     ensures steps { Steps jobs.now (seen T.snapshot T.failed trees.old trees.new) replies.new
         (record { index = bytes_in old; out = O.taken out.old; err = E.taken err.old; out_failed = O.failed out.old; err_failed = E.failed err.old })
         (record { index = bytes_in result; out = O.taken out.new; err = E.taken err.new; out_failed = O.failed out.new; err_failed = E.failed err.new }) }
+    ensures keeps { map T.snapshot trees.new ≡ map T.snapshot trees.old }
 {
     let mut index = old;
     'jobs: for i in 0..jobs.len() {

@@ -5,10 +5,12 @@ ghost use Rattle.cs_tree.specs.Cover.{begins, slash};
 ghost use Rattle.cs_history.specs.Headline.{Indexes};
 ghost use Rattle.cs_tree.specs.Told.{Grows};
 ghost use Rattle.cs_indexing.specs.Indexed.{write_counted};
+ghost use Rattle.cs_history.specs.Refusals.{Walks};
+ghost use Rattle.cs_cindex.specs.Next.{IsNext};
 ghost use Rattle.cs_cindex.specs.Told.{CountsWrites, TakesBy, TakesFront, TellsBy, index_lines, list_lines, path_lines};
-ghost use Rattle.cs_cindex.specs.Refusals.{EarlyOr, HasCause, IsOutputFault, kind_of, list_fault};
+ghost use Rattle.cs_cindex.specs.Refusals.{EarlyOr, HasCause, IsOutputFault, base, kind_of, list_fault};
 ghost use Rattle.cs_cindex.specs.Outcomes.{bytes_in, index_from, reply_of};
-ghost use Rattle.cs_cindex.specs.Steps.{IsBegun, IsStep, KeepsIndex, LargeAfter, RightAfter};
+ghost use Rattle.cs_cindex.specs.Steps.{IsStep, KeepsIndex, RightAfter};
 
 use crate::outcome::{Outcome, settled};
 use crate::walked::walked_index;
@@ -27,11 +29,11 @@ pub fn do_job<T: Tree, O: Sink, E: Sink>(
     err: &mut E,
 ) -> (Option<Vec<u8>>, Reply)
     requires { begins (slash ∷ []) (string_bytes job.now.cwd) ≡ true }
-    ensures indexes { Indexes (job.now ∷ []) (T.snapshot tree.old ∷ []) (result.1 ∷ []) (bytes_in old) (bytes_in result.0) }
     ensures replies { RightAfter (T.snapshot tree.old) (bytes_in old) job.now result.1 }
     ensures step { IsStep job.now (record { snapshot = T.snapshot tree.old; failed = T.failed tree.old; failed_then = T.failed tree.new }) result.1
         (record { index = bytes_in old; out = O.taken out.old; err = E.taken err.old; out_failed = O.failed out.old; err_failed = E.failed err.old })
         (record { index = bytes_in result.0; out = O.taken out.new; err = E.taken err.new; out_failed = O.failed out.new; err_failed = E.failed err.new }) }
+    ensures tree_keeps { T.snapshot tree.new ≡ T.snapshot tree.old }
 {
     let outcome = run_job(alloc, old.as_deref(), job, tree, out, err);
     settled(old, outcome)
@@ -48,13 +50,13 @@ fn run_job<T: Tree, O: Sink, E: Sink>(
 ) -> Result<Outcome, CindexFault>
     requires { begins (slash ∷ []) (string_bytes job.now.cwd) ≡ true }
     ensures indexes { Indexes (job.now ∷ []) (T.snapshot tree.old ∷ []) (reply_of result ∷ []) (option_copied old.entry) (index_from (option_copied old.entry) result) }
-    ensures large { LargeAfter (T.snapshot tree.old) (option_copied old.entry) job.now (reply_of result) }
     ensures cause { HasCause job.now (T.snapshot tree.old) (option_copied old.entry) (reply_of result) }
     ensures keeps { KeepsIndex job.now (reply_of result) (option_copied old.entry) (index_from (option_copied old.entry) result) }
-    ensures begun { IfOk result (λ _. IsBegun job.now (T.snapshot tree.old) (index_from (option_copied old.entry) result)) }
+    ensures walked { IfOk result (λ _. Walks job.now → IsNext job.now (T.snapshot tree.old) (base job.now (option_copied old.entry)) (index_from (option_copied old.entry) result)) }
     ensures out { TakesBy (reply_of result) (list_lines (kind_of job.now) (option_copied old.entry)) (O.taken out.old) (O.taken out.new) }
     ensures err { TellsBy (kind_of job.now) (reply_of result) job.now (T.snapshot tree.old) (option_copied old.entry) (T.failed tree.old) (T.failed tree.new) (E.taken err.old) (E.taken err.new) }
     ensures writes { CountsWrites (reply_of result) (O.failed out.old) (O.failed out.new) (E.failed err.old) (E.failed err.new) }
+    ensures tree_keeps { T.snapshot tree.new ≡ T.snapshot tree.old }
 {
     let outcome = outcome_of(alloc, old, job, tree, out, err)?;
     out.flush()?;
@@ -73,13 +75,13 @@ fn outcome_of<T: Tree, O: Sink, E: Sink>(
 ) -> Result<Outcome, CindexFault>
     requires { begins (slash ∷ []) (string_bytes job.now.cwd) ≡ true }
     ensures indexes { Indexes (job.now ∷ []) (T.snapshot tree.old ∷ []) (reply_of result ∷ []) (option_copied old.entry) (index_from (option_copied old.entry) result) }
-    ensures large { LargeAfter (T.snapshot tree.old) (option_copied old.entry) job.now (reply_of result) }
     ensures cause { HasCause job.now (T.snapshot tree.old) (option_copied old.entry) (reply_of result) }
     ensures keeps { KeepsIndex job.now (reply_of result) (option_copied old.entry) (index_from (option_copied old.entry) result) }
-    ensures begun { IfOk result (λ _. IsBegun job.now (T.snapshot tree.old) (index_from (option_copied old.entry) result)) }
+    ensures walked { IfOk result (λ _. Walks job.now → IsNext job.now (T.snapshot tree.old) (base job.now (option_copied old.entry)) (index_from (option_copied old.entry) result)) }
     ensures out { TakesBy (reply_of result) (list_lines (kind_of job.now) (option_copied old.entry)) (O.taken out.old) (O.taken out.new) }
     ensures err { TellsBy (kind_of job.now) (reply_of result) job.now (T.snapshot tree.old) (option_copied old.entry) (T.failed tree.old) (T.failed tree.new) (E.taken err.old) (E.taken err.new) }
     ensures writes { CountsWrites (reply_of result) (O.failed out.old) (O.failed out.new) (E.failed err.old) (E.failed err.new) }
+    ensures tree_keeps { T.snapshot tree.new ≡ T.snapshot tree.old }
 {
     if job.list {
         list_paths(old, out)?;

@@ -5,10 +5,11 @@ ghost use Rattle.cs_tree.specs.PathSet as set;
 ghost use Rattle.cs_tree.specs.Cover.{begins, slash, least};
 ghost use Rattle.cs_index.specs.Opening.{names_ascend, opened};
 ghost use Rattle.cs_cindex.specs.Joins.{IsJoinFault, JoinsTo, refusal_of};
+ghost use Rattle.cs_cindex.specs.Next.{IsNext};
 ghost use Rattle.cs_cindex.specs.Refusals.{EarlyOr, IsWalkFault, base_fault, walk_fault};
 ghost use Rattle.cs_cindex.specs.Told.{WalkPrints, WalkPrintsSome};
 ghost use Rattle.cs_indexing.specs.Indexed.{write_counted};
-ghost use Rattle.cs_cindex.specs.Walked.{AreCleaned, GoesOn, IsLargeIf, chosen};
+ghost use Rattle.cs_cindex.specs.Walked.{AreCleaned, chosen};
 
 use crate::cleaning::clean_all;
 use crate::old::{open_old, recorded_paths};
@@ -29,14 +30,13 @@ pub fn walked_index<T: Tree, E: Sink>(
     err: &mut E,
 ) -> Result<Vec<u8>, CindexFault>
     requires { begins (slash ∷ []) (string_bytes job.now.cwd) ≡ true }
-    ensures index { IfOk result (λ index. GoesOn job.now (T.snapshot tree.old) (option_copied old.entry) index.items) }
-    ensures short { IfOk result (λ index. length index.items < 2 ^ 32) }
+    ensures next { IfOk result (λ index. IsNext job.now (T.snapshot tree.old) (option_copied old.entry) (Some index.items)) }
     ensures refusal { MatchResult result (λ _. walk_fault job.now (option_copied old.entry) ≡ None)
-        (λ fault. EarlyOr (walk_fault job.now (option_copied old.entry)) (IsWalkFault (T.snapshot tree.old) (option_copied old.entry) fault) fault) }
-    ensures large { MatchResult result (λ _. Unit {0}) (λ fault. IsLargeIf job.now (T.snapshot tree.old) (option_copied old.entry) fault) }
+        (λ fault. EarlyOr (walk_fault job.now (option_copied old.entry)) (IsWalkFault job.now (T.snapshot tree.old) (option_copied old.entry) fault) fault) }
     ensures prints { MatchResult result (λ _. WalkPrints job.now (T.snapshot tree.old) (option_copied old.entry) (T.failed tree.old) (T.failed tree.new) (E.taken err.old) (E.taken err.new))
         (λ _. WalkPrintsSome (walk_fault job.now (option_copied old.entry)) job.now (T.snapshot tree.old) (option_copied old.entry) (T.failed tree.old) (T.failed tree.new) (E.taken err.old) (E.taken err.new)) }
     ensures writes { E.failed err.new ≡ write_counted result (E.failed err.old) }
+    ensures tree_keeps { T.snapshot tree.new ≡ T.snapshot tree.old }
 {
     let given = clean_all(alloc, &job.cwd, &job.paths)?;
     match old {
@@ -61,13 +61,12 @@ fn index_anew<T: Tree, E: Sink>(
     err: &mut E,
 ) -> Result<Vec<u8>, CindexFault>
     requires { AreCleaned job.now (map string_bytes given.now) }
-    ensures index { IfOk result (λ index. GoesOn job.now (T.snapshot tree.old) None index.items) }
-    ensures short { IfOk result (λ index. length index.items < 2 ^ 32) }
-    ensures refusal { MatchResult result (λ _. base_fault job.now None ≡ None) (λ fault. EarlyOr (base_fault job.now None) (IsWalkFault (T.snapshot tree.old) None fault) fault) }
-    ensures large { MatchResult result (λ _. Unit {0}) (λ fault. IsLargeIf job.now (T.snapshot tree.old) None fault) }
+    ensures next { IfOk result (λ index. IsNext job.now (T.snapshot tree.old) None (Some index.items)) }
+    ensures refusal { MatchResult result (λ _. base_fault job.now None ≡ None) (λ fault. EarlyOr (base_fault job.now None) (IsWalkFault job.now (T.snapshot tree.old) None fault) fault) }
     ensures prints { MatchResult result (λ _. WalkPrints job.now (T.snapshot tree.old) None (T.failed tree.old) (T.failed tree.new) (E.taken err.old) (E.taken err.new))
         (λ _. WalkPrintsSome (base_fault job.now None) job.now (T.snapshot tree.old) None (T.failed tree.old) (T.failed tree.new) (E.taken err.old) (E.taken err.new)) }
     ensures writes { E.failed err.new ≡ write_counted result (E.failed err.old) }
+    ensures tree_keeps { T.snapshot tree.new ≡ T.snapshot tree.old }
 {
     if given.is_empty() {
         return Err(CindexFault::NoIndex);
@@ -88,14 +87,13 @@ fn index_onto<T: Tree, E: Sink>(
     err: &mut E,
 ) -> Result<Vec<u8>, CindexFault>
     requires { AreCleaned job.now (map string_bytes given.now) }
-    ensures index { IfOk result (λ index. GoesOn job.now (T.snapshot tree.old) (Some old.now) index.items) }
-    ensures short { IfOk result (λ index. length index.items < 2 ^ 32) }
+    ensures next { IfOk result (λ index. IsNext job.now (T.snapshot tree.old) (Some old.now) (Some index.items)) }
     ensures refusal { MatchResult result (λ _. base_fault job.now (Some old.now) ≡ None)
-        (λ fault. EarlyOr (base_fault job.now (Some old.now)) (IsWalkFault (T.snapshot tree.old) (Some old.now) fault) fault) }
-    ensures large { MatchResult result (λ _. Unit {0}) (λ fault. IsLargeIf job.now (T.snapshot tree.old) (Some old.now) fault) }
+        (λ fault. EarlyOr (base_fault job.now (Some old.now)) (IsWalkFault job.now (T.snapshot tree.old) (Some old.now) fault) fault) }
     ensures prints { MatchResult result (λ _. WalkPrints job.now (T.snapshot tree.old) (Some old.now) (T.failed tree.old) (T.failed tree.new) (E.taken err.old) (E.taken err.new))
         (λ _. WalkPrintsSome (base_fault job.now (Some old.now)) job.now (T.snapshot tree.old) (Some old.now) (T.failed tree.old) (T.failed tree.new) (E.taken err.old) (E.taken err.new)) }
     ensures writes { E.failed err.new ≡ write_counted result (E.failed err.old) }
+    ensures tree_keeps { T.snapshot tree.new ≡ T.snapshot tree.old }
 {
     let index = open_old(old)?;
     let paths = paths_to_walk(alloc, &index, given)?;

@@ -1,6 +1,6 @@
 -- Why a job is refused, where the index is the one that some earlier jobs left.
 -- docs/PROMISES.md, "Refusals of cindex".
-use Rattle.std.specs.Prelude.{◌≡◌, ◌≢◌, ◌<◌, ◌≤◌, ◌^◌, ◌⊎◌, ◌↔◌, ℕ, true, false, if◌then◌else◌, List, [], ◌∷◌, length, take, get_or, string_bytes, IfSome}
+use Rattle.std.specs.Prelude.{◌≡◌, ◌≢◌, ◌<◌, ◌≤◌, ◌^◌, ◌⊎◌, ◌↔◌, ◌&&◌, ℕ, true, false, if◌then◌else◌, List, [], ◌∷◌, length, take, get_or, Option, Some, None, string_bytes}
 use Rattle.std.specs.List.{AllByRecursion}
 use Rattle.cs_tree.specs.Snapshot.{Snapshot}
 use Rattle.cs_index.specs.Image.{image}
@@ -10,7 +10,7 @@ use Rattle.cs_history.specs.Jobs.{texts, has_no_path, IsTaken, visit_of, after_d
 use Rattle.cs_words.specs.declared.jobs.IndexJob.{IndexJob}
 use Rattle.cs_words.specs.declared.fault.CindexFault.TheVariants.{NoIndex, BadIndex, Unsorted, TooLarge, BadPath}
 use Rattle.cs_words.specs.declared.jobs.Reply.{Reply}
-use Rattle.cs_words.specs.declared.jobs.Reply.TheVariants.{Refused}
+use Rattle.cs_words.specs.declared.jobs.Reply.TheVariants.{Done, Refused}
 
 -- ---- the causes
 
@@ -31,17 +31,29 @@ own_index before job tree =
     let base = if job.reset then [] else before in
     image (walked (visit_of job tree) base) (files_found (visit_of job tree) base)
 
--- 32 bits do not count the bytes of the job's own index, or of the one after it
-abbrev pub IsTooLarge : History → IndexJob → Snapshot → Type 0
-IsTooLarge before job tree = (2 ^ 32 ≤ length (own_index before job tree)) ⊎ (IfSome (index_of (after_done before job tree)) (λ bytes. 2 ^ 32 ≤ length bytes))
+-- the job walks: it is neither `-list` nor a `-reset` without paths
+abbrev pub Walks : IndexJob → Type 0
+Walks job = (job.list ≡ false) × ((job.reset && has_no_path job) ≡ false)
+
+-- 32 bits do not count the bytes of an index
+abbrev pub IsLong : Option (List ℕ) → Type 0
+IsLong None = ⊥
+IsLong (Some bytes) = 2 ^ 32 ≤ length bytes
+
+-- the job walks, and 32 bits do not count the bytes of its own index, or of the one after it
+pub record IsTooLarge (before : History) (job : IndexJob) (tree : Snapshot) : Type 0 where
+  pub walks : Walks job
+  pub long : IsLong (Some (own_index before job tree)) ⊎ IsLong (index_of (after_done before job tree))
 
 -- ---- replies
 
--- Each refusal has its cause. A history's index is never bad, and its names are in order.
+-- Each refusal has its cause, and no job is done that is too large. A history's index is never bad, and its
+-- names are in order.
 pub record IsRightReply (before : History) (job : IndexJob) (tree : Snapshot) (reply : Reply) : Type 0 where
   pub no_index : (reply ≡ Refused NoIndex) ↔ ((before ≡ []) × NeedsIndex job)
   pub bad_path : (place : ℕ) → reply ≡ Refused (BadPath place) → IsFirstBad job place
   pub too_large : reply ≡ Refused TooLarge → IsTooLarge before job tree
+  pub fits : reply ≡ Done → IsTooLarge before job tree → ⊥
   pub bad_index : (fault : IndexFault) → reply ≢ Refused (BadIndex fault)
   pub unsorted : reply ≢ Refused Unsorted
 

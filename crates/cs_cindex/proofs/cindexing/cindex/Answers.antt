@@ -1,4 +1,5 @@
 use Rattle.std.proofs.Common.{◌≡◌, ◌≢◌, ◌<◌, length, get_or, arith, ◌∙◌, get_or-set_other}
+use Rattle.std.proofs.Math.Seq.{map-set_same}
 use Rattle.std.proofs.lemmas.List.{get_or_default}
 use Rattle.cs_cindex.proofs.CallLemmas.{indexes_more, right_all_more, steps_more}
 use Rattle.cs_cindex.proofs.cindexing.cindex.Goals as goal
@@ -13,9 +14,10 @@ jobs-preserved g c =
     let is_tree : tree ≡ get_or c.args.trees.now c.jobs.i c.index-trees-i.result = inv.rest c.jobs.i c.index-trees-i.result (omega arith) in
     let again : tree ≡ get_or c.args.trees.now c.jobs.i tree = is_tree ∙ get_or_default c.args.trees.now c.jobs.i c.index-trees-i.result tree in_trees in
     record {
+      keeps = map-set_same snapshot c.jobs.trees c.jobs.i c.do_job-next.new.tree c.index-trees-i.result c.do_job-next.ensures.tree_keeps ∙ inv.keeps;
       rest = λ k d h. let other : k ≢ c.jobs.i = omega arith in rw get_or-set_other (inv.rest k d (omega arith));
       index = indexes_more snapshot c.args.jobs.now c.args.trees.now c.jobs.replies c.jobs.i c.index-jobs-i.result tree c.do_job-next.result.1 _ _ _
-          c.requires.trees (c.jobs.auto.replies ∙ c.requires.replies) within c.index-jobs-i.is again inv.index c.do_job-next.ensures.indexes;
+          c.requires.trees (c.jobs.auto.replies ∙ c.requires.replies) within c.index-jobs-i.is again inv.index c.do_job-next.ensures.step.index;
       steps = steps_more snapshot g.T.Tree.failed c.args.jobs.now c.args.trees.now c.jobs.trees c.jobs.replies c.jobs.i c.index-jobs-i.result tree c.do_job-next.new.tree c.do_job-next.result.1 _ _ _
           c.requires.trees (c.jobs.auto.trees ∙ c.requires.trees) (c.jobs.auto.replies ∙ c.requires.replies) within c.index-jobs-i.is again inv.steps c.do_job-next.ensures.step;
       right = right_all_more snapshot c.args.jobs.now c.args.trees.now c.jobs.replies c.jobs.i c.index-jobs-i.result tree c.do_job-next.result.1 _ _

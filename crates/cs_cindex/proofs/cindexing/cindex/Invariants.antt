@@ -9,6 +9,7 @@ abbrev pub invariant-jobs : goal.invariant-jobs
 invariant-jobs g l =
     let snapshots = map g.T.Tree.snapshot l.initial.trees in
     record {
+      keeps : map g.T.Tree.snapshot l.trees ≡ snapshots;
       rest : (k : ℕ) (d : _) → l.i ≤ k → get_or l.trees k d ≡ get_or l.initial.trees k d;
       index : Indexes (take l.i l.jobs) (take l.i snapshots) (take l.i l.replies) (bytes_in l.fn.old) (bytes_in l.index);
       steps : Steps (take l.i l.jobs) (seen g.T.Tree.snapshot g.T.Tree.failed (take l.i l.initial.trees) (take l.i l.trees)) (take l.i l.replies)

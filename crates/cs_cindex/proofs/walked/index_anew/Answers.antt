@@ -1,37 +1,38 @@
-use Rattle.std.proofs.Common.{◌≡◌, ◌≢◌, ◌∙◌, cond, length, map, ap, sym, Some, None, Err}
+use Rattle.std.proofs.Common.{◌≡◌, ◌≢◌, ◌∙◌, cond, length, map, ap, sym, subst, Some, None, Err}
 use Rattle.std.specs.Prelude.{string_bytes}
 use Rattle.std.proofs.lemmas.Result.{err_from_is_err_and}
 use Rattle.std.proofs.lemmas.Bool.{eqb-false, ne_eqb}
 use Rattle.cs_tree.specs.PathSet as set
-use Rattle.cs_indexing.specs.Indexed.{IsTooLarge}
 use Rattle.cs_words.specs.declared.jobs.IndexJob.{IndexJob}
 use Rattle.cs_words.specs.declared.fault.CindexFault.TheVariants.{NoIndex}
-use Rattle.cs_cindex.specs.Refusals.{base_fault}
+use Rattle.cs_cindex.specs.Refusals.{EarlyOr, IsWalkFault, base_fault}
 use Rattle.cs_cindex.proofs.ToldLemmas.{own_walked, front_over, prints_over}
-use Rattle.cs_cindex.proofs.GoingLemmas.{own_paths, anew, large_found, build_large, some_path}
+use Rattle.cs_cindex.proofs.GoingLemmas.{own_paths, some_path}
+use Rattle.cs_cindex.proofs.NextLemmas.{next_anew, index_refusal}
 use Rattle.cs_cindex.proofs.walked.index_anew.Goals as goal
 
 pub index_paths-requires : goal.index_paths-requires
 index_paths-requires g c =
     own_paths c.args.job.now (map string_bytes c.args.given.now) (map string_bytes c.deref.result.now) c.requires (ap (λ ps. map string_bytes ps) c.deref.ensures.value ∙ c.in_ok-paths.ensures)
 
-pub returns-in_err-index-clause-large : goal.returns-in_err-index-clause-large
-returns-in_err-index-clause-large g c =
-    let p = err_from_is_err_and c.from_residual-in_err-index.result c.from_residual-in_err-index.ensures.1 in
-    rw (p.1, p.2) (build_large c.args.job.now (g.T.Tree.snapshot c.args.tree.now) None (IsTooLarge (g.T.Tree.snapshot c.args.tree.now) (set.from_list (map string_bytes c.deref.result.now))) c.in_err-index.field-0.0 (λ e. c.in_err-index.ensures.too_large (ap Err e))
-    (large_found c.args.job.now (g.T.Tree.snapshot c.args.tree.now) (map string_bytes c.args.given.now) (map string_bytes c.deref.result.now) c.requires
-    (some_path c.args.job.now c.args.given.now c.requires (eqb-false (length c.args.given.now) 0 (sym c.if-is_empty.ensures)))
-    (ap (λ ps. map string_bytes ps) c.deref.ensures.value ∙ c.in_ok-paths.ensures)))
-
-pub returns-clause-index : goal.returns-clause-index
-returns-clause-index g c =
-    let some = some_path c.args.job.now c.args.given.now c.requires (eqb-false (length c.args.given.now) 0 (sym c.if-is_empty.ensures)) in
-    anew c.args.job.now (g.T.Tree.snapshot c.args.tree.now) (map string_bytes c.args.given.now) (map string_bytes c.deref.result.now) c.in_ok-index.index.items c.requires some
-    (ap (λ ps. map string_bytes ps) c.deref.ensures.value ∙ c.in_ok-paths.ensures) c.in_ok-index.ensures.image
-
 -- the job has a path
 none_early : (job : IndexJob) → length job.paths.items ≢ 0 → base_fault job None ≡ None
 none_early job some = ap (λ b. cond b (Some NoIndex) None) (ne_eqb (length job.paths.items) 0 some)
+
+pub returns-in_err-index-clause-refusal : goal.returns-in_err-index-clause-refusal
+returns-in_err-index-clause-refusal g c =
+    let p = err_from_is_err_and c.from_residual-in_err-index.result c.from_residual-in_err-index.ensures.1 in
+    let snapshot = g.T.Tree.snapshot c.args.tree.now in
+    let some = some_path c.args.job.now c.args.given.now c.requires (eqb-false (length c.args.given.now) 0 (sym c.if-is_empty.ensures)) in
+    let walked = own_walked c.args.job.now (map string_bytes c.args.given.now) (map string_bytes c.deref.result.now) None c.requires some (ap (λ ps. map string_bytes ps) c.deref.ensures.value ∙ c.in_ok-paths.ensures) in
+    let late : IsWalkFault c.args.job.now snapshot None c.in_err-index.field-0.0 = index_refusal c.args.job.now snapshot None (set.from_list (map string_bytes c.deref.result.now)) c.in_err-index.field-0.0 walked c.in_err-index.ensures.only (λ e. c.in_err-index.ensures.too_large (ap Err e)) in
+    rw (p.1, p.2) (subst (λ o. EarlyOr o (IsWalkFault c.args.job.now snapshot None c.in_err-index.field-0.0) c.in_err-index.field-0.0) (sym (none_early c.args.job.now some)) late)
+
+pub returns-clause-next : goal.returns-clause-next
+returns-clause-next g c =
+    let some = some_path c.args.job.now c.args.given.now c.requires (eqb-false (length c.args.given.now) 0 (sym c.if-is_empty.ensures)) in
+    let walked = own_walked c.args.job.now (map string_bytes c.args.given.now) (map string_bytes c.deref.result.now) None c.requires some (ap (λ ps. map string_bytes ps) c.deref.ensures.value ∙ c.in_ok-paths.ensures) in
+    next_anew c.args.job.now (g.T.Tree.snapshot c.args.tree.now) (set.from_list (map string_bytes c.deref.result.now)) c.in_ok-index.index.items walked c.in_ok-index.ensures.image c.in_ok-index.ensures.short
 
 pub returns-in_err-index-clause-prints : goal.returns-in_err-index-clause-prints
 returns-in_err-index-clause-prints g c =

@@ -40,6 +40,12 @@ head -c 3000 /dev/zero | tr '\0' a > trees/odd/long
 ln -s plain trees/odd/link
 ln -s ../odd trees/odd/circle
 mkfifo trees/odd/pipe
+# The name of a socket is short.
+(
+    cd trees/odd || exit
+    perl -MSocket -e 'socket(S, AF_UNIX, SOCK_STREAM, 0) and bind(S, sockaddr_un("socket")) or exit 1' ||
+        python3 -c 'import socket; socket.socket(socket.AF_UNIX).bind("socket")'
+) 2>/dev/null
 try 0 '' "cindex: $home/trees/odd/latin: not indexed: bad UTF-8\ncindex: $home/trees/odd/long: not indexed: line too long\ncindex: $home/trees/odd/nul: not indexed: NUL byte\n" "cindex -reset -logskip trees/odd"
 try 0 "$home/trees/odd/a b\n$home/trees/odd/new\nline\n$home/trees/odd/plain\n" '' "csearch -l words"
 try 0 "$home/trees/odd/plain\n" '' "csearch -l -f '/plain\$' words"
@@ -49,8 +55,14 @@ try 0 '' '' "cindex -reset trees/odd/.git"
 try 1 '' '' "csearch words"
 try 0 '' '' "cindex -reset trees/odd/.git/config"
 try 0 "$home/trees/odd/.git/config:words\n" '' "csearch words"
-try 0 '' '' "cindex -reset trees/odd/circle trees/odd/link"
+try 0 '' '' "cindex -reset trees/odd/circle trees/odd/link trees/odd/pipe"
 try 1 '' '' "csearch ''"
+if [ -S trees/odd/socket ]; then
+    try 0 '' '' "cindex -reset -logskip trees/odd/socket"
+    try 1 '' '' "csearch ''"
+else
+    skipped 'a socket: neither perl nor python3 makes one'
+fi
 try 0 '' "cindex: $home/trees/none: no such file\n" "cindex -reset trees/none trees/a"
 try 0 "$home/trees/a\n$home/trees/none\n" '' "cindex -list"
 try 0 '' "cindex: $home/trees/a/x/y: no such file\n" "cindex -reset trees/a/x/y"
@@ -62,33 +74,69 @@ if : > "trees/unnamed/$(printf 'na\377me')" 2>/dev/null; then
 else
     skipped 'a name that is not text: the system refuses it'
 fi
-if [ "$(id -u)" -eq 0 ]; then
-    skipped 'a folder and a file that may not be read: root may read all of them'
-else
+if shuts; then
     mkdir trees/closed trees/closed/in trees/closed/out
     printf 'words\n' | tee trees/closed/in/f trees/closed/out/f > trees/closed/shut
     try 0 '' '' "cindex -reset trees/closed"
     chmod 000 trees/closed/in trees/closed/shut
-    try 0 "$home/trees/closed/out/f\n" "csearch: $home/trees/closed/in/f: permission denied\ncsearch: $home/trees/closed/shut: permission denied\n" "csearch -l words"
-    try 0 '' "cindex: $home/trees/closed/in: permission denied\ncindex: $home/trees/closed/shut: permission denied\n" "cindex -reset trees/closed"
+    try 0 "$home/trees/closed/out/f\n" "csearch: $home/trees/closed/in/f: permission denied\ncsearch: $home/trees/closed/shut: permission denied\n" "powerless \"\$program\" csearch -l words"
+    try 0 '' "cindex: $home/trees/closed/in: permission denied\ncindex: $home/trees/closed/shut: permission denied\n" "powerless \"\$program\" cindex -reset trees/closed"
     try 0 "$home/trees/closed/out/f\n" '' "csearch -l words"
+    try 0 '' "cindex: $home/trees/closed/in/f: permission denied\n" "powerless \"\$program\" cindex -reset trees/closed/in/f"
     chmod 700 trees/closed/in trees/closed/shut
+else
+    skipped 'a folder and a file that may not be read: root may read all of them, and setpriv does not take that away'
 fi
 
+# ---- a folder that changes while it is read ---------------------------------------------------------------------------
+mkdir trees/moving
+(
+    while [ -d trees/moving ] && [ ! -e results/stop ]; do
+        mkdir trees/moving/d
+        for name in 1 2 3 4 5 6 7 8 9; do
+            printf 'words\n' > trees/moving/d/$name
+            mkdir trees/moving/d/below$name
+        done
+        rm -r trees/moving/d
+    done
+) &
+mover=$!
+time=0
+while [ $time -lt 20 ]; do
+    time=$((time + 1))
+    holds "cindex -reset trees/moving 2> results/said"
+    holds "! grep -v \"^cindex: \$home/trees/moving/d.*: no such file\\\$\" results/said"
+    try 0 "$home/trees/moving\n" '' "cindex -list"
+done
+: > results/stop
+wait $mover
+rm -r trees/moving
+
 # ---- paths that are too long ------------------------------------------------------------------------------------------
-part=$(printf '%0100d' 0)
+# The longest that the system takes has 4095 bytes.
+deep=$home/trees/deep
 mkdir trees/deep
 (
     cd trees/deep || exit
-    while [ ${#PWD} -le 4095 ]; do
-        mkdir "$part" && cd "$part" 2>/dev/null || break
+    part=$(printf '%0100d' 0)
+    left=$((4096 - ${#deep}))
+    while [ $left -gt 200 ]; do
+        mkdir "$part" && cd "$part" || exit
         printf 'words\n' > f
+        left=$((left - 101))
     done
-) 2>/dev/null
-deep=$home/trees/deep
-while [ ${#deep} -le 4095 ]; do deep=$deep/$part; done
-try 0 '' "cindex: $deep: path too long\n" "cindex -reset trees/deep 2>&1 >/dev/null | grep -F 'path too long' >&2"
-holds "[ \$(csearch -l words | awk '{ print length }' | sort -n | tail -n 1) -le 4095 ]"
+    pwd > "$home/results/deep"
+    longest=$(printf "%0$((left - 2))d" 0)
+    printf 'words\n' | tee "$longest" > "1$longest"
+    mkdir "2$longest"
+    printf 'words\n' > "2$longest/f"
+    printf '%s\n' "$longest" >> "$home/results/deep"
+)
+{ read -r deep; read -r longest; } < results/deep
+holds "[ \$((\${#deep} + \${#longest})) -eq 4094 ]"
+try 0 '' "cindex: $deep/1$longest: path too long\ncindex: $deep/2$longest: path too long\n" "cindex -reset trees/deep"
+try 0 "$deep/$longest\n" '' "csearch -l -f '/0*\$' words"
+same "csearch -l words | wc -l" "find trees/deep -type f | grep -vc '/[12]0'"
 rm -rf trees/deep
 
 # ---- the index file -------------------------------------------------------------------------------------------------
@@ -104,6 +152,34 @@ holds "cmp -s index results/old && [ ! -e index~ ]"
 : > index~
 try 0 '' '' "cindex trees/b"
 holds "[ ! -e index~ ]"
+# What is at FILE~ and is no file of ours stays as it is, and FILE too.
+cp results/old index
+printf 'other\n' > results/other
+cp results/other results/kept
+refused="codesearch: cannot write $home/index\n"
+for command in 'ln -s index index~' 'ln index index~' 'ln -s results/other index~' 'ln results/other index~' 'ln -s results/none index~' 'mkdir index~' 'mkfifo index~'; do
+    eval "$command"
+    try 2 '' "$refused" "timeout 20 \"\$program\" cindex trees/b # after $command"
+    holds "cmp -s index results/old && cmp -s results/other results/kept && [ ! -e results/none ]"
+    rm -r index~
+done
+if shuts; then
+    mkdir results/fixed
+    cp results/old results/fixed/index
+    chmod 555 results/fixed
+    refused="codesearch: cannot write $home/results/fixed/index\n"
+    try 2 '' "$refused" "CSEARCHINDEX=\$home/results/fixed/index powerless \"\$program\" cindex trees/b"
+    try 2 '' "$refused" "CSEARCHINDEX=\$home/results/fixed/index powerless \"\$program\" cindex -reset"
+    holds "cmp -s results/fixed/index results/old && [ ! -e results/fixed/index~ ]"
+    chmod 755 results/fixed
+    chmod 000 results/fixed/index
+    try 2 '' "codesearch: cannot read $home/results/fixed/index\n" "CSEARCHINDEX=\$home/results/fixed/index powerless \"\$program\" cindex -reset trees/b"
+    try 2 '' "codesearch: cannot read $home/results/fixed/index\n" "CSEARCHINDEX=\$home/results/fixed/index powerless \"\$program\" csearch x"
+    chmod 644 results/fixed/index
+    holds "cmp -s results/fixed/index results/old && [ ! -e results/fixed/index~ ]"
+else
+    skipped 'an index that may not be written or read: root may do both, and setpriv does not take that away'
+fi
 mkdir results/home
 try 0 '' '' "CSEARCHINDEX= HOME=\$home/results/home cindex trees/a"
 holds "cmp -s results/home/.csearchindex results/old"
@@ -165,12 +241,26 @@ holds "afresh trees"
 try 0 '' '' "cindex -reset trees/a"
 holds "cmp -s index results/old"
 cp index results/whole
-for place in 0 20 60 70 90 110 130; do
-    { head -c $place results/whole; printf '\377'; tail -c +$((place + 2)) results/whole; } > index
+# damage PLACE BYTE: the index is the whole one with another byte there; BYTE as printf writes it
+damage() {
+    { head -c "$1" results/whole; printf "$2"; tail -c +$(($1 + 2)) results/whole; } > index
     cp index results/damaged
-    if ! cindex trees/a 2> results/said; then
-        holds "grep -q '^cindex: bad index: ' results/said && cmp -s index results/damaged"
-    fi
+}
+for place in 0 20 60 70 90 110 130; do
+    damage $place '\377'
+    cindex trees/a 2> results/said
+    case $? in
+        0) holds "cindex -list > /dev/null" ;;
+        *) holds "grep -q '^cindex: bad index: ' results/said && cmp -s index results/damaged" ;;
+    esac
+done
+# The third number of the trailer is where the lists begin. The first is that of abc: a delta, and a closing zero.
+lists=$(tail -c 28 results/whole | head -c 4 | od -An -tu1 | awk '{ print (($1 * 256 + $2) * 256 + $3) * 256 + $4 }')
+for byte in '\001' '\377'; do
+    damage $((lists + 4)) "$byte"
+    try 2 '' 'cindex: bad index: list\n' "cindex trees/a"
+    try 2 '' 'csearch: bad index: list\n' "csearch abc"
+    holds "cmp -s index results/damaged"
 done
 
 # ---- a real tree ------------------------------------------------------------------------------------------------------
@@ -179,16 +269,30 @@ mkdir trees/real
 rm trees/real/tests/refusals.tsv # it has a line of 10000 letters
 try 0 '' '' "cindex -reset trees/real"
 holds "[ \$(csearch -brute -l '' | wc -l) -gt 100 ]"
+try 0 "$home/trees/real\n" '' "cindex -list"
 same "csearch -brute -l ''" "find \$home/trees/real -type f -size +0 | LC_ALL=C sort"
 cp index results/new
 
 # ---- a run that is killed, and two at one time ----------------------------------------------------------------------------
-cp results/old index
+began=$(date +%s%N)
+cindex -reset trees/real
+took=$((($(date +%s%N) - began) / 1000000)) # milliseconds
+# A random moment, in seconds, while a run lasts.
+moment() {
+    awk -v most="$took" -v seed="$(od -An -N4 -tu4 /dev/urandom)" 'BEGIN { srand(seed); printf "%.3f\n", rand() * most / 1000 }'
+}
+# Every other run is killed as it writes.
 time=0
 while [ $time -lt 20 ]; do
     time=$((time + 1))
+    rm -f index~
+    cp results/old index
     "$program" cindex -reset trees/real 2>/dev/null &
-    sleep "0.$(printf '%03d' $((time * 17 % 340)))"
+    if [ $((time % 2)) -eq 0 ]; then
+        sleep "$(moment)"
+    else
+        while [ ! -e index~ ] && kill -0 $! 2>/dev/null; do :; done
+    fi
     kill -9 $! 2>/dev/null
     wait $! 2>/dev/null
     holds "cmp -s index results/old || cmp -s index results/new"
@@ -206,12 +310,24 @@ done
 # ---- the Go tools -----------------------------------------------------------------------------------------------------
 try 0 '' '' "cindex -reset trees/real"
 if [ -n "$go_csearch" ]; then
-    for pattern in 'requires' 'fn [a-z]+_of' '^use .*specs' '(?i)trigram'; do
-        same "csearch '$pattern'" "\$go_csearch '$pattern'"
+    find "$home/trees/real" -type f -size +0 | LC_ALL=C sort > results/names
+    for pattern in 'requires' 'fn [a-z]+_of' '^use .*specs' '[Tt]rigram'; do
+        same "\$go_csearch -n '$pattern'" "LC_ALL=C xargs grep -aEHn '$pattern' < results/names"
     done
+    same "\$go_csearch -n -i TRIGRAM" "LC_ALL=C xargs grep -aEHni TRIGRAM < results/names"
+    same "csearch '(?i)trigram'" "\$go_csearch '(?i)trigram'"
     CSEARCHINDEX=$home/results/go "$go_cindex" -reset "$home/trees/real" 2>/dev/null
     same "CSEARCHINDEX=\$home/results/go csearch requires | sort" "csearch requires | sort"
     same "CSEARCHINDEX=\$home/results/go cindex -list" "CSEARCHINDEX=\$home/results/go \$go_cindex -list"
+    if command -v perl > /dev/null; then
+        same "perl \$root/tests/lists.pl index" "perl \$root/tests/lists.pl results/go"
+        rm trees/odd/nul # Go's cindex has it
+        same "cindex -reset trees/odd; perl \$root/tests/lists.pl index" "CSEARCHINDEX=\$home/results/go \$go_cindex -reset \$home/trees/odd 2>/dev/null; perl \$root/tests/lists.pl results/go"
+        cindex -reset trees/real
+        holds "[ \$(perl \$root/tests/lists.pl index | grep -c '^[0-9a-f]\\{6\\}:') -gt 10000 ]"
+    else
+        skipped 'the same names and posting lists: there is no perl'
+    fi
 else
     skipped 'the Go tools: they are not installed'
 fi

@@ -1,9 +1,10 @@
 // The index file: where it lies, how it is read, and how a new one takes its place.
 use std::alloc::AllocError;
 use std::env::{self, VarError};
-use std::fs::{self, File, TryLockError};
+use std::fs::{self, File, Metadata, TryLockError};
 use std::io::{self, ErrorKind, Read, Write};
 use std::os::unix::fs::MetadataExt;
+use std::path::Path;
 
 /// One more byte than an index may have. A longer file is not read further, and does not open.
 const MOST_READ: u64 = 1 << 32;
@@ -114,24 +115,50 @@ fn replace(rt: &HostRuntime, file: &str, bytes: &[u8]) -> Result<(), FileFault> 
         Ok(()) => fs::rename(rt, beside.as_str(), file),
         Err(error) => Err(error),
     };
-    if moved.is_err() {
-        let _ = fs::remove_file(rt, beside.as_str());
+    match moved {
+        Ok(()) => sync_folder(rt, file),
+        Err(_) => {
+            let _ = fs::remove_file(rt, beside.as_str());
+        }
     }
     Ok(moved?)
 }
 
 /// The file beside the index, held by a lock so that no other run writes to it.
 fn claim(rt: &HostRuntime, beside: &str) -> io::Result<File> {
+    // What is no file of ours is left alone: opening a link makes the file that it names, and opening
+    // a pipe waits.
+    match fs::symlink_metadata(rt, beside) {
+        Ok(there) if !is_single(&there) => return Err(taken()),
+        Err(error) if error.kind() != ErrorKind::NotFound => return Err(error),
+        _ => {}
+    }
     let made = File::options().write(true).create(true).open(rt, beside)?;
     // A system without locks does not hinder a run.
     if let Err(TryLockError::WouldBlock) = made.try_lock() {
-        return Err(io::Error::from(ErrorKind::WouldBlock));
+        return Err(taken());
     }
     // Another run may have moved it away before the lock was had.
-    if fs::metadata(rt, beside)?.ino() != made.metadata()?.ino() {
-        return Err(io::Error::from(ErrorKind::WouldBlock));
+    let there = fs::symlink_metadata(rt, beside)?;
+    if is_single(&there) && is_same(&there, &made.metadata()?) {
+        Ok(made)
+    } else {
+        Err(taken())
     }
-    Ok(made)
+}
+
+/// Whether it is a regular file with no second name, so that to write to it changes no other file.
+fn is_single(there: &Metadata) -> bool {
+    there.is_file() && there.nlink() == 1
+}
+
+fn is_same(one: &Metadata, other: &Metadata) -> bool {
+    one.dev() == other.dev() && one.ino() == other.ino()
+}
+
+/// The file beside the index is another's.
+fn taken() -> io::Error {
+    io::Error::from(ErrorKind::WouldBlock)
 }
 
 /// Gives a file these bytes, down to the disk.
@@ -139,4 +166,15 @@ fn fill(mut made: &File, bytes: &[u8]) -> io::Result<()> {
     made.set_len(0)?;
     made.write_all(bytes)?;
     made.sync_all()
+}
+
+/// Brings the new name down to the disk. Where that fails the index is whole all the same.
+fn sync_folder(rt: &HostRuntime, file: &str) {
+    let folder = match Path::new(file).parent() {
+        Some(folder) if !folder.as_str().is_empty() => folder.as_str(),
+        _ => ".",
+    };
+    if let Ok(opened) = fs::open(rt, folder) {
+        let _ = opened.sync_all();
+    }
 }

@@ -3,6 +3,18 @@ use crate::tests::desk::Desk;
 use crate::tests::ends;
 use std::test::Fail;
 
+/// `/a/b/f` read again, and `/a/bc/y` as it was first read.
+const NEIGHBOURS: &[u8; 160] =
+    b"csearch index 1\n/a/b\0/a/bc\0\0/a/b/f\0/a/bc/y\0\0ix\n\x01\0six\x01\0two\x02\0wo\n\x02\0\xff\xff\xff\0\0\0\0\0\0\0\0\x07\0\0\0\x0fix\n\0\0\0\x01\0\0\0\0six\0\0\0\x01\0\0\0\x05two\0\0\0\x01\0\0\0\x0awo\n\0\0\0\x01\0\0\0\x0f\0\0\0\x10\0\0\0\x1c\0\0\0\x2c\0\0\0\x44\0\0\0\x50\ncsearch trailr\n";
+
+/// `/a/b/f` read again below the path `/a`, and `/a/g` as it was first read.
+const PART: &[u8; 149] =
+    b"csearch index 1\n/a\0\0/a/b/f\0/a/g\0\0ix\n\x01\0six\x01\0two\x02\0wo\n\x02\0\xff\xff\xff\0\0\0\0\0\0\0\0\x07\0\0\0\x0cix\n\0\0\0\x01\0\0\0\0six\0\0\0\x01\0\0\0\x05two\0\0\0\x01\0\0\0\x0awo\n\0\0\0\x01\0\0\0\x0f\0\0\0\x10\0\0\0\x14\0\0\0\x21\0\0\0\x39\0\0\0\x45\ncsearch trailr\n";
+
+/// The path `/v` without a file.
+const VANISHED: &[u8; 65] =
+    b"csearch index 1\n/v\0\0\0\xff\xff\xff\0\0\0\0\0\0\0\0\x10\0\0\0\x14\0\0\0\x15\0\0\0\x19\0\0\0\x1d\ncsearch trailr\n";
+
 #[test]
 fn neighbours_of_a_path(rt: HostRuntime) -> Result<(), Fail> {
     let mut desk = Desk::new(&rt)?;
@@ -15,7 +27,7 @@ fn neighbours_of_a_path(rt: HostRuntime) -> Result<(), Fail> {
     desk.file(&rt, "/a/b/f", b"six\n")?;
     desk.file(&rt, "/a/bc/y", b"ten\n")?;
     desk.silently(&rt, &["cindex", "/a/b"])?;
-    assert_eq!(&rt; desk.bytes().len(), 160);
+    assert_eq!(&rt; desk.bytes(), NEIGHBOURS.as_slice());
     desk.does(&rt, &["cindex", "-list"], ends(0, "/a/b\n/a/bc\n", ""))?;
     desk.does(&rt, &["csearch", "six"], ends(0, "/a/b/f:six\n", ""))?;
     desk.does(&rt, &["csearch", "ten"], ends(1, "", ""))?;
@@ -57,7 +69,7 @@ fn a_part_of_a_path(rt: HostRuntime) -> Result<(), Fail> {
     desk.file(&rt, "/a/b/f", b"six\n")?;
     desk.file(&rt, "/a/g", b"ten\n")?;
     desk.silently(&rt, &["cindex", "/a/b"])?;
-    assert_eq!(&rt; desk.bytes().len(), 149);
+    assert_eq!(&rt; desk.bytes(), PART.as_slice());
     desk.does(&rt, &["cindex", "-list"], ends(0, "/a\n", ""))?;
     desk.does(&rt, &["csearch", "six"], ends(0, "/a/b/f:six\n", ""))?;
     desk.does(&rt, &["csearch", "ten"], ends(1, "", ""))?;
@@ -75,7 +87,7 @@ fn a_path_that_vanishes(rt: HostRuntime) -> Result<(), Fail> {
     let lines = "cindex: /v: no such file\n";
     for _ in 0..2 {
         desk.does(&rt, &["cindex"], ends(0, "", lines))?;
-        assert_eq!(&rt; desk.bytes().len(), 65);
+        assert_eq!(&rt; desk.bytes(), VANISHED.as_slice());
         desk.does(&rt, &["cindex", "-list"], ends(0, "/v\n", ""))?;
         desk.does(&rt, &["csearch", "-brute", "-l", "."], ends(1, "", ""))?;
     }

@@ -10,6 +10,18 @@ const EMPTY: &[u8; 65] =
 pub const ONE_FILE: &[u8; 122] =
     b"csearch index 1\n/a\0\0/a/x\0\0abc\x01\0bcd\x01\0cd\n\x01\0\xff\xff\xff\0\0\0\0\0\0\0\0\x05abc\0\0\0\x01\0\0\0\0bcd\0\0\0\x01\0\0\0\x05cd\n\0\0\0\x01\0\0\0\x0a\0\0\0\x10\0\0\0\x14\0\0\0\x1a\0\0\0\x2d\0\0\0\x35\ncsearch trailr\n";
 
+/// The path `/.x` without a file.
+const NO_FILE: &[u8; 66] =
+    b"csearch index 1\n/.x\0\0\0\xff\xff\xff\0\0\0\0\0\0\0\0\x10\0\0\0\x15\0\0\0\x16\0\0\0\x1a\0\0\0\x1e\ncsearch trailr\n";
+
+/// A file without text.
+const EMPTY_FILE: &[u8; 74] =
+    b"csearch index 1\n/t\0\0/t/e\0\0\xff\xff\xff\0\0\0\0\0\0\0\0\x05\0\0\0\x10\0\0\0\x14\0\0\0\x1a\0\0\0\x1e\0\0\0\x26\ncsearch trailr\n";
+
+/// Three files without a trigram.
+const NO_TRIGRAMS: &[u8; 92] =
+    b"csearch index 1\n/t\0\0/t/e\0/t/f\0/t/g\0\0\xff\xff\xff\0\0\0\0\0\0\0\0\x05\0\0\0\x0a\0\0\0\x0f\0\0\0\x10\0\0\0\x14\0\0\0\x24\0\0\0\x28\0\0\0\x38\ncsearch trailr\n";
+
 /// Names out of order, and an entry for the closing list.
 pub const OUT_OF_ORDER: &[u8; 115] =
     b"csearch index 1\n/a\0\0/a/b/z\0/a/b-x\0\0abc\x01\x01\0\xff\xff\xff\0\0\0\0\0\0\0\0\x07\0\0\0\x0eabc\0\0\0\x02\0\0\0\0\xff\xff\xff\0\0\0\0\0\0\0\x06\0\0\0\x10\0\0\0\x14\0\0\0\x23\0\0\0\x2d\0\0\0\x39\ncsearch trailr\n";
@@ -34,6 +46,16 @@ fn one_file(rt: HostRuntime) -> Result<(), Fail> {
 }
 
 #[test]
+fn a_file_without_text(rt: HostRuntime) -> Result<(), Fail> {
+    let mut desk = Desk::new(&rt)?;
+    desk.folder("/t")?;
+    desk.file(&rt, "/t/e", b"")?;
+    desk.silently(&rt, &["cindex", "/t"])?;
+    assert_eq!(&rt; desk.bytes(), EMPTY_FILE.as_slice());
+    desk.does(&rt, &["csearch", "-l", ""], ends(1, "", ""))
+}
+
+#[test]
 fn files_without_trigrams(rt: HostRuntime) -> Result<(), Fail> {
     let mut desk = Desk::new(&rt)?;
     desk.folder("/t")?;
@@ -41,7 +63,7 @@ fn files_without_trigrams(rt: HostRuntime) -> Result<(), Fail> {
     desk.file(&rt, "/t/f", b"a")?;
     desk.file(&rt, "/t/g", b"b\n")?;
     desk.silently(&rt, &["cindex", "/t"])?;
-    assert_eq!(&rt; desk.bytes().len(), 92);
+    assert_eq!(&rt; desk.bytes(), NO_TRIGRAMS.as_slice());
     desk.does(&rt, &["csearch", "^a"], ends(0, "/t/f:a\n", ""))?;
     desk.does(&rt, &["csearch", "-c", "^$"], ends(1, "", ""))
 }
@@ -50,11 +72,11 @@ fn files_without_trigrams(rt: HostRuntime) -> Result<(), Fail> {
 fn names_that_are_left_out(rt: HostRuntime) -> Result<(), Fail> {
     let mut desk = Desk::new(&rt)?;
     desk.silently(&rt, &["cindex", "-reset", "/.x"])?;
-    assert_eq!(&rt; desk.bytes().len(), 66);
+    assert_eq!(&rt; desk.bytes(), NO_FILE.as_slice());
     desk.folder("/.x")?;
     desk.file(&rt, "/.x/y", b"abcd\n")?;
     desk.silently(&rt, &["cindex", "-reset", "/.x"])?;
-    assert_eq!(&rt; desk.bytes().len(), 66);
+    assert_eq!(&rt; desk.bytes(), NO_FILE.as_slice());
     desk.silently(&rt, &["cindex", "-reset", "/.x/y"])?;
     desk.does(&rt, &["csearch", "-l", "abc"], ends(0, "/.x/y\n", ""))?;
     desk.folder("/t")?;
@@ -130,7 +152,7 @@ fn foreign_indexes(rt: HostRuntime) -> Result<(), Fail> {
     let words = "cindex: bad index: trailer\n";
     desk.does(&rt, &["cindex", "/a"], ends(2, "", words))?;
     desk.does(&rt, &["cindex", "-list"], ends(2, "", words))?;
-    assert_eq!(&rt; desk.bytes().len(), 114);
+    assert_eq!(&rt; desk.bytes(), &OUT_OF_ORDER[..114]);
     desk.silently(&rt, &["cindex", "-reset", "/a"])
 }
 

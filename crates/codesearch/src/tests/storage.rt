@@ -1,6 +1,7 @@
 // The real disk: what a tree of it answers, and how an index file is written, read and removed.
 use crate::storage::{After, FileFault, load, store};
 use cs_tree::{DiskTree, Kind, Tree, TreeFault};
+use std::os::unix::fs::symlink;
 use std::test::Fail;
 use std::{env, fs, process};
 
@@ -84,6 +85,46 @@ fn an_index_file_that_is_no_file(rt: HostRuntime) -> Result<(), Fail> {
     assert_eq!(&rt; load(&rt, above.as_str()).err(), Some(FileFault::Failed));
     let after = After::Write(b"new".to_vec(rt.alloc())?);
     assert_eq!(&rt; store(&rt, above.as_str(), &after), Err(FileFault::Failed));
+    let beside = format!(in rt.alloc(); "{}~", above.as_str())?;
+    assert!(&rt; !fs::exists(&rt, beside.as_str())?);
+    fs::remove_dir_all(&rt, above.as_str())?;
+    Ok(())
+}
+
+/// What a store leaves where the file beside the index is not one of ours: the index as it was.
+fn is_refused(rt: &HostRuntime, file: &str) -> Result<bool, Fail> {
+    let after = After::Write(b"new".to_vec(rt.alloc())?);
+    let stored = store(rt, file, &after);
+    Ok(stored == Err(FileFault::Failed) && holds(rt, file, Some(b"old"))?)
+}
+
+#[test]
+fn a_file_beside_the_index(rt: HostRuntime) -> Result<(), Fail> {
+    let above = folder(&rt, "beside")?;
+    let file = within(&rt, above.as_str(), "index")?;
+    let beside = within(&rt, above.as_str(), "index~")?;
+    let other = within(&rt, above.as_str(), "other")?;
+    let (file, beside, other) = (file.as_str(), beside.as_str(), other.as_str());
+    fs::write(&rt, file, "old")?;
+    symlink(&rt, file, beside)?;
+    assert!(&rt; is_refused(&rt, file)?, "a link to the index");
+    fs::remove_file(&rt, beside)?;
+    fs::hard_link(&rt, file, beside)?;
+    assert!(&rt; is_refused(&rt, file)?, "the index by a second name");
+    fs::remove_file(&rt, beside)?;
+    symlink(&rt, other, beside)?;
+    assert!(&rt; is_refused(&rt, file)?, "a link to nothing");
+    assert!(&rt; !fs::exists(&rt, other)?);
+    fs::remove_file(&rt, beside)?;
+    fs::write(&rt, beside, "longer than the new one")?;
+    let after = After::Write(b"new".to_vec(rt.alloc())?);
+    assert_eq!(&rt;
+        store(&rt, file, &after),
+        Ok(()),
+        "a file that was left behind"
+    );
+    assert!(&rt; holds(&rt, file, Some(b"new"))?);
+    assert!(&rt; !fs::exists(&rt, beside)?);
     fs::remove_dir_all(&rt, above.as_str())?;
     Ok(())
 }

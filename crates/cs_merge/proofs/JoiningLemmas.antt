@@ -82,27 +82,23 @@ index_joined old newer tested =
     (sym (entries_in_order (both_files old newer) (true_T (is_sorted bytes_cmp (both_files old newer)) (sorted_up (both_files old newer) (both_up old newer tested)))) ∙ ap map'.entries (files_joined old newer tested.covered))
 
 -- What is read of both, and what is left of the older files.
-pub record AreRead (old newer : Parts) (files olds kept : List Entry) : Type 0 where
+pub record AreRead (old newer : Parts) (files kept : List Entry) : Type 0 where
   pub files_are : files ≡ files_read newer
-  pub olds_are : olds ≡ files_read old
-  pub kept_are : kept ≡ uncovered (paths_in newer) olds
+  pub kept_are : kept ≡ uncovered (paths_in newer) (files_read old)
 
-both_are : (old newer : Parts) (files olds kept : List Entry) → AreRead old newer files olds kept → interleaved files kept ≡ both_files old newer
-both_are old newer files olds kept are = λ i. interleaved (are.files_are i) (left i)
-  where
-    left : kept ≡ uncovered (paths_in newer) (files_read old)
-    left = are.kept_are ∙ ap (uncovered (paths_in newer)) are.olds_are
+both_are : (old newer : Parts) (files kept : List Entry) → AreRead old newer files kept → interleaved files kept ≡ both_files old newer
+both_are old newer files kept are = λ i. interleaved (are.files_are i) (are.kept_are i)
 
-pub both_can_add : (old newer : Parts) (files olds kept : List Entry) → AreRead old newer files olds kept → AreParts old → AreParts newer → AllByRecursion CanAdd (interleaved files kept)
-both_can_add old newer files olds kept are a b =
-    subst (AllByRecursion CanAdd) (sym (both_are old newer files olds kept are)) (all_interleaved CanAdd (files_read newer) (uncovered (paths_in newer) (files_read old)) (files_can_add newer b) (all_kept CanAdd (paths_in newer) (files_read old) (files_can_add old a)))
+pub both_can_add : (old newer : Parts) (files kept : List Entry) → AreRead old newer files kept → AreParts old → AreParts newer → AllByRecursion CanAdd (interleaved files kept)
+both_can_add old newer files kept are a b =
+    subst (AllByRecursion CanAdd) (sym (both_are old newer files kept are)) (all_interleaved CanAdd (files_read newer) (uncovered (paths_in newer) (files_read old)) (files_can_add newer b) (all_kept CanAdd (paths_in newer) (files_read old) (files_can_add old a)))
 
-pub both_sorted : (old newer : Parts) (files olds kept : List Entry) → AreRead old newer files olds kept → AreTested old newer → map'.is_sorted bytes_cmp (interleaved files kept) ≡ true
-both_sorted old newer files olds kept are tested = ap (map'.is_sorted bytes_cmp) (both_are old newer files olds kept are) ∙ sorted_up (both_files old newer) (both_up old newer tested)
+pub both_sorted : (old newer : Parts) (files kept : List Entry) → AreRead old newer files kept → AreTested old newer → map'.is_sorted bytes_cmp (interleaved files kept) ≡ true
+both_sorted old newer files kept are tested = ap (map'.is_sorted bytes_cmp) (both_are old newer files kept are) ∙ sorted_up (both_files old newer) (both_up old newer tested)
 
-pub both_built : (old newer : Parts) (paths : List (List ℕ)) (files olds kept : List Entry) → paths ≡ set.items (join_paths (paths_in old) (paths_in newer)) → AreRead old newer files olds kept → AreTested old newer → image_of paths (interleaved files kept) ≡ joined_index old newer
-both_built old newer paths files olds kept listed are tested =
-    (λ i. image_of (listed i) (both_are old newer files olds kept are i)) ∙ index_joined old newer tested
+pub both_built : (old newer : Parts) (paths : List (List ℕ)) (files kept : List Entry) → paths ≡ set.items (join_paths (paths_in old) (paths_in newer)) → AreRead old newer files kept → AreTested old newer → image_of paths (interleaved files kept) ≡ joined_index old newer
+both_built old newer paths files kept listed are tested =
+    (λ i. image_of (listed i) (both_are old newer files kept are i)) ∙ index_joined old newer tested
 
 -- ---- what is answered
 

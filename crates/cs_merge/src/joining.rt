@@ -9,7 +9,7 @@ ghost use Rattle.cs_merge.specs.Joinable.{are_covered, both_ascend, both_whole, 
 ghost use Rattle.cs_merge.specs.Joining.{IsJoined, IsJoinFault};
 
 use crate::building::build;
-use crate::covering::{drop_covered, is_under};
+use crate::covering::{is_under, kept_files};
 use crate::fault::MergeFault;
 use crate::files::read_files;
 use cs_index::{Index, IndexFault, Texts};
@@ -65,9 +65,8 @@ fn join(alloc: Global, most: u32, old: &Index<'_>, newer: &Index<'_>) -> Result<
     requires tested { AreTested old.now newer.now }
     ensures { MatchResult result (λ index. IsJoined old.now newer.now most index.items) (λ fault. IsJoinFault old.now newer.now most fault) }
 {
-    let mut old_files = read_files(alloc, old)?;
+    let old_files = kept_files(alloc, old, newer)?;
     let newer_files = read_files(alloc, newer)?;
-    drop_covered(&mut old_files, newer);
     let paths = joined_paths(alloc, old, newer)?;
     build(alloc, most, &paths, &old_files, &newer_files)
 }

@@ -297,13 +297,23 @@ while [ $time -lt 20 ]; do
 done
 try 0 '' '' "cindex -reset trees/real"
 holds "cmp -s index results/new && [ ! -e index~ ]"
-CSEARCHINDEX=$home/results/small "$program" cindex -reset trees/b
+# Of two runs one may find that the other is writing. One of them is done.
+CSEARCHINDEX=$home/results/both "$program" cindex -reset trees/real trees/b
 for time in 1 2 3 4 5; do
-    "$program" cindex -reset trees/real 2>/dev/null &
-    "$program" cindex -reset trees/b 2>/dev/null &
+    cp results/old index
+    "$program" cindex -reset trees/real 2> results/one &
+    "$program" cindex -reset trees/real trees/b 2> results/two &
     wait
-    holds "cmp -s index results/new || cmp -s index results/small"
+    holds "cmp -s index results/new || cmp -s index results/both"
+    holds "[ ! -e index~ ] && ! cat results/one results/two | grep -vx \"codesearch: cannot write \$home/index\""
 done
+cp results/old index
+if command -v flock > /dev/null; then
+    try 2 '' "codesearch: cannot write $home/index\n" "flock index~ \"\$program\" cindex trees/b"
+    holds "cmp -s index results/old && rm index~"
+else
+    skipped 'a run while another is sure to write: there is no flock'
+fi
 
 # ---- the Go tools -----------------------------------------------------------------------------------------------------
 try 0 '' '' "cindex -reset trees/real"

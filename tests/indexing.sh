@@ -147,9 +147,12 @@ try 2 '' "codesearch: cannot read $home/trees\n" "CSEARCHINDEX=\$home/trees cind
 try 2 '' "codesearch: cannot read $home/trees\n" "CSEARCHINDEX=\$home/trees csearch x"
 try 2 '' "codesearch: cannot write $home/index\n" "(ulimit -f 1; trap '' XFSZ; cindex trees/b)"
 holds "cmp -s index results/old && [ ! -e index~ ]"
-: > index~
+# What a killed run left behind is written over, though it is longer.
+head -c 1000000 /dev/zero > index~
 try 0 '' '' "cindex trees/b"
 holds "[ ! -e index~ ]"
+try 0 "$home/trees/a\n$home/trees/b\n" '' "cindex -list"
+try 0 "$home/trees/b/many: 2000\n" '' "csearch -c 'line [0-9]+ of many'"
 # What is at FILE~ and is no file of ours stays as it is, and FILE too.
 cp results/old index
 printf 'other\n' > results/other

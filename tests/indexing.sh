@@ -149,9 +149,12 @@ try 2 '' "codesearch: cannot read $home/trees\n" "CSEARCHINDEX=\$home/trees cind
 try 2 '' "codesearch: cannot read $home/trees\n" "CSEARCHINDEX=\$home/trees csearch x"
 try 2 '' "codesearch: cannot write $home/index\n" "(ulimit -f 1; trap '' XFSZ; cindex trees/b)"
 holds "cmp -s index results/old && [ ! -e index~ ]"
-: > index~
+# What a killed run left behind is written over, though it is longer.
+head -c 1000000 /dev/zero > index~
 try 0 '' '' "cindex trees/b"
 holds "[ ! -e index~ ]"
+try 0 "$home/trees/a\n$home/trees/b\n" '' "cindex -list"
+try 0 "$home/trees/b/many: 2000\n" '' "csearch -c 'line [0-9]+ of many'"
 # What is at FILE~ and is no file of ours stays as it is, and FILE too.
 cp results/old index
 printf 'other\n' > results/other
@@ -299,13 +302,23 @@ while [ $time -lt 20 ]; do
 done
 try 0 '' '' "cindex -reset trees/real"
 holds "cmp -s index results/new && [ ! -e index~ ]"
-CSEARCHINDEX=$home/results/small "$program" cindex -reset trees/b
+# Of two runs one may find that the other is writing. One of them is done.
+CSEARCHINDEX=$home/results/both "$program" cindex -reset trees/real trees/b
 for time in 1 2 3 4 5; do
-    "$program" cindex -reset trees/real 2>/dev/null &
-    "$program" cindex -reset trees/b 2>/dev/null &
+    cp results/old index
+    "$program" cindex -reset trees/real 2> results/one &
+    "$program" cindex -reset trees/real trees/b 2> results/two &
     wait
-    holds "cmp -s index results/new || cmp -s index results/small"
+    holds "cmp -s index results/new || cmp -s index results/both"
+    holds "[ ! -e index~ ] && ! cat results/one results/two | grep -vx \"codesearch: cannot write \$home/index\""
 done
+cp results/old index
+if command -v flock > /dev/null; then
+    try 2 '' "codesearch: cannot write $home/index\n" "flock index~ \"\$program\" cindex trees/b"
+    holds "cmp -s index results/old && rm index~"
+else
+    skipped 'a run while another is sure to write: there is no flock'
+fi
 
 # ---- the Go tools -----------------------------------------------------------------------------------------------------
 try 0 '' '' "cindex -reset trees/real"

@@ -1,10 +1,10 @@
 -- The equations of `holds`, one for each variant.
-use Rattle.std.proofs.Common.{◌≡◌, ℕ, suc, ◌+◌, ◌<◌, ◌≤◌, ◌&&◌, ◌||◌, Bool, true, false, List, [], ◌∷◌, ◌++◌, drop, length, map, get_or, Vec, Global, refl, sym, ◌∙◌, ap, arith, drop-cons, length-drop}
+use Rattle.std.proofs.Common.{◌≡◌, ℕ, ◌+◌, ◌≤◌, ◌&&◌, ◌||◌, Bool, true, false, List, [], ◌∷◌, ◌++◌, drop, length, map, Vec, Global, refl, sym, ◌∙◌, ap, arith, length-drop}
 use Rattle.std.specs.Prelude.{nat_lt}
 use Rattle.std.specs.List.{list_all, list_any}
 use Rattle.std.proofs.lemmas.Bool.{and_from}
 use Rattle.std.proofs.lemmas.List.Folds.{list_all-map, list_all-append, list_any-append}
-use Rattle.cs_trigram.specs.Trigram.{trigram, windows}
+use Rattle.cs_trigram.specs.Trigram.{windows}
 use Rattle.cs_trigram.specs.Query.{holds, holds_step, are_trigrams, numbers_step}
 use Rattle.cs_query.specs.Sample.{all_hold, some_holds, has_any}
 use Rattle.cs_trigram.specs.declared.queries.Query.{Query, Query-F, fold-roll-Query}
@@ -50,10 +50,6 @@ numbers-Or members =
     ap are_trigrams (sym (rolls-Or members)) ∙ fold-roll-Query Bool numbers_step (Query-F.Or members)
     ∙ list_all-map (λ b. b) are_trigrams members.items
 
-and_assoc : (a b c : Bool) → ((a && b) && c) ≡ (a && (b && c))
-and_assoc true b c = refl
-and_assoc false b c = refl
-
 or_assoc : (a b c : Bool) → ((a || b) || c) ≡ (a || (b || c))
 or_assoc true b c = refl
 or_assoc false b c = refl
@@ -86,26 +82,6 @@ windows_short [] h = refl
 windows_short (a ∷ []) h = refl
 windows_short (a ∷ b ∷ []) h = refl
 windows_short (a ∷ b ∷ c ∷ rest) h = absurd (omega arith)
-
-pub windows_at : (text : List ℕ) (at a b c : ℕ) → at + 2 < length text → a ≡ get_or text at a → b ≡ get_or text (at + 1) b → c ≡ get_or text (at + 2) c →
-    windows (drop at text) ≡ trigram a b c ∷ windows (drop (at + 1) text)
-windows_at text at a b c lt ea eb ec =
-    let one : suc at ≡ at + 1 = omega arith in
-    let two : suc (at + 1) ≡ at + 2 = omega arith in
-    let first : drop at text ≡ a ∷ drop (at + 1) text = drop-cons text at a (omega arith) ∙ ap (λ x. x ∷ drop (suc at) text) (sym ea) ∙ ap (λ n. a ∷ drop n text) one in
-    let second : drop (at + 1) text ≡ b ∷ drop (at + 2) text = drop-cons text (at + 1) b (omega arith) ∙ ap (λ x. x ∷ drop (suc (at + 1)) text) (sym eb) ∙ ap (λ n. b ∷ drop n text) two in
-    let third : drop (at + 2) text ≡ c ∷ drop (suc (at + 2)) text = drop-cons text (at + 2) c lt ∙ ap (λ x. x ∷ drop (suc (at + 2)) text) (sym ec) in
-    let rest : drop (at + 1) text ≡ b ∷ c ∷ drop (suc (at + 2)) text = second ∙ ap (λ (x : List ℕ). b ∷ x) third in
-    ap windows (first ∙ ap (λ (x : List ℕ). a ∷ x) rest) ∙ ap (λ (x : List ℕ). trigram a b c ∷ windows x) (sym rest)
-
--- one trigram more
-pub trigram_step : (set : ℕ → Bool) (members : List Query) (text : List ℕ) (at a b c : ℕ) → at + 2 < length text → a ≡ get_or text at a → b ≡ get_or text (at + 1) b → c ≡ get_or text (at + 2) c →
-    (all_hold (members ++ Tri (trigram a b c) ∷ []) set && list_all set (windows (drop (at + 1) text))) ≡ (all_hold members set && list_all set (windows (drop at text)))
-trigram_step set members text at a b c lt ea eb ec =
-    let rest = list_all set (windows (drop (at + 1) text)) in
-    ap (λ x. x && rest) (all_hold_push set members (Tri (trigram a b c)) ∙ ap (λ x. all_hold members set && x) (holds-Tri set (trigram a b c)))
-    ∙ and_assoc (all_hold members set) (set (trigram a b c)) rest
-    ∙ ap (λ (ns : List ℕ). all_hold members set && list_all set ns) (sym (windows_at text at a b c lt ea eb ec))
 
 pub trigram_end : (set : ℕ → Bool) (members : List Query) (text : List ℕ) (at : ℕ) → length text ≤ at + 2 →
     (all_hold members set && list_all set (windows (drop at text))) ≡ all_hold members set

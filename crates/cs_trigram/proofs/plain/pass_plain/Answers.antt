@@ -1,4 +1,4 @@
-use Rattle.std.proofs.Common.{◌<◌, ◌≤◌, ◌+◌, ◌∙◌, sym, ap, subst, refl, length, arith, length-append}
+use Rattle.std.proofs.Common.{◌≤◌, ◌+◌, ◌∙◌, sym, ap, subst, refl, length, arith, length-append}
 use Rattle.cs_trigram.specs.Text.{last_byte, line_so_far}
 use Rattle.cs_trigram.specs.Plain.{LinesFit, Follow, column_behind}
 use Rattle.cs_trigram.proofs.PlainLemmas.{follow_passes, column-append, last_byte-append}

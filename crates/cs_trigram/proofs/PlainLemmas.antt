@@ -1,13 +1,13 @@
 -- Why bytes that are plainly text break no rule.
-use Rattle.std.proofs.Common.{◌≡◌, ◌≤◌, ◌<◌, ℕ, suc, ◌+◌, ◌-◌, true, false, not, cond, ◌&&◌, ◌||◌, ltb, leb, eqb, List, [], ◌∷◌, ◌++◌, length, take, drop, get_or, Some, None, refl, sym, ap, subst, ◌∙◌, inl, inr, arith, length-append, length-take, append_assoc, take-append-drop}
-use Rattle.std.proofs.lemmas.Bool.{cases_lt, eq-eqb, ne_eqb, lt-ltb, le-ltb, lt-leb, le-leb, or_left}
+use Rattle.std.proofs.Common.{◌≡◌, ◌≤◌, ◌<◌, ℕ, zero, suc, Bool, ◌+◌, ◌-◌, true, false, not, cond, ◌&&◌, ◌||◌, ltb, leb, eqb, List, [], ◌∷◌, ◌++◌, length, take, drop, get_or, Some, None, refl, sym, ap, subst, ◌∙◌, inl, inr, arith, length-append, length-take, append_assoc, take-append-drop}
+use Rattle.std.proofs.lemmas.Bool.{cases_lt, and_parts, not-true, eqb-false, eq-eqb, ne_eqb, lt-ltb, le-ltb, lt-leb, le-leb, or_left}
 use Rattle.std.proofs.lemmas.List.{append-nil, take_more}
 use Rattle.std.specs.List.{AllByRecursion}
 use Rattle.cs_trigram.specs.declared.limits.Limits.{Limits}
 use Rattle.cs_trigram.specs.declared.scan.Reason.TheVariants.{Nul, Utf8, TooLong, LongLine}
 use Rattle.cs_trigram.specs.Text.{may_follow, last_byte, line_so_far, broken, first_broken, or_else}
 use Rattle.cs_trigram.proofs.PlaceLemmas.{last_byte-push, length-line-push}
-use Rattle.cs_trigram.specs.Plain.{IsPlainByte, next_column, column_behind, LinesFit}
+use Rattle.cs_trigram.specs.Plain.{IsPlainByte, Follow, next_column, column_behind, LinesFit}
 
 next_column_le : (column b : ℕ) → next_column column b ≤ column + 1
 next_column_le column b = elim (eqb b 10) as (λ t. cond t 0 (column + 1) ≤ column + 1) [ true ↦ omega arith | false ↦ omega arith ]
@@ -62,21 +62,38 @@ plain_follows before b early some low =
       | inr later ↦ ap (λ t. cond t (ltb b 128 || (leb 192 b && leb b 247)) (cond (ltb before 192) (leb b 247) (cond (ltb before 248) (leb 128 b && ltb b 192) false))) (le-ltb before 128 later) ∙ ap (λ t. cond t (leb b 247) (cond (ltb before 248) (leb 128 b && ltb b 192) false)) (lt-ltb before 192 early) ∙ le-leb b 247 (omega (arith, low))
     ]
 
-plain_unbroken : (most : Limits) (front : List ℕ) (b : ℕ) → last_byte front < 192 → IsPlainByte b → length front < most.bytes → length (line_so_far front) < most.line → broken most front b ≡ None
-plain_unbroken most front b early plain room fits =
-    ap (λ t. cond t (Some Nul) (cond (not (may_follow (last_byte front) b)) (Some Utf8) (cond (leb most.bytes (length front)) (Some TooLong) (cond (leb most.line (length (line_so_far front))) (Some LongLine) None)))) (ne_eqb b 0 (λ is. omega (arith, is, plain.0)))
-    ∙ ap (λ t. cond (not t) (Some Utf8) (cond (leb most.bytes (length front)) (Some TooLong) (cond (leb most.line (length (line_so_far front))) (Some LongLine) None))) (plain_follows (last_byte front) b early plain.0 plain.1)
+-- ASCII bytes follow each other
+pub plain_follow : (before : ℕ) (bytes : List ℕ) → before < 192 → AllByRecursion IsPlainByte bytes → Follow before bytes
+plain_follow before [] early plain = tt
+plain_follow before (b ∷ rest) early plain =
+    (plain.0.0, plain_follows before b early plain.0.0 plain.0.1, plain_follow b rest (omega (arith, plain.0.1)) plain.1)
+
+above_zero : (n : ℕ) → (n ≡ 0 → ⊥) → 0 < n
+above_zero zero some = absurd (some refl)
+above_zero (suc n) some = omega arith
+
+-- one byte more before those that follow it
+pub Follow-more : (before b : ℕ) (fit may : Bool) (rest : List ℕ) → (fit && not (eqb b 0)) && may ≡ true → may ≡ may_follow before b → Follow b rest → (fit ≡ true) × Follow before (b ∷ rest)
+Follow-more before b fit may rest all is follow =
+    let parts = and_parts (fit && not (eqb b 0)) may all in
+    let first = and_parts fit (not (eqb b 0)) parts.0 in
+    (first.0, (above_zero b (eqb-false b 0 (not-true (eqb b 0) first.1)), sym is ∙ parts.1, follow))
+
+follow_unbroken : (most : Limits) (front : List ℕ) (b : ℕ) → 0 < b → may_follow (last_byte front) b ≡ true → length front < most.bytes → length (line_so_far front) < most.line → broken most front b ≡ None
+follow_unbroken most front b some may room fits =
+    ap (λ t. cond t (Some Nul) (cond (not (may_follow (last_byte front) b)) (Some Utf8) (cond (leb most.bytes (length front)) (Some TooLong) (cond (leb most.line (length (line_so_far front))) (Some LongLine) None)))) (ne_eqb b 0 (λ is. omega (arith, is, some)))
+    ∙ ap (λ t. cond (not t) (Some Utf8) (cond (leb most.bytes (length front)) (Some TooLong) (cond (leb most.line (length (line_so_far front))) (Some LongLine) None))) may
     ∙ ap (λ t. cond t (Some TooLong) (cond (leb most.line (length (line_so_far front))) (Some LongLine) None)) (lt-leb most.bytes (length front) room)
     ∙ ap (λ t. cond t (Some LongLine) None) (lt-leb most.line (length (line_so_far front)) fits)
 
-pub plain_passes : (most : Limits) (front bytes : List ℕ) → last_byte front < 192 → AllByRecursion IsPlainByte bytes → length front + length bytes ≤ most.bytes → LinesFit most.line (length (line_so_far front)) bytes → first_broken most front bytes ≡ None
-plain_passes most front [] early plain room fits = refl
-plain_passes most front (b ∷ rest) early plain room fits =
-    let here : broken most front b ≡ None = plain_unbroken most front b early plain.0 (omega (arith, room)) fits.0 in
-    let low : last_byte (front ++ b ∷ []) < 192 = omega (arith, last_byte-push front b, plain.0.1) in
+pub follow_passes : (most : Limits) (front bytes : List ℕ) → Follow (last_byte front) bytes → length front + length bytes ≤ most.bytes → LinesFit most.line (length (line_so_far front)) bytes → first_broken most front bytes ≡ None
+follow_passes most front [] follow room fits = refl
+follow_passes most front (b ∷ rest) follow room fits =
+    let here : broken most front b ≡ None = follow_unbroken most front b follow.0 follow.1 (omega (arith, room)) fits.0 in
+    let follow_rest : Follow (last_byte (front ++ b ∷ [])) rest = rw (last_byte-push front b) follow.2 in
     let fits_rest : LinesFit most.line (length (line_so_far (front ++ b ∷ []))) rest = rw (length-line-push front b) fits.1 in
     ap (λ r. or_else r (first_broken most (front ++ b ∷ []) rest)) here
-    ∙ plain_passes most (front ++ b ∷ []) rest low plain.1 (omega (arith, room, length-append front (b ∷ []))) fits_rest
+    ∙ follow_passes most (front ++ b ∷ []) rest follow_rest (omega (arith, room, length-append front (b ∷ []))) fits_rest
 
 -- the column behind some more bytes
 pub column-append : (front bytes : List ℕ) → length (line_so_far (front ++ bytes)) ≡ column_behind (length (line_so_far front)) bytes

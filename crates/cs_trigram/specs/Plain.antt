@@ -1,9 +1,15 @@
 -- Bytes of which it is plain to see that they break no rule.
-use Rattle.std.specs.Prelude.{ℕ, ◌+◌, ◌<◌, nat_eq, if◌then◌else◌, List, [], ◌∷◌}
+use Rattle.std.specs.Prelude.{◌≡◌, ℕ, ◌+◌, ◌<◌, true, nat_eq, if◌then◌else◌, List, [], ◌∷◌}
+use Rattle.cs_trigram.specs.Text.{may_follow}
 
 -- an ASCII character that is not 00
 abbrev pub IsPlainByte : ℕ → Type 0
 IsPlainByte b = (0 < b) × (b < 128)
+
+-- no byte is 00, and each may stand behind the one before it, the first behind this one
+abbrev pub Follow : ℕ → List ℕ → Type 0
+Follow before [] = Unit {0}
+Follow before (b ∷ rest) = (0 < b) × (may_follow before b ≡ true) × Follow b rest
 
 -- the column behind one more byte
 abbrev pub next_column : ℕ → ℕ → ℕ

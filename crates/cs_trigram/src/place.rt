@@ -32,7 +32,7 @@ fn is_lead(byte: u8) -> bool
 }
 
 /// Which byte may stand after which.
-fn may_follow(before: u8, byte: u8) -> bool
+pub fn may_follow(before: u8, byte: u8) -> bool
     ensures { result ≡ may_follow before byte }
 {
     if before < 0x80 {

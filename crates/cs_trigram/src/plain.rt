@@ -1,11 +1,11 @@
-// A quick test for bytes that break no rule, as most files have them.
+// A quick test for bytes that break no rule, as most files have them. It does not look for a reason.
 ghost use Rattle.std.specs.Prelude.{◌≡◌, ◌+◌, ◌-◌, ◌<◌, ◌≤◌, ◌^◌, ℕ, List, [], ◌++◌, length, IsTrue, IfSome, IfOk, Ok};
 ghost use Rattle.std.specs.List.{AllByRecursion};
 ghost use Rattle.cs_trigram.specs.Place.{IsSmall, Stands, Passes};
-ghost use Rattle.cs_trigram.specs.Plain.{LinesFit, column_behind, IsPlainByte};
+ghost use Rattle.cs_trigram.specs.Plain.{LinesFit, column_behind, IsPlainByte, Follow};
 
 use crate::limits::Limits;
-use crate::place::{Place, pass_each};
+use crate::place::{Place, may_follow, pass_each};
 use crate::scan::Reason;
 use memchr::{memchr, memrchr};
 
@@ -14,6 +14,28 @@ fn is_plain(bytes: &[u8]) -> bool
     ensures { IsTrue result → AllByRecursion IsPlainByte bytes.now }
 {
     bytes.is_ascii() && memchr(0, bytes).is_none()
+}
+
+/// Whether no byte is 00, and each may stand behind the one before it. It goes on behind one that may
+/// not, since without a branch many bytes are tested at once.
+fn follow(before: u8, bytes: &[u8]) -> bool
+    ensures { IsTrue result → Follow before bytes.now }
+{
+    let mut fit = true;
+    let mut last = before;
+    for byte in bytes {
+        fit = fit & (*byte != 0) & may_follow(last, *byte);
+        last = *byte;
+    }
+    fit
+}
+
+/// Whether the bytes are a text as far as the pairs of bytes tell, with a shorter way for ASCII.
+#[tactic(auto, using(crate::proofs::PlainLemmas::plain_follow))]
+fn is_text(before: u8, bytes: &[u8]) -> bool
+    ensures { IsTrue result → Follow before bytes.now }
+{
+    before < 0xc0 && is_plain(bytes) || follow(before, bytes)
 }
 
 /// How many bytes of its line stand before the end of the bytes, where no line is too long.
@@ -59,7 +81,7 @@ fn pass_plain(limits: &Limits, place: Place, bytes: &[u8]) -> Option<Place>
 {
     let last = bytes.last()?;
     let count = place.count + bytes.len() as u64;
-    if limits.bytes < count || 0xc0 <= place.before || !is_plain(bytes) {
+    if limits.bytes < count || !is_text(place.before, bytes) {
         return None;
     }
     let column = column_behind(limits.line, place.column, bytes)?;
@@ -85,7 +107,8 @@ fn pass_piece(limits: &Limits, place: Place, bytes: &[u8]) -> Result<Place, Reas
     }
 }
 
-/// So many bytes are tested at a time. Where one of them is not plain, all are tested one by one.
+/// So many bytes are tested at a time. Where one of them breaks a rule, they are gone through one by
+/// one for the reason.
 const PIECE: usize = 1024;
 
 /// The place behind some more bytes, or the rule that is broken first.

@@ -198,6 +198,45 @@ fn small_limits(rt: HostRuntime) -> Result<(), Fail> {
     Ok(())
 }
 
+/// Some bytes, then a letter of two bytes so many times, and then some others.
+fn letters(rt: &HostRuntime, front: &[u8], count: usize, others: &[u8]) -> Result<Vec<u8>, Fail> {
+    let mut file = Vec::from_slice(rt.alloc(), front)?;
+    for _letter in 0..count {
+        file.extend_from_slice(b"\xc3\xa9")?;
+    }
+    file.extend_from_slice(others)?;
+    Ok(file)
+}
+
+#[test]
+fn letters_past_ascii(rt: HostRuntime) -> Result<(), Fail> {
+    let mut scanner = Scanner::new(rt.alloc())?;
+    let parts = [b"\xa9\xc3\xa9", b"\xc3\xa9\xc3"];
+    for (front, count, others, want) in [
+        (&b""[..], 600, &b""[..], text(&rt, &parts, 1200)?),
+        (&b""[..], 1000, &b""[..], text(&rt, &parts, 2000)?),
+        (&b""[..], 1000, &b"\n"[..], Scan::Skip(Reason::LongLine)),
+        (&b""[..], 600, &b"\x00"[..], Scan::Skip(Reason::Nul)),
+        (&b""[..], 600, &b"\xc3a"[..], Scan::Skip(Reason::Utf8)),
+        (&b""[..], 600, &b"\xf8"[..], Scan::Skip(Reason::Utf8)),
+        (&b""[..], 512, &b"aaa\x80"[..], Scan::Skip(Reason::Utf8)),
+        (&b"\n"[..], 511, &b"\xc3a"[..], Scan::Skip(Reason::Utf8)),
+        (&b"\n"[..], 511, &b"\xc3\x00"[..], Scan::Skip(Reason::Nul)),
+        (&b"\xff"[..], 600, &b"\x00"[..], Scan::Skip(Reason::Utf8)),
+    ] {
+        let file = letters(&rt, front, count, others)?;
+        for step in [1, 1023, 1024, 65_536] {
+            let mut source = MemSource::new(&file, step, false);
+            assert_eq!(rt;
+                scanner.scan(&mut source)?,
+                want,
+                "at {front:?}, {count} letters and {others:?}, {step} at a time"
+            );
+        }
+    }
+    Ok(())
+}
+
 #[test]
 fn larger_than_a_block(rt: HostRuntime) -> Result<(), Fail> {
     let mut file = Vec::new(rt.alloc());

@@ -103,4 +103,4 @@ while let Some
 String::from_str
 PATTERNS
 same "csearch -i REQUIRES" "LC_ALL=C xargs grep -aiEH REQUIRES < results/names"
-same "csearch -l -f '\.rt\$' unsafe; true" "grep '\.rt\$' results/names | LC_ALL=C xargs grep -aEl unsafe; true"
+same "csearch -l -f '\.rt\$' unwrap_or" "grep '\.rt\$' results/names | LC_ALL=C xargs grep -aEl unwrap_or"

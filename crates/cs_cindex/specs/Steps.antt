@@ -60,6 +60,7 @@ pub record IsStep (job : IndexJob) (tree : Seen) (reply : Reply) (old new : Stan
   pub index : Indexes (job ∷ []) (tree.snapshot ∷ []) (reply ∷ []) old.index new.index
   pub cause : HasCause job tree.snapshot old.index reply
   pub keeps : KeepsIndex job reply old.index new.index
+  -- where the job walks; with `-reset` it goes on from none
   pub walked : reply ≡ Done → Walks job → IsNext job tree.snapshot (base job old.index) new.index
   pub out : TakesBy reply (list_lines (kind_of job) old.index) old.out new.out
   pub err : TellsBy (kind_of job) reply job tree.snapshot old.index tree.failed tree.failed_then old.err new.err

@@ -10,7 +10,7 @@ use Rattle.cs_trigram.specs.declared.queries.Query.TheVariants.{All, Nothing, Tr
 use Rattle.cs_tree.specs.Cover.{same}
 use Rattle.cs_index.specs.Image.{has, ListEntry, Posting, three_bytes}
 use Rattle.cs_index.specs.Spelling.{Ascends, Ids, RiseWithin, damaged, read_ids, set_at}
-use Rattle.cs_index.specs.Opening.{Parts, entry_of, ids_read, lists_in, rises}
+use Rattle.cs_index.specs.Opening.{Parts, entry_of, ids_read, lists_in, rises, whole_ids}
 use Rattle.cs_index.specs.Candidates.{asks_for, asks_step, candidates_of, is_answerable, meets, names_that, nothing_read, read_for}
 use Rattle.cs_index.proofs.SpellingLemmas.{ascends_tail, ascends_head}
 use Rattle.cs_index.proofs.TransposeLemmas.{ascends_same, below_none}
@@ -145,12 +145,12 @@ module _ (parts : Parts) where
 
 -- ---- the list of a trigram
 
-no_set : (f : ListEntry → Ids) (g k : ℕ) (es : List ListEntry) → has (map (λ (e : ListEntry). e.trigram) es) g ≡ false → has (set_at k (map (λ (e : ListEntry). (e.trigram, (f e).ids)) es)) g ≡ false
+no_set : (f : ListEntry → Ids) (g k : ℕ) (es : List ListEntry) → has (map (λ (e : ListEntry). e.trigram) es) g ≡ false → has (set_at k (map (λ (e : ListEntry). (e.trigram, whole_ids (f e))) es)) g ≡ false
 no_set f g k [] h = refl
 no_set f g k (e ∷ es) h =
     let both = neither (eqb e.trigram g) (has (map (λ (d : ListEntry). d.trigram) es) g) h in
-    cond_both (has (f e).ids k) ((e.trigram, (f e).ids) ∷ filter (λ (p : Posting). has p.1 k) (map (λ (d : ListEntry). (d.trigram, (f d).ids)) es)) (filter (λ (p : Posting). has p.1 k) (map (λ (d : ListEntry). (d.trigram, (f d).ids)) es)) (λ ps. has (map (λ (p : Posting). p.0) ps) g ≡ false)
-    (λ _. ap (λ b. b || has (set_at k (map (λ (d : ListEntry). (d.trigram, (f d).ids)) es)) g) both.0 ∙ no_set f g k es both.1)
+    cond_both (has (whole_ids (f e)) k) ((e.trigram, whole_ids (f e)) ∷ filter (λ (p : Posting). has p.1 k) (map (λ (d : ListEntry). (d.trigram, whole_ids (f d))) es)) (filter (λ (p : Posting). has p.1 k) (map (λ (d : ListEntry). (d.trigram, whole_ids (f d))) es)) (λ ps. has (map (λ (p : Posting). p.0) ps) g ≡ false)
+    (λ _. ap (λ b. b || has (set_at k (map (λ (d : ListEntry). (d.trigram, whole_ids (f d))) es)) g) both.0 ∙ no_set f g k es both.1)
     (λ _. no_set f g k es both.1)
   where
     neither : (a b : Bool) → (a || b) ≡ false → (a ≡ false) × (b ≡ false)
@@ -176,27 +176,27 @@ no_more e es g up here =
     let ts : List ℕ = map (λ (d : ListEntry). d.trigram) es in
     ap (has ts) (sym (eqb-true e.trigram g here)) ∙ below_none e.trigram ts (ascends_head e.trigram ts up) (ascends_tail e.trigram ts up)
 
-set_found : (f : ListEntry → Ids) (g k : ℕ) (es : List ListEntry) → Ascends (map (λ (e : ListEntry). e.trigram) es) → has (set_at k (map (λ (e : ListEntry). (e.trigram, (f e).ids)) es)) g ≡ has (found_ids f es g).ids k
+set_found : (f : ListEntry → Ids) (g k : ℕ) (es : List ListEntry) → Ascends (map (λ (e : ListEntry). e.trigram) es) → has (set_at k (map (λ (e : ListEntry). (e.trigram, whole_ids (f e))) es)) g ≡ has (whole_ids (found_ids f es g)) k
 unfolding found_ids
 set_found f g k [] up = refl
 set_found f g k (e ∷ es) up =
-    let rest : List Posting = filter (λ (p : Posting). has p.1 k) (map (λ (d : ListEntry). (d.trigram, (f d).ids)) es) in
+    let rest : List Posting = filter (λ (p : Posting). has p.1 k) (map (λ (d : ListEntry). (d.trigram, whole_ids (f d))) es) in
     elim (cases_Bool (eqb e.trigram g)) [
       | inl here ↦
           let none = no_set f g k es (no_more e es g up here) in
-          elim (cases_Bool (has (f e).ids k)) [
+          elim (cases_Bool (has (whole_ids (f e)) k)) [
             | inl there ↦
-                ap (λ b. has (map (λ (p : Posting). p.0) (cond b ((e.trigram, (f e).ids) ∷ rest) rest)) g) there ∙ or_left (eqb e.trigram g) (has (map (λ (p : Posting). p.0) rest) g) here
-                ∙ sym (ap (λ b. has (unwrap_or (option_map f (cond b (Some e) (find (λ (d : ListEntry). eqb d.trigram g) es))) nothing_read).ids k) here ∙ there)
+                ap (λ b. has (map (λ (p : Posting). p.0) (cond b ((e.trigram, whole_ids (f e)) ∷ rest) rest)) g) there ∙ or_left (eqb e.trigram g) (has (map (λ (p : Posting). p.0) rest) g) here
+                ∙ sym (ap (λ b. has (whole_ids (unwrap_or (option_map f (cond b (Some e) (find (λ (d : ListEntry). eqb d.trigram g) es))) nothing_read)) k) here ∙ there)
             | inr gone ↦
-                ap (λ b. has (map (λ (p : Posting). p.0) (cond b ((e.trigram, (f e).ids) ∷ rest) rest)) g) gone ∙ none
-                ∙ sym (ap (λ b. has (unwrap_or (option_map f (cond b (Some e) (find (λ (d : ListEntry). eqb d.trigram g) es))) nothing_read).ids k) here ∙ gone)
+                ap (λ b. has (map (λ (p : Posting). p.0) (cond b ((e.trigram, whole_ids (f e)) ∷ rest) rest)) g) gone ∙ none
+                ∙ sym (ap (λ b. has (whole_ids (unwrap_or (option_map f (cond b (Some e) (find (λ (d : ListEntry). eqb d.trigram g) es))) nothing_read)) k) here ∙ gone)
           ]
       | inr apart ↦
-          cond_both (has (f e).ids k) ((e.trigram, (f e).ids) ∷ rest) rest (λ ps. has (map (λ (p : Posting). p.0) ps) g ≡ has (found_ids f es g).ids k)
+          cond_both (has (whole_ids (f e)) k) ((e.trigram, whole_ids (f e)) ∷ rest) rest (λ ps. has (map (λ (p : Posting). p.0) ps) g ≡ has (whole_ids (found_ids f es g)) k)
           (λ _. ap (λ b. b || has (map (λ (p : Posting). p.0) rest) g) apart ∙ set_found f g k es (ascends_tail e.trigram (map (λ (d : ListEntry). d.trigram) es) up))
           (λ _. set_found f g k es (ascends_tail e.trigram (map (λ (d : ListEntry). d.trigram) es) up))
-          ∙ sym (ap (λ b. has (unwrap_or (option_map f (cond b (Some e) (find (λ (d : ListEntry). eqb d.trigram g) es))) nothing_read).ids k) apart)
+          ∙ sym (ap (λ b. has (whole_ids (unwrap_or (option_map f (cond b (Some e) (find (λ (d : ListEntry). eqb d.trigram g) es))) nothing_read)) k) apart)
     ]
 
 whole_found : (f : ListEntry → Ids) (g : ℕ) (es : List ListEntry) → Ascends (map (λ (e : ListEntry). e.trigram) es) → list_all (λ (e : ListEntry). not (eqb e.trigram g) || (f e).whole) es ≡ (found_ids f es g).whole
@@ -273,26 +273,34 @@ module _ (parts : Parts) where
       absorbed true false h = refl
       absorbed false false h = refl
 
+-- what holds of the ids that are read, and of none, holds of the ids of a list
+whole_or_none : (P : List ℕ → Type 0) (r : Ids) → P r.ids → P [] → P (whole_ids r)
+whole_or_none P r ids none = cond_both r.whole r.ids [] P (λ _. ids) (λ _. none)
+
 module _ (parts : Parts) (up : rises parts.entries ≡ true) where
   pub answerable-Tri : (g : ℕ) → is_answerable parts (Tri g) ≡ (read_for parts g).whole
   unfolding read_for found_ids
   answerable-Tri g = answerable_as parts (Tri g) (λ h. eqb h g) (λ h. asks-Tri h g) ∙ whole_found (ids_read parts) g parts.entries (rise_read parts.entries up)
 
-  set_is : (g k : ℕ) → has (set_at k (lists_in parts)) g ≡ has (read_for parts g).ids k
+  set_is : (g k : ℕ) → has (set_at k (lists_in parts)) g ≡ has (whole_ids (read_for parts g)) k
   unfolding read_for found_ids
   set_is g k = set_found (ids_read parts) g k parts.entries (rise_read parts.entries up)
 
-  pub candidates-Tri : (g : ℕ) → candidates_of parts (Tri g) ≡ (read_for parts g).ids
-  candidates-Tri g =
-      let ids : List ℕ = (read_for parts g).ids in
+  candidates-one : (g : ℕ) → candidates_of parts (Tri g) ≡ whole_ids (read_for parts g)
+  candidates-one g =
+      let r : Ids = read_for parts g in
+      let ids : List ℕ = whole_ids r in
       let names : List ℕ = range_with_len 0 (length parts.names) in
       candidates_as parts (Tri g) (has ids) (λ k. holds-Tri _ g ∙ set_is g k)
-      ∙ ascends_same (filter (has ids) names) ids (ascends_filter (has ids) names (ascends_range (length parts.names))) (list_ascends parts g) (λ k.
+      ∙ ascends_same (filter (has ids) names) ids (ascends_filter (has ids) names (ascends_range (length parts.names))) (whole_or_none Ascends r (list_ascends parts g) tt) (λ k.
       has-filter (has ids) names k ∙ both k (has ids k) refl)
     where
-      both : (k : ℕ) (b : Bool) → has (read_for parts g).ids k ≡ b → (has (range_with_len 0 (length parts.names)) k && b) ≡ b
-      both k true e = ap (λ t. t && true) (has_range (length parts.names) k (has_below (length parts.names) (read_for parts g).ids k (list_below parts g) e))
+      both : (k : ℕ) (b : Bool) → has (whole_ids (read_for parts g)) k ≡ b → (has (range_with_len 0 (length parts.names)) k && b) ≡ b
+      both k true e = ap (λ t. t && true) (has_range (length parts.names) k (has_below (length parts.names) (whole_ids (read_for parts g)) k (whole_or_none (AllByRecursion (λ id. id < length parts.names)) (read_for parts g) (list_below parts g) tt) e))
       both k false e = elim (has (range_with_len 0 (length parts.names)) k) as (λ t. (t && false) ≡ false) [ true ↦ refl | false ↦ refl ]
+
+  pub candidates-Tri : (g : ℕ) → (read_for parts g).whole ≡ true → candidates_of parts (Tri g) ≡ (read_for parts g).ids
+  candidates-Tri g whole = candidates-one g ∙ ap (λ b. cond b (read_for parts g).ids []) whole
 
   pub rarest_damaged : (g : ℕ) (ms : List Query) → ((test : Query → Bool) → list_all test ms ≡ true → test (Tri g) ≡ true) → (read_for parts g).whole ≡ false → list_all (is_answerable parts) ms ≡ false
   rarest_damaged g ms member bad = elim (cases_Bool (list_all (is_answerable parts) ms)) [

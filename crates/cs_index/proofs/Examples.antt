@@ -1,6 +1,8 @@
 -- Worked examples of the definitions.
 use Rattle.std.specs.Prelude.{◌≡◌, true, false, refl, List, [], ◌∷◌, ◌++◌, codes, length, flat_map}
 use Rattle.cs_index.specs.Image.{Entry, deltas_from, ids_from, image_of, posting_list, varint}
+use Rattle.cs_index.specs.Opening.{whole_ids}
+use Rattle.cs_index.specs.Spelling.{read_list}
 use Rattle.cs_index.specs.Built.{are_paths, is_above, is_storable}
 
 -- an empty folder at `/a`
@@ -47,6 +49,16 @@ two_names = refl
 short_files : length (image_of (codes "/t" ∷ []) ((codes "/t/e", []) ∷ (codes "/t/f", []) ∷ (codes "/t/g", []) ∷ [])) ≡ 92
 unfolding varint
 short_files = refl
+
+-- the one id 0: the list has it where the entry says one id, and none where it says two
+whole_list : whole_ids (read_list (codes "abc" ++ 1 ∷ 0 ∷ []) 1 (record { trigram = 0x616263; count = 1; offset = 0 })) ≡ 0 ∷ []
+whole_list = refl
+
+damaged_list : read_list (codes "abc" ++ 1 ∷ 0 ∷ []) 1 (record { trigram = 0x616263; count = 2; offset = 0 }) ≡ record { ids = 0 ∷ []; whole = false }
+damaged_list = refl
+
+no_list : whole_ids (read_list (codes "abc" ++ 1 ∷ 0 ∷ []) 1 (record { trigram = 0x616263; count = 2; offset = 0 })) ≡ []
+no_list = refl
 
 -- what a builder takes
 covered_path : are_paths (codes "/a" ∷ codes "/a/b" ∷ []) ≡ false

@@ -1,5 +1,5 @@
 -- What every index that was opened has.
-use Rattle.std.proofs.Common.{◌≡◌, inl, inr, ℕ, ◌+◌, ◌*◌, ◌<◌, ◌^◌, ◌%◌, true, ◌&&◌, eqb, List, [], ◌∷◌, length, arith}
+use Rattle.std.proofs.Common.{◌≡◌, inl, inr, ℕ, ◌%◌, true, ◌&&◌, eqb, List, [], ◌∷◌, length, arith}
 use Rattle.std.proofs.lemmas.Bool.{and_parts, or_cases}
 use Rattle.std.specs.List.{list_all}
 use Rattle.cs_index.specs.Image.{ListEntry, Sections}

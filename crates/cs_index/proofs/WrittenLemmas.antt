@@ -4,7 +4,7 @@ use Rattle.std.proofs.lemmas.List.{length-map}
 use Rattle.std.specs.List.{AllByRecursion, AllZip, list_all}
 use Rattle.cs_index.specs.Image.{Entry, ListEntry, Posting, image_of, list_entries, names_of, postings_of, posting_list, Sections}
 use Rattle.cs_index.specs.Spelling.{Ascends, IsIndexable, IsList, entries_of, read_list, set_at}
-use Rattle.cs_index.specs.Opening.{Has, Parts, lists_in, opened, parts_written}
+use Rattle.cs_index.specs.Opening.{Has, Parts, lists_in, opened, parts_written, whole_ids}
 use Rattle.cs_index.proofs.ListedLemmas.{image_lists}
 use Rattle.cs_index.proofs.OpenedLemmas.{opens_spelled}
 use Rattle.cs_index.proofs.SpellingLemmas.{image_sections, image_spelled}
@@ -16,11 +16,11 @@ image_opens paths entries h = opens_spelled (image_of paths entries) (parts_writ
 
 -- ---- lists
 
-lists_back : (section : List ℕ) (names offset : ℕ) (ps : List Posting) → AllZip (λ (e : ListEntry) (p : Posting). IsList section names e p.1) (list_entries offset ps) ps → map (λ (e : ListEntry). (e.trigram, (read_list section names e).ids)) (list_entries offset ps) ≡ ps
+lists_back : (section : List ℕ) (names offset : ℕ) (ps : List Posting) → AllZip (λ (e : ListEntry) (p : Posting). IsList section names e p.1) (list_entries offset ps) ps → map (λ (e : ListEntry). (e.trigram, whole_ids (read_list section names e))) (list_entries offset ps) ≡ ps
 lists_back section names offset [] all = refl
 lists_back section names offset (p ∷ ps) all =
     let rest = lists_back section names (offset + length (posting_list p)) ps all.1 in
-    λ i. (p.0, (all.0 i).ids) ∷ rest i
+    λ i. (p.0, whole_ids (all.0 i)) ∷ rest i
 
 whole_back : (section : List ℕ) (names offset : ℕ) (ps : List Posting) → AllZip (λ (e : ListEntry) (p : Posting). IsList section names e p.1) (list_entries offset ps) ps → list_all (λ (e : ListEntry). (read_list section names e).whole) (list_entries offset ps) ≡ true
 whole_back section names offset [] all = refl
@@ -53,7 +53,7 @@ image_has paths entries h =
     let parts : Parts = parts_written paths entries in
     let postings : List Posting = postings_of entries in
     let count : length (names_of entries) ≡ length entries = length-map entries (λ (entry : Entry). entry.0) in
-    let lists : lists_in parts ≡ postings = ap (λ n. map (λ (e : ListEntry). (e.trigram, (read_list parts.postings n e).ids)) (list_entries 0 postings)) count ∙ lists_back parts.postings (length entries) 0 postings (image_lists entries h.few) in
+    let lists : lists_in parts ≡ postings = ap (λ n. map (λ (e : ListEntry). (e.trigram, whole_ids (read_list parts.postings n e))) (list_entries 0 postings)) count ∙ lists_back parts.postings (length entries) 0 postings (image_lists entries h.few) in
     record {
       has_paths = refl;
       has_names = refl;

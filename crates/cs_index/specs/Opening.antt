@@ -172,9 +172,13 @@ ids_read parts e = read_list parts.postings (length parts.names) e
 abbrev pub told_ids : Ids → List (Result ℕ IndexFault)
 told_ids r = map (λ id. Ok id) r.ids ++ (if r.whole then [] else Err BadList ∷ [])
 
--- each trigram with the ids that are read of its list
+-- the ids of a list; a damaged one has none
+abbrev pub whole_ids : Ids → List ℕ
+whole_ids r = if r.whole then r.ids else []
+
+-- each trigram with the ids of its list
 abbrev pub lists_in : Parts → List Posting
-lists_in parts = map (λ (e : ListEntry). (e.trigram, (ids_read parts e).ids)) parts.entries
+lists_in parts = map (λ (e : ListEntry). (e.trigram, whole_ids (ids_read parts e))) parts.entries
 
 -- whether each list is whole
 abbrev pub are_whole : Parts → Bool

@@ -9,7 +9,7 @@ use Rattle.cs_index.specs.declared.fault.IndexFault.{IndexFault}
 use Rattle.cs_index.specs.declared.fault.IndexFault.TheVariants.{BadList}
 use Rattle.cs_index.specs.Image.{Entry, ListEntry, Posting, has, three_bytes}
 use Rattle.cs_index.specs.Spelling.{Ids, damaged, onto, after_delta, read_ids, read_varint, RiseWithin, entries_of, set_at}
-use Rattle.cs_index.specs.Opening.{Parts, ids_read, lists_in, are_whole, told_ids}
+use Rattle.cs_index.specs.Opening.{Parts, ids_read, lists_in, are_whole, told_ids, whole_ids}
 use Rattle.cs_merge.specs.Gathering.{one_more, given, without_trigrams, IsListFault, damaged as damaged_list, memory}
 use Rattle.cs_merge.specs.declared.fault.MergeFault.{MergeFault}
 
@@ -182,7 +182,7 @@ rise_below names next (id ∷ ids) up = (up.1, rise_below names (id + 1) ids up.
 -- ---- one list after the other
 
 abbrev pub read_posting : Parts → ListEntry → Posting
-read_posting parts e = (e.trigram, (ids_read parts e).ids)
+read_posting parts e = (e.trigram, whole_ids (ids_read parts e))
 
 lists_push : (parts : Parts) (place : ℕ) (entry : ListEntry) → slice_get parts.entries place ≡ Some entry → take {A = Posting} (place + 1) (lists_in parts) ≡ take {A = Posting} place (lists_in parts) ++ read_posting parts entry ∷ []
 lists_push parts place entry h = more parts.entries place h
@@ -238,10 +238,10 @@ found_within parts place trigram ids h =
     let at = is_at parts place trigram ids h in
     rise_below (length parts.names) 0 ids.ids (subst (λ (r : Ids). RiseWithin (length parts.names) 0 r.ids) at.ids_are (list_rises parts at.entry))
 
-pub found_given : (parts : Parts) (place trigram : ℕ) (ids : Ids) → ◌≡◌ {A = Option (ℕ × Ids)} (Some (trigram, ids)) (list_answer parts place) → given (entries_of 0 parts.names (take place (lists_in parts))) trigram ids.ids ≡ entries_of 0 parts.names (take (place + 1) (lists_in parts))
-found_given parts place trigram ids h =
+pub found_given : (parts : Parts) (place trigram : ℕ) (ids : Ids) → ◌≡◌ {A = Option (ℕ × Ids)} (Some (trigram, ids)) (list_answer parts place) → ids.whole ≡ true → given (entries_of 0 parts.names (take place (lists_in parts))) trigram ids.ids ≡ entries_of 0 parts.names (take (place + 1) (lists_in parts))
+found_given parts place trigram ids h whole =
     let at = is_at parts place trigram ids h in
-    let posting : ◌≡◌ {A = Posting} (read_posting parts at.entry) (trigram, ids.ids) = λ i. (at.trigram_is i, (at.ids_are i).ids) in
+    let posting : ◌≡◌ {A = Posting} (read_posting parts at.entry) (trigram, ids.ids) = (λ i. (at.trigram_is i, whole_ids (at.ids_are i))) ∙ ap (λ b. (trigram, cond b ids.ids [])) whole in
     given_push (length parts.names) parts.names (take place (lists_in parts)) trigram ids.ids (subst (λ (r : Ids). RiseWithin (length parts.names) 0 r.ids) at.ids_are (list_rises parts at.entry))
     ∙ ap (λ (p : Posting). entries_of 0 parts.names (take place (lists_in parts) ++ p ∷ [])) (sym posting)
     ∙ ap (entries_of 0 parts.names) (sym (lists_push parts place at.entry at.there))

@@ -1,5 +1,5 @@
 -- What opens as an index holds what the index has.
-use Rattle.std.proofs.Common.{◌≡◌, ℕ, ◌+◌, ◌<◌, ◌^◌, true, List, [], ◌∷◌, length, map, Ok, refl, sym, ap, subst, ◌∙◌}
+use Rattle.std.proofs.Common.{◌≡◌, ℕ, ◌+◌, ◌<◌, ◌^◌, true, cond, List, [], ◌∷◌, length, map, Ok, refl, sym, ap, subst, ◌∙◌}
 use Rattle.std.proofs.lemmas.Bool.{and_from, and_parts}
 use Rattle.std.specs.FinMap as map'
 use Rattle.std.specs.List.{AllZip, list_all}
@@ -7,7 +7,7 @@ use Rattle.std.specs.Ordering.{is_lt}
 use Rattle.cs_tree.specs.PathSet as set
 use Rattle.cs_tree.specs.Cover.{bytes_cmp, Paths}
 use Rattle.cs_index.specs.Image.{Files, ListEntry, Posting, Sections}
-use Rattle.cs_index.specs.Opening.{AreBytes, Parts, SpellsParts, are_whole, ids_read, lists_in, names_ascend, opened}
+use Rattle.cs_index.specs.Opening.{AreBytes, Parts, SpellsParts, are_whole, ids_read, lists_in, names_ascend, opened, whole_ids}
 use Rattle.cs_index.specs.Spelling.{Ids, entries_of}
 use Rattle.cs_index.proofs.OnceLemmas.{sections_once, spelled_once}
 use Rattle.cs_index.proofs.OpenedLemmas.{opens_spelled, spells_opened}
@@ -27,7 +27,7 @@ lists_read parts [] [] all = refl
 lists_read parts [] (p ∷ ps) all = absurd all
 lists_read parts (e ∷ es) [] all = absurd all
 lists_read parts (e ∷ es) (p ∷ ps) all =
-    let head : ◌≡◌ {A = Posting} (read_posting parts e) p = λ i. (all.0.0 i, (all.0.1 i).ids) in
+    let head : ◌≡◌ {A = Posting} (read_posting parts e) p = λ i. (all.0.0 i, whole_ids (all.0.1 i)) in
     let rest = lists_read parts es ps all.1 in
     λ i. head i ∷ rest i
 
@@ -42,7 +42,8 @@ whole_lists : (parts : Parts) (es : List ListEntry) → list_all (λ (e : ListEn
 whole_lists parts [] h = tt
 whole_lists parts (e ∷ es) h =
     let both = and_parts ((ids_read parts e).whole) (list_all (λ (d : ListEntry). (ids_read parts d).whole) es) h in
-    let all : ids_read parts e ≡ record { ids = (ids_read parts e).ids; whole = true } = λ i. record { ids = (ids_read parts e).ids; whole = both.0 i } in
+    let ids : (ids_read parts e).ids ≡ whole_ids (ids_read parts e) = sym (ap (λ b. cond b (ids_read parts e).ids []) both.0) in
+    let all : ids_read parts e ≡ record { ids = whole_ids (ids_read parts e); whole = true } = λ i. record { ids = ids i; whole = both.0 i } in
     ((refl, all), whole_lists parts es both.1)
 
 has_content : (bytes : List ℕ) (parts : Parts) (paths : Paths) (files : Files) → SpellsParts bytes parts → Holds bytes paths files → HasContent parts paths files

@@ -14,9 +14,9 @@ use Rattle.cs_tree.proofs.Least.{IsLeast, least_says}
 use Rattle.cs_tree.proofs.Sets.{contains-union, tied_same}
 use Rattle.cs_index.specs.Image.{Entry, ListEntry, Posting, three_bytes}
 use Rattle.cs_index.specs.Built.{are_paths, are_reduced, is_before, is_storable}
-use Rattle.cs_index.specs.Opening.{Parts, files_read, ids_read, is_entry, lists_in, rises}
+use Rattle.cs_index.specs.Opening.{Parts, files_read, ids_read, is_entry, lists_in, rises, whole_ids}
 use Rattle.cs_index.specs.Parts.{AreParts}
-use Rattle.cs_index.specs.Spelling.{Ascends, IsString, damaged, read_ids, set_at}
+use Rattle.cs_index.specs.Spelling.{Ascends, Ids, IsString, damaged, read_ids, set_at}
 use Rattle.cs_merge.specs.Content.{IsTrigramSet, paths_in}
 use Rattle.cs_merge.specs.Interleaving.{CanAdd}
 use Rattle.cs_merge.specs.Join.{join_paths}
@@ -37,12 +37,17 @@ same_keys : (parts : Parts) (es : List ListEntry) → map (λ (p : Posting). p.0
 same_keys parts [] = refl
 same_keys parts (e ∷ es) = ap (λ rest. e.trigram ∷ rest) (same_keys parts es)
 
-no_ids : (parts : Parts) (e : ListEntry) → e.count ≡ 0 → (ids_read parts e).ids ≡ []
-no_ids parts e h =
+none_read : (parts : Parts) (e : ListEntry) → e.count ≡ 0 → (ids_read parts e).ids ≡ []
+none_read parts e h =
     elim (same (take 3 (drop e.offset parts.postings)) (three_bytes e.trigram)) as (λ b. (cond b (read_ids (length parts.names) e.count 0 (drop (e.offset + 3) parts.postings)) damaged).ids ≡ []) [
       | true ↦ ap (λ n. (read_ids (length parts.names) n 0 (drop (e.offset + 3) parts.postings)).ids) h
       | false ↦ refl
     ]
+
+no_ids : (parts : Parts) (e : ListEntry) → e.count ≡ 0 → whole_ids (ids_read parts e) ≡ []
+no_ids parts e h =
+    let r : Ids = ids_read parts e in
+    elim r.whole as (λ b. cond b r.ids [] ≡ []) [ true ↦ none_read parts e h | false ↦ refl ]
 
 list_fits : (parts : Parts) (e : ListEntry) → is_entry (length parts.postings) e ≡ true → Fits (read_posting parts e)
 list_fits parts e h =

@@ -9,14 +9,15 @@ use Rattle.cs_index.specs.Image.{has}
 use Rattle.cs_index.specs.Spelling.{Ascends, Ids}
 use Rattle.cs_index.specs.Opening.{Parts, rises}
 use Rattle.cs_index.specs.Candidates.{candidates_of, is_answerable, meets, names_that, read_for}
+use Rattle.cs_index.proofs.ResultLemmas.{both_ok}
 use Rattle.cs_index.proofs.SiftLemmas.{ascends_filter, filter_all, filter_filter}
 use Rattle.cs_index.proofs.ToldLemmas.{fault_of, or_none}
 use Rattle.cs_index.proofs.AskedLemmas.{answerable-All, answerable-And, answerable-Nothing, answerable-Or, answerable-Tri, candidates-All, candidates-And, candidates-Nothing, candidates-Or, candidates-Tri, candidates_ascend, candidates_below, list_ascends, list_below, some_member}
 use Rattle.cs_index.proofs.candidates.+candidates.Goals as goal
 
 -- the list of the trigram that a query is
-tri_ids : (parts : Parts) (up : rises parts.entries ≡ true) (query : Query) (g : ℕ) (list : Ids) → query ≡ Tri g → list ≡ read_for parts g → list.ids ≡ candidates_of parts query
-tri_ids parts up query g list is read = ap (λ (r : Ids). r.ids) read ∙ sym (candidates-Tri parts up g) ∙ ap (candidates_of parts) (sym is)
+tri_ids : (parts : Parts) (up : rises parts.entries ≡ true) (query : Query) (g : ℕ) (list : Ids) → query ≡ Tri g → list ≡ read_for parts g → list.whole ≡ true → list.ids ≡ candidates_of parts query
+tri_ids parts up query g list is read whole = ap (λ (r : Ids). r.ids) read ∙ sym (candidates-Tri parts up g (ap (λ (r : Ids). r.whole) (sym read) ∙ whole)) ∙ ap (candidates_of parts) (sym is)
 
 tri_whole : (parts : Parts) (up : rises parts.entries ≡ true) (query : Query) (g : ℕ) (list : Ids) → query ≡ Tri g → list ≡ read_for parts g → list.whole ≡ is_answerable parts query
 tri_whole parts up query g list is read = ap (λ (r : Ids). r.whole) read ∙ sym (answerable-Tri parts up g) ∙ ap (is_answerable parts) (sym is)
@@ -34,7 +35,7 @@ pub names_of-returns-in-Nothing-clause-whole : goal.names_of-returns-in-Nothing-
 names_of-returns-in-Nothing-clause-whole t c = ap (is_answerable c.args.index.now) c.in-Nothing.is ∙ answerable-Nothing c.args.index.now
 
 pub names_of-returns-in-Tri-clause-ids : goal.names_of-returns-in-Tri-clause-ids
-names_of-returns-in-Tri-clause-ids t c = IfOk-weaker c.ids_of.result _ _ (λ ids is. is ∙ tri_ids c.args.index.now c.requires c.args.query.now c.in-Tri.trigram c.list_of.result c.in-Tri.is c.list_of.ensures) c.ids_of.ensures.ids
+names_of-returns-in-Tri-clause-ids t c = both_ok c.ids_of.result _ _ _ (λ ids is whole. is ∙ tri_ids c.args.index.now c.requires c.args.query.now c.in-Tri.trigram c.list_of.result c.in-Tri.is c.list_of.ensures whole) c.ids_of.ensures.ids c.ids_of.ensures.whole
 
 pub names_of-returns-in-Tri-clause-whole : goal.names_of-returns-in-Tri-clause-whole
 names_of-returns-in-Tri-clause-whole t c = IfOk-weaker c.ids_of.result _ _ (λ ids is. sym (tri_whole c.args.index.now c.requires c.args.query.now c.in-Tri.trigram c.list_of.result c.in-Tri.is c.list_of.ensures) ∙ is) c.ids_of.ensures.whole
@@ -98,7 +99,7 @@ narrowed-keep_listed-requires-clause-list t c = subst (λ (r : Ids). Ascends r.i
 pub narrowed-returns-in-Tri-clause-ids : goal.narrowed-returns-in-Tri-clause-ids
 narrowed-returns-in-Tri-clause-ids t c =
     let list = tri_ids c.args.index.now c.requires.rises c.args.member.now c.in-Tri.trigram c.list_of.result c.in-Tri.is c.list_of.ensures in
-    IfOk-weaker c.keep_listed.result _ _ (λ kept is. is ∙ ap (λ (ids : List ℕ). filter (has ids) c.args.ids.items) list) c.keep_listed.ensures.ids
+    both_ok c.keep_listed.result _ _ _ (λ kept is whole. is ∙ ap (λ (ids : List ℕ). filter (has ids) c.args.ids.items) (list whole)) c.keep_listed.ensures.ids c.keep_listed.ensures.whole
 
 pub narrowed-keep_common-requires : goal.narrowed-keep_common-requires
 narrowed-keep_common-requires t c = record {
@@ -118,7 +119,7 @@ mark-mark_ids-requires t c =
 pub mark-returns-in-Tri-clause-marked : goal.mark-returns-in-Tri-clause-marked
 mark-returns-in-Tri-clause-marked t c =
     let list = tri_ids c.args.index.now c.requires.rises c.args.member.now c.in-Tri.trigram c.list_of.result c.in-Tri.is c.list_of.ensures in
-    IfOk-weaker c.mark_list.result _ _ (λ x is k. is k ∙ ap (λ (ids : List ℕ). get_or c.args.marks.now k false || has ids k) list) c.mark_list.ensures.marked
+    both_ok c.mark_list.result _ _ _ (λ x is whole k. is k ∙ ap (λ (ids : List ℕ). get_or c.args.marks.now k false || has ids k) (list whole)) c.mark_list.ensures.marked c.mark_list.ensures.whole
 
 -- the ids that each of the members that are left has, after one of them
 each_step : (parts : Parts) (left rest : List Query) (m : Query) (ids new all : List ℕ) → left ≡ m ∷ rest → filter (λ id. list_all (λ n. has (candidates_of parts n) id) left) ids ≡ all → new ≡ filter (has (candidates_of parts m)) ids → filter (λ id. list_all (λ n. has (candidates_of parts n) id) rest) new ≡ all

@@ -6,6 +6,7 @@ use Rattle.cs_trigram.specs.declared.queries.Query.{Query}
 use Rattle.cs_index.specs.Image.{has}
 use Rattle.cs_index.specs.Spelling.{Ascends, Ids}
 use Rattle.cs_index.specs.Candidates.{candidates_of, is_answerable}
+use Rattle.cs_index.proofs.ResultLemmas.{both_ok}
 use Rattle.cs_index.proofs.SiftLemmas.{ascends_range}
 use Rattle.cs_index.proofs.ToldLemmas.{fault_of}
 use Rattle.cs_index.proofs.AskedLemmas.{candidates-Tri, every_member, list_ascends, rarest_damaged, rarest_first}
@@ -14,7 +15,7 @@ use Rattle.cs_index.proofs.candidates.first_ids.Goals as goal
 pub returns-in-Some-clause-ids : goal.returns-in-Some-clause-ids
 returns-in-Some-clause-ids c =
     let all = λ (id : ℕ). list_all (λ (m : Query). has (candidates_of c.args.index.now m) id) c.args.members.now in
-    IfOk-weaker c.ids_of.result _ _ (λ ids is. ap (filter all) (is ∙ ap (λ (r : Ids). r.ids) c.list_of.ensures ∙ sym (candidates-Tri c.args.index.now c.requires c.in-Some.trigram)) ∙ rarest_first c.args.index.now c.in-Some.trigram c.args.members.now c.in-Some.ensures) c.ids_of.ensures.ids
+    both_ok c.ids_of.result _ _ _ (λ ids is whole. ap (filter all) (is ∙ ap (λ (r : Ids). r.ids) c.list_of.ensures ∙ sym (candidates-Tri c.args.index.now c.requires c.in-Some.trigram (ap (λ (r : Ids). r.whole) (sym c.list_of.ensures) ∙ whole))) ∙ rarest_first c.args.index.now c.in-Some.trigram c.args.members.now c.in-Some.ensures) c.ids_of.ensures.ids c.ids_of.ensures.whole
 
 pub returns-in-Some-clause-ascend : goal.returns-in-Some-clause-ascend
 returns-in-Some-clause-ascend c =

@@ -88,6 +88,53 @@ fn run(
     })
 }
 
+/// What three jobs give, one after another over no index.
+#[derive(Drop)]
+struct Three {
+    index: Option<Vec<u8>>,
+    replies: [Reply; 3],
+    out: Vec<u8>,
+    err: Vec<u8>,
+}
+
+/// Three jobs in one call, each over a tree of its own with the same in it.
+fn run_three(
+    alloc: Global,
+    first: &[&str],
+    second: &[&str],
+    third: &[&str],
+    placed: &[Placed<'_>],
+) -> Result<Three, Fail> {
+    let jobs = [
+        job_of(alloc, first)?,
+        job_of(alloc, second)?,
+        job_of(alloc, third)?,
+    ];
+    let mut trees = [
+        tree_of(alloc, placed)?,
+        tree_of(alloc, placed)?,
+        tree_of(alloc, placed)?,
+    ];
+    let mut replies = [Reply::Done; 3];
+    let mut out = MemSink::new(alloc, 1000);
+    let mut err = MemSink::new(alloc, 1000);
+    let index = cindex(
+        alloc,
+        None,
+        &jobs,
+        &mut trees,
+        &mut replies,
+        &mut out,
+        &mut err,
+    );
+    Ok(Three {
+        index,
+        replies,
+        out: bytes_of(alloc, out.bytes())?,
+        err: bytes_of(alloc, err.bytes())?,
+    })
+}
+
 /// The index has this length and these paths, and the names with the trigrams of these texts.
 fn check(
     rt: &impl Abort,
@@ -296,6 +343,43 @@ fn a_path_that_is_gone(rt: HostRuntime) -> Result<(), Fail> {
 
 const UNSORTED: &[u8; 115] =
     b"csearch index 1\n/a\0\0/a/b/z\0/a/b-x\0\0abc\x01\x01\0\xff\xff\xff\0\0\0\0\0\0\0\0\x07\0\0\0\x0eabc\0\0\0\x02\0\0\0\0\xff\xff\xff\0\0\0\0\0\0\0\x06\0\0\0\x10\0\0\0\x14\0\0\0\x23\0\0\0\x2d\0\0\0\x39\ncsearch trailr\n";
+
+const FOLDERS: &[Placed<'static>] = &[
+    ("/a", None),
+    ("/a/f", Some("one\n")),
+    ("/b", None),
+    ("/b/g", Some("two\n")),
+];
+
+#[test]
+fn a_list_sees_the_jobs_before_it(rt: HostRuntime) -> Result<(), Fail> {
+    let three = run_three(rt.alloc(), &["/a"], &["-list"], &["/b"], FOLDERS)?;
+    assert_eq!(rt; three.replies, [Reply::Done, Reply::Done, Reply::Done]);
+    assert_eq!(rt; three.out.as_slice(), b"/a\n".as_slice());
+    assert!(rt; three.err.is_empty());
+    check(
+        &rt,
+        &three.index,
+        150,
+        &["/a", "/b"],
+        &["/a/f", "/b/g"],
+        &[(ONE, &[0]), (NE, &[0]), (TWO, &[1]), (WO, &[1])],
+    )
+}
+
+#[test]
+fn a_refused_job_between_others(rt: HostRuntime) -> Result<(), Fail> {
+    let three = run_three(rt.alloc(), &["/a"], &["/b", ""], &["-list"], FOLDERS)?;
+    let refused = Reply::Refused(CindexFault::BadPath(1));
+    assert_eq!(rt; three.replies, [Reply::Done, refused, Reply::Done]);
+    assert_eq!(rt; three.out.as_slice(), b"/a\n".as_slice());
+    assert!(rt; three.err.is_empty());
+    let alone = run(rt.alloc(), None, &["/a"], FOLDERS)?;
+    let want = alone.index.ok_or("no index")?;
+    let kept = three.index.ok_or("no index")?;
+    assert_eq!(rt; kept.as_slice(), want.as_slice());
+    Ok(())
+}
 
 #[test]
 fn an_index_that_no_job_left(rt: HostRuntime) -> Result<(), Fail> {

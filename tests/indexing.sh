@@ -262,6 +262,7 @@ lists=$(tail -c 28 results/whole | head -c 4 | od -An -tu1 | awk '{ print (($1 *
 for byte in '\001' '\377'; do
     damage $((lists + 4)) "$byte"
     try 2 '' 'cindex: bad index: list\n' "cindex trees/a"
+    try 2 '' "cindex: $home/trees/none: no such file\ncindex: bad index: list\n" "cindex trees/a trees/none"
     try 2 '' 'csearch: bad index: list\n' "csearch abc"
     holds "cmp -s index results/damaged"
 done

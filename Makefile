@@ -1,5 +1,6 @@
 # make check     every proof from nothing, the edits that must fail, the tests, the program built two ways,
 #                and then the program from end to end
+# make trusted   what one has to read to believe cindex, cgrep and csearch: the definitions that their contracts rest on
 # make program   the proved program, crates/codesearch/out/codesearch
 # make install   puts codesearch, cindex, csearch and cgrep into PREFIX/bin (PREFIX is /usr/local where it is not given)
 # make uninstall takes them away
@@ -10,12 +11,15 @@ program = crates/codesearch/out/codesearch
 sources = crates.txt $(shell find crates -type d \( -name out -o -name must-fail \) -prune -o -type f -print)
 tools = cindex csearch cgrep
 
-.PHONY: check program install uninstall
+.PHONY: check trusted program install uninstall
 
 check:
 	rt ci
 	@$(MAKE) --silent --no-print-directory program
 	tests/end_to_end.sh $(program)
+
+trusted:
+	@python3 tests/trusted.py
 
 program: $(program)
 

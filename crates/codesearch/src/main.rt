@@ -1,13 +1,12 @@
 //! The program: what it is called with, the standard streams, the disk, the index file and the status.
-//! All that it does is `run`, over any of them; all that it reads and prints goes by way of `cs_tools`
-//! and `cs_cindex`.
+//! All that it does is `run`, over any of them; all that it reads and prints goes by way of `cs_tools`.
 #![tactic(auto)]
 
 mod program;
 mod storage;
 
+use cs_tools::Tool;
 use cs_tree::{DiskTree, StdSink, StdSource, is_absolute};
-use cs_words::Tool;
 use program::{FIRST_WORD, NO_FOLDER, OUT_OF_MEMORY, Ran, refuse, run, tool_of};
 use std::alloc::AllocError;
 use std::env;

@@ -3,13 +3,11 @@ ghost use Rattle.std.specs.Prelude.{◌≤◌};
 ghost use Rattle.std.specs.Mem.{FitsInMemory};
 
 use crate::storage::After;
-use cs_cindex::cindex;
-use cs_tools::{Status, cgrep, csearch};
-use cs_tree::{Sink, Source, Tree, is_absolute, write_all};
-use cs_words::{
-    CindexFault, IndexJob, Job, Refusal, Reply, SearchJob, Tool, ToolFault, WordFault, message,
-    read_words,
+use cs_tools::{
+    CindexFault, IndexJob, Job, Refusal, Reply, SearchJob, Status, Tool, ToolFault, WordFault,
+    cgrep, cindex, csearch, message, read_words,
 };
+use cs_tree::{Sink, Source, Tree, is_absolute, write_all};
 use std::alloc::{AllocError, Global};
 use std::slice;
 

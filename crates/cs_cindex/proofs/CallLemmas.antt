@@ -1,16 +1,17 @@
 -- One job after another.
 use Rattle.std.proofs.Common.{◌≡◌, ℕ, ◌+◌, ◌<◌, List, [], ◌∷◌, ◌++◌, length, map, take, set, get_or, refl, sym, ap, subst, ◌∙◌, arith, Option}
+use Rattle.cs_tree.specs.Folders.{Tells}
 use Rattle.std.proofs.lemmas.List.{take_more, take_more_set, length-take-le, get_or-map, length-map}
 use Rattle.std.specs.List.{AllByRecursion, AllZip}
-use Rattle.cs_tree.specs.Snapshot.{Snapshot, Tells}
+use Rattle.cs_tree.specs.Snapshot.{Snapshot}
 use Rattle.cs_words.specs.declared.jobs.IndexJob.{IndexJob}
 use Rattle.cs_words.specs.declared.jobs.Reply.{Reply}
 use Rattle.cs_history.specs.History.{History, index_of}
-use Rattle.cs_history.specs.Jobs.{followed, told, IsFitting}
+use Rattle.cs_history.specs.Jobs.{history_after, snapshot_told, IsFitting}
 use Rattle.cs_history.specs.Headline.{Premises, Indexes}
 use Rattle.cs_history.proofs.FollowingLemmas.{followed-push, later_premises}
 use Rattle.cs_history.proofs.RefusalLemmas.{right_more}
-use Rattle.cs_cindex.specs.Steps.{RightAfter, RightAll, Standing, Seen, seen, IsStep, Steps}
+use Rattle.cs_cindex.specs.Steps.{RightAfter, RightAll, Standing, JobTree, job_tree, job_trees, IsStep, Steps}
 
 all_front : {A : Type 0} (P : A → Type 0) (xs ys : List A) → AllByRecursion P (xs ++ ys) → AllByRecursion P xs
 all_front P [] ys all = tt
@@ -35,27 +36,27 @@ module _ (jobs : List IndexJob) (trees : List (Option Snapshot)) (replies : List
   front_premises : (earlier : History) → Premises (trees ++ tree ∷ []) old earlier → Premises trees old earlier
   front_premises earlier p = record { trees_tell = all_front Tells trees (tree ∷ []) p.trees_tell; jobs_were = p.jobs_were; they_left = p.they_left; short = p.short }
 
-  last_premises : (earlier : History) → Premises (trees ++ tree ∷ []) old earlier → Indexes jobs trees replies old mid → Premises (tree ∷ []) mid (followed earlier jobs (map told trees) replies)
+  last_premises : (earlier : History) → Premises (trees ++ tree ∷ []) old earlier → Indexes jobs trees replies old mid → Premises (tree ∷ []) mid (history_after earlier jobs (map snapshot_told trees) replies)
   last_premises earlier p so_far = later_premises jobs trees (tree ∷ []) replies old mid earlier (front_premises earlier p) so_far (all_back Tells trees (tree ∷ []) p.trees_tell)
 
-  told_more : length trees ≡ length jobs → length (map told trees) ≡ length jobs
-  told_more e = length-map trees told ∙ e
+  told_more : length trees ≡ length jobs → length (map snapshot_told trees) ≡ length jobs
+  told_more e = length-map trees snapshot_told ∙ e
 
   pub indexes_push : (new : Option (List ℕ)) → length trees ≡ length jobs → length replies ≡ length jobs → Indexes jobs trees replies old mid → Indexes (job ∷ []) (tree ∷ []) (reply ∷ []) mid new → Indexes (jobs ++ job ∷ []) (trees ++ tree ∷ []) (replies ++ reply ∷ []) old new
   indexes_push new e f so_far here = record {
     index = λ earlier p.
-        here.index (followed earlier jobs (map told trees) replies) (last_premises earlier p so_far)
-        ∙ ap index_of (sym (ap (λ ts. followed earlier (jobs ++ job ∷ []) ts (replies ++ reply ∷ [])) (map_push told trees tree)
-        ∙ followed-push earlier jobs (map told trees) replies job (told tree) reply (told_more e) f));
+        here.index (history_after earlier jobs (map snapshot_told trees) replies) (last_premises earlier p so_far)
+        ∙ ap index_of (sym (ap (λ ts. history_after earlier (jobs ++ job ∷ []) ts (replies ++ reply ∷ [])) (map_push snapshot_told trees tree)
+        ∙ followed-push earlier jobs (map snapshot_told trees) replies job (snapshot_told tree) reply (told_more e) f));
     fitting = zip_push IsFitting jobs replies job reply so_far.fitting here.fitting.0;
     short = λ h. here.short (so_far.short h);
   }
 
   pub right_push : length trees ≡ length jobs → length replies ≡ length jobs → Indexes jobs trees replies old mid → RightAll trees old jobs replies → RightAfter tree mid job reply → RightAll (trees ++ tree ∷ []) old (jobs ++ job ∷ []) (replies ++ reply ∷ [])
   right_push e f so_far right here earlier p =
-      subst (λ ts. Rattle.cs_history.specs.Refusals.AreRightReplies earlier (jobs ++ job ∷ []) ts (replies ++ reply ∷ [])) (sym (map_push told trees tree))
-      (right_more earlier jobs (map told trees) replies job (told tree) reply (told_more e) f (right earlier (front_premises earlier p))
-      (here (followed earlier jobs (map told trees) replies) (last_premises earlier p so_far)))
+      subst (λ ts. Rattle.cs_history.specs.Replies.AreRightReplies earlier (jobs ++ job ∷ []) ts (replies ++ reply ∷ [])) (sym (map_push snapshot_told trees tree))
+      (right_more earlier jobs (map snapshot_told trees) replies job (snapshot_told tree) reply (told_more e) f (right earlier (front_premises earlier p))
+      (here (history_after earlier jobs (map snapshot_told trees) replies) (last_premises earlier p so_far)))
 
 -- ---- the step of a loop over the jobs: the job at i over the tree at i
 
@@ -96,8 +97,8 @@ indexes_none index = record { index = λ earlier p. sym p.they_left; fitting = t
 
 -- ---- one step after another
 
-module _ (job : IndexJob) (tree : Seen) (reply : Reply) (mid new : Standing) where
-  pub steps_push : (jobs : List IndexJob) (trees : List Seen) (replies : List Reply) (old : Standing) → Steps jobs trees replies old mid → IsStep job tree reply mid new → Steps (jobs ++ job ∷ []) (trees ++ tree ∷ []) (replies ++ reply ∷ []) old new
+module _ (job : IndexJob) (tree : JobTree) (reply : Reply) (mid new : Standing) where
+  pub steps_push : (jobs : List IndexJob) (trees : List JobTree) (replies : List Reply) (old : Standing) → Steps jobs trees replies old mid → IsStep job tree reply mid new → Steps (jobs ++ job ∷ []) (trees ++ tree ∷ []) (replies ++ reply ∷ []) old new
   steps_push [] [] [] old h step = (new, subst (λ (m : Standing). IsStep job tree reply m new) h step, refl)
   steps_push [] [] (r ∷ rs) old h step = absurd h
   steps_push [] (t ∷ ts) rs old h step = absurd h
@@ -106,25 +107,25 @@ module _ (job : IndexJob) (tree : Seen) (reply : Reply) (mid new : Standing) whe
   steps_push (j ∷ js) (t ∷ ts) (r ∷ rs) old h step = (h.0, h.1, steps_push js ts rs h.0 h.2 step)
 
 module _ {T : Type 0} (snapshot : T → Option Snapshot) (failed : T → ℕ) where
-  seen_push : (trees later : List T) (tree then : T) → length later ≡ length trees → seen snapshot failed (trees ++ tree ∷ []) (later ++ then ∷ []) ≡ seen snapshot failed trees later ++ record { snapshot = snapshot tree; failed = failed tree; failed_then = failed then } ∷ []
-  seen_push [] [] tree then e = refl
-  seen_push [] (u ∷ us) tree then e = absurd (omega (arith, e))
-  seen_push (t ∷ ts) [] tree then e = absurd (omega (arith, e))
-  seen_push (t ∷ ts) (u ∷ us) tree then e = ap (λ rest. record { snapshot = snapshot t; failed = failed t; failed_then = failed u } ∷ rest) (seen_push ts us tree then (omega (arith, e)))
+  trees_push : (trees later : List T) (tree then : T) → length later ≡ length trees → job_trees snapshot failed (trees ++ tree ∷ []) (later ++ then ∷ []) ≡ job_trees snapshot failed trees later ++ job_tree snapshot failed tree then ∷ []
+  trees_push [] [] tree then e = refl
+  trees_push [] (u ∷ us) tree then e = absurd (omega (arith, e))
+  trees_push (t ∷ ts) [] tree then e = absurd (omega (arith, e))
+  trees_push (t ∷ ts) (u ∷ us) tree then e = ap (λ rest. job_tree snapshot failed t u ∷ rest) (trees_push ts us tree then (omega (arith, e)))
 
-  pub steps_more : (jobs : List IndexJob) (trees later : List T) (replies : List Reply) (i : ℕ) (job : IndexJob) (tree then : T) (reply : Reply) (old mid new : Standing) → length trees ≡ length jobs → length later ≡ length jobs → length replies ≡ length jobs → i < length jobs → job ≡ get_or jobs i job → tree ≡ get_or trees i tree → Steps (take i jobs) (seen snapshot failed (take i trees) (take i later)) (take i replies) old mid → IsStep job (record { snapshot = snapshot tree; failed = failed tree; failed_then = failed then }) reply mid new → Steps (take (i + 1) jobs) (seen snapshot failed (take (i + 1) trees) (take (i + 1) (set later i then))) (take (i + 1) (set replies i reply)) old new
+  pub steps_more : (jobs : List IndexJob) (trees later : List T) (replies : List Reply) (i : ℕ) (job : IndexJob) (tree then : T) (reply : Reply) (old mid new : Standing) → length trees ≡ length jobs → length later ≡ length jobs → length replies ≡ length jobs → i < length jobs → job ≡ get_or jobs i job → tree ≡ get_or trees i tree → Steps (take i jobs) (job_trees snapshot failed (take i trees) (take i later)) (take i replies) old mid → IsStep job (job_tree snapshot failed tree then) reply mid new → Steps (take (i + 1) jobs) (job_trees snapshot failed (take (i + 1) trees) (take (i + 1) (set later i then))) (take (i + 1) (set replies i reply)) old new
   steps_more jobs trees later replies i job tree then reply old mid new e g f within is_job is_tree so_far step =
-      let one : Seen = record { snapshot = snapshot tree; failed = failed tree; failed_then = failed then } in
+      let one : JobTree = job_tree snapshot failed tree then in
       let js : take (i + 1) jobs ≡ take i jobs ++ job ∷ [] = take_more jobs i job within ∙ ap (λ j. take i jobs ++ j ∷ []) (sym is_job) in
       let ts : take (i + 1) trees ≡ take i trees ++ tree ∷ [] = take_more trees i tree (omega (arith, e, within)) ∙ ap (λ t. take i trees ++ t ∷ []) (sym is_tree) in
       let us : take (i + 1) (set later i then) ≡ take i later ++ then ∷ [] = take_more_set later i then (omega (arith, g, within)) in
       let rs : take (i + 1) (set replies i reply) ≡ take i replies ++ reply ∷ [] = take_more_set replies i reply (omega (arith, f, within)) in
       let both : length (take i later) ≡ length (take i trees) = length-take-le i later (omega (arith, g, within)) ∙ sym (length-take-le i trees (omega (arith, e, within))) in
-      let ss : seen snapshot failed (take (i + 1) trees) (take (i + 1) (set later i then)) ≡ seen snapshot failed (take i trees) (take i later) ++ one ∷ [] =
-      ap (λ xs. seen snapshot failed xs (take (i + 1) (set later i then))) ts
-      ∙ ap (λ xs. seen snapshot failed (take i trees ++ tree ∷ []) xs) us
-      ∙ seen_push (take i trees) (take i later) tree then both in
-      subst (λ xs. Steps xs (seen snapshot failed (take (i + 1) trees) (take (i + 1) (set later i then))) (take (i + 1) (set replies i reply)) old new) (sym js)
+      let ss : job_trees snapshot failed (take (i + 1) trees) (take (i + 1) (set later i then)) ≡ job_trees snapshot failed (take i trees) (take i later) ++ one ∷ [] =
+      ap (λ xs. job_trees snapshot failed xs (take (i + 1) (set later i then))) ts
+      ∙ ap (λ xs. job_trees snapshot failed (take i trees ++ tree ∷ []) xs) us
+      ∙ trees_push (take i trees) (take i later) tree then both in
+      subst (λ xs. Steps xs (job_trees snapshot failed (take (i + 1) trees) (take (i + 1) (set later i then))) (take (i + 1) (set replies i reply)) old new) (sym js)
       (subst (λ xs. Steps (take i jobs ++ job ∷ []) xs (take (i + 1) (set replies i reply)) old new) (sym ss)
-      (subst (λ xs. Steps (take i jobs ++ job ∷ []) (seen snapshot failed (take i trees) (take i later) ++ one ∷ []) xs old new) (sym rs)
-      (steps_push job one reply mid new (take i jobs) (seen snapshot failed (take i trees) (take i later)) (take i replies) old so_far step)))
+      (subst (λ xs. Steps (take i jobs ++ job ∷ []) (job_trees snapshot failed (take i trees) (take i later) ++ one ∷ []) xs old new) (sym rs)
+      (steps_push job one reply mid new (take i jobs) (job_trees snapshot failed (take i trees) (take i later)) (take i replies) old so_far step)))

@@ -1,10 +1,11 @@
 -- Why jobs on the index that some jobs left are refused.
 use Rattle.std.proofs.Common.{◌≡◌, ℕ, ◌⊎◌, true, false, cond, ◌&&◌, List, [], ◌∷◌, length, refl, sym, ap, subst, ◌∙◌, inl, inr, arith, Option, Some, None}
+use Rattle.cs_tree.specs.Folders.{Tells}
 use Rattle.std.specs.Prelude.{string_bytes, option_map}
 use Rattle.std.specs.Option.{option_or}
 use Rattle.std.proofs.lemmas.Bool.{true≢false, and_parts, cases_Bool, cond_both, eqb-true}
 use Rattle.std.proofs.lemmas.List.{length-map}
-use Rattle.cs_tree.specs.Snapshot.{Snapshot, Tells}
+use Rattle.cs_tree.specs.Snapshot.{Snapshot}
 use Rattle.cs_index.specs.declared.fault.IndexFault.{IndexFault}
 use Rattle.cs_words.specs.declared.jobs.IndexJob.{IndexJob}
 use Rattle.cs_words.specs.declared.jobs.Reply.{Reply}
@@ -13,20 +14,20 @@ use Rattle.cs_words.specs.declared.fault.CindexFault.{CindexFault}
 use Rattle.cs_words.specs.declared.fault.CindexFault.TheVariants.{NoIndex, BadIndex, Unsorted, TooLarge, BadPath, Write, Memory}
 use Rattle.cs_history.specs.History.{History, index_of}
 use Rattle.cs_history.specs.WellFormed.{IsHistory}
-use Rattle.cs_history.specs.Jobs.{texts, has_no_path, told}
+use Rattle.cs_history.specs.Jobs.{given_texts, has_no_path, snapshot_told}
 use Rattle.cs_history.specs.Headline.{IsShort}
-use Rattle.cs_history.specs.Refusals.{NeedsIndex, IsFirstBad, IsTooLarge, IsRightReply}
+use Rattle.cs_history.specs.Replies.{NeedsIndex, IsFirstBad, IsTooLarge, IsRightReply}
 use Rattle.cs_history.proofs.IndexLemmas.{no_index}
-use Rattle.cs_cindex.specs.Refusals.{Kind, lists, clears, walks, kind_of, base, first_bad, list_fault, base_fault, early_fault_of, early_fault, IsLateFault, IsDamaged, EarlyOr, HasCause}
+use Rattle.cs_cindex.specs.Refusals.{JobKind, lists, clears, walks, job_kind, base, first_bad, list_fault, base_fault, early_fault_of, early_fault, IsLateFault, IsDamaged, EarlyOr, HasCause}
 use Rattle.cs_cindex.proofs.PathLemmas.{refused_at, refused_text, taken_before}
 use Rattle.cs_cindex.proofs.OldLemmas.{history_goes, history_whole, history_lists}
 
 -- ---- the kinds of jobs
 
 pub data Cases (job : IndexJob) : Type 0 where
-  listing : job.list ≡ true → kind_of job ≡ lists → Cases job
-  clearing : job.list ≡ false → job.reset ≡ true → has_no_path job ≡ true → kind_of job ≡ clears → Cases job
-  walking : job.list ≡ false → (job.reset && has_no_path job) ≡ false → kind_of job ≡ walks → Cases job
+  listing : job.list ≡ true → job_kind job ≡ lists → Cases job
+  clearing : job.list ≡ false → job.reset ≡ true → has_no_path job ≡ true → job_kind job ≡ clears → Cases job
+  walking : job.list ≡ false → (job.reset && has_no_path job) ≡ false → job_kind job ≡ walks → Cases job
 
 pub cases_of : (job : IndexJob) → Cases job
 cases_of job =
@@ -57,7 +58,7 @@ is_early (Some Memory) late fault no_memory none h = either fault Memory no_memo
 -- what refuses a job early, on the index that some jobs left
 pub data Causes (earlier : History) (job : IndexJob) (fault : CindexFault) : Type 0 where
   none_there : earlier ≡ [] → NeedsIndex job → fault ≡ NoIndex → Causes earlier job fault
-  refused : (place : ℕ) → job.list ≡ false → first_bad (string_bytes job.cwd) (texts job) ≡ Some place → fault ≡ BadPath place → Causes earlier job fault
+  refused : (place : ℕ) → job.list ≡ false → first_bad (string_bytes job.cwd) (given_texts job) ≡ Some place → fault ≡ BadPath place → Causes earlier job fault
 
 module _ (earlier : History) (is : IsHistory earlier) (job : IndexJob) where
   some_is : {a b : CindexFault} → Some a ≡ Some b → b ≡ a
@@ -96,7 +97,7 @@ module _ (earlier : History) (is : IsHistory earlier) (job : IndexJob) where
       none_some : None ≡ Some fault → ⊥
       none_some h = cc
 
-  by_walk : (old : Option (List ℕ)) → index_of earlier ≡ old → IsShort old → job.list ≡ false → (job.reset && has_no_path job) ≡ false → (fault : CindexFault) (bad : Option ℕ) → first_bad (string_bytes job.cwd) (texts job) ≡ bad → option_or (option_map (λ place. BadPath place) bad) (base_fault job (base job old)) ≡ Some fault → Causes earlier job fault
+  by_walk : (old : Option (List ℕ)) → index_of earlier ≡ old → IsShort old → job.list ≡ false → (job.reset && has_no_path job) ≡ false → (fault : CindexFault) (bad : Option ℕ) → first_bad (string_bytes job.cwd) (given_texts job) ≡ bad → option_or (option_map (λ place. BadPath place) bad) (base_fault job (base job old)) ≡ Some fault → Causes earlier job fault
   by_walk old left short l one fault None b e = by_reset old left short one fault e
   by_walk old left short l one fault (Some place) b e = refused place l b (some_is e)
 
@@ -105,7 +106,7 @@ module _ (earlier : History) (is : IsHistory earlier) (job : IndexJob) where
       elim (cases_of job) [
         | listing l k ↦ by_list old left short l fault (sym (ap (λ kind. early_fault_of kind job old) k) ∙ e)
         | clearing l r p k ↦ absurd (none_some (sym (ap (λ kind. early_fault_of kind job old) k) ∙ e))
-        | walking l one k ↦ by_walk old left short l one fault (first_bad (string_bytes job.cwd) (texts job)) refl (sym (ap (λ kind. early_fault_of kind job old) k) ∙ e)
+        | walking l one k ↦ by_walk old left short l one fault (first_bad (string_bytes job.cwd) (given_texts job)) refl (sym (ap (λ kind. early_fault_of kind job old) k) ∙ e)
       ]
     where
       none_some : None ≡ Some fault → ⊥
@@ -120,7 +121,7 @@ needs_one job (inr alone) =
       | clearing l r p k ↦ absurd (true≢false (sym r ∙ alone.0))
       | walking l one k ↦
           ap (λ kind. early_fault_of kind job None) k
-          ∙ ap (λ ts. option_or (option_map (λ place. BadPath place) (first_bad (string_bytes job.cwd) ts)) (base_fault job (base job None))) (no_texts (texts job) (length-map job.paths.items string_bytes ∙ eqb-true (length job.paths.items) 0 alone.1))
+          ∙ ap (λ ts. option_or (option_map (λ place. BadPath place) (first_bad (string_bytes job.cwd) ts)) (base_fault job (base job None))) (no_texts (given_texts job) (length-map job.paths.items string_bytes ∙ eqb-true (length job.paths.items) 0 alone.1))
           ∙ ap (λ b. base_fault job (cond b None None)) alone.0
           ∙ ap (λ b. cond b (Some NoIndex) None) alone.1
     ]
@@ -131,26 +132,26 @@ needs_one job (inr alone) =
 
 -- ---- replies
 
-pub first_bad_is : (job : IndexJob) (place : ℕ) → job.list ≡ false → first_bad (string_bytes job.cwd) (texts job) ≡ Some place → IsFirstBad job place
+pub first_bad_is : (job : IndexJob) (place : ℕ) → job.list ≡ false → first_bad (string_bytes job.cwd) (given_texts job) ≡ Some place → IsFirstBad job place
 first_bad_is job place l h = record {
   walks = l;
-  within = refused_at (string_bytes job.cwd) (texts job) place h;
-  refused = refused_text (string_bytes job.cwd) (texts job) place h;
-  taken = taken_before (string_bytes job.cwd) (texts job) place h;
+  within = refused_at (string_bytes job.cwd) (given_texts job) place h;
+  refused = refused_text (string_bytes job.cwd) (given_texts job) place h;
+  taken = taken_before (string_bytes job.cwd) (given_texts job) place h;
 }
 
 -- no late fault is one of these
-late_none : (kind : Kind) (job : IndexJob) (tree : Option Snapshot) (old : Option (List ℕ)) → IsLateFault kind job tree old NoIndex → ⊥
+late_none : (kind : JobKind) (job : IndexJob) (tree : Option Snapshot) (old : Option (List ℕ)) → IsLateFault kind job tree old NoIndex → ⊥
 late_none lists job tree old h = h
 late_none clears job tree old h = h
 late_none walks job tree old h = h
 
-late_path : (kind : Kind) (job : IndexJob) (tree : Option Snapshot) (old : Option (List ℕ)) (place : ℕ) → IsLateFault kind job tree old (BadPath place) → ⊥
+late_path : (kind : JobKind) (job : IndexJob) (tree : Option Snapshot) (old : Option (List ℕ)) (place : ℕ) → IsLateFault kind job tree old (BadPath place) → ⊥
 late_path lists job tree old place h = h
 late_path clears job tree old place h = h
 late_path walks job tree old place h = h
 
-late_order : (kind : Kind) (job : IndexJob) (tree : Option Snapshot) (old : Option (List ℕ)) → Tells tree → IsLateFault kind job tree old Unsorted → ⊥
+late_order : (kind : JobKind) (job : IndexJob) (tree : Option Snapshot) (old : Option (List ℕ)) → Tells tree → IsLateFault kind job tree old Unsorted → ⊥
 late_order lists job tree old tells h = h
 late_order clears job tree old tells h = h
 late_order walks job tree old tells h = h tells
@@ -159,7 +160,7 @@ damaged_none : (earlier : History) (old : Option (List ℕ)) → IsHistory earli
 damaged_none earlier None is left short h = h
 damaged_none earlier (Some bytes) is left short h = history_whole earlier bytes is left short h
 
-late_bad : (earlier : History) (kind : Kind) (job : IndexJob) (tree : Option Snapshot) (old : Option (List ℕ)) (fault : IndexFault) → Tells tree → IsHistory earlier → index_of earlier ≡ old → IsShort old → IsLateFault kind job tree old (BadIndex fault) → ⊥
+late_bad : (earlier : History) (kind : JobKind) (job : IndexJob) (tree : Option Snapshot) (old : Option (List ℕ)) (fault : IndexFault) → Tells tree → IsHistory earlier → index_of earlier ≡ old → IsShort old → IsLateFault kind job tree old (BadIndex fault) → ⊥
 late_bad earlier lists job tree old fault tells is left short h = h
 late_bad earlier clears job tree old fault tells is left short h = h
 late_bad earlier walks job tree old fault tells is left short h =
@@ -197,7 +198,7 @@ done_early job earlier old left e needs = ap (early_fault job) (sym left ∙ ap 
 is_reply : (fault other : CindexFault) → Refused fault ≡ Refused other → fault ≡ other
 is_reply fault other e = cc
 
-pub right_reply : (earlier : History) (job : IndexJob) (tree : Option Snapshot) (old : Option (List ℕ)) (reply : Reply) → Tells tree → IsHistory earlier → index_of earlier ≡ old → IsShort old → HasCause job tree old reply → (reply ≡ Refused TooLarge → IsTooLarge earlier job (told tree)) → (reply ≡ Done → IsTooLarge earlier job (told tree) → ⊥) → IsRightReply earlier job (told tree) reply
+pub right_reply : (earlier : History) (job : IndexJob) (tree : Option Snapshot) (old : Option (List ℕ)) (reply : Reply) → Tells tree → IsHistory earlier → index_of earlier ≡ old → IsShort old → HasCause job tree old reply → (reply ≡ Refused TooLarge → IsTooLarge earlier job (snapshot_told tree)) → (reply ≡ Done → IsTooLarge earlier job (snapshot_told tree) → ⊥) → IsRightReply earlier job (snapshot_told tree) reply
 right_reply earlier job tree old Done tells is left short cause large fits = record {
   no_index = (λ e. absurd (never NoIndex e), λ h. absurd (never_none (sym cause ∙ done_early job earlier old left h.0 h.1)));
   bad_path = λ place e. absurd (never (BadPath place) e);
@@ -214,20 +215,20 @@ right_reply earlier job tree old Done tells is left short cause large fits = rec
     never_none e = cc
 right_reply earlier job tree old (Refused fault) tells is left short cause large fits = record {
   no_index = (
-    λ e. none_cause earlier job (early NoIndex (λ h. cc) (late_none (kind_of job) job tree old) e),
+    λ e. none_cause earlier job (early NoIndex (λ h. cc) (late_none (job_kind job) job tree old) e),
     λ h.
-        let moved : EarlyOr (Some NoIndex) (IsLateFault (kind_of job) job tree old fault) fault = subst (λ o. EarlyOr o (IsLateFault (kind_of job) job tree old fault) fault) (done_early job earlier old left h.0 h.1) cause in
+        let moved : EarlyOr (Some NoIndex) (IsLateFault (job_kind job) job tree old fault) fault = subst (λ o. EarlyOr o (IsLateFault (job_kind job) job tree old fault) fault) (done_early job earlier old left h.0 h.1) cause in
         ap Refused moved,
   );
-  bad_path = λ place e. path_cause earlier job place (early (BadPath place) (λ h. cc) (late_path (kind_of job) job tree old place) e);
+  bad_path = λ place e. path_cause earlier job place (early (BadPath place) (λ h. cc) (late_path (job_kind job) job tree old place) e);
   too_large = large;
   fits = fits;
-  bad_index = λ bad e. no_bad earlier job bad (early (BadIndex bad) (λ h. cc) (late_bad earlier (kind_of job) job tree old bad tells is left short) e);
-  unsorted = λ e. no_order earlier job (early Unsorted (λ h. cc) (late_order (kind_of job) job tree old tells) e);
+  bad_index = λ bad e. no_bad earlier job bad (early (BadIndex bad) (λ h. cc) (late_bad earlier (job_kind job) job tree old bad tells is left short) e);
+  unsorted = λ e. no_order earlier job (early Unsorted (λ h. cc) (late_order (job_kind job) job tree old tells) e);
 }
   where
-    early : (other : CindexFault) → (other ≡ Memory → ⊥) → (IsLateFault (kind_of job) job tree old other → ⊥) → Refused fault ≡ Refused other → Causes earlier job other
+    early : (other : CindexFault) → (other ≡ Memory → ⊥) → (IsLateFault (job_kind job) job tree old other → ⊥) → Refused fault ≡ Refused other → Causes earlier job other
     early other no_memory none e =
         let at : fault ≡ other = is_reply fault other e in
-        let moved : EarlyOr (early_fault job old) (IsLateFault (kind_of job) job tree old other) other = subst (λ f. EarlyOr (early_fault job old) (IsLateFault (kind_of job) job tree old f) f) at cause in
-        causes earlier is job old left short other (is_early (early_fault job old) (IsLateFault (kind_of job) job tree old other) other no_memory none moved)
+        let moved : EarlyOr (early_fault job old) (IsLateFault (job_kind job) job tree old other) other = subst (λ f. EarlyOr (early_fault job old) (IsLateFault (job_kind job) job tree old f) f) at cause in
+        causes earlier is job old left short other (is_early (early_fault job old) (IsLateFault (job_kind job) job tree old other) other no_memory none moved)

@@ -1,3 +1,11 @@
+pub mod FrontLemmas
+pub mod LineLemmas
+pub mod VerdictLemmas
+pub mod FileLemmas
+pub mod NameLemmas
+pub mod OrderLemmas
+pub mod IndexLemmas
+pub mod IndexingLemmas
 pub mod PathLemmas
 pub mod OldLemmas
 pub mod GoingLemmas
@@ -5,4 +13,5 @@ pub mod ToldLemmas
 pub mod NextLemmas
 pub mod JobLemmas
 pub mod OutcomeLemmas
+pub mod StepLemmas
 pub mod CallLemmas

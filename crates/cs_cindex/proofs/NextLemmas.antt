@@ -1,47 +1,50 @@
 -- The index after a job that walks.
 use Rattle.std.proofs.Common.{◌≡◌, ◌≢◌, ℕ, ◌<◌, ◌≤◌, ◌^◌, ◌⊎◌, ◌&&◌, Bool, true, false, cond, List, [], ◌∷◌, length, map, refl, sym, ap, subst, ◌∙◌, inl, inr, arith, Option, Some, None, Result, Ok, Err}
+use Rattle.cs_history.specs.JobIndex.{files_found, tree_index}
+use Rattle.cs_tree.specs.Folders.{Tells}
+use Rattle.cs_tree.specs.PathSet.{Paths}
+use Rattle.cs_tree.specs.NameOrder.{bytes_cmp}
 use Rattle.std.specs.Prelude.{string_bytes, is_some}
 use Rattle.std.specs.FinMap as map'
 use Rattle.std.specs.Cmp.Lexicographic.{nat_list_cmp_total}
 use Rattle.std.proofs.lemmas.Bool.{true≢false, cases_Bool, cases_lt, ne_eqb, eqb-true, eqb-false}
 use Rattle.std.proofs.lemmas.List.{length-map}
 use Rattle.cs_tree.specs.PathSet as set
-use Rattle.cs_tree.specs.Cover.{bytes_cmp, Paths, least}
-use Rattle.cs_tree.specs.Clean.{cleaned}
-use Rattle.cs_tree.specs.Snapshot.{Snapshot, Tells}
-use Rattle.cs_tree.specs.Reached.{found}
+use Rattle.cs_tree.specs.Cover.{least}
+use Rattle.cs_tree.specs.Clean.{clean_path}
+use Rattle.cs_tree.specs.Snapshot.{Snapshot}
 use Rattle.cs_tree.proofs.Sets.{same_set}
-use Rattle.cs_trigram.specs.Text.{text_trigrams, limits}
 use Rattle.cs_index.specs.Image.{image}
-use Rattle.cs_index.specs.Opening.{Parts, opened}
+use Rattle.cs_index.specs.Opening.{Parts, opening}
 use Rattle.cs_index.specs.declared.fault.IndexFault.{IndexFault}
 use Rattle.cs_merge.specs.Content.{paths_in}
+use Rattle.cs_merge.specs.Joinable.{joined_index}
 use Rattle.cs_merge.specs.Join.{join_files, join_paths}
-use Rattle.cs_indexing.specs.Indexed.{IsIndexOf, IsTooLarge, IsIndexingFault}
+use Rattle.cs_cindex.specs.Indexed.{IsIndexOf, IsTreeTooLarge, IsIndexingFault}
 use Rattle.cs_words.specs.declared.jobs.IndexJob.{IndexJob}
 use Rattle.cs_words.specs.declared.fault.CindexFault.{CindexFault}
 use Rattle.cs_words.specs.declared.fault.CindexFault.TheVariants.{NoIndex, BadIndex, Unsorted, TooLarge, BadPath, Write, Memory}
-use Rattle.cs_history.specs.History.{History, Visit, walked, all_given, paths_of, files_of, files_found, index_of}
+use Rattle.cs_history.specs.History.{History, Visit, walked_paths, all_given, paths_of, files_of, index_of}
 use Rattle.cs_history.specs.WellFormed.{IsHistory}
-use Rattle.cs_history.specs.Jobs.{texts, given, has_no_path, AreTaken, visit_of, after_done, told}
+use Rattle.cs_history.specs.Jobs.{given_texts, given_paths, has_no_path, AreTaken, visit_of, after_done, snapshot_told}
 use Rattle.cs_history.specs.Headline.{IsShort, Premises}
-use Rattle.cs_history.specs.Refusals.{IsLong, Walks}
+use Rattle.cs_history.specs.Replies.{IsLong, Walks}
 use Rattle.cs_history.proofs.JobLemmas.{taken_visit}
 use Rattle.cs_history.proofs.FollowingLemmas.{first_premises}
 use Rattle.cs_history.proofs.HistoryLemmas.{walk_content, walk_lies, least_twice}
 use Rattle.cs_history.proofs.IndexLemmas.{index_joined, first_index, given_some, walked_again, no_index}
-use Rattle.cs_cindex.specs.Built.{IsSoundIf}
-use Rattle.cs_cindex.specs.Held.{IsHeld}
-use Rattle.cs_cindex.specs.Joins.{JoinsTo, IsTooLong, IsJoinFault}
-use Rattle.cs_cindex.specs.Next.{recorded, recorded_in, paths_walked, own_index, both, next_index, IsNextLong, IsNext}
-use Rattle.cs_cindex.specs.Refusals.{base, IsDamagedIf, IsWalkFault}
-use Rattle.cs_cindex.proofs.OldLemmas.{history_opens, opened_image}
+use Rattle.std.specs.Result.{IsOkAnd}
+use Rattle.cs_index.specs.Opening.{are_whole}
+use Rattle.cs_cindex.specs.Joins.{IsSound, JoinsTo, IsJoinFault}
+use Rattle.cs_cindex.specs.Next.{opening_paths, base_paths, paths_walked, index_alone, opening_join, next_index, IsNextLong, IsNext}
+use Rattle.cs_cindex.specs.Refusals.{base, IsWalkFault}
+use Rattle.cs_cindex.proofs.OldLemmas.{OpensWith, history_opens, opened_image}
 
 -- ---- of what a walk gives, whatever bytes the job goes on from
 
-own_told : (job : IndexJob) (tree : Option Snapshot) (old : Option (List ℕ)) (paths : Paths) (bytes : List ℕ) → paths ≡ paths_walked job old → IsIndexOf tree paths bytes → Tells tree → bytes ≡ own_index job (told tree) old
+own_told : (job : IndexJob) (tree : Option Snapshot) (old : Option (List ℕ)) (paths : Paths) (bytes : List ℕ) → paths ≡ paths_walked job old → IsIndexOf tree paths bytes → Tells tree → bytes ≡ index_alone job (snapshot_told tree) old
 own_told job None old paths bytes e built tells = absurd tells
-own_told job (Some tree) old paths bytes e built tells = built tells ∙ ap (λ ps. image ps (found (text_trigrams limits) tree ps)) e
+own_told job (Some tree) old paths bytes e built tells = built tells ∙ ap (tree_index tree) e
 
 pub next_anew : (job : IndexJob) (tree : Option Snapshot) (paths : Paths) (bytes : List ℕ) → paths ≡ paths_walked job None → IsIndexOf tree paths bytes → length bytes < 2 ^ 32 → IsNext job tree None (Some bytes)
 next_anew job tree paths bytes e built short = record {
@@ -50,26 +53,26 @@ next_anew job tree paths bytes e built short = record {
   short = short;
 }
 
-joins_both : (parts : Parts) (opening : Result Parts IndexFault) (bytes : List ℕ) → JoinsTo parts opening bytes → Some bytes ≡ both (Ok parts) opening
-joins_both parts (Ok own) bytes joins = ap Some joins
-joins_both parts (Err fault) bytes joins = absurd joins
+joins_opening : (parts : Parts) (opening : Result Parts IndexFault) (bytes : List ℕ) → JoinsTo parts opening bytes → Some bytes ≡ opening_join (Ok parts) opening
+joins_opening parts (Ok own) bytes joins = ap Some joins
+joins_opening parts (Err fault) bytes joins = absurd joins
 
-pub next_onto : (job : IndexJob) (tree : Option Snapshot) (old : List ℕ) (parts : Parts) (paths : Paths) (own bytes : List ℕ) → opened old ≡ Ok parts → paths ≡ paths_walked job (Some old) → IsIndexOf tree paths own → length own < 2 ^ 32 → JoinsTo parts (opened own) bytes → length bytes < 2 ^ 32 → IsNext job tree (Some old) (Some bytes)
+pub next_onto : (job : IndexJob) (tree : Option Snapshot) (old : List ℕ) (parts : Parts) (paths : Paths) (own bytes : List ℕ) → opening old ≡ Ok parts → paths ≡ paths_walked job (Some old) → IsIndexOf tree paths own → length own < 2 ^ 32 → JoinsTo parts (opening own) bytes → length bytes < 2 ^ 32 → IsNext job tree (Some old) (Some bytes)
 next_onto job tree old parts paths own bytes opens e built few joins short = record {
   is = λ tells.
-      joins_both parts (opened own) bytes joins
-      ∙ ap (λ o. both o (opened own)) (sym opens)
-      ∙ ap (λ b. both (opened old) (opened b)) (own_told job tree (Some old) paths own e built tells);
+      joins_opening parts (opening own) bytes joins
+      ∙ ap (λ o. opening_join o (opening own)) (sym opens)
+      ∙ ap (λ b. opening_join (opening old) (opening b)) (own_told job tree (Some old) paths own e built tells);
   own_short = λ tells. subst (λ b. length b < 2 ^ 32) (own_told job tree (Some old) paths own e built tells) few;
   short = short;
 }
 
 -- a refusal of indexing is one of the job
-large_told : (job : IndexJob) (tree : Option Snapshot) (old : Option (List ℕ)) (paths : Paths) → paths ≡ paths_walked job old → IsTooLarge tree paths → Tells tree → IsNextLong job (told tree) old
+large_told : (job : IndexJob) (tree : Option Snapshot) (old : Option (List ℕ)) (paths : Paths) → paths ≡ paths_walked job old → IsTreeTooLarge tree paths → Tells tree → IsNextLong job (snapshot_told tree) old
 large_told job None old paths e large tells = absurd tells
-large_told job (Some tree) old paths e large tells = inl (subst (λ ps. 2 ^ 32 ≤ length (image ps (found (text_trigrams limits) tree ps))) e (large tells))
+large_told job (Some tree) old paths e large tells = inl (subst (λ ps. 2 ^ 32 ≤ length (tree_index tree ps)) e (large tells))
 
-pub index_refusal : (job : IndexJob) (tree : Option Snapshot) (old : Option (List ℕ)) (paths : Paths) (fault : CindexFault) → paths ≡ paths_walked job old → IsIndexingFault fault → (fault ≡ TooLarge → IsTooLarge tree paths) → IsWalkFault job tree old fault
+pub index_refusal : (job : IndexJob) (tree : Option Snapshot) (old : Option (List ℕ)) (paths : Paths) (fault : CindexFault) → paths ≡ paths_walked job old → IsIndexingFault fault → (fault ≡ TooLarge → IsTreeTooLarge tree paths) → IsWalkFault job tree old fault
 index_refusal job tree old paths TooLarge e only large = large_told job tree old paths e (large refl)
 index_refusal job tree old paths Write e only large = tt
 index_refusal job tree old paths Memory e only large = tt
@@ -79,16 +82,16 @@ index_refusal job tree old paths Unsorted e only large = absurd only
 index_refusal job tree old paths (BadPath place) e only large = only
 
 -- and so is one of joining
-long_both : (parts : Parts) (opening : Result Parts IndexFault) → IsTooLong parts opening → IsLong (both (Ok parts) opening)
-long_both parts (Ok own) long = long
-long_both parts (Err fault) long = absurd long
+long_opening : (parts : Parts) (opening : Result Parts IndexFault) → IsOkAnd opening (λ own. IsLong (Some (joined_index parts own))) → IsLong (opening_join (Ok parts) opening)
+long_opening parts (Ok own) long = long
+long_opening parts (Err fault) long = absurd long
 
-pub join_refusal : (job : IndexJob) (tree : Option Snapshot) (old : List ℕ) (parts : Parts) (paths : Paths) (own : List ℕ) (fault : CindexFault) → opened old ≡ Ok parts → paths ≡ paths_walked job (Some old) → IsIndexOf tree paths own → (Tells tree → IsSoundIf (opened own)) → IsJoinFault parts (opened own) fault → IsWalkFault job tree (Some old) fault
-join_refusal job tree old parts paths own (BadIndex fault) opens e built sound h = λ tells. let bad = h (sound tells) in (bad.0, subst IsDamagedIf (sym opens) bad.1)
+pub join_refusal : (job : IndexJob) (tree : Option Snapshot) (old : List ℕ) (parts : Parts) (paths : Paths) (own : List ℕ) (fault : CindexFault) → opening old ≡ Ok parts → paths ≡ paths_walked job (Some old) → IsIndexOf tree paths own → (Tells tree → IsOkAnd (opening own) IsSound) → IsJoinFault parts (opening own) fault → IsWalkFault job tree (Some old) fault
+join_refusal job tree old parts paths own (BadIndex fault) opens e built sound h = λ tells. let bad = h (sound tells) in (bad.0, subst (λ o. IsOkAnd o (λ parts. are_whole parts ≡ false)) (sym opens) bad.1)
 join_refusal job tree old parts paths own Unsorted opens e built sound h = λ tells. h (sound tells)
 join_refusal job tree old parts paths own TooLarge opens e built sound h = λ tells.
-    let joined : IsLong (both (opened old) (opened own)) = subst (λ o. IsLong (both o (opened own))) (sym opens) (long_both parts (opened own) h) in
-    inr (subst (λ b. IsLong (both (opened old) (opened b))) (own_told job tree (Some old) paths own e built tells) joined)
+    let joined : IsLong (opening_join (opening old) (opening own)) = subst (λ o. IsLong (opening_join o (opening own))) (sym opens) (long_opening parts (opening own) h) in
+    inr (subst (λ b. IsLong (opening_join (opening old) (opening b))) (own_told job tree (Some old) paths own e built tells) joined)
 join_refusal job tree old parts paths own Memory opens e built sound h = tt
 join_refusal job tree old parts paths own Write opens e built sound h = absurd h
 join_refusal job tree old parts paths own NoIndex opens e built sound h = h
@@ -103,63 +106,63 @@ pub record On (job : IndexJob) (tree : Snapshot) (old : Option (List ℕ)) (earl
   pub few : IsShort old
 
 no_length : set.len (set.from_list []) ≡ 0
-no_length = ap set.len (same_set (set.from_list []) set.empty (λ q. ap is_some (map'.get-from_entries nat_list_cmp_total (set.marked []) q ∙ sym (map'.get-empty bytes_cmp q)))) ∙ map'.len-empty bytes_cmp (Unit {0})
+no_length = ap set.len (same_set (set.from_list []) set.empty (λ q. ap is_some (map'.get-from_entries nat_list_cmp_total (set.with_units []) q ∙ sym (map'.get-empty bytes_cmp q)))) ∙ map'.len-empty bytes_cmp (Unit {0})
 
-none_given : (job : IndexJob) → has_no_path job ≡ true → set.len (given job) ≡ 0
-none_given job none = ap (λ ts. set.len (set.from_list (map (λ text. cleaned (string_bytes job.cwd) text) ts))) (no_texts (texts job) (length-map job.paths.items string_bytes ∙ eqb-true (length job.paths.items) 0 none)) ∙ no_length
+none_given : (job : IndexJob) → has_no_path job ≡ true → set.len (given_paths job) ≡ 0
+none_given job none = ap (λ ts. set.len (set.from_list (map (λ text. clean_path (string_bytes job.cwd) text) ts))) (no_texts (given_texts job) (length-map job.paths.items string_bytes ∙ eqb-true (length job.paths.items) 0 none)) ∙ no_length
   where
     no_texts : (ts : List (List ℕ)) → length ts ≡ 0 → ts ≡ []
     no_texts [] e = refl
     no_texts (t ∷ ts) e = absurd (omega (arith, e))
 
-walked_own : (visit : Visit) (before : History) → set.len visit.given ≢ 0 → walked visit before ≡ least visit.given
+walked_own : (visit : Visit) (before : History) → set.len visit.given ≢ 0 → walked_paths visit before ≡ least visit.given
 walked_own visit before some = ap (λ b. cond b (paths_of before) (least visit.given)) (ne_eqb (set.len visit.given) 0 some)
 
-recorded_held : (opening : Result Parts IndexFault) (earlier : History) → IsHeld opening (paths_of earlier) (files_of earlier) → least (recorded opening) ≡ paths_of earlier
+content_paths : (opening : Result Parts IndexFault) (earlier : History) → OpensWith opening (paths_of earlier) (files_of earlier) → least (opening_paths opening) ≡ paths_of earlier
 unfolding paths_in
-recorded_held (Ok parts) earlier h = ap least h.paths_are ∙ least_twice (all_given earlier)
-recorded_held (Err fault) earlier h = absurd h
+content_paths (Ok parts) earlier h = ap least h.paths_are ∙ least_twice (all_given earlier)
+content_paths (Err fault) earlier h = absurd h
 
-recorded_left : (old : Option (List ℕ)) (earlier : History) → IsHistory earlier → index_of earlier ≡ old → IsShort old → least (recorded_in old) ≡ paths_of earlier
+recorded_left : (old : Option (List ℕ)) (earlier : History) → IsHistory earlier → index_of earlier ≡ old → IsShort old → least (base_paths old) ≡ paths_of earlier
 recorded_left None earlier is left few = ap paths_of (sym (no_index earlier left))
-recorded_left (Some bytes) earlier is left few = recorded_held (opened bytes) earlier (history_opens earlier bytes is left few)
+recorded_left (Some bytes) earlier is left few = content_paths (opening bytes) earlier (history_opens earlier bytes is left few)
 
-walked_is : (job : IndexJob) (tree : Snapshot) (old : Option (List ℕ)) (earlier : History) → On job tree old earlier → paths_walked job old ≡ walked (visit_of job tree) earlier
+walked_is : (job : IndexJob) (tree : Snapshot) (old : Option (List ℕ)) (earlier : History) → On job tree old earlier → paths_walked job old ≡ walked_paths (visit_of job tree) earlier
 walked_is job tree old earlier on =
     elim (cases_Bool (has_no_path job)) [
       | inl none ↦
-          ap (λ b. least (cond b (recorded_in old) (given job))) none
+          ap (λ b. least (cond b (base_paths old) (given_paths job))) none
           ∙ recorded_left old earlier on.history.1 on.left on.few
           ∙ sym (walked_again (visit_of job tree) earlier (none_given job none))
       | inr some ↦
-          ap (λ b. least (cond b (recorded_in old) (given job))) some
+          ap (λ b. least (cond b (base_paths old) (given_paths job))) some
           ∙ sym (walked_own (visit_of job tree) earlier (given_some job (eqb-false (length job.paths.items) 0 some)))
     ]
 
-pub own_is : (job : IndexJob) (tree : Snapshot) (old : Option (List ℕ)) (earlier : History) → On job tree old earlier → own_index job tree old ≡ image (walked (visit_of job tree) earlier) (files_found (visit_of job tree) earlier)
-own_is job tree old earlier on = ap (λ ps. image ps (found (text_trigrams limits) tree ps)) (walked_is job tree old earlier on)
+pub own_is : (job : IndexJob) (tree : Snapshot) (old : Option (List ℕ)) (earlier : History) → On job tree old earlier → index_alone job tree old ≡ tree_index tree (walked_paths (visit_of job tree) earlier)
+own_is job tree old earlier on = ap (tree_index tree) (walked_is job tree old earlier on)
 
-both_held : (visit : Visit) (earlier : History) (old own : Result Parts IndexFault) → IsHeld old (paths_of earlier) (files_of earlier) → IsHeld own (walked visit earlier) (files_found visit earlier) → both old own ≡ index_of (visit ∷ earlier)
-both_held visit earlier (Ok old) (Ok own) h k =
+content_joined : (visit : Visit) (earlier : History) (old own : Result Parts IndexFault) → OpensWith old (paths_of earlier) (files_of earlier) → OpensWith own (walked_paths visit earlier) (files_found visit earlier) → opening_join old own ≡ index_of (visit ∷ earlier)
+content_joined visit earlier (Ok old) (Ok own) h k =
     (λ i. Some (image (join_paths (h.paths_are i) (k.paths_are i)) (join_files (k.paths_are i) (h.files_are i) (k.files_are i))))
     ∙ index_joined earlier visit
-both_held visit earlier (Ok old) (Err fault) h k = absurd k
-both_held visit earlier (Err fault) own h k = absurd h
+content_joined visit earlier (Ok old) (Err fault) h k = absurd k
+content_joined visit earlier (Err fault) own h k = absurd h
 
-pub next_is : (job : IndexJob) (tree : Snapshot) (old : Option (List ℕ)) (earlier : History) → On job tree old earlier → length (own_index job tree old) < 2 ^ 32 → next_index old (own_index job tree old) ≡ index_of (visit_of job tree ∷ earlier)
-next_is job tree None earlier on short = first_index earlier (visit_of job tree) (own_index job tree None) on.left (own_is job tree None earlier on)
+pub next_is : (job : IndexJob) (tree : Snapshot) (old : Option (List ℕ)) (earlier : History) → On job tree old earlier → length (index_alone job tree old) < 2 ^ 32 → next_index old (index_alone job tree old) ≡ index_of (visit_of job tree ∷ earlier)
+next_is job tree None earlier on short = first_index earlier (visit_of job tree) (index_alone job tree None) on.left (own_is job tree None earlier on)
 next_is job tree (Some bytes) earlier on short =
     let visit = visit_of job tree in
-    let own = own_index job tree (Some bytes) in
-    both_held visit earlier (opened bytes) (opened own)
+    let own = index_alone job tree (Some bytes) in
+    content_joined visit earlier (opening bytes) (opening own)
     (history_opens earlier bytes on.history.1 on.left on.few)
-    (opened_image own (walked visit earlier) (files_found visit earlier) (walk_content visit earlier on.history) (walk_lies visit earlier) (own_is job tree (Some bytes) earlier on) short)
+    (opened_image own (walked_paths visit earlier) (files_found visit earlier) (walk_content visit earlier on.history) (walk_lies visit earlier) (own_is job tree (Some bytes) earlier on) short)
 
 -- what is too large is so in the words of the history
-pub large_is : (job : IndexJob) (tree : Snapshot) (old : Option (List ℕ)) (earlier : History) → On job tree old earlier → IsNextLong job tree old → IsLong (Some (image (walked (visit_of job tree) earlier) (files_found (visit_of job tree) earlier))) ⊎ IsLong (index_of (visit_of job tree ∷ earlier))
+pub large_is : (job : IndexJob) (tree : Snapshot) (old : Option (List ℕ)) (earlier : History) → On job tree old earlier → IsNextLong job tree old → IsLong (Some (tree_index tree (walked_paths (visit_of job tree) earlier))) ⊎ IsLong (index_of (visit_of job tree ∷ earlier))
 large_is job tree old earlier on (inl own) = inl (subst (λ b. 2 ^ 32 ≤ length b) (own_is job tree old earlier on) own)
 large_is job tree old earlier on (inr next) =
-    elim (cases_lt (length (own_index job tree old)) (2 ^ 32)) [
+    elim (cases_lt (length (index_alone job tree old)) (2 ^ 32)) [
       | inl short ↦ inr (subst IsLong (next_is job tree old earlier on short) next)
       | inr long ↦ inl (subst (λ b. 2 ^ 32 ≤ length b) (own_is job tree old earlier on) long)
     ]
@@ -169,9 +172,9 @@ not_both None short long = long
 not_both (Some bytes) short long = omega (arith, short, long)
 
 -- and what was done is not
-pub fits_is : (job : IndexJob) (tree : Snapshot) (old new : Option (List ℕ)) (earlier : History) → On job tree old earlier → new ≡ next_index old (own_index job tree old) → length (own_index job tree old) < 2 ^ 32 → IsShort new → IsLong (Some (image (walked (visit_of job tree) earlier) (files_found (visit_of job tree) earlier))) ⊎ IsLong (index_of (visit_of job tree ∷ earlier)) → ⊥
+pub fits_is : (job : IndexJob) (tree : Snapshot) (old new : Option (List ℕ)) (earlier : History) → On job tree old earlier → new ≡ next_index old (index_alone job tree old) → length (index_alone job tree old) < 2 ^ 32 → IsShort new → IsLong (Some (tree_index tree (walked_paths (visit_of job tree) earlier))) ⊎ IsLong (index_of (visit_of job tree ∷ earlier)) → ⊥
 fits_is job tree old new earlier on is own_short short (inl own) =
-    not_both (Some (own_index job tree old)) own_short (subst (λ b. 2 ^ 32 ≤ length b) (sym (own_is job tree old earlier on)) own)
+    not_both (Some (index_alone job tree old)) own_short (subst (λ b. 2 ^ 32 ≤ length b) (sym (own_is job tree old earlier on)) own)
 fits_is job tree old new earlier on is own_short short (inr next) =
     not_both new short (subst IsLong (sym (is ∙ next_is job tree old earlier on own_short)) next)
 
@@ -180,7 +183,7 @@ fits_is job tree old new earlier on is own_short short (inr next) =
 pub base_premises : (job : IndexJob) (tree : Option Snapshot) (old : Option (List ℕ)) (earlier : History) → Premises (tree ∷ []) old earlier → Premises (tree ∷ []) (base job old) (cond job.reset [] earlier)
 base_premises job tree old earlier p = elim job.reset as (λ r. Premises (tree ∷ []) (cond r None old) (cond r [] earlier)) [ true ↦ first_premises (tree ∷ []) p.trees_tell | false ↦ p ]
 
-pub on_base : (job : IndexJob) (tree : Option Snapshot) (old : Option (List ℕ)) (earlier : History) → AreTaken job → Premises (tree ∷ []) old earlier → On job (told tree) (base job old) (cond job.reset [] earlier)
+pub on_base : (job : IndexJob) (tree : Option Snapshot) (old : Option (List ℕ)) (earlier : History) → AreTaken job → Premises (tree ∷ []) old earlier → On job (snapshot_told tree) (base job old) (cond job.reset [] earlier)
 on_base job tree old earlier taken p =
     let b = base_premises job tree old earlier p in
     record { history = (taken_visit job tree p.trees_tell.0 taken, b.jobs_were); left = b.they_left; few = b.short }

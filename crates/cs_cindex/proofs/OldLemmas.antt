@@ -1,5 +1,8 @@
 -- The index that some jobs left.
 use Rattle.std.proofs.Common.{◌≡◌, ℕ, ◌<◌, ◌^◌, Bool, true, false, cond, not, List, [], ◌∷◌, length, refl, sym, ap, subst, ◌∙◌, Option, Some, None, Result, Ok, Err}
+use Rattle.cs_tree.specs.PathSet.{Paths}
+use Rattle.cs_tree.specs.NameOrder.{bytes_cmp, are_ascending}
+use Rattle.cs_index.specs.Roundtrip.{parts_written}
 use Rattle.std.specs.Prelude.{is_some, T}
 use Rattle.std.specs.Ordering.{is_lt}
 use Rattle.std.specs.FinMap.Entries.{below_all}
@@ -9,12 +12,12 @@ use Rattle.std.specs.Ordering.{eq_by_cmp}
 use Rattle.std.specs.FinMap as map'
 use Rattle.std.specs.Cmp.Lexicographic.{nat_list_cmp_total}
 use Rattle.cs_tree.specs.PathSet as set
-use Rattle.cs_tree.specs.Cover.{bytes_cmp, Paths, covered}
+use Rattle.cs_tree.specs.Cover.{is_covered}
 use Rattle.cs_tree.proofs.Sets.{tied_same, entries_in_order}
 use Rattle.cs_index.specs.Image.{Files, Entry, image, names_of}
 use Rattle.cs_index.specs.Spelling.{IsIndexable}
 use Rattle.cs_index.proofs.WrittenLemmas.{image_has, image_opens}
-use Rattle.cs_index.specs.Opening.{Parts, opened, names_ascend, parts_written}
+use Rattle.cs_index.specs.Opening.{Parts, opening}
 use Rattle.cs_index.specs.declared.fault.IndexFault.{IndexFault}
 use Rattle.cs_index.specs.declared.fault.IndexFault.TheVariants.{BadPaths}
 use Rattle.cs_words.specs.declared.fault.CindexFault.TheVariants.{BadIndex, Unsorted}
@@ -23,12 +26,24 @@ use Rattle.cs_merge.proofs.ContentLemmas.{content_indexable, ascending_sets}
 use Rattle.cs_history.specs.History.{History, paths_of, files_of, index_of}
 use Rattle.cs_history.specs.WellFormed.{AreClean, IsHistory}
 use Rattle.cs_history.proofs.HistoryLemmas.{history_content, history_lies, index_is, clean_paths}
-use Rattle.cs_cindex.specs.Settled.{is_settled}
+use Rattle.cs_tree.specs.Cleaning.{is_settled}
 use Rattle.cs_merge.specs.Content.{paths_in, files_in}
 use Rattle.cs_merge.specs.Joinable.{are_covered}
-use Rattle.cs_cindex.specs.Held.{HoldsIn, IsHeld}
-use Rattle.cs_cindex.specs.Refusals.{opened_fault, parts_fault, IsDamaged, IsDamagedIf}
-use Rattle.cs_cindex.proofs.PathLemmas.{marked_items, clean_settled, set_of_items}
+use Rattle.std.specs.Result.{IsOkAnd}
+use Rattle.cs_index.specs.Opening.{are_whole}
+use Rattle.cs_cindex.specs.Joins.{IsSound}
+use Rattle.cs_cindex.specs.Refusals.{opening_fault, unfit_parts_fault, IsDamaged}
+use Rattle.cs_cindex.proofs.PathLemmas.{marked_items, set_of_items}
+
+-- ---- what an index that opens holds
+
+pub record HasContent (parts : Parts) (paths : Paths) (files : Files) : Type 0 where
+  pub paths_are : paths_in parts ≡ paths
+  pub files_are : files_in parts ≡ files
+  pub sound : IsSound parts
+
+abbrev pub OpensWith : Result Parts IndexFault → Paths → Files → Type 0
+OpensWith opening paths files = IsOkAnd opening (λ parts. HasContent parts paths files)
 
 -- ---- images open
 
@@ -36,12 +51,12 @@ pub all_pass : (test : List ℕ → Bool) (ps : List (List ℕ)) → AllByRecurs
 all_pass test [] all = refl
 all_pass test (p ∷ ps) all = and_from (test p) (list_all test ps) all.0 (all_pass test ps all.1)
 
-ascend_names : (es : List Entry) → map'.is_sorted bytes_cmp es ≡ true → names_ascend (names_of es) ≡ true
+ascend_names : (es : List Entry) → map'.is_sorted bytes_cmp es ≡ true → are_ascending (names_of es) ≡ true
 ascend_names [] up = refl
 ascend_names (e ∷ []) up = refl
 ascend_names (e ∷ f ∷ es) up =
     let both = and_parts (below_all bytes_cmp e.0 (f ∷ es)) (map'.is_sorted bytes_cmp (f ∷ es)) up in
-    and_from (is_lt (bytes_cmp e.0 f.0)) (names_ascend (names_of (f ∷ es))) (and_parts (is_lt (bytes_cmp e.0 f.0)) (below_all bytes_cmp e.0 es) both.0).0 (ascend_names (f ∷ es) both.1)
+    and_from (is_lt (bytes_cmp e.0 f.0)) (are_ascending (names_of (f ∷ es))) (and_parts (is_lt (bytes_cmp e.0 f.0)) (below_all bytes_cmp e.0 es) both.0).0 (ascend_names (f ∷ es) both.1)
 
 map_of_entries : (files : Files) → map'.from_entries (map'.entries files) ≡ files
 map_of_entries files = map'.same_entries_map (map'.from_entries (map'.entries files)) files (entries_in_order (map'.entries files) (map'.entries_sorted files))
@@ -65,68 +80,66 @@ each_key P files h = each (map'.keys files) (λ name member. by_option name (map
 covered_names : (parts : Parts) (paths : Paths) (files : Files) → set.from_list parts.paths ≡ paths → parts.names ≡ names_of (map'.entries files) → LieUnder paths files → are_covered parts ≡ true
 unfolding are_covered paths_in
 covered_names parts paths files p n under =
-    ap (λ s. list_all (λ name. covered s name) parts.names) p
-    ∙ ap (λ ns. list_all (λ name. covered paths name) ns) n
-    ∙ all_pass (λ name. covered paths name) (map'.keys files) (each_key (λ name. covered paths name ≡ true) files under)
+    ap (λ s. list_all (λ name. is_covered s name) parts.names) p
+    ∙ ap (λ ns. list_all (λ name. is_covered paths name) ns) n
+    ∙ all_pass (λ name. is_covered paths name) (map'.keys files) (each_key (λ name. is_covered paths name ≡ true) files under)
 
-written_held : (paths : Paths) (files : Files) → IsContent paths files → LieUnder paths files → IsIndexable (set.items paths) (map'.entries files) → HoldsIn (parts_written (set.items paths) (map'.entries files)) paths files
+written_content : (paths : Paths) (files : Files) → IsContent paths files → LieUnder paths files → IsIndexable (set.items paths) (map'.entries files) → HasContent (parts_written (set.items paths) (map'.entries files)) paths files
 unfolding paths_in files_in
-written_held paths files content under indexable =
+written_content paths files content under indexable =
     let has = image_has (set.items paths) (map'.entries files) indexable in
     record {
       paths_are = ap set.from_list has.has_paths ∙ set_of_items paths;
       files_are = ap (λ (es : List Entry). map'.from_entries es) (has.has_files (ascending_sets files content.sets_are)) ∙ map_of_entries files;
-      ascend = ap names_ascend has.has_names ∙ ascend_names (map'.entries files) (from_T _ (map'.entries_sorted files));
-      whole = has.whole;
-      covered = covered_names (parts_written (set.items paths) (map'.entries files)) paths files (ap set.from_list has.has_paths ∙ set_of_items paths) has.has_names under;
+      sound = record { ascend = ap are_ascending has.has_names ∙ ascend_names (map'.entries files) (from_T _ (map'.entries_sorted files)); covered = covered_names (parts_written (set.items paths) (map'.entries files)) paths files (ap set.from_list has.has_paths ∙ set_of_items paths) has.has_names under; whole = has.whole };
     }
 
-pub image_held : (paths : Paths) (files : Files) → IsContent paths files → LieUnder paths files → length (image paths files) < 2 ^ 32 → IsHeld (opened (image paths files)) paths files
+pub image_content : (paths : Paths) (files : Files) → IsContent paths files → LieUnder paths files → length (image paths files) < 2 ^ 32 → OpensWith (opening (image paths files)) paths files
 unfolding image
-image_held paths files content under short =
+image_content paths files content under short =
     let indexable = content_indexable paths files content short in
-    subst (λ o. IsHeld o paths files) (sym (image_opens (set.items paths) (map'.entries files) indexable)) (written_held paths files content under indexable)
+    subst (λ o. OpensWith o paths files) (sym (image_opens (set.items paths) (map'.entries files) indexable)) (written_content paths files content under indexable)
 
-pub opened_image : (bytes : List ℕ) (paths : Paths) (files : Files) → IsContent paths files → LieUnder paths files → bytes ≡ image paths files → length bytes < 2 ^ 32 → IsHeld (opened bytes) paths files
-opened_image bytes paths files content under is short = subst (λ b. IsHeld (opened b) paths files) (sym is) (image_held paths files content under (subst (λ b. length b < 2 ^ 32) is short))
+pub opened_image : (bytes : List ℕ) (paths : Paths) (files : Files) → IsContent paths files → LieUnder paths files → bytes ≡ image paths files → length bytes < 2 ^ 32 → OpensWith (opening bytes) paths files
+opened_image bytes paths files content under is short = subst (λ b. OpensWith (opening b) paths files) (sym is) (image_content paths files content under (subst (λ b. length b < 2 ^ 32) is short))
 
-pub history_opens : (earlier : History) (bytes : List ℕ) → IsHistory earlier → index_of earlier ≡ Some bytes → length bytes < 2 ^ 32 → IsHeld (opened bytes) (paths_of earlier) (files_of earlier)
+pub history_opens : (earlier : History) (bytes : List ℕ) → IsHistory earlier → index_of earlier ≡ Some bytes → length bytes < 2 ^ 32 → OpensWith (opening bytes) (paths_of earlier) (files_of earlier)
 history_opens earlier bytes is e short = opened_image bytes (paths_of earlier) (files_of earlier) (history_content earlier is) (history_lies earlier) (sym (index_is earlier bytes e)) short
 
 -- what holds of the members of a set holds of the list that it was made of
 pub each_listed : (P : List ℕ → Type 0) (ps : List (List ℕ)) → ((path : List ℕ) → set.contains (set.from_list ps) path ≡ true → P path) → AllByRecursion P ps
-each_listed P ps h = each ps (λ path member. h path (ap is_some (map'.get-from_entries nat_list_cmp_total (set.marked ps) path) ∙ marked_items path ps ∙ member))
+each_listed P ps h = each ps (λ path member. h path (ap is_some (map'.get-from_entries nat_list_cmp_total (set.with_units ps) path) ∙ marked_items path ps ∙ member))
   where
     each : (qs : List (List ℕ)) → ((path : List ℕ) → list_any (eq_by_cmp bytes_cmp path) qs ≡ true → P path) → AllByRecursion P qs
     each [] g = tt
     each (q ∷ qs) g = (g q (or_left (eq_by_cmp bytes_cmp q q) _ (tied_same q)), each qs (λ path member. g path (or_right (eq_by_cmp bytes_cmp path q) _ member)))
 
 -- its paths are as cleaning gives them
-held_settled : (parts : Parts) (paths : Paths) (files : Files) → AreClean paths → HoldsIn parts paths files → list_all is_settled parts.paths ≡ true
+content_settled : (parts : Parts) (paths : Paths) (files : Files) → AreClean paths → HasContent parts paths files → list_all is_settled parts.paths ≡ true
 unfolding paths_in
-held_settled parts paths files clean h = all_pass is_settled parts.paths (each_listed (λ p. is_settled p ≡ true) parts.paths (λ p member. clean_settled p (clean p (subst (λ s. set.contains s p ≡ true) h.paths_are member))))
+content_settled parts paths files clean h = all_pass is_settled parts.paths (each_listed (λ p. is_settled p ≡ true) parts.paths (λ p member. (clean p (subst (λ s. set.contains s p ≡ true) h.paths_are member)).settled))
 
-held_fault : (opening : Result Parts IndexFault) (paths : Paths) (files : Files) → AreClean paths → IsHeld opening paths files → opened_fault parts_fault opening ≡ None
-held_fault (Err fault) paths files clean h = absurd h
-held_fault (Ok parts) paths files clean h =
-    ap (λ b. cond (not b) (Some (BadIndex BadPaths)) (cond (not (names_ascend parts.names)) (Some Unsorted) None)) (held_settled parts paths files clean h)
-    ∙ ap (λ b. cond (not b) (Some Unsorted) None) h.ascend
+content_fault : (opening : Result Parts IndexFault) (paths : Paths) (files : Files) → AreClean paths → OpensWith opening paths files → opening_fault unfit_parts_fault opening ≡ None
+content_fault (Err fault) paths files clean h = absurd h
+content_fault (Ok parts) paths files clean h =
+    ap (λ b. cond (not b) (Some (BadIndex BadPaths)) (cond (not (are_ascending parts.names)) (Some Unsorted) None)) (content_settled parts paths files clean h)
+    ∙ ap (λ b. cond (not b) (Some Unsorted) None) h.sound.ascend
 
 -- it is gone on from, and no list of it is damaged
-pub history_goes : (earlier : History) (bytes : List ℕ) → IsHistory earlier → index_of earlier ≡ Some bytes → length bytes < 2 ^ 32 → opened_fault parts_fault (opened bytes) ≡ None
-history_goes earlier bytes is e short = held_fault (opened bytes) (paths_of earlier) (files_of earlier) (clean_paths earlier is) (history_opens earlier bytes is e short)
+pub history_goes : (earlier : History) (bytes : List ℕ) → IsHistory earlier → index_of earlier ≡ Some bytes → length bytes < 2 ^ 32 → opening_fault unfit_parts_fault (opening bytes) ≡ None
+history_goes earlier bytes is e short = content_fault (opening bytes) (paths_of earlier) (files_of earlier) (clean_paths earlier is) (history_opens earlier bytes is e short)
 
-held_whole : (opening : Result Parts IndexFault) (paths : Paths) (files : Files) → IsHeld opening paths files → IsDamagedIf opening → ⊥
-held_whole (Err fault) paths files h damaged = h
-held_whole (Ok parts) paths files h damaged = true≢false (sym h.whole ∙ damaged)
+content_whole : (opening : Result Parts IndexFault) (paths : Paths) (files : Files) → OpensWith opening paths files → IsOkAnd opening (λ parts. are_whole parts ≡ false) → ⊥
+content_whole (Err fault) paths files h damaged = h
+content_whole (Ok parts) paths files h damaged = true≢false (sym h.sound.whole ∙ damaged)
 
 pub history_whole : (earlier : History) (bytes : List ℕ) → IsHistory earlier → index_of earlier ≡ Some bytes → length bytes < 2 ^ 32 → IsDamaged (Some bytes) → ⊥
-history_whole earlier bytes is e short damaged = held_whole (opened bytes) (paths_of earlier) (files_of earlier) (history_opens earlier bytes is e short) damaged
+history_whole earlier bytes is e short damaged = content_whole (opening bytes) (paths_of earlier) (files_of earlier) (history_opens earlier bytes is e short) damaged
 
 -- and it opens
-held_lists : (opening : Result Parts IndexFault) (paths : Paths) (files : Files) → IsHeld opening paths files → opened_fault (λ _. None) opening ≡ None
-held_lists (Err fault) paths files h = absurd h
-held_lists (Ok parts) paths files h = refl
+content_lists : (opening : Result Parts IndexFault) (paths : Paths) (files : Files) → OpensWith opening paths files → opening_fault (λ _. None) opening ≡ None
+content_lists (Err fault) paths files h = absurd h
+content_lists (Ok parts) paths files h = refl
 
-pub history_lists : (earlier : History) (bytes : List ℕ) → IsHistory earlier → index_of earlier ≡ Some bytes → length bytes < 2 ^ 32 → opened_fault (λ _. None) (opened bytes) ≡ None
-history_lists earlier bytes is e short = held_lists (opened bytes) (paths_of earlier) (files_of earlier) (history_opens earlier bytes is e short)
+pub history_lists : (earlier : History) (bytes : List ℕ) → IsHistory earlier → index_of earlier ≡ Some bytes → length bytes < 2 ^ 32 → opening_fault (λ _. None) (opening bytes) ≡ None
+history_lists earlier bytes is e short = content_lists (opening bytes) (paths_of earlier) (files_of earlier) (history_opens earlier bytes is e short)

@@ -1,19 +1,20 @@
 -- What becomes of the index, and why jobs are refused.
-use Rattle.std.proofs.Common.{◌≡◌, ℕ, ◌&&◌, true, false, cond, List, [], ◌∷◌, refl, sym, ap, subst, ◌∙◌, ◌⊎◌, Option, Some, None}
+use Rattle.std.proofs.Common.{◌≡◌, ℕ, ◌&&◌, cond, List, [], ◌∷◌, refl, sym, ap, subst, ◌∙◌, ◌⊎◌, Option, Some, None}
+use Rattle.cs_tree.specs.Folders.{Tells}
 use Rattle.std.specs.Prelude.{string_bytes, option_map}
 use Rattle.std.specs.Option.{option_or}
-use Rattle.cs_tree.specs.Snapshot.{Snapshot, Tells}
+use Rattle.cs_tree.specs.Snapshot.{Snapshot}
 use Rattle.cs_words.specs.declared.jobs.IndexJob.{IndexJob}
 use Rattle.cs_words.specs.declared.jobs.Reply.{Reply}
 use Rattle.cs_words.specs.declared.jobs.Reply.TheVariants.{Done, Refused}
 use Rattle.cs_words.specs.declared.fault.CindexFault.{CindexFault}
 use Rattle.cs_words.specs.declared.fault.CindexFault.TheVariants.{TooLarge, BadPath}
 use Rattle.cs_history.specs.History.{History, index_of}
-use Rattle.cs_history.specs.Jobs.{texts, has_no_path, AreTaken, told}
+use Rattle.cs_history.specs.Jobs.{given_texts, has_no_path, AreTaken, snapshot_told}
 use Rattle.cs_history.specs.Headline.{Premises, Indexes}
-use Rattle.cs_history.specs.Refusals.{Walks, IsLong, IsTooLarge}
+use Rattle.cs_history.specs.Replies.{Walks, IsLong, IsTooLarge}
 use Rattle.cs_cindex.specs.Next.{IsNextLong, IsNext}
-use Rattle.cs_cindex.specs.Refusals.{lists, clears, walks, kind_of, base, first_bad, base_fault, walk_fault, early_fault_of, early_fault, IsLateFault, EarlyOr, HasCause}
+use Rattle.cs_cindex.specs.Refusals.{lists, clears, walks, job_kind, base, first_bad, base_fault, early_walk_fault, early_fault_of, early_fault, IsLateFault, EarlyOr, HasCause}
 use Rattle.cs_cindex.specs.Steps.{RightAfter}
 use Rattle.cs_cindex.proofs.PathLemmas.{all_taken}
 use Rattle.cs_cindex.proofs.NextLemmas.{on_base, walks_on, next_is, large_is, fits_is}
@@ -23,12 +24,12 @@ none_bad_of : (o b : Option CindexFault) (bad : Option ℕ) → option_or (optio
 none_bad_of o b None e = refl
 none_bad_of o b (Some place) e = cc
 
-walk_taken : (job : IndexJob) (old : Option (List ℕ)) → walk_fault job old ≡ None → AreTaken job
-walk_taken job old e = all_taken (string_bytes job.cwd) (texts job) (none_bad_of None (base_fault job old) (first_bad (string_bytes job.cwd) (texts job)) e)
+walk_taken : (job : IndexJob) (old : Option (List ℕ)) → early_walk_fault job old ≡ None → AreTaken job
+walk_taken job old e = all_taken (string_bytes job.cwd) (given_texts job) (none_bad_of None (base_fault job old) (first_bad (string_bytes job.cwd) (given_texts job)) e)
 
 -- ---- jobs that walk
 
-walks_kind : (job : IndexJob) → Walks job → kind_of job ≡ walks
+pub walks_kind : (job : IndexJob) → Walks job → job_kind job ≡ walks
 walks_kind job w =
     ap (λ b. cond b lists (cond (job.reset && has_no_path job) clears walks)) w.0
     ∙ ap (λ b. cond b clears walks) w.1
@@ -37,42 +38,18 @@ walks_kind job w =
 early_taken : (job : IndexJob) (old : Option (List ℕ)) → Walks job → early_fault job old ≡ None → AreTaken job
 early_taken job old w e = walk_taken job (base job old) (sym (ap (λ kind. early_fault_of kind job old) (walks_kind job w)) ∙ e)
 
-walk_indexes : (job : IndexJob) (tree : Option Snapshot) (old : Option (List ℕ)) (bytes : List ℕ) → Walks job → walk_fault job (base job old) ≡ None → IsNext job tree (base job old) (Some bytes) → Indexes (job ∷ []) (tree ∷ []) (Done ∷ []) old (Some bytes)
+pub walk_indexes : (job : IndexJob) (tree : Option Snapshot) (old : Option (List ℕ)) (bytes : List ℕ) → Walks job → early_walk_fault job (base job old) ≡ None → IsNext job tree (base job old) (Some bytes) → Indexes (job ∷ []) (tree ∷ []) (Done ∷ []) old (Some bytes)
 walk_indexes job tree old bytes w none next =
     let taken = walk_taken job (base job old) none in
     record {
       index = λ earlier p.
           let tells = p.trees_tell.0 in
           next.is tells
-          ∙ next_is job (told tree) (base job old) (cond job.reset [] earlier) (on_base job tree old earlier taken p) (next.own_short tells)
-          ∙ ap index_of (sym (walks_on job (told tree) earlier w));
+          ∙ next_is job (snapshot_told tree) (base job old) (cond job.reset [] earlier) (on_base job tree old earlier taken p) (next.own_short tells)
+          ∙ ap index_of (sym (walks_on job (snapshot_told tree) earlier w));
       fitting = ((λ _. taken), tt);
       short = λ _. next.short;
     }
-
--- a job that is no reset goes on from the old index, and a reset from none
-base_forth : (job : IndexJob) (old : Option (List ℕ)) → job.reset ≡ false → base job old ≡ old
-base_forth job old r = ap (λ b. cond b None old) r
-
-base_anew : (job : IndexJob) (old : Option (List ℕ)) → job.reset ≡ true → base job old ≡ None
-base_anew job old r = ap (λ b. cond b None old) r
-
-module _ (job : IndexJob) (tree : Option Snapshot) (old : Option (List ℕ)) where
-  pub next_forth : (new : Option (List ℕ)) → job.reset ≡ false → IsNext job tree old new → Walks job → IsNext job tree (base job old) new
-  next_forth new r next w = subst (λ o. IsNext job tree o new) (sym (base_forth job old r)) next
-
-  pub next_anew : (new : Option (List ℕ)) → job.reset ≡ true → IsNext job tree None new → Walks job → IsNext job tree (base job old) new
-  next_anew new r next w = subst (λ o. IsNext job tree o new) (sym (base_anew job old r)) next
-
-  pub walk_forth : (bytes : List ℕ) → job.list ≡ false → job.reset ≡ false → walk_fault job old ≡ None → IsNext job tree old (Some bytes) → Indexes (job ∷ []) (tree ∷ []) (Done ∷ []) old (Some bytes)
-  walk_forth bytes l r none next =
-      let w : Walks job = (l, ap (λ b. b && has_no_path job) r) in
-      walk_indexes job tree old bytes w (ap (walk_fault job) (base_forth job old r) ∙ none) (next_forth (Some bytes) r next w)
-
-  pub walk_anew : (bytes : List ℕ) → job.list ≡ false → job.reset ≡ true → has_no_path job ≡ false → walk_fault job None ≡ None → IsNext job tree None (Some bytes) → Indexes (job ∷ []) (tree ∷ []) (Done ∷ []) old (Some bytes)
-  walk_anew bytes l r some none next =
-      let w : Walks job = (l, ap (λ b. b && has_no_path job) r ∙ some) in
-      walk_indexes job tree old bytes w (ap (walk_fault job) (base_anew job old r) ∙ none) (next_anew (Some bytes) r next w)
 
 -- ---- too large
 
@@ -88,36 +65,36 @@ late_of (Some early) late never h = absurd (never (is_early (Some early) ⊥ Too
 same_fault : (fault : CindexFault) → Refused fault ≡ Refused TooLarge → fault ≡ TooLarge
 same_fault fault e = cc
 
-large_late : (job : IndexJob) (tree : Option Snapshot) (old : Option (List ℕ)) (earlier : History) → Premises (tree ∷ []) old earlier → early_fault job old ≡ None → IsLateFault (kind_of job) job tree old TooLarge → IsTooLarge earlier job (told tree)
+large_late : (job : IndexJob) (tree : Option Snapshot) (old : Option (List ℕ)) (earlier : History) → Premises (tree ∷ []) old earlier → early_fault job old ≡ None → IsLateFault (job_kind job) job tree old TooLarge → IsTooLarge earlier job (snapshot_told tree)
 large_late job tree old earlier p none late =
     elim (cases_of job) [
       | listing l k ↦ absurd (subst (λ kind. IsLateFault kind job tree old TooLarge) k late)
       | clearing l r n k ↦ absurd (subst (λ kind. IsLateFault kind job tree old TooLarge) k late)
       | walking l one k ↦
           let w : Walks job = (l, one) in
-          let next : Tells tree → IsNextLong job (told tree) (base job old) = subst (λ kind. IsLateFault kind job tree old TooLarge) k late in
+          let next : Tells tree → IsNextLong job (snapshot_told tree) (base job old) = subst (λ kind. IsLateFault kind job tree old TooLarge) k late in
           record {
             walks = w;
-            long = subst (λ h. IsLong (Some (Rattle.cs_history.specs.Refusals.own_index earlier job (told tree))) ⊎ IsLong (index_of h)) (sym (walks_on job (told tree) earlier w))
-                (large_is job (told tree) (base job old) (cond job.reset [] earlier) (on_base job tree old earlier (early_taken job old w none) p) (next p.trees_tell.0));
+            long = subst (λ h. IsLong (Some (Rattle.cs_history.specs.Replies.own_index earlier job (snapshot_told tree))) ⊎ IsLong (index_of h)) (sym (walks_on job (snapshot_told tree) earlier w))
+                (large_is job (snapshot_told tree) (base job old) (cond job.reset [] earlier) (on_base job tree old earlier (early_taken job old w none) p) (next p.trees_tell.0));
           }
     ]
 
-large_cause : (job : IndexJob) (tree : Option Snapshot) (old : Option (List ℕ)) (reply : Reply) (earlier : History) → Premises (tree ∷ []) old earlier → HasCause job tree old reply → reply ≡ Refused TooLarge → IsTooLarge earlier job (told tree)
+large_cause : (job : IndexJob) (tree : Option Snapshot) (old : Option (List ℕ)) (reply : Reply) (earlier : History) → Premises (tree ∷ []) old earlier → HasCause job tree old reply → reply ≡ Refused TooLarge → IsTooLarge earlier job (snapshot_told tree)
 large_cause job tree old Done earlier p cause e = cc
 large_cause job tree old (Refused fault) earlier p cause e =
     let moved : HasCause job tree old (Refused TooLarge) = subst (λ f. HasCause job tree old (Refused f)) (same_fault fault e) cause in
-    let both = late_of (early_fault job old) (IsLateFault (kind_of job) job tree old TooLarge) (λ early. never_large earlier job (causes earlier p.jobs_were job old p.they_left p.short TooLarge early)) moved in
+    let both = late_of (early_fault job old) (IsLateFault (job_kind job) job tree old TooLarge) (λ early. never_large earlier job (causes earlier p.jobs_were job old p.they_left p.short TooLarge early)) moved in
     large_late job tree old earlier p both.0 both.1
 
-done_fits : (job : IndexJob) (tree : Option Snapshot) (old new : Option (List ℕ)) (reply : Reply) (earlier : History) → Premises (tree ∷ []) old earlier → HasCause job tree old reply → (reply ≡ Done → Walks job → IsNext job tree (base job old) new) → reply ≡ Done → IsTooLarge earlier job (told tree) → ⊥
+done_fits : (job : IndexJob) (tree : Option Snapshot) (old new : Option (List ℕ)) (reply : Reply) (earlier : History) → Premises (tree ∷ []) old earlier → HasCause job tree old reply → (reply ≡ Done → Walks job → IsNext job tree (base job old) new) → reply ≡ Done → IsTooLarge earlier job (snapshot_told tree) → ⊥
 done_fits job tree old new (Refused fault) earlier p cause next e large = cc
 done_fits job tree old new Done earlier p cause next e large =
     let w = large.walks in
     let done = next refl w in
     let tells = p.trees_tell.0 in
-    fits_is job (told tree) (base job old) new (cond job.reset [] earlier) (on_base job tree old earlier (early_taken job old w cause) p) (done.is tells) (done.own_short tells) done.short
-    (subst (λ h. IsLong (Some (Rattle.cs_history.specs.Refusals.own_index earlier job (told tree))) ⊎ IsLong (index_of h)) (walks_on job (told tree) earlier w) large.long)
+    fits_is job (snapshot_told tree) (base job old) new (cond job.reset [] earlier) (on_base job tree old earlier (early_taken job old w cause) p) (done.is tells) (done.own_short tells) done.short
+    (subst (λ h. IsLong (Some (Rattle.cs_history.specs.Replies.own_index earlier job (snapshot_told tree))) ⊎ IsLong (index_of h)) (walks_on job (snapshot_told tree) earlier w) large.long)
 
 -- ---- the reply of a job
 

@@ -1,7 +1,9 @@
 -- The paths of jobs and of walks.
-use Rattle.std.proofs.Common.{◌≡◌, ◌≢◌, ℕ, zero, suc, ◌+◌, ◌<◌, ◌≤◌, Bool, true, false, cond, not, ◌↔◌, ◌||◌, List, [], ◌∷◌, ◌++◌, length, map, take, get_or, refl, sym, ap, subst, ◌∙◌, arith, Option, Some, None, ltb, eqb, inl, inr}
-use Rattle.std.specs.Prelude.{is_some, is_none, T, string_bytes}
-use Rattle.std.proofs.lemmas.Bool.{true≢false, cond_both, and_parts, and_from, cases_Bool, or_left, or_right, or_parts, not_from_false, ltb-false, false_from_ne_true, ne_eqb, eqb-false, or_from, lt-ltb, le-ltb}
+use Rattle.std.proofs.Common.{◌≡◌, ◌≢◌, ℕ, zero, suc, ◌+◌, ◌<◌, ◌≤◌, Bool, true, false, cond, not, ◌||◌, List, [], ◌∷◌, ◌++◌, length, map, take, get_or, refl, sym, ap, subst, ◌∙◌, arith, Option, Some, None, ltb, eqb, inl, inr}
+use Rattle.cs_tree.specs.PathSet.{Paths}
+use Rattle.cs_tree.specs.NameOrder.{bytes_cmp}
+use Rattle.std.specs.Prelude.{is_some, T, string_bytes}
+use Rattle.std.proofs.lemmas.Bool.{true≢false, and_parts, and_from, cases_Bool, or_left, or_right, or_parts, not_from_false, ltb-false, false_from_ne_true, ne_eqb, eqb-false, or_from, lt-ltb, le-ltb}
 use Rattle.std.proofs.lemmas.List.Sums.{position_or_len_is}
 use Rattle.std.proofs.lemmas.List.Quantifiers.{position-Some}
 use Rattle.std.proofs.lemmas.List.{take_more, get_or-map}
@@ -11,25 +13,23 @@ use Rattle.std.specs.List.{AllByRecursion, list_any, list_all, position_or_len}
 use Rattle.std.specs.Ordering.{is_lt, eq_by_cmp}
 use Rattle.std.specs.FinMap as map'
 use Rattle.std.specs.FinMap.Entries.{below_all}
-use Rattle.std.specs.Cmp.{tied_itself, both_ways as same_tests}
+use Rattle.std.specs.Cmp.{tied_itself}
 use Rattle.std.specs.Cmp.Lexicographic.{bytes_decides, nat_list_cmp_total}
 use Rattle.cs_tree.specs.PathSet as set
-use Rattle.cs_tree.specs.Cover.{bytes_cmp, Paths, covers, least, slash, same, begins}
-use Rattle.cs_tree.specs.Clean.{absolute, cleaned, has_nul, longest_path}
-use Rattle.cs_tree.specs.Cleaning.{clean_fault, IsSettled}
-use Rattle.cs_tree.proofs.SettledLemmas.{settled_from, cleaned_settled}
+use Rattle.cs_tree.specs.Cover.{covers, least, same}
+use Rattle.cs_tree.specs.Clean.{absolute, clean_path, has_nul, longest_path}
+use Rattle.cs_tree.specs.Cleaning.{clean_fault, is_settled}
+use Rattle.cs_tree.proofs.SettledLemmas.{settled_filled, settled_no_nul, no_nul_bytes}
 use Rattle.cs_tree.specs.declared.cleaning.PathFault.{PathFault}
 use Rattle.cs_tree.specs.declared.cleaning.PathFault.TheVariants.{Empty, Nul, TooLong}
 use Rattle.cs_tree.proofs.Sets.{tied_same, same_set}
 use Rattle.cs_tree.proofs.Least.{least_says}
 use Rattle.cs_index.specs.Built.{is_storable, is_before, are_reduced, are_paths}
 use Rattle.cs_history.specs.Jobs.{IsTaken}
-use Rattle.cs_history.specs.WellFormed.{IsClean}
-use Rattle.cs_cindex.specs.Settled.{is_settled}
 use Rattle.cs_words.specs.declared.fault.CindexFault.{CindexFault}
 use Rattle.cs_words.specs.declared.fault.CindexFault.TheVariants.{NoIndex, BadIndex, Unsorted, TooLarge, BadPath, Write, Memory}
 use Rattle.cs_cindex.specs.Refusals.{first_bad}
-use Rattle.cs_cindex.specs.Walked.{IsCleanFault, AreCleanFault}
+use Rattle.cs_cindex.specs.JobPaths.{IsCleanFault, AreCleanFault}
 
 -- ---- the first text that cleaning refuses
 
@@ -91,13 +91,13 @@ reduced_paths paths storable =
 
 -- ---- a set is made of its items
 
-pub marked_items : (q : List ℕ) (ps : List (List ℕ)) → is_some (map'.find bytes_cmp q (set.marked ps)) ≡ list_any (eq_by_cmp bytes_cmp q) ps
+pub marked_items : (q : List ℕ) (ps : List (List ℕ)) → is_some (map'.find bytes_cmp q (set.with_units ps)) ≡ list_any (eq_by_cmp bytes_cmp q) ps
 marked_items q [] = refl
-marked_items q (p ∷ ps) = elim (eq_by_cmp bytes_cmp q p) as (λ t. is_some (cond t (Some tt) (map'.find bytes_cmp q (set.marked ps))) ≡ (t || list_any (eq_by_cmp bytes_cmp q) ps)) [ true ↦ refl | false ↦ marked_items q ps ]
+marked_items q (p ∷ ps) = elim (eq_by_cmp bytes_cmp q p) as (λ t. is_some (cond t (Some tt) (map'.find bytes_cmp q (set.with_units ps))) ≡ (t || list_any (eq_by_cmp bytes_cmp q) ps)) [ true ↦ refl | false ↦ marked_items q ps ]
 
 pub set_of_items : (paths : Paths) → set.from_list (set.items paths) ≡ paths
 set_of_items paths = same_set (set.from_list (set.items paths)) paths (λ q.
-    ap is_some (map'.get-from_entries nat_list_cmp_total (set.marked (set.items paths)) q)
+    ap is_some (map'.get-from_entries nat_list_cmp_total (set.with_units (set.items paths)) q)
     ∙ marked_items q (set.items paths)
     ∙ sym (map'.contains_key-keys paths q))
 
@@ -131,18 +131,18 @@ none_of false false false h = (refl, refl, refl)
 
 pub taken_from : (folder text : List ℕ) → is_bad folder text ≡ false → IsTaken folder text
 taken_from folder text h =
-    let tests = none_of (same text []) (has_nul (absolute folder text)) (ltb longest_path (length (cleaned folder text))) h in
+    let tests = none_of (same text []) (has_nul (absolute folder text)) (ltb longest_path (length (clean_path folder text))) h in
     record {
       filled = λ e. true≢false (sym (ap (λ t. same t []) e) ∙ tests.0);
       no_nul = no_nul_all (absolute folder text) tests.1;
-      short = ltb-false longest_path (length (cleaned folder text)) tests.2;
+      short = ltb-false longest_path (length (clean_path folder text)) tests.2;
     }
 
 pub none_taken : (folder text : List ℕ) → IsTaken folder text → clean_fault folder text ≡ None
 none_taken folder text taken =
     let a : same text [] ≡ false = false_from_ne_true (same text []) (λ e. taken.filled ((bytes_decides text []).0 e)) in
     let b : has_nul (absolute folder text) ≡ false = all_no_nul (absolute folder text) taken.no_nul in
-    let c : ltb longest_path (length (cleaned folder text)) ≡ false = le-ltb longest_path (length (cleaned folder text)) taken.short in
+    let c : ltb longest_path (length (clean_path folder text)) ≡ false = le-ltb longest_path (length (clean_path folder text)) taken.short in
     λ i. told_by (a i) (b i) (c i)
 
 pub not_taken : (folder text : List ℕ) → is_bad folder text ≡ true → IsTaken folder text → ⊥
@@ -185,41 +185,10 @@ taken_before folder texts place h =
     let found = position-Some (is_bad folder) texts place [] h in
     front_taken folder texts place found.0 found.2
 
--- ---- clean paths are settled, and settled ones can be stored
-
-pub clean_settled : (path : List ℕ) → IsClean path → is_settled path ≡ true
-clean_settled path is =
-    let taken : IsTaken (slash ∷ []) path = record {
-      filled = is.text.0;
-      no_nul = cond_both (begins (slash ∷ []) path) path (slash ∷ slash ∷ path) (AllByRecursion (λ b. 0 < b)) (λ _. is.text.1) (λ _. (omega arith, (omega arith, is.text.1)));
-      short = subst (λ p. length p ≤ longest_path) (sym (is.settled (slash ∷ []))) is.short;
-    } in
-    and_from (is_none (clean_fault (slash ∷ []) path)) _ (ap is_none (none_taken (slash ∷ []) path taken)) ((bytes_decides (cleaned (slash ∷ []) path) path).1 (is.settled (slash ∷ [])))
-
-not_some : {A : Type 0} (o : Option A) → is_none o ≡ true → is_some o ≡ false
-not_some None h = refl
-not_some (Some x) h = absurd (true≢false (sym h))
+-- ---- settled paths can be stored
 
 pub settled_storable : (path : List ℕ) → is_settled path ≡ true → is_storable path ≡ true
-settled_storable path h =
-    let taken = taken_from (slash ∷ []) path (not_some (clean_fault (slash ∷ []) path) (and_parts (is_none (clean_fault (slash ∷ []) path)) _ h).0) in
-    storable_text path taken.filled (cond_both (begins (slash ∷ []) path) path (slash ∷ slash ∷ path) (λ text. AllByRecursion (λ b. 0 < b) text → AllByRecursion (λ b. 0 < b) path) (λ _ all. all) (λ _ all. all.1.1) taken.no_nul)
-
--- a path that cleaning leaves as it is from the root, it leaves so from any folder
-settled_says : (path : List ℕ) → is_settled path ≡ true → IsSettled path
-settled_says path h =
-    let parts = and_parts (is_none (clean_fault (slash ∷ []) path)) (same (cleaned (slash ∷ []) path) path) h in
-    let taken = taken_from (slash ∷ []) path (not_some (clean_fault (slash ∷ []) path) parts.0) in
-    let stays : cleaned (slash ∷ []) path ≡ path = (bytes_decides (cleaned (slash ∷ []) path) path).0 parts.1 in
-    settled_from path (λ folder. ap (cleaned folder) (sym stays) ∙ cleaned_settled (slash ∷ []) path folder ∙ stays)
-    (all_no_nul path (cond_both (begins (slash ∷ []) path) path (slash ∷ slash ∷ path) (λ text. AllByRecursion (λ b. 0 < b) text → AllByRecursion (λ b. 0 < b) path) (λ _ all. all) (λ _ all. all.1.1) taken.no_nul))
-    (subst (λ p. length p ≤ longest_path) stays taken.short)
-
-settled_test : (path : List ℕ) → IsSettled path → is_settled path ≡ true
-settled_test path h = and_from (is_none (clean_fault (slash ∷ []) path)) _ (ap is_none (h.accepted (slash ∷ []))) ((bytes_decides (cleaned (slash ∷ []) path) path).1 (h.unchanged (slash ∷ [])))
-
-pub settled_answer : (path : List ℕ) (answer : Bool) → (answer ≡ true) ↔ IsSettled path → answer ≡ is_settled path
-settled_answer path answer h = same_tests answer (is_settled path) (λ e. settled_test path (h.0 e)) (λ e. h.1 (settled_says path e))
+settled_storable path h = storable_text path (settled_filled path h) (no_nul_bytes path (settled_no_nul path h))
 
 -- ---- why paths are refused
 
@@ -241,13 +210,13 @@ map_push f [] x = refl
 map_push f (y ∷ xs) x = ap (λ ys. f y ∷ ys) (map_push f xs x)
 
 -- one more path is cleaned
-pub cleaned_more : (folder : List ℕ) (paths : List (String Global)) (i : ℕ) (d : String Global) (given now : List (List ℕ)) (one : List ℕ) → i < length paths → d ≡ get_or paths i d → given ≡ map (λ text. cleaned folder text) (map string_bytes (take i paths)) → one ≡ cleaned folder (string_bytes d) → now ≡ given ++ one ∷ [] → now ≡ map (λ text. cleaned folder text) (map string_bytes (take (i + 1) paths))
+pub cleaned_more : (folder : List ℕ) (paths : List (String Global)) (i : ℕ) (d : String Global) (given now : List (List ℕ)) (one : List ℕ) → i < length paths → d ≡ get_or paths i d → given ≡ map (λ text. clean_path folder text) (map string_bytes (take i paths)) → one ≡ clean_path folder (string_bytes d) → now ≡ given ++ one ∷ [] → now ≡ map (λ text. clean_path folder text) (map string_bytes (take (i + 1) paths))
 cleaned_more folder paths i d given now one within is so_far here e =
-    let F : String Global → List ℕ = λ p. cleaned folder (string_bytes p) in
-    e ∙ ap (λ t. given ++ t ∷ []) here ∙ ap (λ ts. ts ++ cleaned folder (string_bytes d) ∷ []) so_far
-    ∙ sym (map_push (λ text. cleaned folder text) (map string_bytes (take i paths)) (string_bytes d))
-    ∙ ap (λ ts. map (λ text. cleaned folder text) ts) (sym (map_push string_bytes (take i paths) d))
-    ∙ ap (λ ps. map (λ text. cleaned folder text) (map string_bytes ps)) (ap (λ p. take i paths ++ p ∷ []) is ∙ sym (take_more paths i d within))
+    let F : String Global → List ℕ = λ p. clean_path folder (string_bytes p) in
+    e ∙ ap (λ t. given ++ t ∷ []) here ∙ ap (λ ts. ts ++ clean_path folder (string_bytes d) ∷ []) so_far
+    ∙ sym (map_push (λ text. clean_path folder text) (map string_bytes (take i paths)) (string_bytes d))
+    ∙ ap (λ ts. map (λ text. clean_path folder text) ts) (sym (map_push string_bytes (take i paths) d))
+    ∙ ap (λ ps. map (λ text. clean_path folder text) (map string_bytes ps)) (ap (λ p. take i paths ++ p ∷ []) is ∙ sym (take_more paths i d within))
 
 pub text_at : (paths : List (String Global)) (i : ℕ) (d : String Global) → i < length paths → d ≡ get_or paths i d → string_bytes d ≡ get_or (map string_bytes paths) i []
 text_at paths i d within is = ap string_bytes is ∙ sym (get_or-map string_bytes paths i d [] within)

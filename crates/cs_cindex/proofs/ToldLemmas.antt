@@ -1,66 +1,25 @@
 -- What jobs print.
-use Rattle.std.proofs.Common.{◌≡◌, ◌≢◌, ℕ, zero, suc, ◌+◌, Bool, cond, List, [], ◌∷◌, ◌++◌, length, take, refl, sym, ap, subst, ◌∙◌, inl, inr, arith, append_assoc, append-nil, Option, Some, None, Result, Ok}
+use Rattle.std.proofs.Common.{◌≡◌, ◌≢◌, ℕ, Bool, cond, List, [], ◌∷◌, ◌++◌, length, refl, sym, ap, subst, ◌∙◌, inl, inr, arith, append_assoc, append-nil, Option, Some, None, Result, Ok}
+use Rattle.cs_tree.specs.PathSet.{Paths}
 use Rattle.std.specs.Prelude.{codes}
 use Rattle.std.proofs.lemmas.Bool.{ne_eqb, eq-eqb}
 use Rattle.cs_tree.specs.PathSet as set
-use Rattle.cs_tree.specs.Cover.{Paths, least}
+use Rattle.cs_tree.specs.Cover.{least}
 use Rattle.cs_tree.specs.Snapshot.{Snapshot}
 use Rattle.cs_tree.specs.Told.{Grows}
-use Rattle.cs_index.specs.Opening.{Parts, opened}
+use Rattle.cs_index.specs.Opening.{Parts, opening}
 use Rattle.cs_index.specs.declared.fault.IndexFault.{IndexFault}
 use Rattle.cs_words.specs.declared.jobs.IndexJob.{IndexJob}
 use Rattle.cs_words.specs.declared.jobs.Reply.TheVariants.{Done, Refused}
 use Rattle.cs_words.specs.declared.fault.CindexFault.{CindexFault}
-use Rattle.cs_history.specs.Jobs.{given}
-use Rattle.cs_indexing.specs.Lines.{AreLinesIn, BeginLinesIn, Prints, PrintsFront}
-use Rattle.cs_cindex.specs.Refusals.{Kind, lists, clears, walks, base, early_fault_of}
-use Rattle.cs_cindex.specs.Walked.{AreCleaned, chosen}
-use Rattle.cs_cindex.specs.Next.{recorded, recorded_in, paths_walked}
-use Rattle.cs_cindex.specs.Told.{path_lines, TakesFront, WalkPrints, WalkPrintsFront, WalkPrintsSome, TellsBy}
-use Rattle.cs_cindex.proofs.GoingLemmas.{listed_walk, count_texts}
-
--- ---- bytes that an output takes
-
-pub grows_none : (taken : Option (List ℕ)) → Grows taken taken []
-grows_none None = tt
-grows_none (Some t) = sym (append-nil t)
-
-pub grows_both : (a b c : Option (List ℕ)) (xs ys : List ℕ) → Grows a b xs → Grows b c ys → Grows a c (xs ++ ys)
-grows_both None b c xs ys g h = tt
-grows_both (Some t) None c xs ys g h = absurd g
-grows_both (Some t) (Some u) None xs ys g h = absurd h
-grows_both (Some t) (Some u) (Some v) xs ys g h = h ∙ ap (λ l. l ++ ys) g ∙ append_assoc t xs ys
-
-pub grows_then : (a b c : Option (List ℕ)) (xs : List ℕ) → Grows a b xs → Grows b c [] → Grows a c xs
-grows_then a b c xs g h = subst (Grows a c) (append-nil xs) (grows_both a b c xs [] g h)
-
-take_all : (xs : List ℕ) → take (length xs) xs ≡ xs
-take_all [] = refl
-take_all (x ∷ xs) = ap (λ l. x ∷ l) (take_all xs)
-
-take_front : (n : ℕ) (xs ys : List ℕ) → take (length (take n xs)) (xs ++ ys) ≡ take n xs
-take_front zero xs ys = refl
-take_front (suc n) [] ys = refl
-take_front (suc n) (x ∷ xs) ys = ap (λ l. x ∷ l) (take_front n xs ys)
-
-take_past : (n : ℕ) (xs ys : List ℕ) → take (length xs + n) (xs ++ ys) ≡ xs ++ take n ys
-take_past n [] ys = ap (λ m. take m ys) (let e : 0 + n ≡ n = omega arith in e)
-take_past n (x ∷ xs) ys = ap (λ m. take m (x ∷ xs ++ ys)) (let e : suc (length xs) + n ≡ suc (length xs + n) = omega arith in e) ∙ ap (λ l. x ∷ l) (take_past n xs ys)
-
-pub front_none : (xs : List ℕ) (taken : Option (List ℕ)) → TakesFront xs taken taken
-front_none xs taken = record { count = 0; grows = grows_none taken }
-
-pub front_all : (xs : List ℕ) (a b : Option (List ℕ)) → Grows a b xs → TakesFront xs a b
-front_all xs a b g = record { count = length xs; grows = subst (Grows a b) (sym (take_all xs)) g }
-
-pub front_then : (xs : List ℕ) (a b c : Option (List ℕ)) → TakesFront xs a b → Grows b c [] → TakesFront xs a c
-front_then xs a b c f h = record { count = f.count; grows = grows_then a b c (take f.count xs) f.grows h }
-
-pub front_left : (xs ys : List ℕ) (a b : Option (List ℕ)) → TakesFront xs a b → TakesFront (xs ++ ys) a b
-front_left xs ys a b f = record { count = length (take f.count xs); grows = subst (Grows a b) (sym (take_front f.count xs ys)) f.grows }
-
-pub front_right : (xs ys : List ℕ) (a b c : Option (List ℕ)) → Grows a b xs → TakesFront ys b c → TakesFront (xs ++ ys) a c
-front_right xs ys a b c g f = record { count = length xs + f.count; grows = subst (Grows a c) (sym (take_past f.count xs ys)) (grows_both a b c xs (take f.count ys) g f.grows) }
+use Rattle.cs_history.specs.Jobs.{given_paths}
+use Rattle.cs_cindex.specs.Notices.{TakesFront, AreLinesIn, BeginLinesIn, Prints, PrintsFront}
+use Rattle.cs_cindex.specs.Refusals.{JobKind, lists, clears, walks, base, early_fault_of}
+use Rattle.cs_cindex.specs.JobPaths.{AreCleaned, starts}
+use Rattle.cs_cindex.specs.Next.{opening_paths, base_paths, paths_walked}
+use Rattle.cs_cindex.specs.Output.{path_lines, WalkPrints, WalkPrintsFront, WalkPrintsSome, TellsBy}
+use Rattle.cs_cindex.proofs.FrontLemmas.{grows_none, grows_then, front_none, front_left, front_right}
+use Rattle.cs_cindex.proofs.GoingLemmas.{walk_as_set, count_texts}
 
 -- ---- lines of walks
 
@@ -69,7 +28,7 @@ begin_none log_skip None paths = tt
 begin_none log_skip (Some tree) paths = λ is all h. refl
 
 cut_none : (job : IndexJob) (tree : Option Snapshot) (old : Option (List ℕ)) (n : ℕ) (taken : Option (List ℕ)) → WalkPrintsFront job tree old n n taken taken
-cut_none job tree old n taken = record { lines = []; due = begin_none job.log_skip tree (paths_walked job old); counted = tt; bytes = 0; grows = grows_none taken }
+cut_none job tree old n taken = record { lines = []; due = begin_none job.log_skip tree (paths_walked job old); counted = tt; front = front_none [] taken }
 
 -- nothing was printed
 pub nothing_printed : (early : Option CindexFault) (job : IndexJob) (tree : Option Snapshot) (old : Option (List ℕ)) (n : ℕ) (taken : Option (List ℕ)) → WalkPrintsSome early job tree old n n taken taken
@@ -80,14 +39,14 @@ nothing_printed (Some early) job tree old n taken = grows_none taken
 
 pub own_walked : (job : IndexJob) (ts paths : List (List ℕ)) (old : Option (List ℕ)) → AreCleaned job ts → length job.paths.items ≢ 0 → paths ≡ set.items (least (set.from_list ts)) → set.from_list paths ≡ paths_walked job old
 own_walked job ts paths old clean some e =
-    listed_walk paths ts e ∙ ap (λ ps. least (set.from_list ps)) clean.are
-    ∙ sym (ap (λ b. least (cond b (recorded_in old) (given job))) (ne_eqb (length job.paths.items) 0 some))
+    walk_as_set paths ts e ∙ ap (λ ps. least (set.from_list ps)) clean.are
+    ∙ sym (ap (λ b. least (cond b (base_paths old) (given_paths job))) (ne_eqb (length job.paths.items) 0 some))
 
-pub chosen_walked : (job : IndexJob) (old : List ℕ) (parts : Parts) (ts paths : List (List ℕ)) → AreCleaned job ts → opened old ≡ Ok parts → paths ≡ set.items (least (set.from_list (chosen ts parts.paths))) → set.from_list paths ≡ paths_walked job (Some old)
-chosen_walked job old parts [] paths clean opens e =
-    listed_walk paths parts.paths e ∙ ap (λ (o : Result Parts IndexFault). least (recorded o)) (sym opens)
-    ∙ sym (ap (λ b. least (cond b (recorded_in (Some old)) (given job))) (eq-eqb (length job.paths.items) 0 (sym (count_texts job [] clean))))
-chosen_walked job old parts (t ∷ ts) paths clean opens e =
+pub start_walk : (job : IndexJob) (old : List ℕ) (parts : Parts) (ts paths : List (List ℕ)) → AreCleaned job ts → opening old ≡ Ok parts → paths ≡ set.items (least (set.from_list (starts ts parts.paths))) → set.from_list paths ≡ paths_walked job (Some old)
+start_walk job old parts [] paths clean opens e =
+    walk_as_set paths parts.paths e ∙ ap (λ (o : Result Parts IndexFault). least (opening_paths o)) (sym opens)
+    ∙ sym (ap (λ b. least (cond b (base_paths (Some old)) (given_paths job))) (eq-eqb (length job.paths.items) 0 (sym (count_texts job [] clean))))
+start_walk job old parts (t ∷ ts) paths clean opens e =
     own_walked job (t ∷ ts) paths (Some old) clean (λ none. let n = count_texts job (t ∷ ts) clean in omega (arith, none, n)) e
 
 -- the same lines, over the paths in other words
@@ -102,12 +61,12 @@ whole_over job tree paths old early n m a b e none h = subst (λ o. WalkPrintsSo
 
 -- ---- flushes
 
-pub tells_then : (kind : Kind) (job : IndexJob) (tree : Option Snapshot) (old : Option (List ℕ)) (n m : ℕ) (a b c : Option (List ℕ)) → TellsBy kind Done job tree old n m a b → Grows b c [] → TellsBy kind Done job tree old n m a c
+pub tells_then : (kind : JobKind) (job : IndexJob) (tree : Option Snapshot) (old : Option (List ℕ)) (n m : ℕ) (a b c : Option (List ℕ)) → TellsBy kind Done job tree old n m a b → Grows b c [] → TellsBy kind Done job tree old n m a c
 tells_then lists job tree old n m a b c h g = grows_then a b c [] h g
 tells_then clears job tree old n m a b c h g = grows_then a b c [] h g
 tells_then walks job tree old n m a b c h g = record { lines = h.lines; due = h.due; counted = h.counted; grows = grows_then a b c _ h.grows g }
 
-pub tells_refused : (kind : Kind) (job : IndexJob) (tree : Option Snapshot) (old : Option (List ℕ)) (n m : ℕ) (a b : Option (List ℕ)) (fault : CindexFault) → early_fault_of kind job old ≡ None → TellsBy kind Done job tree old n m a b → TellsBy kind (Refused fault) job tree old n m a b
+pub tells_refused : (kind : JobKind) (job : IndexJob) (tree : Option Snapshot) (old : Option (List ℕ)) (n m : ℕ) (a b : Option (List ℕ)) (fault : CindexFault) → early_fault_of kind job old ≡ None → TellsBy kind Done job tree old n m a b → TellsBy kind (Refused fault) job tree old n m a b
 tells_refused lists job tree old n m a b fault none h = h
 tells_refused clears job tree old n m a b fault none h = h
 tells_refused walks job tree old n m a b fault none h = subst (λ o. WalkPrintsSome o job tree (base job old) n m a b) (sym none) (inl h)

@@ -1,12 +1,15 @@
--- what public contracts rest on
-pub mod Settled
+-- What public contracts rest on.
+pub use Rattle.cs_history.specs.Headline
+pub mod Bytes
+pub mod Notices
 pub mod Next
 pub mod Refusals
-pub mod Told
+pub mod Output
 pub mod Steps
--- what functions inside promise each other
-pub mod Walked
-pub mod Outcomes
-pub mod Held
-pub mod Built
+-- What functions inside promise each other.
+pub mod Indexed
+pub mod Verdicts
+pub mod Files
+pub mod JobPaths
 pub mod Joins
+pub mod Outcomes

@@ -1,15 +1,12 @@
--- What becomes of the index.
-use Rattle.std.specs.Prelude.{ℕ, List, Option, Some, None, option_map, Vec, Result, Ok, Err}
-use Rattle.std.specs.declared.alloc.Global.{Global}
+-- What a job comes to: its reply, and what becomes of the index.
+use Rattle.std.specs.Prelude.{ℕ, List, Option, Some, None, Result, Ok, Err}
 use Rattle.cs_words.specs.declared.jobs.Reply.{Reply}
 use Rattle.cs_words.specs.declared.jobs.Reply.TheVariants.{Done, Refused}
+use Rattle.cs_words.specs.declared.jobs.IndexJob.{IndexJob}
 use Rattle.cs_words.specs.declared.fault.CindexFault.{CindexFault}
 use Rattle.cs_cindex.specs.declared.outcome.Outcome.{Outcome}
 use Rattle.cs_cindex.specs.declared.outcome.Outcome.TheVariants.{Kept, Gone, Index}
-
--- the bytes of an index, if there is one
-abbrev pub bytes_in : Option (Vec ℕ Global) → Option (List ℕ)
-bytes_in index = option_map (λ (bytes : Vec ℕ Global). bytes.items) index
+use Rattle.cs_cindex.specs.Steps.{JobTree, Outputs, Standing, IsStep}
 
 -- the index after the job
 abbrev pub index_after : Option (List ℕ) → Outcome → Option (List ℕ)
@@ -25,3 +22,8 @@ index_from old (Err fault) = old
 abbrev pub reply_of : Result Outcome CindexFault → Reply
 reply_of (Ok outcome) = Done
 reply_of (Err fault) = Refused fault
+
+-- With the index that an outcome leaves, and with the reply to it, the job has made its step.
+abbrev pub IsStepTo : IndexJob → JobTree → Result Outcome CindexFault → Standing → Outputs → Type 0
+IsStepTo job tree outcome old later =
+    IsStep job tree (reply_of outcome) old (record { index = index_from old.index outcome; outputs = later })

@@ -1,35 +1,42 @@
 -- Why a job is refused, whatever bytes the old index has.
 -- docs/PROMISES.md, "Refusals of cindex"; the comment of the command cindex.
-use Rattle.std.specs.Prelude.{◌≡◌, ◌⊎◌, ℕ, false, not, ◌&&◌, if◌then◌else◌, List, position, Option, Some, None, option_map, is_some, Result, Ok, Err, string_bytes}
+use Rattle.std.specs.Prelude.{◌≡◌, ◌⊎◌, ℕ, true, false, not, ◌&&◌, if◌then◌else◌, List, [], ◌∷◌, position, Option, Some, None, option_map, is_some, Result, Ok, Err, MatchResult, string_bytes}
+use Rattle.cs_tree.specs.Folders.{Tells}
+use Rattle.cs_tree.specs.NameOrder.{are_ascending}
 use Rattle.std.specs.List.{list_all}
 use Rattle.std.specs.Option.{option_or}
-use Rattle.cs_tree.specs.Cleaning.{clean_fault}
-use Rattle.cs_tree.specs.Snapshot.{Snapshot, Tells}
-use Rattle.cs_index.specs.Opening.{Parts, are_whole, names_ascend, opened}
+use Rattle.std.specs.Result.{IsOkAnd}
+use Rattle.cs_tree.specs.Cover.{begins, slash}
+use Rattle.cs_tree.specs.Cleaning.{clean_fault, is_settled}
+use Rattle.cs_tree.specs.Snapshot.{Snapshot}
+use Rattle.cs_index.specs.Opening.{Parts, are_whole, opening}
 use Rattle.cs_index.specs.declared.fault.IndexFault.{IndexFault}
 use Rattle.cs_index.specs.declared.fault.IndexFault.TheVariants.{BadPaths, BadList}
-use Rattle.cs_words.specs.Faults.{unopened}
+use Rattle.cs_words.specs.Faults.{index_refusal}
 use Rattle.cs_words.specs.declared.jobs.IndexJob.{IndexJob}
 use Rattle.cs_words.specs.declared.jobs.Reply.{Reply}
 use Rattle.cs_words.specs.declared.jobs.Reply.TheVariants.{Done, Refused}
 use Rattle.cs_words.specs.declared.fault.CindexFault.{CindexFault}
 use Rattle.cs_words.specs.declared.fault.CindexFault.TheVariants.{NoIndex, BadIndex, Unsorted, TooLarge, BadPath, Write, Memory}
-use Rattle.cs_history.specs.Jobs.{texts, has_no_path, told}
-use Rattle.cs_cindex.specs.Settled.{is_settled}
+use Rattle.cs_history.specs.Jobs.{given_texts, has_no_path, snapshot_told}
 use Rattle.cs_cindex.specs.Next.{IsNextLong}
 
 -- ---- what a job is
 
-pub data Kind : Type 0 where
-  -- `-list`, whatever stands beside it
-  lists : Kind
-  -- `-reset` without paths
-  clears : Kind
-  -- any other job
-  walks : Kind
+-- its folder is absolute
+abbrev pub HasAbsoluteFolder : IndexJob → Type 0
+HasAbsoluteFolder job = begins (slash ∷ []) (string_bytes job.cwd) ≡ true
 
-abbrev pub kind_of : IndexJob → Kind
-kind_of job = if job.list then lists else (if job.reset && has_no_path job then clears else walks)
+pub data JobKind : Type 0 where
+  -- `-list`, whatever stands beside it
+  lists : JobKind
+  -- `-reset` without paths
+  clears : JobKind
+  -- any other job
+  walks : JobKind
+
+abbrev pub job_kind : IndexJob → JobKind
+job_kind job = if job.list then lists else (if job.reset && has_no_path job then clears else walks)
 
 -- the index that a job that walks goes on from: none with `-reset`
 abbrev pub base : IndexJob → Option (List ℕ) → Option (List ℕ)
@@ -39,42 +46,42 @@ base job old = if job.reset then None else old
 
 -- the place of the first text that cleaning refuses
 abbrev pub first_bad : List ℕ → List (List ℕ) → Option ℕ
-first_bad folder texts = position (λ text. is_some (clean_fault folder text)) texts
+first_bad folder given_texts = position (λ text. is_some (clean_fault folder text)) given_texts
 
 -- what a test says of an index that opens; one that does not open is bad
-abbrev pub opened_fault : (Parts → Option CindexFault) → Result Parts IndexFault → Option CindexFault
-opened_fault test (Ok parts) = test parts
-opened_fault test (Err fault) = Some (unopened fault)
+abbrev pub opening_fault : (Parts → Option CindexFault) → Result Parts IndexFault → Option CindexFault
+opening_fault test (Ok parts) = test parts
+opening_fault test (Err fault) = Some (index_refusal fault)
 
 -- An index is not gone on from where cleaning would refuse or change one of its paths, or where its
 -- names do not strictly ascend.
-abbrev pub parts_fault : Parts → Option CindexFault
-parts_fault parts =
+abbrev pub unfit_parts_fault : Parts → Option CindexFault
+unfit_parts_fault parts =
     if not (list_all is_settled parts.paths) then Some (BadIndex BadPaths)
-    else (if not (names_ascend parts.names) then Some Unsorted else None)
+    else (if not (are_ascending parts.names) then Some Unsorted else None)
 
 -- `-list` needs an index that opens.
 abbrev pub list_fault : Option (List ℕ) → Option CindexFault
 list_fault None = Some NoIndex
-list_fault (Some bytes) = opened_fault (λ _. None) (opened bytes)
+list_fault (Some bytes) = opening_fault (λ _. None) (opening bytes)
 
 -- A job without paths needs an index to go on from.
 abbrev pub base_fault : IndexJob → Option (List ℕ) → Option CindexFault
 base_fault job None = if has_no_path job then Some NoIndex else None
-base_fault job (Some bytes) = opened_fault parts_fault (opened bytes)
+base_fault job (Some bytes) = opening_fault unfit_parts_fault (opening bytes)
 
 -- why a job is refused before it walks: for its paths, and then for the index that it goes on from
-abbrev pub walk_fault : IndexJob → Option (List ℕ) → Option CindexFault
-walk_fault job old = option_or (option_map (λ place. BadPath place) (first_bad (string_bytes job.cwd) (texts job))) (base_fault job old)
+abbrev pub early_walk_fault : IndexJob → Option (List ℕ) → Option CindexFault
+early_walk_fault job old = option_or (option_map (λ place. BadPath place) (first_bad (string_bytes job.cwd) (given_texts job))) (base_fault job old)
 
 -- why a job is refused before it prints anything
-abbrev pub early_fault_of : Kind → IndexJob → Option (List ℕ) → Option CindexFault
+abbrev pub early_fault_of : JobKind → IndexJob → Option (List ℕ) → Option CindexFault
 early_fault_of lists job old = list_fault old
 early_fault_of clears job old = None
-early_fault_of walks job old = walk_fault job (base job old)
+early_fault_of walks job old = early_walk_fault job (base job old)
 
 abbrev pub early_fault : IndexJob → Option (List ℕ) → Option CindexFault
-early_fault job old = early_fault_of (kind_of job) job old
+early_fault job old = early_fault_of (job_kind job) job old
 
 -- ---- later
 
@@ -82,33 +89,25 @@ early_fault job old = early_fault_of (kind_of job) job old
 abbrev pub IsOutputFault : CindexFault → Type 0
 IsOutputFault Write = Unit {0}
 IsOutputFault Memory = Unit {0}
-IsOutputFault NoIndex = ⊥
-IsOutputFault (BadIndex fault) = ⊥
-IsOutputFault Unsorted = ⊥
-IsOutputFault TooLarge = ⊥
-IsOutputFault (BadPath place) = ⊥
+IsOutputFault _ = ⊥
 
 -- some list of the index is damaged
-abbrev pub IsDamagedIf : Result Parts IndexFault → Type 0
-IsDamagedIf (Ok parts) = are_whole parts ≡ false
-IsDamagedIf (Err fault) = ⊥
-
 abbrev pub IsDamaged : Option (List ℕ) → Type 0
 IsDamaged None = ⊥
-IsDamaged (Some bytes) = IsDamagedIf (opened bytes)
+IsDamaged (Some bytes) = IsOkAnd (opening bytes) (λ parts. are_whole parts ≡ false)
 
 -- A job that walks is also refused for a damaged list of the index that it goes on from, or for size. Where
 -- its tree tells nothing, what the walk gave may itself not be joined.
 abbrev pub IsWalkFault : IndexJob → Option Snapshot → Option (List ℕ) → CindexFault → Type 0
 IsWalkFault job tree old (BadIndex fault) = Tells tree → (fault ≡ BadList) × IsDamaged old
-IsWalkFault job tree old TooLarge = Tells tree → IsNextLong job (told tree) old
+IsWalkFault job tree old TooLarge = Tells tree → IsNextLong job (snapshot_told tree) old
 IsWalkFault job tree old Write = Unit {0}
 IsWalkFault job tree old Memory = Unit {0}
 IsWalkFault job tree old NoIndex = ⊥
 IsWalkFault job tree old Unsorted = Tells tree → ⊥
 IsWalkFault job tree old (BadPath place) = ⊥
 
-abbrev pub IsLateFault : Kind → IndexJob → Option Snapshot → Option (List ℕ) → CindexFault → Type 0
+abbrev pub IsLateFault : JobKind → IndexJob → Option Snapshot → Option (List ℕ) → CindexFault → Type 0
 IsLateFault lists job tree old fault = IsOutputFault fault
 IsLateFault clears job tree old fault = IsOutputFault fault
 IsLateFault walks job tree old fault = IsWalkFault job tree (base job old) fault
@@ -124,7 +123,11 @@ abbrev pub EarlyOr : Option CindexFault → Type 0 → CindexFault → Type 0
 EarlyOr None late fault = late
 EarlyOr (Some early) late fault = IsEarly early fault
 
+-- An answer is given only where there is no early fault, and each refusal has its cause.
+abbrev pub AnswersFor : {A : Type 0} → Result A CindexFault → Option CindexFault → (CindexFault → Type 0) → Type 0
+AnswersFor result early IsLate = MatchResult result (λ _. early ≡ None) (λ fault. EarlyOr early (IsLate fault) fault)
+
 -- A job that has an early fault is not done, and each refusal has its cause.
 abbrev pub HasCause : IndexJob → Option Snapshot → Option (List ℕ) → Reply → Type 0
 HasCause job tree old Done = early_fault job old ≡ None
-HasCause job tree old (Refused fault) = EarlyOr (early_fault job old) (IsLateFault (kind_of job) job tree old fault) fault
+HasCause job tree old (Refused fault) = EarlyOr (early_fault job old) (IsLateFault (job_kind job) job tree old fault) fault

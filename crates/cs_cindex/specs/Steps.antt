@@ -1,17 +1,18 @@
 -- What one job does, and jobs one after another, whatever bytes the old index has.
 -- docs/PROMISES.md, "Jobs of cindex".
 use Rattle.std.specs.Prelude.{◌≡◌, ℕ, true, false, List, [], ◌∷◌, map, Option, None}
+use Rattle.cs_tree.specs.Failures.{CountsOne}
 use Rattle.cs_tree.specs.Snapshot.{Snapshot}
 use Rattle.cs_words.specs.declared.jobs.IndexJob.{IndexJob}
 use Rattle.cs_words.specs.declared.jobs.Reply.{Reply}
 use Rattle.cs_words.specs.declared.jobs.Reply.TheVariants.{Done, Refused}
 use Rattle.cs_cindex.specs.Next.{IsNext}
-use Rattle.cs_cindex.specs.Refusals.{HasCause, kind_of, base}
-use Rattle.cs_cindex.specs.Told.{TakesBy, TellsBy, CountsWrites, list_lines}
+use Rattle.cs_cindex.specs.Refusals.{HasCause, job_kind, base}
+use Rattle.cs_cindex.specs.Output.{TakesBy, TellsBy, list_lines, has_failed_write}
 use Rattle.cs_history.specs.History.{History}
-use Rattle.cs_history.specs.Jobs.{has_no_path, told}
+use Rattle.cs_history.specs.Jobs.{has_no_path, snapshot_told}
 use Rattle.cs_history.specs.Headline.{Indexes, Premises}
-use Rattle.cs_history.specs.Refusals.{Walks, IsRightReply, AreRightReplies}
+use Rattle.cs_history.specs.Replies.{Walks, IsRightReply, AreRightReplies}
 
 -- ---- the index
 
@@ -25,49 +26,64 @@ KeepsIndex job Done old new =
 
 -- the reply is right, whichever jobs left the index
 abbrev pub RightAfter : Option Snapshot → Option (List ℕ) → IndexJob → Reply → Type 0
-RightAfter tree old job reply = (earlier : History) → Premises (tree ∷ []) old earlier → IsRightReply earlier job (told tree) reply
+RightAfter tree old job reply = (earlier : History) → Premises (tree ∷ []) old earlier → IsRightReply earlier job (snapshot_told tree) reply
 
 -- each reply is right after the jobs before it, whichever jobs left the old index
 abbrev pub RightAll : List (Option Snapshot) → Option (List ℕ) → List IndexJob → List Reply → Type 0
-RightAll trees old jobs replies = (earlier : History) → Premises trees old earlier → AreRightReplies earlier jobs (map told trees) replies
+RightAll trees old jobs replies = (earlier : History) → Premises trees old earlier → AreRightReplies earlier jobs (map snapshot_told trees) replies
 
 -- ---- job by job
 
--- What jobs change: the index, what the outputs have taken where they tell it, and how many of their
--- calls have failed.
-pub record Standing : Type 0 where
-  pub index : Option (List ℕ)
+-- what the outputs have taken, where they tell it, and how many of their calls have failed
+pub record Outputs : Type 0 where
   pub out : Option (List ℕ)
   pub err : Option (List ℕ)
   pub out_failed : ℕ
   pub err_failed : ℕ
 
+-- What jobs change: the index and the outputs.
+pub record Standing : Type 0 where
+  pub index : Option (List ℕ)
+  pub outputs : Outputs
+
+-- of two sinks, by what they tell
+module _ {O E : Type 0} (out_taken : O → Option (List ℕ)) (out_failed : O → ℕ) (err_taken : E → Option (List ℕ)) (err_failed : E → ℕ) where
+  abbrev pub outputs : O → E → Outputs
+  outputs out err = record { out = out_taken out; err = err_taken err; out_failed = out_failed out; err_failed = err_failed err }
+
+  abbrev pub standing : Option (List ℕ) → O → E → Standing
+  standing index out err = record { index = index; outputs = outputs out err }
+
 -- the tree of a job: what it tells, and how many of its calls have failed before the job and after it
-pub record Seen : Type 0 where
+pub record JobTree : Type 0 where
   pub snapshot : Option Snapshot
   pub failed : ℕ
   pub failed_then : ℕ
 
--- the trees of jobs, before these and after them
-abbrev pub seen : {T : Type 0} → (T → Option Snapshot) → (T → ℕ) → List T → List T → List Seen
-seen snapshot failed [] later = []
-seen snapshot failed (tree ∷ trees) [] = []
-seen snapshot failed (tree ∷ trees) (then ∷ later) = record { snapshot = snapshot tree; failed = failed tree; failed_then = failed then } ∷ seen snapshot failed trees later
+-- by what trees tell, before these jobs and after them
+module _ {T : Type 0} (snapshot : T → Option Snapshot) (failed : T → ℕ) where
+  abbrev pub job_tree : T → T → JobTree
+  job_tree tree then = record { snapshot = snapshot tree; failed = failed tree; failed_then = failed then }
+
+  abbrev pub job_trees : List T → List T → List JobTree
+  job_trees [] later = []
+  job_trees (tree ∷ trees) [] = []
+  job_trees (tree ∷ trees) (then ∷ later) = job_tree tree then ∷ job_trees trees later
 
 -- What a job does: the index after it is that of its history, its refusal has a cause, the index is kept
 -- where it has to be and joined where the job walks, and the lines that are due are printed.
-pub record IsStep (job : IndexJob) (tree : Seen) (reply : Reply) (old new : Standing) : Type 0 where
+pub record IsStep (job : IndexJob) (tree : JobTree) (reply : Reply) (old new : Standing) : Type 0 where
   pub index : Indexes (job ∷ []) (tree.snapshot ∷ []) (reply ∷ []) old.index new.index
   pub cause : HasCause job tree.snapshot old.index reply
   pub keeps : KeepsIndex job reply old.index new.index
   -- where the job walks; with `-reset` it goes on from none
   pub walked : reply ≡ Done → Walks job → IsNext job tree.snapshot (base job old.index) new.index
-  pub out : TakesBy reply (list_lines (kind_of job) old.index) old.out new.out
-  pub err : TellsBy (kind_of job) reply job tree.snapshot old.index tree.failed tree.failed_then old.err new.err
-  pub writes : CountsWrites reply old.out_failed new.out_failed old.err_failed new.err_failed
+  pub out : TakesBy reply (list_lines (job_kind job) old.index) old.outputs.out new.outputs.out
+  pub err : TellsBy (job_kind job) reply job tree.snapshot old.index tree.failed tree.failed_then old.outputs.err new.outputs.err
+  pub writes : CountsOne (has_failed_write reply) old.outputs.out_failed new.outputs.out_failed old.outputs.err_failed new.outputs.err_failed
 
 -- each job in order goes on from what the one before it left
-abbrev pub Steps : List IndexJob → List Seen → List Reply → Standing → Standing → Type 0
+abbrev pub Steps : List IndexJob → List JobTree → List Reply → Standing → Standing → Type 0
 Steps [] [] [] old new = new ≡ old
 Steps (job ∷ jobs) (tree ∷ trees) (reply ∷ replies) old new = (mid : Standing) × IsStep job tree reply old mid × Steps jobs trees replies mid new
 Steps [] [] (reply ∷ replies) old new = ⊥

@@ -1,10 +1,9 @@
 // Lists of jobs.
-ghost use Rattle.std.specs.Prelude.{◌≡◌, ◌∷◌, [], true, map, string_bytes, length, All};
-ghost use Rattle.cs_tree.specs.Cover.{begins, slash};
+ghost use Rattle.std.specs.Prelude.{◌≡◌, map, length, All};
 ghost use Rattle.cs_history.specs.Headline.{Indexes};
-ghost use Rattle.cs_words.specs.declared.jobs.IndexJob.{IndexJob};
-ghost use Rattle.cs_cindex.specs.Outcomes.{bytes_in};
-ghost use Rattle.cs_cindex.specs.Steps.{RightAll, Steps, seen};
+ghost use Rattle.cs_cindex.specs.Refusals.{HasAbsoluteFolder};
+ghost use Rattle.cs_cindex.specs.Bytes.{index_bytes};
+ghost use Rattle.cs_cindex.specs.Steps.{RightAll, Steps, job_trees, standing};
 
 use crate::job::do_job;
 use cs_tree::{Sink, Tree};
@@ -26,12 +25,13 @@ pub fn cindex<T: Tree, O: Sink, E: Sink>(
 ) -> Option<Vec<u8>>
     requires trees { length trees.old ≡ length jobs.now }
     requires replies { length replies.old ≡ length jobs.now }
-    requires folders { All (λ (job : IndexJob). begins (slash ∷ []) (string_bytes job.cwd) ≡ true) jobs.now }
-    ensures indexes { Indexes jobs.now (map T.snapshot trees.old) replies.new (bytes_in old) (bytes_in result) }
-    ensures replies { RightAll (map T.snapshot trees.old) (bytes_in old) jobs.now replies.new }
-    ensures steps { Steps jobs.now (seen T.snapshot T.failed trees.old trees.new) replies.new
-        (record { index = bytes_in old; out = O.taken out.old; err = E.taken err.old; out_failed = O.failed out.old; err_failed = E.failed err.old })
-        (record { index = bytes_in result; out = O.taken out.new; err = E.taken err.new; out_failed = O.failed out.new; err_failed = E.failed err.new }) }
+    requires folders { All HasAbsoluteFolder jobs.now }
+    ensures indexes { Indexes jobs.now (map T.snapshot trees.old) replies.new
+        (index_bytes old) (index_bytes result) }
+    ensures replies { RightAll (map T.snapshot trees.old) (index_bytes old) jobs.now replies.new }
+    ensures steps { Steps jobs.now (job_trees T.snapshot T.failed trees.old trees.new) replies.new
+        (standing O.taken O.failed E.taken E.failed (index_bytes old) out.old err.old)
+        (standing O.taken O.failed E.taken E.failed (index_bytes result) out.new err.new) }
     ensures keeps { map T.snapshot trees.new ≡ map T.snapshot trees.old }
 {
     let mut index = old;

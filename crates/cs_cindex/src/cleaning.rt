@@ -1,20 +1,27 @@
 // The paths of a job, cleaned.
 ghost use Rattle.std.specs.Prelude.{◌≡◌, ◌∷◌, ◌++◌, [], true, map, string_bytes, IfOk, OnOk, MatchResult, None};
 ghost use Rattle.cs_tree.specs.Cover.{begins, slash};
-ghost use Rattle.cs_tree.specs.Clean.{cleaned};
+ghost use Rattle.cs_tree.specs.Clean.{clean_path};
 ghost use Rattle.cs_tree.specs.Cleaning.{clean_fault};
 ghost use Rattle.cs_cindex.specs.Refusals.{first_bad};
-ghost use Rattle.cs_cindex.specs.Walked.{IsCleanFault, AreCleanFault};
+ghost use Rattle.cs_cindex.specs.JobPaths.{IsCleanFault, AreCleanFault, cleaned_texts};
 
 use cs_tree::{PathFault, clean};
 use cs_words::CindexFault;
 use std::alloc::{AllocError, Global};
 
 /// The paths, each made absolute and clean by its text. The first one that cleaning refuses is refused.
-pub fn clean_all(alloc: Global, folder: &str, paths: &[String]) -> Result<Vec<String>, CindexFault>
+pub(crate) fn clean_all(
+    alloc: Global,
+    folder: &str,
+    paths: &[String],
+) -> Result<Vec<String>, CindexFault>
     requires { begins (slash ∷ []) folder.now ≡ true }
-    ensures cleaned { IfOk result (λ given. map string_bytes given.items ≡ map (λ text. cleaned folder.now text) (map string_bytes paths.now)) }
-    ensures fault { MatchResult result (λ _. first_bad folder.now (map string_bytes paths.now) ≡ None) (λ fault. AreCleanFault folder.now (map string_bytes paths.now) fault) }
+    ensures cleaned { IfOk result (λ given. map string_bytes given.items ≡
+        cleaned_texts folder.now (map string_bytes paths.now)) }
+    ensures fault { MatchResult result
+        (λ _. first_bad folder.now (map string_bytes paths.now) ≡ None)
+        (λ fault. AreCleanFault folder.now (map string_bytes paths.now) fault) }
 {
     let mut given = Vec::new(alloc);
     'paths: for (place, path) in paths.iter().enumerate() {
@@ -24,11 +31,12 @@ pub fn clean_all(alloc: Global, folder: &str, paths: &[String]) -> Result<Vec<St
     Ok(given)
 }
 
-// The path at a place, cleaned.
+/// The path at a place, cleaned.
 fn clean_one(alloc: Global, folder: &str, path: &str, place: usize) -> Result<String, CindexFault>
     requires { begins (slash ∷ []) folder.now ≡ true }
-    ensures cleaned { IfOk result (λ given. string_bytes given ≡ cleaned folder.now path.now) }
-    ensures fault { MatchResult result (λ _. clean_fault folder.now path.now ≡ None) (λ fault. IsCleanFault folder.now path.now place fault) }
+    ensures cleaned { IfOk result (λ given. string_bytes given ≡ clean_path folder.now path.now) }
+    ensures fault { MatchResult result (λ _. clean_fault folder.now path.now ≡ None)
+        (λ fault. IsCleanFault folder.now path.now place fault) }
 {
     match clean(alloc, folder, path) {
         Ok(given) => Ok(given),
@@ -37,9 +45,10 @@ fn clean_one(alloc: Global, folder: &str, path: &str, place: usize) -> Result<St
     }
 }
 
-// Adds a path to the end.
+/// Adds a path to the end.
 fn hold(given: &mut Vec<String>, path: String) -> Result<(), AllocError>
-    ensures { OnOk result (map string_bytes given.new.items ≡ map string_bytes given.old.items ++ string_bytes path ∷ []) }
+    ensures { OnOk result (map string_bytes given.new.items ≡
+        map string_bytes given.old.items ++ string_bytes path ∷ []) }
 {
     given.push(path)?;
     Ok(())

@@ -6,9 +6,13 @@
 
 mod cindexing;
 mod cleaning;
+mod indexer;
+mod indexing;
 mod job;
 mod old;
 mod outcome;
+mod printing;
+mod reading;
 mod walked;
 
 pub use cindexing::cindex;

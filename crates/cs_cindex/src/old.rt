@@ -1,9 +1,9 @@
 // The index that a job goes on from.
 ghost use Rattle.std.specs.Prelude.{◌≡◌, map, string_bytes, IfOk, MatchResult, Ok, Some, None};
 ghost use Rattle.std.specs.List.{list_all};
-ghost use Rattle.cs_index.specs.Opening.{opened};
-ghost use Rattle.cs_cindex.specs.Settled.{is_settled as is_settled'};
-ghost use Rattle.cs_cindex.specs.Refusals.{opened_fault, parts_fault};
+ghost use Rattle.cs_index.specs.Opening.{opening};
+ghost use Rattle.cs_tree.specs.Cleaning.{is_settled as is_settled'};
+ghost use Rattle.cs_cindex.specs.Refusals.{opening_fault, unfit_parts_fault};
 
 use cs_index::{Index, IndexFault};
 use cs_tree::is_settled;
@@ -11,8 +11,10 @@ use cs_words::CindexFault;
 use std::alloc::{AllocError, Global};
 
 /// Opens the bytes of an index that a job goes on from. Takes no memory.
-pub fn open_old<'a>(bytes: &'a [u8]) -> Result<Index<'a>, CindexFault>
-    ensures { MatchResult result (λ index. (opened bytes.now ≡ Ok index) × (parts_fault index ≡ None)) (λ fault. opened_fault parts_fault (opened bytes.now) ≡ Some fault) }
+pub(crate) fn open_old<'a>(bytes: &'a [u8]) -> Result<Index<'a>, CindexFault>
+    ensures { MatchResult result
+        (λ index. (opening bytes.now ≡ Ok index) × (unfit_parts_fault index ≡ None))
+        (λ fault. opening_fault unfit_parts_fault (opening bytes.now) ≡ Some fault) }
 {
     let index = Index::open(bytes)?;
     if !has_settled_paths(&index) {
@@ -24,27 +26,20 @@ pub fn open_old<'a>(bytes: &'a [u8]) -> Result<Index<'a>, CindexFault>
     Ok(index)
 }
 
-// Whether cleaning leaves each path of the index as it is.
+/// Whether cleaning leaves each path of the index as it is.
 fn has_settled_paths(index: &Index<'_>) -> bool
     ensures { result ≡ list_all is_settled' index.now.paths }
 {
     'paths: for path in index.paths() {
-        if !is_clean_path(path) {
+        if !is_settled(path) {
             return false;
         }
     }
     true
 }
 
-// Whether cleaning takes the path and leaves it as it is.
-fn is_clean_path(path: &str) -> bool
-    ensures { result ≡ is_settled' path.now }
-{
-    is_settled(path)
-}
-
 /// The paths of the index.
-pub fn recorded_paths(alloc: Global, index: &Index<'_>) -> Result<Vec<String>, AllocError>
+pub(crate) fn recorded_paths(alloc: Global, index: &Index<'_>) -> Result<Vec<String>, AllocError>
     ensures { IfOk result (λ paths. map string_bytes paths.items ≡ index.now.paths) }
 {
     let mut paths = Vec::new(alloc);

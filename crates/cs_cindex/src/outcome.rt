@@ -1,12 +1,13 @@
 // What a job makes of the index.
 ghost use Rattle.std.specs.Prelude.{◌≡◌};
-ghost use Rattle.cs_cindex.specs.Outcomes.{bytes_in, index_from, reply_of};
+ghost use Rattle.cs_cindex.specs.Bytes.{index_bytes};
+ghost use Rattle.cs_cindex.specs.Outcomes.{index_from, reply_of};
 
 use cs_words::{CindexFault, Reply};
 
 /// What becomes of the index.
 #[derive(Drop)]
-pub enum Outcome {
+pub(crate) enum Outcome {
     /// It stays as it was.
     Kept,
     /// There is none.
@@ -16,11 +17,11 @@ pub enum Outcome {
 }
 
 /// The index after a job, and its reply. A refused job leaves the old index.
-pub fn settled(
+pub(crate) fn index_and_reply(
     old: Option<Vec<u8>>,
     outcome: Result<Outcome, CindexFault>,
 ) -> (Option<Vec<u8>>, Reply)
-    ensures index { bytes_in result.0 ≡ index_from (bytes_in old) outcome }
+    ensures index { index_bytes result.0 ≡ index_from (index_bytes old) outcome }
     ensures reply { result.1 ≡ reply_of outcome }
 {
     match outcome {

@@ -1,20 +1,21 @@
 // Jobs that walk.
-ghost use Rattle.std.specs.Prelude.{◌≡◌, ◌<◌, ◌^◌, ◌∷◌, [], true, Some, None, map, string_bytes, length, IfOk, MatchResult};
-ghost use Rattle.std.specs.Option.{option_copied};
+ghost use Rattle.std.specs.Prelude.{◌≡◌, ◌<◌, ◌^◌, true, Some, None, map, string_bytes, length, IfOk, IfErr};
+ghost use Rattle.cs_tree.specs.NameOrder.{are_ascending};
+ghost use Rattle.cs_tree.specs.Failures.{count_after};
+ghost use Rattle.cs_cindex.specs.Bytes.{lent_bytes};
 ghost use Rattle.cs_tree.specs.PathSet as set;
-ghost use Rattle.cs_tree.specs.Cover.{begins, slash, least};
-ghost use Rattle.cs_index.specs.Opening.{names_ascend, opened};
+ghost use Rattle.cs_tree.specs.Cover.{least};
+ghost use Rattle.cs_index.specs.Opening.{opening};
 ghost use Rattle.cs_cindex.specs.Joins.{IsJoinFault, JoinsTo, refusal_of};
 ghost use Rattle.cs_cindex.specs.Next.{IsNext};
-ghost use Rattle.cs_cindex.specs.Refusals.{EarlyOr, IsWalkFault, base_fault, walk_fault};
-ghost use Rattle.cs_cindex.specs.Told.{WalkPrints, WalkPrintsSome};
-ghost use Rattle.cs_indexing.specs.Indexed.{write_counted};
-ghost use Rattle.cs_cindex.specs.Walked.{AreCleaned, chosen};
+ghost use Rattle.cs_cindex.specs.Refusals.{AnswersFor, HasAbsoluteFolder, IsWalkFault, base_fault, early_walk_fault};
+ghost use Rattle.cs_cindex.specs.Output.{WalkPrintsFor, is_failed_write};
+ghost use Rattle.cs_cindex.specs.JobPaths.{AreCleaned, starts};
 
 use crate::cleaning::clean_all;
+use crate::indexing::index_paths;
 use crate::old::{open_old, recorded_paths};
 use cs_index::{Index, IndexFault};
-use cs_indexing::index_paths;
 use cs_merge::{MergeFault, merge};
 use cs_tree::{Sink, Tree, reduce};
 use cs_words::{CindexFault, IndexJob};
@@ -22,20 +23,22 @@ use std::alloc::{AllocError, Global};
 
 /// The index after a job that walks, from the index that it goes on from.
 #[tactic(auto, using(crate::proofs::ToldLemmas::nothing_printed))]
-pub fn walked_index<T: Tree, E: Sink>(
+pub(crate) fn walked_index<T: Tree, E: Sink>(
     alloc: Global,
     old: Option<&[u8]>,
     job: &IndexJob,
     tree: &mut T,
     err: &mut E,
 ) -> Result<Vec<u8>, CindexFault>
-    requires { begins (slash ∷ []) (string_bytes job.now.cwd) ≡ true }
-    ensures next { IfOk result (λ index. IsNext job.now (T.snapshot tree.old) (option_copied old.entry) (Some index.items)) }
-    ensures refusal { MatchResult result (λ _. walk_fault job.now (option_copied old.entry) ≡ None)
-        (λ fault. EarlyOr (walk_fault job.now (option_copied old.entry)) (IsWalkFault job.now (T.snapshot tree.old) (option_copied old.entry) fault) fault) }
-    ensures prints { MatchResult result (λ _. WalkPrints job.now (T.snapshot tree.old) (option_copied old.entry) (T.failed tree.old) (T.failed tree.new) (E.taken err.old) (E.taken err.new))
-        (λ _. WalkPrintsSome (walk_fault job.now (option_copied old.entry)) job.now (T.snapshot tree.old) (option_copied old.entry) (T.failed tree.old) (T.failed tree.new) (E.taken err.old) (E.taken err.new)) }
-    ensures writes { E.failed err.new ≡ write_counted result (E.failed err.old) }
+    requires { HasAbsoluteFolder job.now }
+    ensures next { IfOk result
+        (λ index. IsNext job.now (T.snapshot tree.old) (lent_bytes old.entry) (Some index.items)) }
+    ensures refusal { AnswersFor result (early_walk_fault job.now (lent_bytes old.entry))
+        (IsWalkFault job.now (T.snapshot tree.old) (lent_bytes old.entry)) }
+    ensures prints { WalkPrintsFor result (early_walk_fault job.now (lent_bytes old.entry))
+        job.now (T.snapshot tree.old) (lent_bytes old.entry)
+        (T.failed tree.old) (T.failed tree.new) (E.taken err.old) (E.taken err.new) }
+    ensures writes { E.failed err.new ≡ count_after is_failed_write result (E.failed err.old) }
     ensures tree_keeps { T.snapshot tree.new ≡ T.snapshot tree.old }
 {
     let given = clean_all(alloc, &job.cwd, &job.paths)?;
@@ -51,7 +54,7 @@ pub fn walked_index<T: Tree, E: Sink>(
     }
 }
 
-// The index of what the job finds below its cleaned paths, where there is none to join it to.
+/// The index of what the job finds below its cleaned paths, where there is none to join it to.
 #[tactic(auto, using(crate::proofs::ToldLemmas::nothing_printed))]
 fn index_anew<T: Tree, E: Sink>(
     alloc: Global,
@@ -61,11 +64,14 @@ fn index_anew<T: Tree, E: Sink>(
     err: &mut E,
 ) -> Result<Vec<u8>, CindexFault>
     requires { AreCleaned job.now (map string_bytes given.now) }
-    ensures next { IfOk result (λ index. IsNext job.now (T.snapshot tree.old) None (Some index.items)) }
-    ensures refusal { MatchResult result (λ _. base_fault job.now None ≡ None) (λ fault. EarlyOr (base_fault job.now None) (IsWalkFault job.now (T.snapshot tree.old) None fault) fault) }
-    ensures prints { MatchResult result (λ _. WalkPrints job.now (T.snapshot tree.old) None (T.failed tree.old) (T.failed tree.new) (E.taken err.old) (E.taken err.new))
-        (λ _. WalkPrintsSome (base_fault job.now None) job.now (T.snapshot tree.old) None (T.failed tree.old) (T.failed tree.new) (E.taken err.old) (E.taken err.new)) }
-    ensures writes { E.failed err.new ≡ write_counted result (E.failed err.old) }
+    ensures next { IfOk result
+        (λ index. IsNext job.now (T.snapshot tree.old) None (Some index.items)) }
+    ensures refusal { AnswersFor result (base_fault job.now None)
+        (IsWalkFault job.now (T.snapshot tree.old) None) }
+    ensures prints { WalkPrintsFor result (base_fault job.now None)
+        job.now (T.snapshot tree.old) None
+        (T.failed tree.old) (T.failed tree.new) (E.taken err.old) (E.taken err.new) }
+    ensures writes { E.failed err.new ≡ count_after is_failed_write result (E.failed err.old) }
     ensures tree_keeps { T.snapshot tree.new ≡ T.snapshot tree.old }
 {
     if given.is_empty() {
@@ -76,7 +82,7 @@ fn index_anew<T: Tree, E: Sink>(
     Ok(index)
 }
 
-// The old index, joined with what the job finds below its cleaned paths or those of the old index.
+/// The old index, joined with what the job finds below its cleaned paths or those of the old index.
 #[tactic(auto, using(crate::proofs::ToldLemmas::nothing_printed))]
 fn index_onto<T: Tree, E: Sink>(
     alloc: Global,
@@ -87,12 +93,14 @@ fn index_onto<T: Tree, E: Sink>(
     err: &mut E,
 ) -> Result<Vec<u8>, CindexFault>
     requires { AreCleaned job.now (map string_bytes given.now) }
-    ensures next { IfOk result (λ index. IsNext job.now (T.snapshot tree.old) (Some old.now) (Some index.items)) }
-    ensures refusal { MatchResult result (λ _. base_fault job.now (Some old.now) ≡ None)
-        (λ fault. EarlyOr (base_fault job.now (Some old.now)) (IsWalkFault job.now (T.snapshot tree.old) (Some old.now) fault) fault) }
-    ensures prints { MatchResult result (λ _. WalkPrints job.now (T.snapshot tree.old) (Some old.now) (T.failed tree.old) (T.failed tree.new) (E.taken err.old) (E.taken err.new))
-        (λ _. WalkPrintsSome (base_fault job.now (Some old.now)) job.now (T.snapshot tree.old) (Some old.now) (T.failed tree.old) (T.failed tree.new) (E.taken err.old) (E.taken err.new)) }
-    ensures writes { E.failed err.new ≡ write_counted result (E.failed err.old) }
+    ensures next { IfOk result
+        (λ index. IsNext job.now (T.snapshot tree.old) (Some old.now) (Some index.items)) }
+    ensures refusal { AnswersFor result (base_fault job.now (Some old.now))
+        (IsWalkFault job.now (T.snapshot tree.old) (Some old.now)) }
+    ensures prints { WalkPrintsFor result (base_fault job.now (Some old.now))
+        job.now (T.snapshot tree.old) (Some old.now)
+        (T.failed tree.old) (T.failed tree.new) (E.taken err.old) (E.taken err.new) }
+    ensures writes { E.failed err.new ≡ count_after is_failed_write result (E.failed err.old) }
     ensures tree_keeps { T.snapshot tree.new ≡ T.snapshot tree.old }
 {
     let index = open_old(old)?;
@@ -102,13 +110,14 @@ fn index_onto<T: Tree, E: Sink>(
     Ok(joined)
 }
 
-// The paths that a job walks, reduced: its own, or where it has none those of the index.
+/// The paths that a job walks, reduced: its own, or where it has none those of the index.
 fn paths_to_walk(
     alloc: Global,
     index: &Index<'_>,
     given: &[String],
 ) -> Result<Vec<String>, AllocError>
-    ensures { IfOk result (λ paths. map string_bytes paths.items ≡ set.items (least (set.from_list (chosen (map string_bytes given.now) index.now.paths)))) }
+    ensures { IfOk result (λ paths. map string_bytes paths.items ≡
+        set.items (least (set.from_list (starts (map string_bytes given.now) index.now.paths)))) }
 {
     if !given.is_empty() {
         let paths = reduce(alloc, given)?;
@@ -119,12 +128,12 @@ fn paths_to_walk(
     Ok(paths)
 }
 
-// The index of the old one and of the bytes of a newer one, whose names ascend and lie under its paths.
+/// The index of the old one and of the bytes of a newer one, whose names ascend and lie under its paths.
 fn join(alloc: Global, old: &Index<'_>, newer: &[u8]) -> Result<Vec<u8>, CindexFault>
-    requires { names_ascend old.now.names ≡ true }
-    ensures joined { IfOk result (λ index. JoinsTo old.now (opened newer.now) index.items) }
+    requires { are_ascending old.now.names ≡ true }
+    ensures joined { IfOk result (λ index. JoinsTo old.now (opening newer.now) index.items) }
     ensures short { IfOk result (λ index. length index.items < 2 ^ 32) }
-    ensures fault { MatchResult result (λ _. Unit {0}) (λ fault. IsJoinFault old.now (opened newer.now) fault) }
+    ensures fault { IfErr result (IsJoinFault old.now (opening newer.now)) }
 {
     let newer = Index::open(newer)?;
     match merge(alloc, old, &newer) {
@@ -133,8 +142,8 @@ fn join(alloc: Global, old: &Index<'_>, newer: &[u8]) -> Result<Vec<u8>, CindexF
     }
 }
 
-// A fault of joining as that of a job. The newer index is one of a walk, so that the names of both are
-// in order, and the newer ones lie under their paths.
+/// A fault of joining as that of a job. The newer index is one of a walk, so that the names of both are
+/// in order, and the newer ones lie under their paths.
 fn merge_refusal(fault: MergeFault) -> CindexFault
     ensures { result ≡ refusal_of fault }
 {

@@ -1,17 +1,18 @@
 -- Lists of jobs, one more job, and one call after another.
 use Rattle.std.proofs.Common.{◌≡◌, ℕ, zero, suc, ◌+◌, ◌<◌, List, [], ◌∷◌, ◌++◌, length, take, set, get_or, refl, sym, ap, subst, ◌∙◌, arith, Option, Some, None, map}
+use Rattle.cs_tree.specs.Folders.{IsTree, Tells}
 use Rattle.std.proofs.lemmas.List.{take_more, take_more_set, length-take-le, get_or-map, length-map}
 use Rattle.std.specs.List.{AllByRecursion, AllZip}
-use Rattle.cs_tree.specs.Snapshot.{Snapshot, IsTree, Tells}
+use Rattle.cs_tree.specs.Snapshot.{Snapshot}
 use Rattle.cs_history.specs.History.{History, index_of}
 use Rattle.cs_history.specs.WellFormed.{IsHistory}
-use Rattle.cs_history.specs.Jobs.{after, followed, told, IsFitting}
+use Rattle.cs_history.specs.Jobs.{after, history_after, snapshot_told, IsFitting}
 use Rattle.cs_history.specs.Headline.{Premises, Indexes}
 use Rattle.cs_history.proofs.JobLemmas.{followed_history}
 use Rattle.cs_words.specs.declared.jobs.IndexJob.{IndexJob}
 use Rattle.cs_words.specs.declared.jobs.Reply.{Reply}
 
-pub followed-push : (before : History) (jobs : List IndexJob) (trees : List Snapshot) (replies : List Reply) (job : IndexJob) (tree : Snapshot) (reply : Reply) → length trees ≡ length jobs → length replies ≡ length jobs → followed before (jobs ++ job ∷ []) (trees ++ tree ∷ []) (replies ++ reply ∷ []) ≡ after (followed before jobs trees replies) job tree reply
+pub followed-push : (before : History) (jobs : List IndexJob) (trees : List Snapshot) (replies : List Reply) (job : IndexJob) (tree : Snapshot) (reply : Reply) → length trees ≡ length jobs → length replies ≡ length jobs → history_after before (jobs ++ job ∷ []) (trees ++ tree ∷ []) (replies ++ reply ∷ []) ≡ after (history_after before jobs trees replies) job tree reply
 followed-push before [] [] [] job tree reply e f = refl
 followed-push before [] [] (r ∷ rs) job tree reply e f = absurd (omega (arith, f))
 followed-push before [] (t ∷ ts) rs job tree reply e f = absurd (omega (arith, e))
@@ -20,18 +21,18 @@ followed-push before (j ∷ js) (t ∷ ts) [] job tree reply e f = absurd (omega
 followed-push before (j ∷ js) (t ∷ ts) (r ∷ rs) job tree reply e f =
     followed-push (after before j t r) js ts rs job tree reply (omega (arith, e)) (omega (arith, f))
 
-pub followed_more : (before : History) (jobs : List IndexJob) (trees : List Snapshot) (replies : List Reply) (i : ℕ) (j : IndexJob) (t : Snapshot) (reply : Reply) → length trees ≡ length jobs → length replies ≡ length jobs → i < length jobs → followed before (take (i + 1) jobs) (take (i + 1) trees) (take (i + 1) (set replies i reply)) ≡ after (followed before (take i jobs) (take i trees) (take i replies)) (get_or jobs i j) (get_or trees i t) reply
+pub followed_more : (before : History) (jobs : List IndexJob) (trees : List Snapshot) (replies : List Reply) (i : ℕ) (j : IndexJob) (t : Snapshot) (reply : Reply) → length trees ≡ length jobs → length replies ≡ length jobs → i < length jobs → history_after before (take (i + 1) jobs) (take (i + 1) trees) (take (i + 1) (set replies i reply)) ≡ after (history_after before (take i jobs) (take i trees) (take i replies)) (get_or jobs i j) (get_or trees i t) reply
 followed_more before jobs trees replies i j t reply e f within =
-    ap (λ js. followed before js (take (i + 1) trees) (take (i + 1) (set replies i reply))) (take_more jobs i j within)
-    ∙ ap (λ ts. followed before (take i jobs ++ get_or jobs i j ∷ []) ts (take (i + 1) (set replies i reply))) (take_more trees i t (omega (arith, e, within)))
-    ∙ ap (λ rs. followed before (take i jobs ++ get_or jobs i j ∷ []) (take i trees ++ get_or trees i t ∷ []) rs) (take_more_set replies i reply (omega (arith, f, within)))
+    ap (λ js. history_after before js (take (i + 1) trees) (take (i + 1) (set replies i reply))) (take_more jobs i j within)
+    ∙ ap (λ ts. history_after before (take i jobs ++ get_or jobs i j ∷ []) ts (take (i + 1) (set replies i reply))) (take_more trees i t (omega (arith, e, within)))
+    ∙ ap (λ rs. history_after before (take i jobs ++ get_or jobs i j ∷ []) (take i trees ++ get_or trees i t ∷ []) rs) (take_more_set replies i reply (omega (arith, f, within)))
     ∙ followed-push before (take i jobs) (take i trees) (take i replies) (get_or jobs i j) (get_or trees i t) reply
     (length-take-le i trees (omega (arith, e, within)) ∙ sym (length-take-le i jobs (omega (arith, within))))
     (length-take-le i replies (omega (arith, f, within)) ∙ sym (length-take-le i jobs (omega (arith, within))))
 
 -- ---- what holds of the jobs so far holds of one more
 
-told_trees : (trees : List (Option Snapshot)) → AllByRecursion Tells trees → AllByRecursion IsTree (map told trees)
+told_trees : (trees : List (Option Snapshot)) → AllByRecursion Tells trees → AllByRecursion IsTree (map snapshot_told trees)
 told_trees [] all = tt
 told_trees (None ∷ trees) all = absurd all.0
 told_trees (Some tree ∷ trees) all = (all.0, told_trees trees all.1)
@@ -55,19 +56,19 @@ fitting_more jobs replies i job reply f within is_job so_far fits =
     (zip_push IsFitting (take i jobs) (take i replies) (get_or jobs i job) reply so_far (subst (λ j. IsFitting j reply) is_job fits)))
 
 -- the step of a loop over the jobs: the job at i over the tree at i
-pub index_more : {T : Type 0} (snapshot : T → Option Snapshot) (earlier : History) (jobs : List IndexJob) (trees : List T) (replies : List Reply) (i : ℕ) (job : IndexJob) (tree : T) (reply : Reply) (index next : Option (List ℕ)) → IsHistory earlier → AllByRecursion Tells (map snapshot trees) → AllZip IsFitting (take i jobs) (take i replies) → length trees ≡ length jobs → length replies ≡ length jobs → i < length jobs → job ≡ get_or jobs i job → tree ≡ get_or trees i tree → index ≡ index_of (followed earlier (take i jobs) (take i (map told (map snapshot trees))) (take i replies)) → ((history : History) → IsHistory history → index_of history ≡ index → next ≡ index_of (after history job (told (snapshot tree)) reply)) → next ≡ index_of (followed earlier (take (i + 1) jobs) (take (i + 1) (map told (map snapshot trees))) (take (i + 1) (set replies i reply)))
+pub index_more : {T : Type 0} (snapshot : T → Option Snapshot) (earlier : History) (jobs : List IndexJob) (trees : List T) (replies : List Reply) (i : ℕ) (job : IndexJob) (tree : T) (reply : Reply) (index next : Option (List ℕ)) → IsHistory earlier → AllByRecursion Tells (map snapshot trees) → AllZip IsFitting (take i jobs) (take i replies) → length trees ≡ length jobs → length replies ≡ length jobs → i < length jobs → job ≡ get_or jobs i job → tree ≡ get_or trees i tree → index ≡ index_of (history_after earlier (take i jobs) (take i (map snapshot_told (map snapshot trees))) (take i replies)) → ((history : History) → IsHistory history → index_of history ≡ index → next ≡ index_of (after history job (snapshot_told (snapshot tree)) reply)) → next ≡ index_of (history_after earlier (take (i + 1) jobs) (take (i + 1) (map snapshot_told (map snapshot trees))) (take (i + 1) (set replies i reply)))
 index_more {T} snapshot earlier jobs trees replies i job tree reply index next is tell fits e f within is_job is_tree so_far gives =
-    let seen = map told (map snapshot trees) in
-    let before = followed earlier (take i jobs) (take i seen) (take i replies) in
-    let long : length seen ≡ length jobs = length-map (map snapshot trees) told ∙ length-map trees snapshot ∙ e in
-    let here : get_or seen i (told (snapshot tree)) ≡ told (snapshot (get_or trees i tree)) =
-    get_or-map told (map snapshot trees) i (snapshot tree) (told (snapshot tree)) (let l = length-map trees snapshot in omega (arith, l, e, within))
-    ∙ ap told (get_or-map snapshot trees i tree (snapshot tree) (omega (arith, e, within))) in
+    let seen = map snapshot_told (map snapshot trees) in
+    let before = history_after earlier (take i jobs) (take i seen) (take i replies) in
+    let long : length seen ≡ length jobs = length-map (map snapshot trees) snapshot_told ∙ length-map trees snapshot ∙ e in
+    let here : get_or seen i (snapshot_told (snapshot tree)) ≡ snapshot_told (snapshot (get_or trees i tree)) =
+    get_or-map snapshot_told (map snapshot trees) i (snapshot tree) (snapshot_told (snapshot tree)) (let l = length-map trees snapshot in omega (arith, l, e, within))
+    ∙ ap snapshot_told (get_or-map snapshot trees i tree (snapshot tree) (omega (arith, e, within))) in
     let history : IsHistory before = followed_history earlier (take i jobs) (take i seen) (take i replies) is (all_take IsTree i seen (told_trees (map snapshot trees) tell)) fits in
     gives before history (sym so_far)
-    ∙ ap (λ j. index_of (after before j (told (snapshot tree)) reply)) is_job
-    ∙ ap (λ t. index_of (after before (get_or jobs i job) t reply)) (ap (λ t. told (snapshot t)) is_tree ∙ sym here)
-    ∙ ap index_of (sym (followed_more earlier jobs seen replies i job (told (snapshot tree)) reply long f within))
+    ∙ ap (λ j. index_of (after before j (snapshot_told (snapshot tree)) reply)) is_job
+    ∙ ap (λ t. index_of (after before (get_or jobs i job) t reply)) (ap (λ t. snapshot_told (snapshot t)) is_tree ∙ sym here)
+    ∙ ap index_of (sym (followed_more earlier jobs seen replies i job (snapshot_told (snapshot tree)) reply long f within))
 
 -- each tree tells its snapshot
 pub tells_at : {T : Type 0} (snapshot : T → Option Snapshot) (trees : List T) (i : ℕ) (d : T) → AllByRecursion Tells (map snapshot trees) → i < length trees → Tells (snapshot (get_or trees i d))
@@ -77,10 +78,10 @@ tells_at snapshot (t ∷ trees) (suc i) d all within = tells_at snapshot trees i
 
 -- ---- one call after another
 
-pub later_premises : (jobs : List IndexJob) (trees later : List (Option Snapshot)) (replies : List Reply) (old new : Option (List ℕ)) (earlier : History) → Premises trees old earlier → Indexes jobs trees replies old new → AllByRecursion Tells later → Premises later new (followed earlier jobs (map told trees) replies)
+pub later_premises : (jobs : List IndexJob) (trees later : List (Option Snapshot)) (replies : List Reply) (old new : Option (List ℕ)) (earlier : History) → Premises trees old earlier → Indexes jobs trees replies old new → AllByRecursion Tells later → Premises later new (history_after earlier jobs (map snapshot_told trees) replies)
 later_premises jobs trees later replies old new earlier p h tell = record {
   trees_tell = tell;
-  jobs_were = followed_history earlier jobs (map told trees) replies p.jobs_were (told_trees trees p.trees_tell) h.fitting;
+  jobs_were = followed_history earlier jobs (map snapshot_told trees) replies p.jobs_were (told_trees trees p.trees_tell) h.fitting;
   they_left = sym (h.index earlier p);
   short = h.short p.short;
 }

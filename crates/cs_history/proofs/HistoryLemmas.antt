@@ -1,24 +1,28 @@
 -- The paths of histories are clean and reduced, and their files can be held by an index.
 use Rattle.std.proofs.Common.{◌≡◌, ℕ, ◌<◌, ◌^◌, true, false, cond, eqb, List, [], ◌∷◌, length, get_or, sym, ap, subst, ◌∙◌, inl, inr, Some, None}
+use Rattle.cs_tree.specs.PathSet.{Paths}
+use Rattle.cs_index.specs.PostingLists.{set_at}
 use Rattle.std.proofs.lemmas.Bool.{true≢false, or_cases}
 use Rattle.std.specs.FinMap as map
 use Rattle.cs_tree.specs.PathSet as set
-use Rattle.cs_tree.specs.Cover.{Paths, covered, least}
+use Rattle.cs_tree.specs.Cover.{is_covered, least}
 use Rattle.cs_tree.specs.Snapshot.{Snapshot, item_at}
 use Rattle.cs_tree.specs.Reached.{read_item}
 use Rattle.cs_tree.proofs.Found.{found_under}
 use Rattle.cs_tree.proofs.Sets.{contains-union, contains-empty}
 use Rattle.cs_tree.proofs.Least.{least_says, least_settled, covered-least}
 use Rattle.cs_index.specs.Image.{Files, image}
-use Rattle.cs_index.specs.Spelling.{set_at}
 use Rattle.cs_trigram.specs.Text.{text_trigrams, limits}
 use Rattle.cs_merge.specs.Join.{join_files}
 use Rattle.cs_merge.specs.Content.{IsContent, LieUnder, Holds}
 use Rattle.cs_merge.proofs.JoinLemmas.{newer_at, old_at}
 use Rattle.cs_merge.proofs.ContentLemmas.{content_joined, under_joined}
 use Rattle.cs_merge.proofs.HoldingLemmas.{content_held, held_once, held_names, held_set}
-use Rattle.cs_history.specs.History.{Visit, History, all_given, paths_of, walked, files_found, files_of, index_of}
-use Rattle.cs_history.specs.WellFormed.{AreClean, IsHistory}
+use Rattle.cs_history.specs.History.{Visit, History, all_given, paths_of, walked_paths, files_of, index_of}
+use Rattle.cs_history.specs.JobIndex.{files_found}
+use Rattle.cs_index.specs.Image.{IsString}
+use Rattle.cs_tree.proofs.SettledLemmas.{settled_filled, settled_no_nul, no_nul_bytes}
+use Rattle.cs_history.specs.WellFormed.{IsClean, AreClean, IsHistory}
 use Rattle.cs_history.specs.Headline.{indexed_names, StillReads}
 use Rattle.cs_history.proofs.KeepingLemmas.{join_kept, join_paths_of, get-kept}
 use Rattle.cs_history.proofs.WalkLemmas.{AreStrings, found_content, found_lies}
@@ -44,25 +48,28 @@ clean_paths history is = clean_least (all_given history) (clean_given history is
 
 -- what holds of the paths before and of the job's own holds of those that it walks
 module _ (P : Paths → Type 0) (visit : Visit) (before : History) where
-  by_walked : P (paths_of before) → P (least visit.given) → P (walked visit before)
+  by_walked : P (paths_of before) → P (least visit.given) → P (walked_paths visit before)
   by_walked old own = elim (eqb (set.len visit.given) 0) as (λ b. P (cond b (paths_of before) (least visit.given))) [ true ↦ old | false ↦ own ]
 
-pub clean_walked : (visit : Visit) (before : History) → IsHistory (visit ∷ before) → AreClean (walked visit before)
+pub clean_walked : (visit : Visit) (before : History) → IsHistory (visit ∷ before) → AreClean (walked_paths visit before)
 clean_walked visit before is = by_walked AreClean visit before (clean_paths before is.1) (clean_least visit.given is.0.given_are)
 
-pub reduced_walked : (visit : Visit) (before : History) → least (walked visit before) ≡ walked visit before
+pub reduced_walked : (visit : Visit) (before : History) → least (walked_paths visit before) ≡ walked_paths visit before
 reduced_walked visit before = by_walked (λ paths. least paths ≡ paths) visit before (least_twice (all_given before)) (least_twice visit.given)
 
+pub clean_string : (path : List ℕ) → IsClean path → IsString path
+clean_string path is = (settled_filled path is.settled, no_nul_bytes path (settled_no_nul path is.settled), is.utf8)
+
 clean_strings : (paths : Paths) → AreClean paths → AreStrings paths
-clean_strings paths h path member = (h path member).text
+clean_strings paths h path member = clean_string path (h path member)
 
 -- ---- files
 
-pub walk_content : (visit : Visit) (before : History) → IsHistory (visit ∷ before) → IsContent (walked visit before) (files_found visit before)
-walk_content visit before is = found_content limits visit.tree (walked visit before) is.0.tree_is (clean_strings (walked visit before) (clean_walked visit before is))
+pub walk_content : (visit : Visit) (before : History) → IsHistory (visit ∷ before) → IsContent (walked_paths visit before) (files_found visit before)
+walk_content visit before is = found_content limits visit.tree (walked_paths visit before) is.0.tree_is (clean_strings (walked_paths visit before) (clean_walked visit before is))
 
-pub walk_lies : (visit : Visit) (before : History) → LieUnder (walked visit before) (files_found visit before)
-walk_lies visit before name trigrams h = found_lies (text_trigrams limits) visit.tree (walked visit before) name trigrams h
+pub walk_lies : (visit : Visit) (before : History) → LieUnder (walked_paths visit before) (files_found visit before)
+walk_lies visit before name trigrams h = found_lies (text_trigrams limits) visit.tree (walked_paths visit before) name trigrams h
 
 nothing_kept : (name trigrams : List ℕ) → map.get (files_of []) name ≡ Some trigrams → ⊥
 nothing_kept name trigrams h = none_some (sym (get-kept (text_trigrams limits) [] name) ∙ h)
@@ -77,15 +84,15 @@ history_content [] is = record {
   sets_are = λ name trigrams h. absurd (nothing_kept name trigrams h);
 }
 history_content (visit ∷ before) is =
-    let joined = content_joined (paths_of before) (walked visit before) (files_of before) (files_found visit before) (history_content before is.1) (walk_content visit before is) in
+    let joined = content_joined (paths_of before) (walked_paths visit before) (files_of before) (files_found visit before) (history_content before is.1) (walk_content visit before is) in
     subst (λ files. IsContent (paths_of (visit ∷ before)) files) (join_kept (text_trigrams limits) before visit)
-    (subst (λ paths. IsContent paths (join_files (walked visit before) (files_of before) (files_found visit before))) (join_paths_of before visit) joined)
+    (subst (λ paths. IsContent paths (join_files (walked_paths visit before) (files_of before) (files_found visit before))) (join_paths_of before visit) joined)
 
 pub history_lies : (history : History) → LieUnder (paths_of history) (files_of history)
 history_lies [] name trigrams h = absurd (nothing_kept name trigrams h)
 history_lies (visit ∷ before) name trigrams h =
-    let joined = under_joined (paths_of before) (walked visit before) (files_of before) (files_found visit before) (history_lies before) (walk_lies visit before) in
-    subst (λ paths. covered paths name ≡ true) (join_paths_of before visit)
+    let joined = under_joined (paths_of before) (walked_paths visit before) (files_of before) (files_found visit before) (history_lies before) (walk_lies visit before) in
+    subst (λ paths. is_covered paths name ≡ true) (join_paths_of before visit)
     (joined name trigrams (subst (λ files. map.get files name ≡ Some trigrams) (sym (join_kept (text_trigrams limits) before visit)) h))
 
 -- ---- the index
@@ -105,15 +112,15 @@ index_once history bytes paths files is h short holds = held_once bytes (paths_o
 
 -- ---- the latest job that covers a name
 
-pub newest_at : (visit : Visit) (before : History) (name : List ℕ) → covered (walked visit before) name ≡ true → map.get (files_of (visit ∷ before)) name ≡ map.get (files_found visit before) name
+pub newest_at : (visit : Visit) (before : History) (name : List ℕ) → is_covered (walked_paths visit before) name ≡ true → map.get (files_of (visit ∷ before)) name ≡ map.get (files_found visit before) name
 newest_at visit before name h =
     ap (λ files. map.get files name) (sym (join_kept (text_trigrams limits) before visit))
-    ∙ newer_at (walked visit before) (files_of before) (files_found visit before) name h
+    ∙ newer_at (walked_paths visit before) (files_of before) (files_found visit before) name h
 
-pub others_at : (visit : Visit) (before : History) (name : List ℕ) → covered (walked visit before) name ≡ false → map.get (files_of (visit ∷ before)) name ≡ map.get (files_of before) name
+pub others_at : (visit : Visit) (before : History) (name : List ℕ) → is_covered (walked_paths visit before) name ≡ false → map.get (files_of (visit ∷ before)) name ≡ map.get (files_of before) name
 others_at visit before name h =
     ap (λ files. map.get files name) (sym (join_kept (text_trigrams limits) before visit))
-    ∙ old_at (walked visit before) (files_of before) (files_found visit before) name (found_under (text_trigrams limits) visit.tree (walked visit before) name h) h
+    ∙ old_at (walked_paths visit before) (files_of before) (files_found visit before) name (found_under (text_trigrams limits) visit.tree (walked_paths visit before) name h) h
 
 -- ---- files that still read as they were indexed
 

@@ -1,15 +1,16 @@
 -- The index after one more job.
 use Rattle.std.proofs.Common.{◌≡◌, ◌≢◌, ℕ, ◌<◌, ◌^◌, Bool, true, false, cond, eqb, List, [], ◌∷◌, length, map, refl, sym, ap, subst, ◌∙◌, Option, Some, None}
+use Rattle.cs_tree.specs.PathSet.{Paths}
 use Rattle.std.proofs.lemmas.Bool.{true≢false, ne_eqb, eqb-false}
 use Rattle.std.proofs.lemmas.List.{length-map}
 use Rattle.std.specs.Prelude.{string_bytes, option_and_then}
 use Rattle.std.specs.Cmp.Lexicographic.{nat_list_cmp_total}
 use Rattle.std.specs.FinMap as map'
 use Rattle.cs_tree.specs.PathSet as set
-use Rattle.cs_tree.specs.Cover.{Paths, covered, least}
+use Rattle.cs_tree.specs.Cover.{is_covered, least}
 use Rattle.cs_tree.specs.Snapshot.{Snapshot}
-use Rattle.cs_tree.specs.Reached.{found}
-use Rattle.cs_tree.specs.Clean.{cleaned}
+use Rattle.cs_tree.specs.Reached.{files_reached}
+use Rattle.cs_tree.specs.Clean.{clean_path}
 use Rattle.cs_tree.proofs.Sets.{alike, contains_first, contains-empty}
 use Rattle.cs_tree.proofs.Found.{found_under}
 use Rattle.cs_index.specs.Image.{image, Files}
@@ -17,9 +18,10 @@ use Rattle.cs_trigram.specs.Text.{text_trigrams, limits}
 use Rattle.cs_merge.specs.Join.{join_files, join_paths}
 use Rattle.cs_merge.specs.Content.{Holds}
 use Rattle.cs_merge.proofs.HoldingLemmas.{content_held}
-use Rattle.cs_history.specs.History.{History, Visit, Walk, all_given, paths_of, walked, last, kept_at, files_found, files_of, index_of}
+use Rattle.cs_history.specs.History.{History, Visit, Walk, all_given, paths_of, walked_paths, last_walk, kept_at, files_of, index_of}
+use Rattle.cs_history.specs.JobIndex.{files_found}
 use Rattle.cs_history.specs.WellFormed.{IsHistory}
-use Rattle.cs_history.specs.Jobs.{texts, given, has_no_path, visit_of, after_done}
+use Rattle.cs_history.specs.Jobs.{given_texts, given_paths, has_no_path, visit_of, after_done}
 use Rattle.cs_words.specs.declared.jobs.IndexJob.{IndexJob}
 use Rattle.cs_history.proofs.KeepingLemmas.{join_kept, join_paths_of, kept_first, paths_first, get-kept, no_paths}
 use Rattle.cs_history.proofs.HistoryLemmas.{history_lies, walk_content, index_holds}
@@ -27,33 +29,33 @@ use Rattle.cs_history.proofs.JobLemmas.{reset_begins}
 
 -- ---- a job on no index, and on an index
 
-pub index_first : (visit : Visit) → Some (image (walked visit []) (files_found visit [])) ≡ index_of (visit ∷ [])
+pub index_first : (visit : Visit) → Some (image (walked_paths visit []) (files_found visit [])) ≡ index_of (visit ∷ [])
 index_first visit =
     ap (λ p. Some (image p (files_found visit []))) (sym (paths_first visit))
     ∙ ap (λ f. Some (image (paths_of (visit ∷ [])) f)) (sym (kept_first (text_trigrams limits) visit))
 
-pub index_joined : (before : History) (visit : Visit) → Some (image (join_paths (paths_of before) (walked visit before)) (join_files (walked visit before) (files_of before) (files_found visit before))) ≡ index_of (visit ∷ before)
+pub index_joined : (before : History) (visit : Visit) → Some (image (join_paths (paths_of before) (walked_paths visit before)) (join_files (walked_paths visit before) (files_of before) (files_found visit before))) ≡ index_of (visit ∷ before)
 index_joined before visit = λ i. Some (image (join_paths_of before visit i) (join_kept (text_trigrams limits) before visit i))
 
 -- ---- a reset
 
 -- a job that was given a path has one
-pub given_some : (job : IndexJob) → length job.paths.items ≢ 0 → set.len (given job) ≢ 0
-given_some job some = some_len (map (λ text. cleaned (string_bytes job.cwd) text) (texts job)) (λ e. some (sym (length-map (texts job) (λ text. cleaned (string_bytes job.cwd) text) ∙ length-map job.paths.items string_bytes) ∙ e))
+pub given_some : (job : IndexJob) → length job.paths.items ≢ 0 → set.len (given_paths job) ≢ 0
+given_some job some = some_len (map (λ text. clean_path (string_bytes job.cwd) text) (given_texts job)) (λ e. some (sym (length-map (given_texts job) (λ text. clean_path (string_bytes job.cwd) text) ∙ length-map job.paths.items string_bytes) ∙ e))
   where
     some_len : (paths : List (List ℕ)) → length paths ≢ 0 → set.len (set.from_list paths) ≢ 0
     some_len [] h e = h refl
     some_len (p ∷ ps) h e = true≢false (sym (contains_first p ps) ∙ ap (λ s. set.contains s p) (map'.empty_of_len (set.from_list (p ∷ ps)) e) ∙ contains-empty p)
 
-walked_own : (visit : Visit) (before : History) → set.len visit.given ≢ 0 → walked visit before ≡ least visit.given
+walked_own : (visit : Visit) (before : History) → set.len visit.given ≢ 0 → walked_paths visit before ≡ least visit.given
 walked_own visit before some = ap (λ b. cond b (paths_of before) (least visit.given)) (ne_eqb (set.len visit.given) 0 some)
 
-pub index_begun : (before : History) (job : IndexJob) (tree : Snapshot) → job.list ≡ false → job.reset ≡ true → has_no_path job ≡ false → index_of (after_done before job tree) ≡ Some (image (least (given job)) (found (text_trigrams limits) tree (least (given job))))
+pub index_begun : (before : History) (job : IndexJob) (tree : Snapshot) → job.list ≡ false → job.reset ≡ true → has_no_path job ≡ false → index_of (after_done before job tree) ≡ Some (image (least (given_paths job)) (files_reached (text_trigrams limits) tree (least (given_paths job))))
 index_begun before job tree l r p =
     ap index_of (reset_begins before job tree l r)
     ∙ ap (λ b. index_of (cond b [] (visit_of job tree ∷ []))) p
     ∙ sym (index_first (visit_of job tree))
-    ∙ ap (λ paths. Some (image paths (found (text_trigrams limits) tree paths))) (walked_own (visit_of job tree) [] (given_some job (eqb-false (length job.paths.items) 0 p)))
+    ∙ ap (λ paths. Some (image paths (files_reached (text_trigrams limits) tree paths))) (walked_own (visit_of job tree) [] (given_some job (eqb-false (length job.paths.items) 0 p)))
 
 pub index_none : (before : History) (job : IndexJob) (tree : Snapshot) → job.list ≡ false → job.reset ≡ true → has_no_path job ≡ true → index_of (after_done before job tree) ≡ None
 index_none before job tree l r p =
@@ -65,24 +67,24 @@ index_none before job tree l r p =
 pub paths_again : (visit : Visit) (before : History) → set.len visit.given ≡ 0 → paths_of (visit ∷ before) ≡ paths_of before
 paths_again visit before none = ap least (no_paths visit.given none (all_given before))
 
-pub walked_again : (visit : Visit) (before : History) → set.len visit.given ≡ 0 → walked visit before ≡ paths_of before
+pub walked_again : (visit : Visit) (before : History) → set.len visit.given ≡ 0 → walked_paths visit before ≡ paths_of before
 walked_again visit before none = ap (λ n. cond (eqb n 0) (paths_of before) (least visit.given)) none
 
 -- all that was kept lies under the paths that are walked again
-pub files_again : (visit : Visit) (before : History) → set.len visit.given ≡ 0 → files_of (visit ∷ before) ≡ found (text_trigrams limits) visit.tree (paths_of before)
+pub files_again : (visit : Visit) (before : History) → set.len visit.given ≡ 0 → files_of (visit ∷ before) ≡ files_reached (text_trigrams limits) visit.tree (paths_of before)
 files_again visit before none =
-    map'.same_map nat_list_cmp_total alike (files_of (visit ∷ before)) _ (λ name. get-kept (text_trigrams limits) (visit ∷ before) name ∙ at name (covered (walked visit before) name) refl ∙ ap (λ paths. map'.get (found (text_trigrams limits) visit.tree paths) name) (walked_again visit before none))
+    map'.same_map nat_list_cmp_total alike (files_of (visit ∷ before)) _ (λ name. get-kept (text_trigrams limits) (visit ∷ before) name ∙ at name (is_covered (walked_paths visit before) name) refl ∙ ap (λ paths. map'.get (files_reached (text_trigrams limits) visit.tree paths) name) (walked_again visit before none))
   where
-    kept_none : (name : List ℕ) → covered (walked visit before) name ≡ false → kept_at (text_trigrams limits) before name ≡ None
+    kept_none : (name : List ℕ) → is_covered (walked_paths visit before) name ≡ false → kept_at (text_trigrams limits) before name ≡ None
     kept_none name h = by_option (map'.get (files_of before) name) refl
       where
         by_option : (o : Option (List ℕ)) → map'.get (files_of before) name ≡ o → kept_at (text_trigrams limits) before name ≡ None
         by_option None e = sym (get-kept (text_trigrams limits) before name) ∙ e
-        by_option (Some trigrams) e = absurd (true≢false (sym (history_lies before name trigrams e) ∙ ap (λ paths. covered paths name) (sym (walked_again visit before none)) ∙ h))
+        by_option (Some trigrams) e = absurd (true≢false (sym (history_lies before name trigrams e) ∙ ap (λ paths. is_covered paths name) (sym (walked_again visit before none)) ∙ h))
 
-    at : (name : List ℕ) (b : Bool) → covered (walked visit before) name ≡ b → option_and_then (λ (walk : Walk). map'.get (found (text_trigrams limits) walk.tree walk.paths) name) (cond b (Some (record { tree = visit.tree; paths = walked visit before })) (last before name)) ≡ map'.get (files_found visit before) name
+    at : (name : List ℕ) (b : Bool) → is_covered (walked_paths visit before) name ≡ b → option_and_then (λ (walk : Walk). map'.get (files_reached (text_trigrams limits) walk.tree walk.paths) name) (cond b (Some (record { tree = visit.tree; paths = walked_paths visit before })) (last_walk before name)) ≡ map'.get (files_found visit before) name
     at name true h = refl
-    at name false h = kept_none name h ∙ sym (found_under (text_trigrams limits) visit.tree (walked visit before) name h)
+    at name false h = kept_none name h ∙ sym (found_under (text_trigrams limits) visit.tree (walked_paths visit before) name h)
 
 -- ---- no index
 
@@ -96,13 +98,13 @@ no_job history e = ap index_of e
 -- ---- the bytes of one job more
 
 -- on no index: what the job found
-pub first_index : (before : History) (visit : Visit) (bytes : List ℕ) → index_of before ≡ None → bytes ≡ image (walked visit before) (files_found visit before) → Some bytes ≡ index_of (visit ∷ before)
+pub first_index : (before : History) (visit : Visit) (bytes : List ℕ) → index_of before ≡ None → bytes ≡ image (walked_paths visit before) (files_found visit before) → Some bytes ≡ index_of (visit ∷ before)
 first_index [] visit bytes none is = ap Some is ∙ index_first visit
 first_index (v ∷ before) visit bytes none is = cc
 
 -- on an index: what comes of merging it with what the job found
-pub joined_index : (before : History) (visit : Visit) (old newer bytes : List ℕ) → IsHistory (visit ∷ before) → index_of before ≡ Some old → length old < 2 ^ 32 → newer ≡ image (walked visit before) (files_found visit before) → length newer < 2 ^ 32 → ((p q : Paths) (f g : Files) → Holds old p f → Holds newer q g → bytes ≡ image (join_paths p q) (join_files q f g)) → Some bytes ≡ index_of (visit ∷ before)
-joined_index before visit old newer bytes is there short found few merged =
-    let holds : Holds newer (walked visit before) (files_found visit before) = subst (λ b. Holds b (walked visit before) (files_found visit before)) (sym found) (content_held (walked visit before) (files_found visit before) (walk_content visit before is) (subst (λ b. length b < 2 ^ 32) found few)) in
-    ap Some (merged (paths_of before) (walked visit before) (files_of before) (files_found visit before) (index_holds before old is.1 there short) holds)
+pub joined_index : (before : History) (visit : Visit) (old newer bytes : List ℕ) → IsHistory (visit ∷ before) → index_of before ≡ Some old → length old < 2 ^ 32 → newer ≡ image (walked_paths visit before) (files_found visit before) → length newer < 2 ^ 32 → ((p q : Paths) (f g : Files) → Holds old p f → Holds newer q g → bytes ≡ image (join_paths p q) (join_files q f g)) → Some bytes ≡ index_of (visit ∷ before)
+joined_index before visit old newer bytes is there short files_reached few merged =
+    let holds : Holds newer (walked_paths visit before) (files_found visit before) = subst (λ b. Holds b (walked_paths visit before) (files_found visit before)) (sym files_reached) (content_held (walked_paths visit before) (files_found visit before) (walk_content visit before is) (subst (λ b. length b < 2 ^ 32) files_reached few)) in
+    ap Some (merged (paths_of before) (walked_paths visit before) (files_of before) (files_found visit before) (index_holds before old is.1 there short) holds)
     ∙ index_joined before visit

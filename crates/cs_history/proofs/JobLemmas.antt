@@ -1,5 +1,6 @@
 -- What single jobs make of a history.
 use Rattle.std.proofs.Common.{◌≡◌, true, false, cond, List, [], ◌∷◌, ◌++◌, map, ap, ◌∙◌, Option, Some, None}
+use Rattle.cs_tree.specs.Folders.{IsTree, Tells}
 use Rattle.std.proofs.lemmas.Bool.{cond_both}
 use Rattle.std.proofs.lemmas.Str.{IsUtf8-append, IsUtf8-string_bytes}
 use Rattle.std.specs.Prelude.{string_bytes, String, is_some, nat_eq}
@@ -9,17 +10,18 @@ use Rattle.std.specs.Ordering.{eq_by_cmp}
 use Rattle.std.specs.FinMap as map'
 use Rattle.std.specs.FinMap.{find}
 use Rattle.cs_tree.specs.Cover.{slash, begins}
-use Rattle.cs_tree.specs.Snapshot.{Snapshot, IsTree, Tells}
-use Rattle.cs_tree.specs.Clean.{absolute, cleaned}
+use Rattle.cs_tree.specs.Snapshot.{Snapshot}
+use Rattle.cs_tree.specs.Clean.{absolute, clean_path}
+use Rattle.cs_tree.proofs.SettledLemmas.{settled_from, bytes_no_nul}
 use Rattle.cs_merge.proofs.HoldingLemmas.{from_list_all}
 use Rattle.cs_history.specs.History.{History}
 use Rattle.cs_history.specs.WellFormed.{IsClean, AreClean, IsVisit, IsHistory}
-use Rattle.cs_history.specs.Jobs.{texts, given, has_no_path, IsTaken, AreTaken, IsFitting, visit_of, begun, after_done, after, followed, told}
+use Rattle.cs_history.specs.Jobs.{given_texts, given_paths, has_no_path, IsTaken, AreTaken, IsFitting, visit_of, reset_history, after_done, after, history_after, snapshot_told}
 use Rattle.cs_words.specs.declared.jobs.IndexJob.{IndexJob}
 use Rattle.cs_words.specs.declared.jobs.Reply.{Reply}
 use Rattle.cs_words.specs.declared.jobs.Reply.TheVariants.{Done, Refused}
 use Rattle.cs_history.proofs.PathLemmas.{NoNul, IsPart, slash_utf8}
-use Rattle.cs_history.proofs.CleanLemmas.{cleaned_settled, cleaned_part, cleaned_filled}
+use Rattle.cs_history.proofs.CleanLemmas.{cleaned_settled, cleaned_part}
 
 -- ---- the paths of a job
 
@@ -32,52 +34,51 @@ absolute_part cwd path h = record {
 }
 
 -- a path that cleaning takes is clean then
-pub taken_clean : (cwd path : String Global) → IsTaken (string_bytes cwd) (string_bytes path) → IsClean (cleaned (string_bytes cwd) (string_bytes path))
+pub taken_clean : (cwd path : String Global) → IsTaken (string_bytes cwd) (string_bytes path) → IsClean (clean_path (string_bytes cwd) (string_bytes path))
 taken_clean cwd path h =
     let part = cleaned_part (string_bytes cwd) (string_bytes path) (absolute_part cwd path h.no_nul) in
     record {
-      text = (cleaned_filled (string_bytes cwd) (string_bytes path), part.no_nul, part.utf8);
-      settled = cleaned_settled (string_bytes cwd) (string_bytes path);
-      short = h.short;
+      utf8 = part.utf8;
+      settled = settled_from (clean_path (string_bytes cwd) (string_bytes path)) (cleaned_settled (string_bytes cwd) (string_bytes path)) (bytes_no_nul (clean_path (string_bytes cwd) (string_bytes path)) part.no_nul) h.short;
     }
 
-all_cleaned : (cwd : String Global) (paths : List (String Global)) → AllByRecursion (IsTaken (string_bytes cwd)) (map string_bytes paths) → AllByRecursion IsClean (map (λ text. cleaned (string_bytes cwd) text) (map string_bytes paths))
+all_cleaned : (cwd : String Global) (paths : List (String Global)) → AllByRecursion (IsTaken (string_bytes cwd)) (map string_bytes paths) → AllByRecursion IsClean (map (λ text. clean_path (string_bytes cwd) text) (map string_bytes paths))
 all_cleaned cwd [] all = tt
 all_cleaned cwd (path ∷ paths) all = (taken_clean cwd path all.0, all_cleaned cwd paths all.1)
 
-pub given_clean : (job : IndexJob) → AreTaken job → AreClean (given job)
-given_clean job h = from_list_all IsClean (map (λ text. cleaned (string_bytes job.cwd) text) (texts job)) (all_cleaned job.cwd job.paths.items h)
+pub given_clean : (job : IndexJob) → AreTaken job → AreClean (given_paths job)
+given_clean job h = from_list_all IsClean (map (λ text. clean_path (string_bytes job.cwd) text) (given_texts job)) (all_cleaned job.cwd job.paths.items h)
 
 -- ---- the history after a job
 
 pub list_adds_nothing : (before : History) (job : IndexJob) (tree : Snapshot) → job.list ≡ true → after_done before job tree ≡ before
-list_adds_nothing before job tree l = ap (λ b. cond b before (cond job.reset (begun job tree) (visit_of job tree ∷ before))) l
+list_adds_nothing before job tree l = ap (λ b. cond b before (cond job.reset (reset_history job tree) (visit_of job tree ∷ before))) l
 
-pub reset_begins : (before : History) (job : IndexJob) (tree : Snapshot) → job.list ≡ false → job.reset ≡ true → after_done before job tree ≡ begun job tree
+pub reset_begins : (before : History) (job : IndexJob) (tree : Snapshot) → job.list ≡ false → job.reset ≡ true → after_done before job tree ≡ reset_history job tree
 reset_begins before job tree l r =
-    ap (λ b. cond b before (cond job.reset (begun job tree) (visit_of job tree ∷ before))) l
-    ∙ ap (λ b. cond b (begun job tree) (visit_of job tree ∷ before)) r
+    ap (λ b. cond b before (cond job.reset (reset_history job tree) (visit_of job tree ∷ before))) l
+    ∙ ap (λ b. cond b (reset_history job tree) (visit_of job tree ∷ before)) r
 
 pub other_goes_on : (before : History) (job : IndexJob) (tree : Snapshot) → job.list ≡ false → job.reset ≡ false → after_done before job tree ≡ visit_of job tree ∷ before
 other_goes_on before job tree l r =
-    ap (λ b. cond b before (cond job.reset (begun job tree) (visit_of job tree ∷ before))) l
-    ∙ ap (λ b. cond b (begun job tree) (visit_of job tree ∷ before)) r
+    ap (λ b. cond b before (cond job.reset (reset_history job tree) (visit_of job tree ∷ before))) l
+    ∙ ap (λ b. cond b (reset_history job tree) (visit_of job tree ∷ before)) r
 
-begun_history : (job : IndexJob) (tree : Snapshot) → IsTree tree → AreClean (given job) → IsHistory (begun job tree)
+begun_history : (job : IndexJob) (tree : Snapshot) → IsTree tree → AreClean (given_paths job) → IsHistory (reset_history job tree)
 begun_history job tree is clean = cond_both (has_no_path job) [] (visit_of job tree ∷ []) IsHistory (λ _. tt) (λ _. (record { tree_is = is; given_are = clean }, tt))
 
 pub after_history : (before : History) (job : IndexJob) (tree : Snapshot) (reply : Reply) → IsHistory before → IsTree tree → IsFitting job reply → IsHistory (after before job tree reply)
 after_history before job tree (Refused fault) is well fits = is
 after_history before job tree Done is well fits =
-    cond_both job.list before (cond job.reset (begun job tree) (visit_of job tree ∷ before)) IsHistory
+    cond_both job.list before (cond job.reset (reset_history job tree) (visit_of job tree ∷ before)) IsHistory
     (λ _. is)
     (λ walks.
     let clean = given_clean job (fits walks) in
-    cond_both job.reset (begun job tree) (visit_of job tree ∷ before) IsHistory
+    cond_both job.reset (reset_history job tree) (visit_of job tree ∷ before) IsHistory
     (λ _. begun_history job tree well clean)
     (λ _. (record { tree_is = well; given_are = clean }, is)))
 
-pub followed_history : (before : History) (jobs : List IndexJob) (trees : List Snapshot) (replies : List Reply) → IsHistory before → AllByRecursion IsTree trees → AllZip IsFitting jobs replies → IsHistory (followed before jobs trees replies)
+pub followed_history : (before : History) (jobs : List IndexJob) (trees : List Snapshot) (replies : List Reply) → IsHistory before → AllByRecursion IsTree trees → AllZip IsFitting jobs replies → IsHistory (history_after before jobs trees replies)
 followed_history before [] trees replies is well fits = is
 followed_history before (job ∷ jobs) [] replies is well fits = is
 followed_history before (job ∷ jobs) (tree ∷ trees) [] is well fits = is
@@ -86,9 +87,9 @@ followed_history before (job ∷ jobs) (tree ∷ trees) (reply ∷ replies) is w
 
 -- ---- the job over a tree that tells its snapshot
 
-told_tree : (snapshot : Option Snapshot) → Tells snapshot → IsTree (told snapshot)
+told_tree : (snapshot : Option Snapshot) → Tells snapshot → IsTree (snapshot_told snapshot)
 told_tree None tells = absurd tells
 told_tree (Some tree) tells = tells
 
-pub taken_visit : (job : IndexJob) (snapshot : Option Snapshot) → Tells snapshot → AreTaken job → IsVisit (visit_of job (told snapshot))
+pub taken_visit : (job : IndexJob) (snapshot : Option Snapshot) → Tells snapshot → AreTaken job → IsVisit (visit_of job (snapshot_told snapshot))
 taken_visit job snapshot tells taken = record { tree_is = told_tree snapshot tells; given_are = given_clean job taken }

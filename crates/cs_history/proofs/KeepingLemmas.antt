@@ -1,5 +1,7 @@
 -- Joining the index of a history with what a job found is the index of the history followed by the job.
 use Rattle.std.proofs.Common.{◌≡◌, ℕ, Bool, true, false, not, cond, ◌||◌, eqb, List, [], ◌∷◌, ◌++◌, refl, sym, ap, ◌∙◌, inl, inr, Option, Some, None}
+use Rattle.cs_tree.specs.PathSet.{Paths}
+use Rattle.cs_tree.specs.NameOrder.{bytes_cmp}
 use Rattle.std.proofs.lemmas.Bool.{true≢false, cases_Bool, eqb-true}
 use Rattle.std.specs.Cmp.Lexicographic.{nat_list_cmp_total}
 use Rattle.std.specs.Prelude.{option_and_then, is_some}
@@ -7,15 +9,15 @@ use Rattle.std.specs.List.{list_any}
 use Rattle.std.specs.Ordering.{eq_by_cmp}
 use Rattle.std.specs.FinMap as map
 use Rattle.cs_tree.specs.PathSet as set
-use Rattle.cs_tree.specs.Cover.{bytes_cmp, Paths, covered, least}
-use Rattle.cs_tree.specs.Reached.{found}
+use Rattle.cs_tree.specs.Cover.{is_covered, least}
+use Rattle.cs_tree.specs.Reached.{files_reached}
 use Rattle.cs_tree.proofs.Sets.{alike, or_else, same_set, contains-union, contains-empty}
 use Rattle.cs_tree.proofs.Least.{least-union, least_settled, covered-union, covered-least}
 use Rattle.cs_tree.proofs.Collect.{get-collected}
 use Rattle.cs_tree.proofs.Found.{found_under}
 use Rattle.cs_merge.specs.Join.{join_files, join_paths}
 use Rattle.cs_merge.proofs.JoinLemmas.{get-join_files}
-use Rattle.cs_history.specs.History.{Visit, History, all_given, paths_of, walked, last, Walk, kept_at, names_found, kept}
+use Rattle.cs_history.specs.History.{Visit, History, all_given, paths_of, walked_paths, last_walk, Walk, kept_at, names_found, kept_files}
 
 list_any-append : (test : List ℕ → Bool) (xs ys : List (List ℕ)) → list_any test (xs ++ ys) ≡ (list_any test xs || list_any test ys)
 list_any-append test [] ys = refl
@@ -26,14 +28,14 @@ module _ {X : Type 0} (read : List ℕ → Option X) where
   kept_found : (history : History) (name : List ℕ) → list_any (eq_by_cmp bytes_cmp name) (names_found read history) ≡ false → kept_at read history name ≡ None
   kept_found [] name h = refl
   kept_found (visit ∷ before) name h =
-      let here : map.FinMap bytes_cmp X = found read visit.tree (walked visit before) in
+      let here : map.FinMap bytes_cmp X = files_reached read visit.tree (walked_paths visit before) in
       let split = sym (list_any-append (eq_by_cmp bytes_cmp name) (map.keys here) (names_found read before)) ∙ h in
-      elim (cases_Bool (covered (walked visit before) name)) [
+      elim (cases_Bool (is_covered (walked_paths visit before) name)) [
         | inl under ↦
-            ap (λ b. option_and_then (λ (walk : Walk). map.get (found read walk.tree walk.paths) name) (cond b (Some (record { tree = visit.tree; paths = walked visit before })) (last before name))) under
+            ap (λ b. option_and_then (λ (walk : Walk). map.get (files_reached read walk.tree walk.paths) name) (cond b (Some (record { tree = visit.tree; paths = walked_paths visit before })) (last_walk before name))) under
             ∙ absent (map.get here name) (map.contains_key-keys here name ∙ left_false _ _ split)
         | inr beside ↦
-            ap (λ b. option_and_then (λ (walk : Walk). map.get (found read walk.tree walk.paths) name) (cond b (Some (record { tree = visit.tree; paths = walked visit before })) (last before name))) beside
+            ap (λ b. option_and_then (λ (walk : Walk). map.get (files_reached read walk.tree walk.paths) name) (cond b (Some (record { tree = visit.tree; paths = walked_paths visit before })) (last_walk before name))) beside
             ∙ kept_found before name (right_false _ _ split)
       ]
     where
@@ -49,7 +51,7 @@ module _ {X : Type 0} (read : List ℕ → Option X) where
       absent None h = refl
       absent (Some x) h = absurd (true≢false h)
 
-  pub get-kept : (history : History) (name : List ℕ) → map.get (kept read history) name ≡ kept_at read history name
+  pub get-kept : (history : History) (name : List ℕ) → map.get (kept_files read history) name ≡ kept_at read history name
   get-kept history name =
       get-collected (kept_at read history) (names_found read history) name
       ∙ elim (cases_Bool (list_any (eq_by_cmp bytes_cmp name) (names_found read history))) [
@@ -58,25 +60,25 @@ module _ {X : Type 0} (read : List ℕ → Option X) where
       ]
 
   -- what a join has at a name is what is kept there
-  kept_joined : (history : History) (visit : Visit) (name : List ℕ) (b : Bool) → covered (walked visit history) name ≡ b → or_else (map.get (found read visit.tree (walked visit history)) name) (cond (not b) (kept_at read history name) None) ≡ option_and_then (λ (walk : Walk). map.get (found read walk.tree walk.paths) name) (cond b (Some (record { tree = visit.tree; paths = walked visit history })) (last history name))
-  kept_joined history visit name true h = or_none (map.get (found read visit.tree (walked visit history)) name)
+  kept_joined : (history : History) (visit : Visit) (name : List ℕ) (b : Bool) → is_covered (walked_paths visit history) name ≡ b → or_else (map.get (files_reached read visit.tree (walked_paths visit history)) name) (cond (not b) (kept_at read history name) None) ≡ option_and_then (λ (walk : Walk). map.get (files_reached read walk.tree walk.paths) name) (cond b (Some (record { tree = visit.tree; paths = walked_paths visit history })) (last_walk history name))
+  kept_joined history visit name true h = or_none (map.get (files_reached read visit.tree (walked_paths visit history)) name)
     where
       or_none : (o : Option X) → or_else o None ≡ o
       or_none None = refl
       or_none (Some x) = refl
   kept_joined history visit name false h =
-      ap (λ o. or_else o (kept_at read history name)) (found_under read visit.tree (walked visit history) name h)
+      ap (λ o. or_else o (kept_at read history name)) (found_under read visit.tree (walked_paths visit history) name h)
 
-  pub join_kept : (history : History) (visit : Visit) → join_files (walked visit history) (kept read history) (found read visit.tree (walked visit history)) ≡ kept read (visit ∷ history)
+  pub join_kept : (history : History) (visit : Visit) → join_files (walked_paths visit history) (kept_files read history) (files_reached read visit.tree (walked_paths visit history)) ≡ kept_files read (visit ∷ history)
   join_kept history visit =
       map.same_map nat_list_cmp_total alike _ _ (λ name.
-      get-join_files (walked visit history) (kept read history) (found read visit.tree (walked visit history)) name
-      ∙ ap (λ o. or_else (map.get (found read visit.tree (walked visit history)) name) (cond (not (covered (walked visit history) name)) o None)) (get-kept history name)
-      ∙ kept_joined history visit name (covered (walked visit history) name) refl
+      get-join_files (walked_paths visit history) (kept_files read history) (files_reached read visit.tree (walked_paths visit history)) name
+      ∙ ap (λ o. or_else (map.get (files_reached read visit.tree (walked_paths visit history)) name) (cond (not (is_covered (walked_paths visit history) name)) o None)) (get-kept history name)
+      ∙ kept_joined history visit name (is_covered (walked_paths visit history) name) refl
       ∙ sym (get-kept (visit ∷ history) name))
 
-union_itself : (a b : Paths) → ((name : List ℕ) → covered a name ≡ covered b name) → covered (set.union a b) ≡ covered a
-union_itself a b h = λ i name. (covered-union a b name ∙ ap (λ t. covered a name || t) (sym (h name)) ∙ twice (covered a name)) i
+union_itself : (a b : Paths) → ((name : List ℕ) → is_covered a name ≡ is_covered b name) → is_covered (set.union a b) ≡ is_covered a
+union_itself a b h = λ i name. (covered-union a b name ∙ ap (λ t. is_covered a name || t) (sym (h name)) ∙ twice (is_covered a name)) i
   where
     twice : (t : Bool) → (t || t) ≡ t
     twice true = refl
@@ -94,7 +96,7 @@ no_paths given none a =
     or-false true = refl
     or-false false = refl
 
-pub join_paths_of : (history : History) (visit : Visit) → join_paths (paths_of history) (walked visit history) ≡ paths_of (visit ∷ history)
+pub join_paths_of : (history : History) (visit : Visit) → join_paths (paths_of history) (walked_paths visit history) ≡ paths_of (visit ∷ history)
 join_paths_of history visit =
     elim (cases_Bool (eqb (set.len visit.given) 0)) [
       | inl none ↦
@@ -113,14 +115,14 @@ union_none given =
     contains-union set.empty given q ∙ ap (λ t. t || set.contains given q) (contains-empty q))
 
 module _ {X : Type 0} (read : List ℕ → Option X) where
-  kept_alone : (visit : Visit) (name : List ℕ) (b : Bool) → covered (walked visit []) name ≡ b → option_and_then (λ (walk : Walk). map.get (found read walk.tree walk.paths) name) (cond b (Some (record { tree = visit.tree; paths = walked visit [] })) None) ≡ map.get (found read visit.tree (walked visit [])) name
+  kept_alone : (visit : Visit) (name : List ℕ) (b : Bool) → is_covered (walked_paths visit []) name ≡ b → option_and_then (λ (walk : Walk). map.get (files_reached read walk.tree walk.paths) name) (cond b (Some (record { tree = visit.tree; paths = walked_paths visit [] })) None) ≡ map.get (files_reached read visit.tree (walked_paths visit [])) name
   kept_alone visit name true h = refl
-  kept_alone visit name false h = sym (found_under read visit.tree (walked visit []) name h)
+  kept_alone visit name false h = sym (found_under read visit.tree (walked_paths visit []) name h)
 
-  pub kept_first : (visit : Visit) → kept read (visit ∷ []) ≡ found read visit.tree (walked visit [])
-  kept_first visit = map.same_map nat_list_cmp_total alike _ _ (λ name. get-kept read (visit ∷ []) name ∙ kept_alone visit name (covered (walked visit []) name) refl)
+  pub kept_first : (visit : Visit) → kept_files read (visit ∷ []) ≡ files_reached read visit.tree (walked_paths visit [])
+  kept_first visit = map.same_map nat_list_cmp_total alike _ _ (λ name. get-kept read (visit ∷ []) name ∙ kept_alone visit name (is_covered (walked_paths visit []) name) refl)
 
-pub paths_first : (visit : Visit) → paths_of (visit ∷ []) ≡ walked visit []
+pub paths_first : (visit : Visit) → paths_of (visit ∷ []) ≡ walked_paths visit []
 paths_first visit =
     elim (cases_Bool (eqb (set.len visit.given) 0)) [
       | inl none ↦ ap least (no_paths visit.given (eqb-true _ _ none) set.empty) ∙ ap (λ b. cond b (paths_of []) (least visit.given)) (sym none)

@@ -1,12 +1,10 @@
 -- The trigrams of a text can be held by an index.
 use Rattle.std.proofs.Common.{◌≡◌, ℕ, List, [], ◌∷◌, refl, subst, Option, Some, None}
-use Rattle.cs_index.specs.Spelling.{Ascends}
-use Rattle.cs_merge.specs.Content.{IsTrigramSet}
-use Rattle.cs_trigram.specs.Trigram.{windows, tri, Ascends as Rises}
+use Rattle.cs_trigram.specs.Trigram.{trigram_sequence, tri, Ascends as Rises, Ascends, IsTrigramSet}
 use Rattle.cs_trigram.specs.Text.{first_broken, too_many, skip, none_skipped, text_trigrams}
 use Rattle.cs_trigram.specs.declared.limits.Limits.{Limits}
 use Rattle.cs_trigram.specs.declared.scan.Reason.{Reason}
-use Rattle.cs_trigram.proofs.SetLemmas.{ascends_ascending}
+use Rattle.cs_trigram.proofs.SetLemmas.{ascends_set}
 use Rattle.cs_trigram.proofs.TextLemmas.{or_else-none, tri_below}
 
 -- the set of a scan is one of an index
@@ -22,4 +20,4 @@ text_set most bytes trigrams h = by_skip (skip most bytes) refl h
     by_skip (Some reason) e h = cc
     by_skip None e h =
         let is : tri bytes ≡ trigrams = cc in
-        subst IsTrigramSet is (rises (tri bytes) (ascends_ascending (windows bytes)), tri_below most bytes (or_else-none (first_broken most [] bytes) (too_many most (tri bytes)) e).0)
+        subst IsTrigramSet is (rises (tri bytes) (ascends_set (trigram_sequence bytes)), tri_below most bytes (or_else-none (first_broken most [] bytes) (too_many most (tri bytes)) e).0)

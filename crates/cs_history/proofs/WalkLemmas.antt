@@ -1,5 +1,9 @@
 -- What a walk finds can be held by an index, and lies under the paths that were walked.
 use Rattle.std.proofs.Common.{◌≡◌, ◌≢◌, ℕ, ◌+◌, ◌<◌, Bool, true, false, cond, not, eqb, leb, ◌&&◌, List, [], ◌∷◌, ◌++◌, length, drop, refl, sym, ap, subst, ◌∙◌, inl, inr, Option, Some, None, arith, length-append, append_assoc}
+use Rattle.cs_tree.specs.Covering.{Covers, itself, below, root}
+use Rattle.cs_tree.specs.Folders.{child, lists, is_name, HasNames, IsTree, name_of}
+use Rattle.cs_tree.specs.PathSet.{Paths}
+use Rattle.cs_index.specs.Image.{IsString}
 use Rattle.std.proofs.lemmas.Bool.{true≢false, cases_Bool, and_parts, or_cases, or_parts, not-true, eqb-false, both_ways}
 use Rattle.std.proofs.lemmas.List.{drop_at}
 use Rattle.std.specs.Prelude.{IsUtf8}
@@ -7,15 +11,14 @@ use Rattle.std.specs.Cmp.Lexicographic.{bytes_decides}
 use Rattle.std.specs.List.{AllByRecursion, list_any, list_all}
 use Rattle.std.specs.FinMap as map
 use Rattle.cs_tree.specs.PathSet as set
-use Rattle.cs_tree.specs.Cover.{Paths, slash, same, covers, covered, Covers, itself, below, root}
-use Rattle.cs_tree.specs.Snapshot.{Snapshot, Item, folder, file, cut, other, bad, item_at, lists, child, name_of, is_name, HasNames, IsTree}
+use Rattle.cs_tree.specs.Cover.{slash, same, covers, is_covered}
+use Rattle.cs_tree.specs.Snapshot.{Snapshot, Item, folder, file, cut, other, bad, item_at}
 use Rattle.cs_tree.specs.Clean.{elements}
-use Rattle.cs_tree.specs.Reached.{elements_under, leads, reaches, is_reached, is_left_out, found, read_item}
+use Rattle.cs_tree.specs.Reached.{elements_under, leads, reaches, is_reached, is_left_out, files_reached, read_item}
 use Rattle.cs_tree.specs.Clean.{longest_path}
 use Rattle.cs_tree.proofs.Covering.{covers_says}
 use Rattle.cs_tree.proofs.Sets.{some_member}
 use Rattle.cs_tree.proofs.Found.{get-found, found_under}
-use Rattle.cs_index.specs.Spelling.{IsString}
 use Rattle.cs_trigram.specs.Text.{text_trigrams}
 use Rattle.cs_trigram.specs.declared.limits.Limits.{Limits}
 use Rattle.cs_merge.specs.Content.{IsContent}
@@ -123,7 +126,7 @@ record IsFound {X : Type 0} (read : List ℕ → Option X) (tree : Snapshot) (pa
   reached : is_reached tree paths name ≡ true
   reads : read_item read (item_at tree name) ≡ Some x
 
-found_says : {X : Type 0} (read : List ℕ → Option X) (tree : Snapshot) (paths : Paths) (name : List ℕ) (x : X) → map.get (found read tree paths) name ≡ Some x → IsFound read tree paths name x
+found_says : {X : Type 0} (read : List ℕ → Option X) (tree : Snapshot) (paths : Paths) (name : List ℕ) (x : X) → map.get (files_reached read tree paths) name ≡ Some x → IsFound read tree paths name x
 found_says read tree paths name x h =
     by_test (is_reached tree paths name) (leb (length name) longest_path) refl (sym (get-found read tree paths name) ∙ h)
   where
@@ -143,12 +146,12 @@ read_file read (bad fault) x h = cc
 abbrev pub AreStrings : Paths → Type 0
 AreStrings paths = (path : List ℕ) → set.contains paths path ≡ true → IsString path
 
-pub found_string : {X : Type 0} (read : List ℕ → Option X) (tree : Snapshot) (paths : Paths) (name : List ℕ) (x : X) → IsTree tree → AreStrings paths → map.get (found read tree paths) name ≡ Some x → IsString name
+pub found_string : {X : Type 0} (read : List ℕ → Option X) (tree : Snapshot) (paths : Paths) (name : List ℕ) (x : X) → IsTree tree → AreStrings paths → map.get (files_reached read tree paths) name ≡ Some x → IsString name
 found_string read tree paths name x is strings h =
     let member = some_member paths (λ p. reaches tree p name) (found_says read tree paths name x h).reached in
     reached_string tree member.path name is (strings member.path member.member) member.passes
 
-pub found_content : (most : Limits) (tree : Snapshot) (paths : Paths) → IsTree tree → AreStrings paths → IsContent paths (found (text_trigrams most) tree paths)
+pub found_content : (most : Limits) (tree : Snapshot) (paths : Paths) → IsTree tree → AreStrings paths → IsContent paths (files_reached (text_trigrams most) tree paths)
 found_content most tree paths is strings = record {
   paths_are = strings;
   names_are = λ name trigrams h. found_string (text_trigrams most) tree paths name trigrams is strings h;
@@ -157,9 +160,9 @@ found_content most tree paths is strings = record {
       text_set most read.0 trigrams read.1;
 }
 
-pub found_lies : {X : Type 0} (read : List ℕ → Option X) (tree : Snapshot) (paths : Paths) (name : List ℕ) (x : X) → map.get (found read tree paths) name ≡ Some x → covered paths name ≡ true
+pub found_lies : {X : Type 0} (read : List ℕ → Option X) (tree : Snapshot) (paths : Paths) (name : List ℕ) (x : X) → map.get (files_reached read tree paths) name ≡ Some x → is_covered paths name ≡ true
 found_lies read tree paths name x h =
-    elim (cases_Bool (covered paths name)) [
+    elim (cases_Bool (is_covered paths name)) [
       | inl under ↦ under
       | inr beside ↦ absurd (none_some (sym (found_under read tree paths name beside) ∙ h))
     ]

@@ -5,14 +5,15 @@
 --     refused job changes no byte; and where every indexed file still reads as it was indexed,
 --     csearch prints exactly what cgrep prints over the indexed files in name order.
 use Rattle.std.specs.Prelude.{◌≡◌, ◌<◌, ◌^◌, ℕ, Bool, List, [], ◌∷◌, Option, Some, IfSome, map, filter, length}
+use Rattle.cs_tree.specs.Folders.{Tells}
 use Rattle.std.specs.List.{AllByRecursion, AllZip}
 use Rattle.std.specs.FinMap as map'
-use Rattle.cs_tree.specs.Snapshot.{Snapshot, item_at, Tells}
+use Rattle.cs_tree.specs.Snapshot.{Snapshot, item_at}
 use Rattle.cs_tree.specs.Reached.{read_item}
 use Rattle.cs_trigram.specs.Text.{text_trigrams, limits}
 use Rattle.cs_history.specs.History.{History, files_of, index_of}
 use Rattle.cs_history.specs.WellFormed.{IsHistory}
-use Rattle.cs_history.specs.Jobs.{followed, told, IsFitting}
+use Rattle.cs_history.specs.Jobs.{history_after, snapshot_told, IsFitting}
 use Rattle.cs_words.specs.declared.jobs.IndexJob.{IndexJob}
 use Rattle.cs_words.specs.declared.jobs.Reply.{Reply}
 
@@ -35,7 +36,7 @@ pub record Premises (trees : List (Option Snapshot)) (index : Option (List ℕ))
 pub record Indexes (jobs : List IndexJob) (trees : List (Option Snapshot)) (replies : List Reply) (old new : Option (List ℕ)) : Type 0 where
   -- The new index is that of the earlier jobs and of those that were done now, whichever the earlier
   -- ones were. A refused job adds nothing to them, so it changes no byte.
-  pub index : (earlier : History) → Premises trees old earlier → new ≡ index_of (followed earlier jobs (map told trees) replies)
+  pub index : (earlier : History) → Premises trees old earlier → new ≡ index_of (history_after earlier jobs (map snapshot_told trees) replies)
   -- The next call finds its premises: cleaning takes the paths of each job that was done, and the new
   -- index is short again.
   pub fitting : AllZip IsFitting jobs replies
@@ -55,7 +56,7 @@ StillReads history tree =
 -- What the last part rests on: the earlier jobs left the index, and every file that it names still reads as it was.
 pub record SearchPremises (tree : Option Snapshot) (index : Option (List ℕ)) (earlier : History) : Type 0 where
   pub jobs_left : Premises (tree ∷ []) index earlier
-  pub still_reads : StillReads earlier (told tree)
+  pub still_reads : StillReads earlier (snapshot_told tree)
 
 -- `searched` is what cgrep prints over some names in a tree, with a pattern and a style, and `chosen`
 -- is whether `-f` takes a name.
@@ -63,4 +64,4 @@ module _ {Printed : Type 0} (searched : Snapshot → List (List ℕ) → Printed
   -- What is printed is what cgrep prints over the indexed names that are chosen, in their order.
   abbrev pub SearchesLikeGrep : Option Snapshot → Option (List ℕ) → Printed → Type 0
   SearchesLikeGrep tree index printed =
-      (earlier : History) → SearchPremises tree index earlier → printed ≡ searched (told tree) (filter chosen (indexed_names earlier))
+      (earlier : History) → SearchPremises tree index earlier → printed ≡ searched (snapshot_told tree) (filter chosen (indexed_names earlier))

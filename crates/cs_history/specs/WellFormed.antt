@@ -1,22 +1,19 @@
 -- Which paths and histories are meant: paths are as cleaning gives them, and folders list text.
 -- docs/FORMAT.md, "Paths and names".
-use Rattle.std.specs.Prelude.{◌≡◌, ◌≤◌, ℕ, true, List, length}
+use Rattle.std.specs.Prelude.{◌≡◌, ℕ, true, List, IsUtf8}
+use Rattle.cs_tree.specs.Folders.{IsTree}
+use Rattle.cs_tree.specs.PathSet.{Paths}
 use Rattle.std.specs.List.{AllByRecursion}
 use Rattle.cs_tree.specs.PathSet as set
-use Rattle.cs_tree.specs.Cover.{Paths}
-use Rattle.cs_tree.specs.Snapshot.{IsTree}
-use Rattle.cs_tree.specs.Clean.{longest_path}
-use Rattle.cs_tree.specs.Clean.{cleaned}
-use Rattle.cs_index.specs.Spelling.{IsString}
+use Rattle.cs_tree.specs.Cleaning.{is_settled}
 use Rattle.cs_history.specs.History.{Visit, History}
 
 -- ---- paths
 
--- A path as cleaning gives it: text that cleaning leaves as it is, of at most 4095 bytes.
+-- a path as cleaning gives it: text that cleaning takes and leaves as it is
 pub record IsClean (path : List ℕ) : Type 0 where
-  pub text : IsString path
-  pub settled : (folder : List ℕ) → cleaned folder path ≡ path
-  pub short : length path ≤ longest_path
+  pub utf8 : IsUtf8 path
+  pub settled : is_settled path ≡ true
 
 -- each path of a set is clean
 abbrev pub AreClean : Paths → Type 0

@@ -1,20 +1,24 @@
 // Laws of histories. None of these functions does anything.
-ghost use Rattle.std.specs.Prelude.{◌≡◌, ◌<◌, ◌^◌, List, [], ◌∷◌, ◌++◌, ℕ, Option, Some, None, true, false, map, length, slice_index_or};
+ghost use Rattle.std.specs.Prelude.{◌≡◌, ◌↔◌, ◌<◌, ◌^◌, List, [], ◌∷◌, ◌++◌, ℕ, Option, Some, None, true, false, map, length, slice_index_or};
+ghost use Rattle.cs_tree.specs.Folders.{IsTree, Tells};
+ghost use Rattle.cs_tree.specs.PathSet.{Paths};
+ghost use Rattle.cs_index.specs.PostingLists.{set_at};
 ghost use Rattle.std.specs.List.{AllByRecursion, AllZip};
 ghost use Rattle.std.specs.FinMap as map';
 ghost use Rattle.cs_tree.specs.PathSet as set;
-ghost use Rattle.cs_tree.specs.Cover.{Paths, covered, least};
-ghost use Rattle.cs_tree.specs.Snapshot.{Snapshot, item_at, IsTree, Tells};
-ghost use Rattle.cs_tree.specs.Reached.{found, read_item};
+ghost use Rattle.cs_tree.specs.Cover.{is_covered, least};
+ghost use Rattle.cs_tree.specs.Snapshot.{Snapshot, item_at};
+ghost use Rattle.cs_tree.specs.Reached.{files_reached, read_item};
 ghost use Rattle.cs_index.specs.Image.{Files, image};
-ghost use Rattle.cs_index.specs.Spelling.{set_at};
 ghost use Rattle.cs_trigram.specs.Text.{text_trigrams, limits};
 ghost use Rattle.cs_merge.specs.Join.{join_files, join_paths};
 ghost use Rattle.cs_merge.specs.Content.{IsContent, LieUnder, Holds};
-ghost use Rattle.cs_history.specs.History.{History, Visit, kept, walked, paths_of, files_of, files_found, index_of};
+ghost use Rattle.cs_history.specs.History.{History, Visit, kept_files, walked_paths, paths_of, files_of, index_of};
+ghost use Rattle.cs_history.specs.JobIndex.{files_found, tree_index, visit_index};
 ghost use Rattle.cs_history.specs.WellFormed.{AreClean, IsHistory};
-ghost use Rattle.cs_history.specs.Jobs.{given, has_no_path, AreTaken, IsFitting, after, followed, told};
-ghost use Rattle.cs_history.specs.Refusals.{NeedsIndex, IsFirstBad, IsRightReply, AreRightReplies};
+ghost use Rattle.cs_history.specs.Left.{HasLeft};
+ghost use Rattle.cs_history.specs.Jobs.{given_paths, has_no_path, AreTaken, IsFitting, after, history_after, snapshot_told};
+ghost use Rattle.cs_history.specs.Replies.{NeedsIndex, IsFirstBad, IsRightReply, AreRightReplies};
 ghost use Rattle.cs_history.specs.Headline.{Premises, Indexes, indexed_names, StillReads};
 ghost use Rattle.cs_words.specs.declared.jobs.IndexJob.{IndexJob};
 ghost use Rattle.cs_words.specs.declared.fault.CindexFault.{CindexFault};
@@ -24,31 +28,34 @@ ghost use Rattle.cs_words.specs.declared.jobs.Reply.TheVariants.{Done, Refused};
 /// Joining what is kept with what one more job found gives what is kept after that job.
 pub fn joining_keeps()
     ensures files { (read : List ℕ → Option (List ℕ)) (history : History) (visit : Visit) →
-        join_files (walked visit history) (kept read history) (found read visit.tree (walked visit history)) ≡
-        kept read (visit ∷ history) }
+        join_files (walked_paths visit history) (kept_files read history)
+        (files_reached read visit.tree (walked_paths visit history)) ≡
+        kept_files read (visit ∷ history) }
     ensures paths { (history : History) (visit : Visit) →
-        join_paths (paths_of history) (walked visit history) ≡ paths_of (visit ∷ history) }
+        join_paths (paths_of history) (walked_paths visit history) ≡ paths_of (visit ∷ history) }
 {}
 
 /// The first job's index is that of what it found.
 pub fn first_job()
-    ensures { (visit : Visit) → index_of (visit ∷ []) ≡ Some (image (walked visit []) (files_found visit [])) }
+    ensures { (visit : Visit) → index_of (visit ∷ []) ≡ Some (visit_index visit []) }
 {}
 
 /// The index after one more job is that of the join of what was there with what the job found.
 pub fn one_job_more()
     ensures { (before : History) (visit : Visit) →
-        index_of (visit ∷ before) ≡ Some (image (join_paths (paths_of before) (walked visit before))
-        (join_files (walked visit before) (files_of before) (files_found visit before))) }
+        index_of (visit ∷ before) ≡
+        Some (image (join_paths (paths_of before) (walked_paths visit before))
+        (join_files (walked_paths visit before) (files_of before) (files_found visit before))) }
 {}
 
 /// Merging the index that some jobs left with the index of what one more job found, by whatever
 /// content the two hold, gives the index after that job.
 pub fn merging_gives_the_next_index()
-    ensures { (before : History) (visit : Visit) (old newer bytes : List ℕ) → IsHistory (visit ∷ before) →
-        index_of before ≡ Some old → length old < 2 ^ 32 →
-        newer ≡ image (walked visit before) (files_found visit before) → length newer < 2 ^ 32 →
-        ((p q : Paths) (f g : Files) → Holds old p f → Holds newer q g → bytes ≡ image (join_paths p q) (join_files q f g)) →
+    ensures { (before : History) (visit : Visit) (old newer bytes : List ℕ) →
+        IsHistory (visit ∷ before) → index_of before ≡ Some old → length old < 2 ^ 32 →
+        newer ≡ visit_index visit before → length newer < 2 ^ 32 →
+        ((p q : Paths) (f g : Files) → Holds old p f → Holds newer q g →
+        bytes ≡ image (join_paths p q) (join_files q f g)) →
         Some bytes ≡ index_of (visit ∷ before) }
 {}
 
@@ -56,10 +63,11 @@ pub fn merging_gives_the_next_index()
 /// leaves none.
 pub fn resets_begin_anew()
     ensures paths { (before : History) (job : IndexJob) (tree : Snapshot) →
-        job.list ≡ false → job.reset ≡ true → has_no_path job ≡ false → index_of (after before job tree Done) ≡
-        Some (image (least (given job)) (found (text_trigrams limits) tree (least (given job)))) }
+        job.list ≡ false → job.reset ≡ true → has_no_path job ≡ false →
+        index_of (after before job tree Done) ≡ Some (tree_index tree (least (given_paths job))) }
     ensures bare { (before : History) (job : IndexJob) (tree : Snapshot) →
-        job.list ≡ false → job.reset ≡ true → has_no_path job ≡ true → index_of (after before job tree Done) ≡ None }
+        job.list ≡ false → job.reset ≡ true → has_no_path job ≡ true →
+        index_of (after before job tree Done) ≡ None }
 {}
 
 /// `-list` changes no byte, and no more does a refused job.
@@ -73,9 +81,11 @@ pub fn lists_and_refusals_change_nothing()
 /// At a name that a job's paths cover the index has what the job found there, and nothing where it
 /// found nothing. At any other name it has what it had.
 pub fn latest_job_decides()
-    ensures covered { (visit : Visit) (before : History) (name : List ℕ) → covered (walked visit before) name ≡ true →
+    ensures covered { (visit : Visit) (before : History) (name : List ℕ) →
+        is_covered (walked_paths visit before) name ≡ true →
         map'.get (files_of (visit ∷ before)) name ≡ map'.get (files_found visit before) name }
-    ensures others { (visit : Visit) (before : History) (name : List ℕ) → covered (walked visit before) name ≡ false →
+    ensures others { (visit : Visit) (before : History) (name : List ℕ) →
+        is_covered (walked_paths visit before) name ≡ false →
         map'.get (files_of (visit ∷ before)) name ≡ map'.get (files_of before) name }
 {}
 
@@ -84,46 +94,52 @@ pub fn job_without_paths()
     ensures paths { (visit : Visit) (before : History) → set.len visit.given ≡ 0 →
         paths_of (visit ∷ before) ≡ paths_of before }
     ensures files { (visit : Visit) (before : History) → set.len visit.given ≡ 0 →
-        files_of (visit ∷ before) ≡ found (text_trigrams limits) visit.tree (paths_of before) }
+        files_of (visit ∷ before) ≡
+        files_reached (text_trigrams limits) visit.tree (paths_of before) }
 {}
 
 /// No path of an index, or of a walk, covers another, and each is as cleaning gives it.
 pub fn paths_are_clean_and_reduced()
     ensures clean { (history : History) → IsHistory history → AreClean (paths_of history) }
     ensures reduced { (history : History) → least (paths_of history) ≡ paths_of history }
-    ensures walked_clean { (visit : Visit) (before : History) → IsHistory (visit ∷ before) → AreClean (walked visit before) }
-    ensures walked_reduced { (visit : Visit) (before : History) → least (walked visit before) ≡ walked visit before }
+    ensures walked_clean { (visit : Visit) (before : History) → IsHistory (visit ∷ before) →
+        AreClean (walked_paths visit before) }
+    ensures walked_reduced { (visit : Visit) (before : History) →
+        least (walked_paths visit before) ≡ walked_paths visit before }
 {}
 
 /// What a job finds can be held by an index, and lies under the paths that it walked.
 pub fn walks_find_content()
     ensures content { (visit : Visit) (before : History) → IsHistory (visit ∷ before) →
-        IsContent (walked visit before) (files_found visit before) }
-    ensures under { (visit : Visit) (before : History) → LieUnder (walked visit before) (files_found visit before) }
+        IsContent (walked_paths visit before) (files_found visit before) }
+    ensures under { (visit : Visit) (before : History) →
+        LieUnder (walked_paths visit before) (files_found visit before) }
 {}
 
 /// What is kept can be held by an index, and lies under its paths.
 pub fn histories_have_content()
-    ensures content { (history : History) → IsHistory history → IsContent (paths_of history) (files_of history) }
+    ensures content { (history : History) → IsHistory history →
+        IsContent (paths_of history) (files_of history) }
     ensures under { (history : History) → LieUnder (paths_of history) (files_of history) }
 {}
 
 /// An index that some jobs left holds their paths and files, and nothing else.
 pub fn indexes_tell_their_content()
-    ensures held { (history : History) (bytes : List ℕ) → IsHistory history → index_of history ≡ Some bytes →
-        length bytes < 2 ^ 32 → Holds bytes (paths_of history) (files_of history) }
-    ensures once { (history : History) (bytes : List ℕ) (paths : Paths) (files : Files) → IsHistory history →
-        index_of history ≡ Some bytes → length bytes < 2 ^ 32 → Holds bytes paths files →
+    ensures held { (history : History) (bytes : List ℕ) → HasLeft history bytes →
+        Holds bytes (paths_of history) (files_of history) }
+    ensures once { (history : History) (bytes : List ℕ) (paths : Paths) (files : Files) →
+        HasLeft history bytes → Holds bytes paths files →
         (paths_of history ≡ paths) × (files_of history ≡ files) }
 {}
 
-/// Where the indexed files still read as they were indexed, the file with an id reads as the lists say.
+/// Where the indexed files still read as they were indexed, the file with an id reads as the lists
+/// say.
 pub fn still_reading_agrees()
-    ensures names { (history : History) (bytes : List ℕ) (paths : Paths) (files : Files) → IsHistory history →
-        index_of history ≡ Some bytes → length bytes < 2 ^ 32 → (holds : Holds bytes paths files) →
+    ensures names { (history : History) (bytes : List ℕ) (paths : Paths) (files : Files) →
+        HasLeft history bytes → (holds : Holds bytes paths files) →
         indexed_names history ≡ holds.names }
-    ensures sets { (history : History) (bytes : List ℕ) (paths : Paths) (files : Files) (tree : Snapshot) →
-        IsHistory history → index_of history ≡ Some bytes → length bytes < 2 ^ 32 → StillReads history tree →
+    ensures sets { (history : History) (bytes : List ℕ) (paths : Paths) (files : Files)
+        (tree : Snapshot) → HasLeft history bytes → StillReads history tree →
         (holds : Holds bytes paths files) (id : ℕ) (d : List ℕ) → id < length holds.names →
         read_item (text_trigrams limits) (item_at tree (slice_index_or holds.names id d)) ≡
         Some (set_at id holds.lists) }
@@ -131,43 +147,50 @@ pub fn still_reading_agrees()
 
 /// There is no index exactly where no job is left.
 pub fn no_index_without_a_job()
-    ensures { (history : History) → (index_of history ≡ None → history ≡ []) × (history ≡ [] → index_of history ≡ None) }
+    ensures { (history : History) → (index_of history ≡ None) ↔ (history ≡ []) }
 {}
 
 /// Paths that cleaning takes are clean, and jobs that were done on histories leave histories.
 pub fn done_jobs_leave_histories()
-    ensures paths { (job : IndexJob) → AreTaken job → AreClean (given job) }
-    ensures followed { (before : History) (jobs : List IndexJob) (trees : List Snapshot) (replies : List Reply) →
+    ensures paths { (job : IndexJob) → AreTaken job → AreClean (given_paths job) }
+    ensures followed { (before : History) (jobs : List IndexJob) (trees : List Snapshot)
+        (replies : List Reply) →
         IsHistory before → AllByRecursion IsTree trees → AllZip IsFitting jobs replies →
-        IsHistory (followed before jobs trees replies) }
+        IsHistory (history_after before jobs trees replies) }
 {}
 
 /// Jobs and one more are one more job after the jobs.
 pub fn jobs_follow_one_another()
-    ensures { (before : History) (jobs : List IndexJob) (trees : List Snapshot) (replies : List Reply)
-        (job : IndexJob) (tree : Snapshot) (reply : Reply) →
+    ensures { (before : History) (jobs : List IndexJob) (trees : List Snapshot)
+        (replies : List Reply) (job : IndexJob) (tree : Snapshot) (reply : Reply) →
         length trees ≡ length jobs → length replies ≡ length jobs →
-        followed before (jobs ++ job ∷ []) (trees ++ tree ∷ []) (replies ++ reply ∷ []) ≡
-        after (followed before jobs trees replies) job tree reply }
+        history_after before (jobs ++ job ∷ []) (trees ++ tree ∷ []) (replies ++ reply ∷ []) ≡
+        after (history_after before jobs trees replies) job tree reply }
 {}
 
 /// Replies that are right, and one more that is right after their jobs, are right replies; and the
 /// causes that a job is refused for before it walks exclude one another.
 pub fn replies_are_right_one_by_one()
-    ensures more { (before : History) (jobs : List IndexJob) (trees : List Snapshot) (replies : List Reply)
-        (job : IndexJob) (tree : Snapshot) (reply : Reply) →
-        length trees ≡ length jobs → length replies ≡ length jobs → AreRightReplies before jobs trees replies →
-        IsRightReply (followed before jobs trees replies) job tree reply →
+    ensures more { (before : History) (jobs : List IndexJob) (trees : List Snapshot)
+        (replies : List Reply) (job : IndexJob) (tree : Snapshot) (reply : Reply) →
+        length trees ≡ length jobs → length replies ≡ length jobs →
+        AreRightReplies before jobs trees replies →
+        IsRightReply (history_after before jobs trees replies) job tree reply →
         AreRightReplies before (jobs ++ job ∷ []) (trees ++ tree ∷ []) (replies ++ reply ∷ []) }
-    ensures index_or_path { (job : IndexJob) (place : ℕ) → NeedsIndex job → IsFirstBad job place → ⊥ }
-    ensures one_path { (job : IndexJob) (place other : ℕ) → IsFirstBad job place → IsFirstBad job other → place ≡ other }
+    ensures index_or_path { (job : IndexJob) (place : ℕ) → NeedsIndex job →
+        IsFirstBad job place → ⊥ }
+    ensures one_path { (job : IndexJob) (place other : ℕ) → IsFirstBad job place →
+        IsFirstBad job other → place ≡ other }
 {}
 
-/// The premises of the main promise hold where no index is there, and after each call for the next one.
+/// The premises of the main promise hold where no index is there, and after each call for the next
+/// one.
 pub fn calls_find_their_premises()
-    ensures first { (trees : List (Option Snapshot)) → AllByRecursion Tells trees → Premises trees None [] }
-    ensures next { (jobs : List IndexJob) (trees later : List (Option Snapshot)) (replies : List Reply)
-        (old new : Option (List ℕ)) (earlier : History) →
-        Premises trees old earlier → Indexes jobs trees replies old new → AllByRecursion Tells later →
-        Premises later new (followed earlier jobs (map told trees) replies) }
+    ensures first { (trees : List (Option Snapshot)) → AllByRecursion Tells trees →
+        Premises trees None [] }
+    ensures next { (jobs : List IndexJob) (trees later : List (Option Snapshot))
+        (replies : List Reply) (old new : Option (List ℕ)) (earlier : History) →
+        Premises trees old earlier → Indexes jobs trees replies old new →
+        AllByRecursion Tells later →
+        Premises later new (history_after earlier jobs (map snapshot_told trees) replies) }
 {}

@@ -1,5 +1,10 @@
 -- What a query asks for, member by member.
 use Rattle.std.proofs.Common.{◌≡◌, ℕ, ◌+◌, ◌<◌, Bool, true, false, not, cond, ◌&&◌, ◌||◌, eqb, List, [], ◌∷◌, length, map, Vec, Global, Option, Some, None, refl, sym, ap, subst, ◌∙◌, inl, inr, find, take, drop}
+use Rattle.cs_index.specs.Postings.{entry_of}
+use Rattle.cs_index.specs.Sifting.{nothing_read, read_for}
+use Rattle.cs_index.specs.Rising.{RiseWithin}
+use Rattle.cs_index.specs.PostingLists.{Ids, damaged, read_ids, set_at}
+use Rattle.cs_trigram.specs.Trigram.{has, Ascends}
 use Rattle.std.proofs.lemmas.Bool.{true≢false, cases_Bool, cond_both, eqb-true, or_left}
 use Rattle.std.proofs.lemmas.List.Folds.{list_all-map}
 use Rattle.std.specs.Prelude.{filter, option_map, unwrap_or}
@@ -8,14 +13,12 @@ use Rattle.cs_trigram.specs.Query.{holds, holds_step}
 use Rattle.cs_trigram.specs.declared.queries.Query.{Query, Query-F, fold-roll-Query}
 use Rattle.cs_trigram.specs.declared.queries.Query.TheVariants.{All, Nothing, Tri, And, Or, rolls-All, rolls-Nothing, rolls-Tri, rolls-And, rolls-Or}
 use Rattle.cs_tree.specs.Cover.{same}
-use Rattle.cs_index.specs.Image.{has, ListEntry, Posting, three_bytes}
-use Rattle.cs_index.specs.Spelling.{Ascends, Ids, RiseWithin, damaged, read_ids, set_at}
-use Rattle.cs_index.specs.Opening.{Parts, entry_of, ids_read, lists_in, rises, whole_ids}
-use Rattle.cs_index.specs.Candidates.{asks_for, asks_step, candidates_of, is_answerable, meets, names_that, nothing_read, read_for}
-use Rattle.cs_index.proofs.SpellingLemmas.{ascends_tail, ascends_head}
-use Rattle.cs_index.proofs.TransposeLemmas.{ascends_same, below_none}
+use Rattle.cs_index.specs.Image.{ListEntry, Posting, three_bytes}
+use Rattle.cs_index.specs.Opening.{Parts, ids_read, lists_in, rises, whole_ids}
+use Rattle.cs_index.specs.Candidates.{asks_for, asks_step, candidates_of, is_answerable, meets, names_that}
 use Rattle.cs_index.proofs.OpenedLemmas.{rise_read}
 use Rattle.cs_index.proofs.SiftLemmas.{ascends_filter, ascends_range, below_range, filter_all, filter_filter, filter_within, has-filter, has_below, has_range, read_rise, rise_ascends, rise_below}
+use Rattle.cs_trigram.proofs.SetLemmas.{ascends_tail, ascends_head, below_none, ascends_same}
 
 -- ---- the equations of queries
 

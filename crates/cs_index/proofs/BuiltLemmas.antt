@@ -1,19 +1,22 @@
 -- What lists give of each name, before they are in order and after.
 use Rattle.std.proofs.Common.{◌≡◌, ℕ, ◌+◌, ◌-◌, ◌<◌, ◌≤◌, Bool, true, false, cond, eqb, ◌||◌, ◌&&◌, List, [], ◌∷◌, ◌++◌, length, map, refl, sym, ap, subst, ◌∙◌, inl, inr, arith}
+use Rattle.cs_index.specs.Rising.{RiseWithin, IsPosting}
+use Rattle.cs_index.specs.PostingLists.{set_at, entries_of}
+use Rattle.cs_trigram.specs.Trigram.{has, set_of_numbers, Ascends}
 use Rattle.std.proofs.lemmas.Bool.{true≢false, cases_Bool, eqb-true, eq-eqb, ne_eqb, or_left, or_right}
 use Rattle.std.specs.List.{AllByRecursion}
-use Rattle.cs_index.specs.Image.{Posting, Entry, has, ascending, postings_of}
-use Rattle.cs_index.specs.Spelling.{Ascends, RiseWithin, IsPosting, set_at, entries_of}
+use Rattle.cs_index.specs.Image.{Posting, Entry, postings_of}
 use Rattle.cs_index.specs.IdStream.{next_after}
-use Rattle.cs_index.specs.Gathering.{keys, ids_of, gathered, gathered_all, in_order, AwaitLast}
-use Rattle.cs_index.proofs.SpellingLemmas.{Above, ascends_head, ascends_tail, ascends_ascending}
-use Rattle.cs_index.proofs.TransposeLemmas.{has-ascending, has-append, ascends_same, has-set_at, ascends_set_at}
+use Rattle.cs_index.specs.Gathering.{keys, ids_of, with_id, with_id_at_each, ordered_lists, AreWaiting}
+use Rattle.cs_index.proofs.TransposeLemmas.{has-set_at, ascends_set_at}
 use Rattle.cs_index.proofs.GatheringLemmas.{ids_new}
 use Rattle.cs_index.proofs.GatheredLemmas.{rise_beyond, postings_gathered}
+use Rattle.std.proofs.Math.Bool.{or-false}
+use Rattle.cs_trigram.proofs.SetLemmas.{Above, ascends_tail, ascends_head, ascends_set, has-set_of_numbers, has-append, ascends_same}
 
 -- ---- the ids of a trigram, after one more
 
-pub ids_gathered : (lists : List Posting) (h id g : ℕ) → ids_of (gathered lists h id) g ≡ cond (eqb g h) (ids_of lists g ++ id ∷ []) (ids_of lists g)
+pub ids_gathered : (lists : List Posting) (h id g : ℕ) → ids_of (with_id lists h id) g ≡ cond (eqb g h) (ids_of lists g ++ id ∷ []) (ids_of lists g)
 ids_gathered [] h id g =
     elim (cases_Bool (eqb g h)) [
       | inl here ↦ ap (λ b. cond b (id ∷ []) []) (eq-eqb h g (sym (eqb-true g h here))) ∙ sym (ap (λ b. cond b (id ∷ []) []) here)
@@ -22,7 +25,7 @@ ids_gathered [] h id g =
 ids_gathered (p ∷ lists) h id g =
     elim (cases_Bool (eqb p.0 h)) [
       | inl first ↦
-          ap (λ b. ids_of (cond b ((p.0, p.1 ++ id ∷ []) ∷ lists) (p ∷ gathered lists h id)) g) first
+          ap (λ b. ids_of (cond b ((p.0, p.1 ++ id ∷ []) ∷ lists) (p ∷ with_id lists h id)) g) first
           ∙ elim (cases_Bool (eqb p.0 g)) [
             | inl here ↦
                 let both : eqb g h ≡ true = eq-eqb g h (sym (eqb-true p.0 g here) ∙ eqb-true p.0 h first) in
@@ -34,44 +37,36 @@ ids_gathered (p ∷ lists) h id g =
                 ∙ sym (ap (λ b. cond b (cond (eqb p.0 g) p.1 (ids_of lists g) ++ id ∷ []) (cond (eqb p.0 g) p.1 (ids_of lists g))) other ∙ ap (λ b. cond b p.1 (ids_of lists g)) apart)
           ]
       | inr later ↦
-          ap (λ b. ids_of (cond b ((p.0, p.1 ++ id ∷ []) ∷ lists) (p ∷ gathered lists h id)) g) later
+          ap (λ b. ids_of (cond b ((p.0, p.1 ++ id ∷ []) ∷ lists) (p ∷ with_id lists h id)) g) later
           ∙ elim (cases_Bool (eqb p.0 g)) [
             | inl here ↦
                 let other : eqb g h ≡ false = ne_eqb g h (λ e. true≢false (sym (eq-eqb p.0 h (eqb-true p.0 g here ∙ e)) ∙ later)) in
-                ap (λ b. cond b p.1 (ids_of (gathered lists h id) g)) here
+                ap (λ b. cond b p.1 (ids_of (with_id lists h id) g)) here
                 ∙ sym (ap (λ b. cond b (cond (eqb p.0 g) p.1 (ids_of lists g) ++ id ∷ []) (cond (eqb p.0 g) p.1 (ids_of lists g))) other ∙ ap (λ b. cond b p.1 (ids_of lists g)) here)
             | inr apart ↦
-                ap (λ b. cond b p.1 (ids_of (gathered lists h id) g)) apart
+                ap (λ b. cond b p.1 (ids_of (with_id lists h id) g)) apart
                 ∙ ids_gathered lists h id g
                 ∙ sym (ap (λ b. cond (eqb g h) (cond b p.1 (ids_of lists g) ++ id ∷ []) (cond b p.1 (ids_of lists g))) apart)
           ]
     ]
 
-has_gathered : (lists : List Posting) (h id g k : ℕ) → has (ids_of (gathered lists h id) g) k ≡ (has (ids_of lists g) k || (eqb h g && eqb id k))
+has_gathered : (lists : List Posting) (h id g k : ℕ) → has (ids_of (with_id lists h id) g) k ≡ (has (ids_of lists g) k || (eqb h g && eqb id k))
 has_gathered lists h id g k =
     ap (λ ids. has ids k) (ids_gathered lists h id g)
     ∙ elim (cases_Bool (eqb g h)) [
       | inl here ↦
           ap (λ b. has (cond b (ids_of lists g ++ id ∷ []) (ids_of lists g)) k) here
           ∙ has-append k (ids_of lists g) (id ∷ [])
-          ∙ ap (λ b. has (ids_of lists g) k || b) (or_none (eqb id k) ∙ sym (ap (λ b. b && eqb id k) (eq-eqb h g (sym (eqb-true g h here)))))
+          ∙ ap (λ b. has (ids_of lists g) k || b) (or-false (eqb id k) ∙ sym (ap (λ b. b && eqb id k) (eq-eqb h g (sym (eqb-true g h here)))))
       | inr apart ↦
           ap (λ b. has (cond b (ids_of lists g ++ id ∷ []) (ids_of lists g)) k) apart
-          ∙ sym (ap (λ b. has (ids_of lists g) k || (b && eqb id k)) (ne_eqb h g (λ e. true≢false (sym (eq-eqb g h (sym e)) ∙ apart))) ∙ or_none (has (ids_of lists g) k))
+          ∙ sym (ap (λ b. has (ids_of lists g) k || (b && eqb id k)) (ne_eqb h g (λ e. true≢false (sym (eq-eqb g h (sym e)) ∙ apart))) ∙ or-false (has (ids_of lists g) k))
     ]
-  where
-    or_none : (a : Bool) → (a || false) ≡ a
-    or_none true = refl
-    or_none false = refl
 
-pub has_all : (lists : List Posting) (id : ℕ) (gs : List ℕ) (g k : ℕ) → has (ids_of (gathered_all lists id gs) g) k ≡ (has (ids_of lists g) k || (has gs g && eqb id k))
-has_all lists id [] g k = sym (or_none (has (ids_of lists g) k))
-  where
-    or_none : (a : Bool) → (a || false) ≡ a
-    or_none true = refl
-    or_none false = refl
+pub has_all : (lists : List Posting) (id : ℕ) (gs : List ℕ) (g k : ℕ) → has (ids_of (with_id_at_each lists id gs) g) k ≡ (has (ids_of lists g) k || (has gs g && eqb id k))
+has_all lists id [] g k = sym (or-false (has (ids_of lists g) k))
 has_all lists id (h ∷ gs) g k =
-    has_all (gathered lists h id) id gs g k
+    has_all (with_id lists h id) id gs g k
     ∙ ap (λ b. b || (has gs g && eqb id k)) (has_gathered lists h id g k)
     ∙ regroup (has (ids_of lists g) k) (eqb h g) (has gs g) (eqb id k)
   where
@@ -85,17 +80,17 @@ has_all lists id (h ∷ gs) g k =
 
 -- ---- the set of a name
 
-pub has_set : (lists : List Posting) (g k : ℕ) → has (set_at k (in_order lists)) g ≡ has (ids_of lists g) k
+pub has_set : (lists : List Posting) (g k : ℕ) → has (set_at k (ordered_lists lists)) g ≡ has (ids_of lists g) k
 has_set lists g k =
-    has-set_at (ids_of lists) g k (ascending (keys lists))
-    ∙ ap (λ b. b && has (ids_of lists g) k) (has-ascending g (keys lists))
+    has-set_at (ids_of lists) g k (set_of_numbers (keys lists))
+    ∙ ap (λ b. b && has (ids_of lists g) k) (has-set_of_numbers g (keys lists))
     ∙ elim (cases_Bool (has (keys lists) g)) [
       | inl here ↦ ap (λ b. b && has (ids_of lists g) k) here
       | inr absent ↦ ap (λ b. b && has (ids_of lists g) k) absent ∙ sym (ap (λ ids. has ids k) (ids_new lists g absent))
     ]
 
-pub set_ascends : (lists : List Posting) (k : ℕ) → Ascends (set_at k (in_order lists))
-set_ascends lists k = ascends_set_at (ids_of lists) k (ascending (keys lists)) (ascends_ascending (keys lists))
+pub set_ascends : (lists : List Posting) (k : ℕ) → Ascends (set_at k (ordered_lists lists))
+set_ascends lists k = ascends_set_at (ids_of lists) k (set_of_numbers (keys lists)) (ascends_set (keys lists))
 
 -- ids of a trigram are those of a list
 pub ids_posting : (names : ℕ) (lists : List Posting) (g : ℕ) → AllByRecursion (IsPosting names) lists → has (keys lists) g ≡ true → IsPosting names (g, ids_of lists g)
@@ -116,10 +111,10 @@ ids_rise_within names lists g all =
     ]
 
 -- the sets of earlier names stay, and that of the last name is what waits
-set_earlier : (lists : List Posting) (id k : ℕ) (gs : List ℕ) → k < id → set_at k (in_order (gathered_all lists id gs)) ≡ set_at k (in_order lists)
+set_earlier : (lists : List Posting) (id k : ℕ) (gs : List ℕ) → k < id → set_at k (ordered_lists (with_id_at_each lists id gs)) ≡ set_at k (ordered_lists lists)
 set_earlier lists id k gs less =
-    ascends_same _ _ (set_ascends (gathered_all lists id gs) k) (set_ascends lists k) (λ g.
-    has_set (gathered_all lists id gs) g k ∙ has_all lists id gs g k
+    ascends_same _ _ (set_ascends (with_id_at_each lists id gs) k) (set_ascends lists k) (λ g.
+    has_set (with_id_at_each lists id gs) g k ∙ has_all lists id gs g k
     ∙ ap (λ b. has (ids_of lists g) k || (has gs g && b)) (ne_eqb id k (λ e. absurd (omega (arith, e, less))))
     ∙ dropped (has (ids_of lists g) k) (has gs g)
     ∙ sym (has_set lists g k))
@@ -129,10 +124,10 @@ set_earlier lists id k gs less =
     dropped false true = refl
     dropped false false = refl
 
-set_last : (lists : List Posting) (id : ℕ) (gs : List ℕ) → AllByRecursion (IsPosting id) lists → Ascends gs → set_at id (in_order (gathered_all lists id gs)) ≡ gs
+set_last : (lists : List Posting) (id : ℕ) (gs : List ℕ) → AllByRecursion (IsPosting id) lists → Ascends gs → set_at id (ordered_lists (with_id_at_each lists id gs)) ≡ gs
 set_last lists id gs all up =
-    ascends_same _ gs (set_ascends (gathered_all lists id gs) id) up (λ g.
-    has_set (gathered_all lists id gs) g id ∙ has_all lists id gs g id
+    ascends_same _ gs (set_ascends (with_id_at_each lists id gs) id) up (λ g.
+    has_set (with_id_at_each lists id gs) g id ∙ has_all lists id gs g id
     ∙ ap (λ b. b || (has gs g && eqb id id)) (rise_beyond id 0 id (ids_of lists g) (omega arith) (ids_rise_within id lists g all))
     ∙ ap (λ b. has gs g && b) (eq-eqb id id refl)
     ∙ kept (has gs g))
@@ -157,12 +152,12 @@ entries_push first (n ∷ names) name ps =
     ∙ ap (λ k. entries_of (first + 1) names ps ++ (name, set_at k ps) ∷ []) (let z : first + 1 + length names ≡ first + length (n ∷ names) = omega arith in z))
 
 -- one more name
-pub entries_added : (names : List (List ℕ)) (name : List ℕ) (lists : List Posting) (gs : List ℕ) → AllByRecursion (IsPosting (length names)) lists → Ascends gs → entries_of 0 (names ++ name ∷ []) (in_order (gathered_all lists (length names) gs)) ≡ entries_of 0 names (in_order lists) ++ (name, gs) ∷ []
+pub entries_added : (names : List (List ℕ)) (name : List ℕ) (lists : List Posting) (gs : List ℕ) → AllByRecursion (IsPosting (length names)) lists → Ascends gs → entries_of 0 (names ++ name ∷ []) (ordered_lists (with_id_at_each lists (length names) gs)) ≡ entries_of 0 names (ordered_lists lists) ++ (name, gs) ∷ []
 entries_added names name lists gs all up =
     let id : ℕ = length names in
-    let more : List Posting = in_order (gathered_all lists id gs) in
+    let more : List Posting = ordered_lists (with_id_at_each lists id gs) in
     entries_push 0 names name more
-    ∙ (λ i. entries_same 0 names more (in_order lists) (λ k h. set_earlier lists id k gs (omega (arith, h))) i ++ (name, (ap (λ k. set_at k more) (let z : 0 + length names ≡ id = omega arith in z) ∙ set_last lists id gs all up) i) ∷ [])
+    ∙ (λ i. entries_same 0 names more (ordered_lists lists) (λ k h. set_earlier lists id k gs (omega (arith, h))) i ++ (name, (ap (λ k. set_at k more) (let z : 0 + length names ≡ id = omega arith in z) ∙ set_last lists id gs all up) i) ∷ [])
 
 -- ---- all lists
 
@@ -178,15 +173,15 @@ keys_pairs : (f : ℕ → List ℕ) (gs : List ℕ) → map (λ (p : Posting). p
 keys_pairs f [] = refl
 keys_pairs f (g ∷ gs) = ap (λ rest. g ∷ rest) (keys_pairs f gs)
 
-pub keys_in_order : (lists : List Posting) → AllByRecursion (λ g. has (keys lists) g ≡ true) (ascending (keys lists))
-keys_in_order lists = members_all (λ g. has (keys lists) g ≡ true) (ascending (keys lists)) (λ g e. sym (has-ascending g (keys lists)) ∙ e)
+pub keys_in_order : (lists : List Posting) → AllByRecursion (λ g. has (keys lists) g ≡ true) (set_of_numbers (keys lists))
+keys_in_order lists = members_all (λ g. has (keys lists) g ≡ true) (set_of_numbers (keys lists)) (λ g e. sym (has-set_of_numbers g (keys lists)) ∙ e)
 
 -- lists in order are those of the names that they give
-pub postings_in_order : (names : List (List ℕ)) (lists : List Posting) → AllByRecursion (IsPosting (length names)) lists → postings_of (entries_of 0 names (in_order lists)) ≡ in_order lists
+pub postings_in_order : (names : List (List ℕ)) (lists : List Posting) → AllByRecursion (IsPosting (length names)) lists → postings_of (entries_of 0 names (ordered_lists lists)) ≡ ordered_lists lists
 postings_in_order names lists all =
-    postings_gathered names (in_order lists) (record {
-      ascend = subst Ascends (sym (keys_pairs (ids_of lists) (ascending (keys lists)))) (ascends_ascending (keys lists));
-      each = all_pairs (IsPosting (length names)) (ids_of lists) (ascending (keys lists)) (members_all (λ g. IsPosting (length names) (g, ids_of lists g)) (ascending (keys lists)) (λ g e. ids_posting (length names) lists g all (sym (has-ascending g (keys lists)) ∙ e)));
+    postings_gathered names (ordered_lists lists) (record {
+      ascend = subst Ascends (sym (keys_pairs (ids_of lists) (set_of_numbers (keys lists)))) (ascends_set (keys lists));
+      each = all_pairs (IsPosting (length names)) (ids_of lists) (set_of_numbers (keys lists)) (members_all (λ g. IsPosting (length names) (g, ids_of lists g)) (set_of_numbers (keys lists)) (λ g e. ids_posting (length names) lists g all (sym (has-set_of_numbers g (keys lists)) ∙ e)));
     })
 
 -- ---- one trigram that waited
@@ -195,17 +190,17 @@ rise_end : (names next : ℕ) (ids : List ℕ) (id : ℕ) → RiseWithin names n
 rise_end names next [] id up h few = (h, few, tt)
 rise_end names next (x ∷ ids) id up h few = (up.0, up.1, rise_end names (x + 1) ids id up.2 h few)
 
-each_gathered : (names : ℕ) (lists : List Posting) (g id : ℕ) → AllByRecursion (IsPosting names) lists → next_after 0 (ids_of lists g) ≤ id → id < names → AllByRecursion (IsPosting names) (gathered lists g id)
+each_gathered : (names : ℕ) (lists : List Posting) (g id : ℕ) → AllByRecursion (IsPosting names) lists → next_after 0 (ids_of lists g) ≤ id → id < names → AllByRecursion (IsPosting names) (with_id lists g id)
 each_gathered names [] g id all above few = (((λ e. cc), (omega arith, few, tt)), tt)
 each_gathered names (p ∷ lists) g id all above few =
     elim (cases_Bool (eqb p.0 g)) [
       | inl here ↦
           let last : next_after 0 p.1 ≤ id = subst (λ ids. next_after 0 ids ≤ id) (ap (λ b. cond b p.1 (ids_of lists g)) here) above in
-          subst (AllByRecursion (IsPosting names)) (sym (ap (λ b. cond b ((p.0, p.1 ++ id ∷ []) ∷ lists) (p ∷ gathered lists g id)) here))
+          subst (AllByRecursion (IsPosting names)) (sym (ap (λ b. cond b ((p.0, p.1 ++ id ∷ []) ∷ lists) (p ∷ with_id lists g id)) here))
           (((λ e. no_end p.1 e), rise_end names 0 p.1 id all.0.1 last few), all.1)
       | inr apart ↦
           let rest : next_after 0 (ids_of lists g) ≤ id = subst (λ ids. next_after 0 ids ≤ id) (ap (λ b. cond b p.1 (ids_of lists g)) apart) above in
-          subst (AllByRecursion (IsPosting names)) (sym (ap (λ b. cond b ((p.0, p.1 ++ id ∷ []) ∷ lists) (p ∷ gathered lists g id)) apart))
+          subst (AllByRecursion (IsPosting names)) (sym (ap (λ b. cond b ((p.0, p.1 ++ id ∷ []) ∷ lists) (p ∷ with_id lists g id)) apart))
           (all.0, each_gathered names lists g id all.1 rest few)
     ]
   where
@@ -213,17 +208,17 @@ each_gathered names (p ∷ lists) g id all above few =
     no_end [] e = cc
     no_end (x ∷ ids) e = cc
 
-ready_after : (names g id : ℕ) (lists : List Posting) (gs : List ℕ) → Above g gs → Ascends gs → AllByRecursion (λ h. next_after 0 (ids_of lists h) < names) gs → AllByRecursion (λ h. next_after 0 (ids_of (gathered lists g id) h) < names) gs
+ready_after : (names g id : ℕ) (lists : List Posting) (gs : List ℕ) → Above g gs → Ascends gs → AllByRecursion (λ h. next_after 0 (ids_of lists h) < names) gs → AllByRecursion (λ h. next_after 0 (ids_of (with_id lists g id) h) < names) gs
 ready_after names g id lists [] above up all = tt
 ready_after names g id lists (h ∷ gs) above up all =
-    let same : ids_of (gathered lists g id) h ≡ ids_of lists h = ids_gathered lists g id h ∙ ap (λ b. cond b (ids_of lists h ++ id ∷ []) (ids_of lists h)) (ne_eqb h g (λ e. absurd (omega (arith, e, above)))) in
+    let same : ids_of (with_id lists g id) h ≡ ids_of lists h = ids_gathered lists g id h ∙ ap (λ b. cond b (ids_of lists h ++ id ∷ []) (ids_of lists h)) (ne_eqb h g (λ e. absurd (omega (arith, e, above)))) in
     (subst (λ ids. next_after 0 ids < names) (sym same) all.0, ready_after names g id lists gs (further gs (ascends_head h gs up)) (ascends_tail h gs up) all.1)
   where
     further : (ks : List ℕ) → Above h ks → Above g ks
     further [] a = tt
     further (k ∷ ks) a = omega (arith, above, a)
 
-pub await_after : (names g : ℕ) (lists : List Posting) (gs : List ℕ) → AwaitLast names lists (g ∷ gs) → AwaitLast names (gathered lists g (names - 1)) gs
+pub await_after : (names g : ℕ) (lists : List Posting) (gs : List ℕ) → AreWaiting names lists (g ∷ gs) → AreWaiting names (with_id lists g (names - 1)) gs
 await_after names g lists gs await = record {
   each = each_gathered names lists g (names - 1) await.each (omega (arith, await.ready.0)) (omega (arith, await.ready.0));
   ready = ready_after names g (names - 1) lists gs (ascends_head g gs await.ascend) (ascends_tail g gs await.ascend) await.ready.1;

@@ -1,8 +1,8 @@
 -- Worked examples of the definitions.
 use Rattle.std.specs.Prelude.{◌≡◌, true, false, refl, List, [], ◌∷◌, ◌++◌, codes, length, flat_map}
+use Rattle.cs_index.specs.PostingLists.{read_list}
 use Rattle.cs_index.specs.Image.{Entry, deltas_from, ids_from, image_of, posting_list, varint}
 use Rattle.cs_index.specs.Opening.{whole_ids}
-use Rattle.cs_index.specs.Spelling.{read_list}
 use Rattle.cs_index.specs.Built.{are_paths, is_above, is_storable}
 
 -- an empty folder at `/a`

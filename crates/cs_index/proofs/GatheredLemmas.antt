@@ -1,13 +1,17 @@
 -- Lists that were gathered trigram by trigram are those of the names.
-use Rattle.std.proofs.Common.{◌≡◌, ℕ, zero, suc, ◌+◌, ◌<◌, ◌≤◌, Bool, true, false, cond, ◌||◌, eqb, List, [], ◌∷◌, length, map, get_or, refl, sym, ap, subst, ◌∙◌, ◌⊎◌, inl, inr, arith}
-use Rattle.std.proofs.lemmas.Bool.{true≢false, cases_Bool, cases_lt, cond_both, eqb-true, eq-eqb, ne_eqb, or_cases, or_left, or_right}
+use Rattle.std.proofs.Common.{◌≡◌, ℕ, zero, suc, ◌+◌, ◌<◌, ◌≤◌, true, false, cond, ◌||◌, eqb, List, [], ◌∷◌, length, map, get_or, refl, sym, ap, subst, ◌∙◌, ◌⊎◌, inl, inr, arith}
+use Rattle.cs_index.specs.Rising.{RiseWithin, IsPosting, ArePostings}
+use Rattle.cs_index.specs.PostingLists.{set_at, entries_of}
+use Rattle.cs_trigram.specs.Trigram.{has, Ascends}
+use Rattle.std.proofs.lemmas.Bool.{true≢false, cases_Bool, cases_lt, cond_both, eqb-true, eq-eqb, ne_eqb, or_cases, or_left, or_right, or_parts}
 use Rattle.std.specs.Prelude.{flat_map, filter, ◌≢◌}
 use Rattle.std.specs.List.{AllByRecursion}
 use Rattle.std.specs.Cmp.{both_ways as same_tests}
-use Rattle.cs_index.specs.Image.{has, Entry, ids_from, Posting, postings_of, trigrams_of}
-use Rattle.cs_index.specs.Spelling.{Ascends, set_at, entries_of, IsPosting, ArePostings, RiseWithin}
-use Rattle.cs_index.proofs.SpellingLemmas.{Above, ascends_tail, ascends_head, ascends_cons, ascends_ascending, ids_rise}
-use Rattle.cs_index.proofs.TransposeLemmas.{ascends_same, below_none, has-ascending, has-append, id_has}
+use Rattle.cs_index.specs.Image.{Entry, ids_from, Posting, postings_of, trigrams_of}
+use Rattle.cs_index.proofs.SpellingLemmas.{ids_rise}
+use Rattle.cs_index.proofs.TransposeLemmas.{id_has}
+use Rattle.cs_trigram.proofs.SetLemmas.{ascends_tail, ascends_head, ascends_set, has-set_of_numbers, has-append, below_none, ascends_same}
+use Rattle.cs_index.proofs.SiftLemmas.{rise_ascends}
 
 abbrev keys : List Posting → List ℕ
 keys ps = map (λ (p : Posting). p.0) ps
@@ -26,14 +30,10 @@ among_key p (q ∷ qs) (inr a) = or_right (eqb q.0 p.0) _ (among_key p qs a)
 set_without : (k g : ℕ) (ps : List Posting) → has (keys ps) g ≡ false → has (set_at k ps) g ≡ false
 set_without k g [] h = refl
 set_without k g (q ∷ qs) h =
-    let apart : eqb q.0 g ≡ false = first_false _ _ h in
+    let apart : eqb q.0 g ≡ false = (or_parts _ _ h).0 in
     let rest : has (set_at k qs) g ≡ false = set_without k g qs (ap (λ t. t || has (keys qs) g) (sym apart) ∙ h) in
     cond_both (has q.1 k) (q ∷ filter (λ (p : Posting). has p.1 k) qs) (filter (λ (p : Posting). has p.1 k) qs) (λ rs. has (keys rs) g ≡ false)
     (λ _. ap (λ t. t || has (set_at k qs) g) apart ∙ rest) (λ _. rest)
-  where
-    first_false : (a b : Bool) → (a || b) ≡ false → a ≡ false
-    first_false true b e = absurd (true≢false e)
-    first_false false b e = refl
 
 -- what a set says of a trigram is what its list says of the id
 set_among : (k : ℕ) (p : Posting) (ps : List Posting) → Ascends (keys ps) → Among p ps → has (set_at k ps) p.0 ≡ has p.1 k
@@ -53,14 +53,6 @@ set_among k p (q ∷ qs) up (inr a) =
     (λ _. ap (λ t. t || has (set_at k qs) p.0) apart ∙ rest) (λ _. rest)
 
 -- ---- ids in order
-rise_above : (names next m : ℕ) (ids : List ℕ) → m < next → RiseWithin names next ids → Above m ids
-rise_above names next m [] h up = tt
-rise_above names next m (id ∷ ids) h up = omega (arith, h, up.0)
-
-rise_ascends : (names next : ℕ) (ids : List ℕ) → RiseWithin names next ids → Ascends ids
-rise_ascends names next [] up = tt
-rise_ascends names next (id ∷ ids) up = ascends_cons id ids (rise_above names (id + 1) id ids (omega arith) up.2) (rise_ascends names (id + 1) ids up.2)
-
 pub rise_beyond : (names next k : ℕ) (ids : List ℕ) → names ≤ k → RiseWithin names next ids → has ids k ≡ false
 rise_beyond names next k [] h up = refl
 rise_beyond names next k (id ∷ ids) h up = ap (λ t. t || has ids k) (ne_eqb id k (λ e. absurd (omega (arith, e, h, up.1)))) ∙ rise_beyond names (id + 1) k ids h up.2
@@ -149,6 +141,6 @@ pub postings_gathered : (names : List (List ℕ)) (ps : List Posting) → ArePos
 postings_gathered names ps are =
     let entries : List Entry = entries_of 0 names ps in
     let trigrams : trigrams_of entries ≡ keys ps =
-    ascends_same _ _ (ascends_ascending (flat_map (λ (e : Entry). e.1) entries)) are.ascend (λ g.
-    has-ascending g (flat_map (λ (e : Entry). e.1) entries) ∙ same_tests _ _ (has_flat g 0 names ps) (keys_flat g names ps are)) in
+    ascends_same _ _ (ascends_set (flat_map (λ (e : Entry). e.1) entries)) are.ascend (λ g.
+    has-set_of_numbers g (flat_map (λ (e : Entry). e.1) entries) ∙ same_tests _ _ (has_flat g 0 names ps) (keys_flat g names ps are)) in
     ap (map (λ g. (g, ids_from 0 g entries))) trigrams ∙ lists_back names ps ps are.ascend are.each (λ p a. a)

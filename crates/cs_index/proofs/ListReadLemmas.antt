@@ -1,10 +1,10 @@
 -- The list at an entry.
 use Rattle.std.proofs.Common.{◌≡◌, ◌≢◌, ℕ, zero, suc, ◌+◌, ◌<◌, ◌≤◌, ◌^◌, cond, List, [], ◌∷◌, length, take, drop, get_or, refl, sym, ap, ◌∙◌, arith, drop-cons, length-drop, length-take}
+use Rattle.cs_index.specs.PostingLists.{damaged, read_ids, read_list}
 use Rattle.std.proofs.lemmas.Nat.{be_bytes_4}
 use Rattle.std.specs.Cmp.Lexicographic.{bytes_decides}
 use Rattle.cs_tree.specs.Cover.{same}
 use Rattle.cs_index.specs.Image.{three_bytes, ListEntry}
-use Rattle.cs_index.specs.Spelling.{damaged, read_ids, read_list}
 use Rattle.cs_index.specs.Opening.{entry_at, number_at, trigram_at}
 use Rattle.cs_index.proofs.OnceLemmas.{three_once}
 use Rattle.cs_index.proofs.ReadingLemmas.{false_unless, not_longer}

@@ -1,12 +1,13 @@
 -- Each list of an index that was written is read again.
 use Rattle.std.proofs.Common.{◌≡◌, ℕ, ◌+◌, ◌<◌, ◌≤◌, ◌^◌, cond, List, [], ◌∷◌, ◌++◌, length, map, take, drop, refl, sym, ap, subst, ◌∙◌, arith, append_assoc, length-append}
+use Rattle.cs_index.specs.Rising.{RiseWithin}
+use Rattle.cs_index.specs.PostingLists.{damaged, read_ids, IsList}
 use Rattle.std.proofs.lemmas.List.{drop_at, drop-drop}
 use Rattle.std.specs.Prelude.{flat_map}
 use Rattle.std.specs.List.{AllByRecursion, AllZip}
 use Rattle.std.specs.Cmp.Lexicographic.{bytes_decides}
 use Rattle.cs_tree.specs.Cover.{same}
-use Rattle.cs_index.specs.Image.{three_bytes, varint, joined, Posting, posting_list, deltas_from, ListEntry, list_entries, Entry, ids_from, postings_of, trigrams_of, closing_list}
-use Rattle.cs_index.specs.Spelling.{RiseWithin, IsList, read_ids, damaged}
+use Rattle.cs_index.specs.Image.{three_bytes, varint, concat, Posting, posting_list, deltas_from, ListEntry, list_entries, Entry, ids_from, postings_of, trigrams_of, closing_list}
 use Rattle.cs_index.proofs.VarintLemmas.{ids_read}
 use Rattle.cs_index.proofs.SpellingLemmas.{ids_rise}
 
@@ -21,11 +22,11 @@ one_list front rest p names few up =
     ∙ ap (read_ids names (length p.1) 0) after'
     ∙ ids_read names 0 p.1 rest few up
 
-pub lists_are : (front rest : List ℕ) (ps : List Posting) (names : ℕ) → names < 2 ^ 31 → AllByRecursion (λ (p : Posting). RiseWithin names 0 p.1) ps → AllZip (λ (e : ListEntry) (p : Posting). IsList (front ++ (joined (map posting_list ps) ++ rest)) names e p.1) (list_entries (length front) ps) ps
+pub lists_are : (front rest : List ℕ) (ps : List Posting) (names : ℕ) → names < 2 ^ 31 → AllByRecursion (λ (p : Posting). RiseWithin names 0 p.1) ps → AllZip (λ (e : ListEntry) (p : Posting). IsList (front ++ (concat (map posting_list ps) ++ rest)) names e p.1) (list_entries (length front) ps) ps
 lists_are front rest [] names few up = tt
 lists_are front rest (p ∷ ps) names few up =
-    let more : List ℕ = joined (map posting_list ps) ++ rest in
-    let here : front ++ ((posting_list p ++ joined (map posting_list ps)) ++ rest) ≡ front ++ (posting_list p ++ more) = ap (λ t. front ++ t) (append_assoc (posting_list p) (joined (map posting_list ps)) rest) in
+    let more : List ℕ = concat (map posting_list ps) ++ rest in
+    let here : front ++ ((posting_list p ++ concat (map posting_list ps)) ++ rest) ≡ front ++ (posting_list p ++ more) = ap (λ t. front ++ t) (append_assoc (posting_list p) (concat (map posting_list ps)) rest) in
     let there : (front ++ posting_list p) ++ more ≡ front ++ (posting_list p ++ more) = append_assoc front (posting_list p) more in
     let long : length (front ++ posting_list p) ≡ length front + length (posting_list p) = length-append front (posting_list p) in (
       subst (λ section. IsList section names (record { trigram = p.0; count = length p.1; offset = length front }) p.1) (sym here) (one_list front more p names few up.0),
@@ -38,5 +39,5 @@ all_rise names entries [] h = tt
 all_rise names entries (g ∷ gs) h = (ids_rise names 0 g entries (omega (arith, h)), all_rise names entries gs h)
 
 -- each list of an image
-pub image_lists : (entries : List Entry) → length entries < 2 ^ 31 → AllZip (λ (e : ListEntry) (p : Posting). IsList (joined (map posting_list (postings_of entries)) ++ closing_list) (length entries) e p.1) (list_entries 0 (postings_of entries)) (postings_of entries)
+pub image_lists : (entries : List Entry) → length entries < 2 ^ 31 → AllZip (λ (e : ListEntry) (p : Posting). IsList (concat (map posting_list (postings_of entries)) ++ closing_list) (length entries) e p.1) (list_entries 0 (postings_of entries)) (postings_of entries)
 image_lists entries few = lists_are [] closing_list (postings_of entries) (length entries) few (all_rise (length entries) entries (trigrams_of entries) (omega arith))

@@ -7,8 +7,7 @@ use Rattle.std.specs.Iterator.{SkipsThenYields, Yields, YieldsFirstRef}
 use Rattle.std.proofs.lemmas.Option.{slice_get_past}
 use Rattle.std.specs.Cmp.Lexicographic.{bytes_decides}
 use Rattle.cs_tree.specs.Cover.{same}
-use Rattle.cs_index.specs.Image.{joined, ended, starts_from}
-use Rattle.cs_index.specs.Spelling.{IsString}
+use Rattle.cs_index.specs.Image.{concat, with_nul, starts_from, IsString}
 use Rattle.cs_index.specs.Opening.{is_name_index, is_section, number_at, numbers_from, texts_of}
 use Rattle.cs_index.proofs.ReadingLemmas.{formed}
 use Rattle.cs_index.proofs.TextLemmas.{AreRead, section_read, texts_spelled, formed_spelled, string_begins}
@@ -29,14 +28,14 @@ pub record StandFrom (names : List ℕ) (offset id : ℕ) : Type 0 where
   pub formed : formed (drop offset names) ≡ true
   pub texts : texts_of (drop offset names) ≡ drop id (texts_of names)
 
-begin_at : (closing names : List ℕ) (offset id : ℕ) → (closing ≡ []) ⊎ (closing ≡ 0 ∷ []) → AreRead closing names → offset ≡ get_or (starts_from 0 (map ended (texts_of names))) id 0 → id < length (texts_of names) → StandFrom names offset id
+begin_at : (closing names : List ℕ) (offset id : ℕ) → (closing ≡ []) ⊎ (closing ≡ 0 ∷ []) → AreRead closing names → offset ≡ get_or (starts_from 0 (map with_nul (texts_of names))) id 0 → id < length (texts_of names) → StandFrom names offset id
 begin_at closing names offset id tail read at h =
     let begins = string_begins (texts_of names) closing id h in
-    let whole : names ≡ joined (map ended (texts_of names)) ++ closing = read.bytes in
-    let rest : drop offset names ≡ joined (map ended (drop id (texts_of names))) ++ closing = (λ i. drop (at i) (whole i)) ∙ begins.rest in
+    let whole : names ≡ concat (map with_nul (texts_of names)) ++ closing = read.bytes in
+    let rest : drop offset names ≡ concat (map with_nul (drop id (texts_of names))) ++ closing = (λ i. drop (at i) (whole i)) ∙ begins.rest in
     let each = drop_strings id (texts_of names) read.each in
     record {
-      within = subst (λ (n : ℕ). n ≤ length names) (sym at) (subst (λ (bs : List ℕ). get_or (starts_from 0 (map ended (texts_of names))) id 0 ≤ length bs) (sym whole) begins.within);
+      within = subst (λ (n : ℕ). n ≤ length names) (sym at) (subst (λ (bs : List ℕ). get_or (starts_from 0 (map with_nul (texts_of names))) id 0 ≤ length bs) (sym whole) begins.within);
       formed = ap formed rest ∙ formed_spelled (drop id (texts_of names)) closing each tail;
       texts = ap texts_of rest ∙ texts_spelled (drop id (texts_of names)) closing each tail;
     }
@@ -45,7 +44,7 @@ pub name_begins : (names name_index : List ℕ) (id : ℕ) → formed names ≡ 
 unfolding is_name_index
 name_begins names name_index id is index h =
     let texts : List (List ℕ) = texts_of names in
-    let starts : List ℕ = starts_from 0 (map ended texts) in
+    let starts : List ℕ = starts_from 0 (map with_nul texts) in
     let both = and_parts (eqb (length name_index) (0 + 4 * (length texts + 1))) (same (numbers_from name_index 0 (length texts)) starts) index in
     let numbers : numbers_from name_index 0 (length texts) ≡ starts = (bytes_decides (numbers_from name_index 0 (length texts)) starts).0 both.1 in
     let offset : number_at name_index (4 * id) ≡ get_or starts id 0 =

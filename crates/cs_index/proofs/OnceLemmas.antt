@@ -5,8 +5,8 @@ use Rattle.std.proofs.lemmas.Nat.{from_be_bytes-to_be_bytes_4}
 use Rattle.std.specs.Prelude.{flat_map}
 use Rattle.std.specs.Int.{from_be_bytes, w32}
 use Rattle.std.specs.List.{AllByRecursion}
-use Rattle.cs_index.specs.Image.{three_bytes, four_bytes, joined, ended, starts_from, Sections, in_order, trailer, trailer_magic, magic, laid_out, strings_section, ListEntry, entry_bytes}
-use Rattle.cs_index.specs.Spelling.{IsString, IsEntry, Spells}
+use Rattle.cs_index.specs.Image.{three_bytes, four_bytes, concat, with_nul, starts_from, Sections, in_order, trailer, trailer_magic, magic, layout, strings_section, ListEntry, entry_bytes, IsString}
+use Rattle.cs_index.specs.Spelling.{IsEntry, Spells}
 
 pub apart : (a b c d : List ℕ) → length a ≡ length c → a ++ b ≡ c ++ d → (a ≡ c) × (b ≡ d)
 apart a b c d l e = (
@@ -43,15 +43,15 @@ string_first [] rest x is t e = is.0 refl
 string_first (b ∷ p) rest x is (inl z) e = let w : b ∷ (p ++ 0 ∷ rest) ≡ [] = e ∙ z in cc
 string_first (b ∷ p) rest x is (inr z) e = let w : b ∷ (p ++ 0 ∷ rest) ≡ 0 ∷ [] = e ∙ z in let head : b ≡ 0 = cc in omega (arith, is.1.0, head)
 
-regroup : (p rest : List ℕ) (more : List ℕ) → (ended p ++ rest) ++ more ≡ p ++ 0 ∷ (rest ++ more)
-regroup p rest more = append_assoc (ended p) rest more ∙ append_assoc p (0 ∷ []) (rest ++ more)
+regroup : (p rest : List ℕ) (more : List ℕ) → (with_nul p ++ rest) ++ more ≡ p ++ 0 ∷ (rest ++ more)
+regroup p rest more = append_assoc (with_nul p) rest more ∙ append_assoc p (0 ∷ []) (rest ++ more)
 
-pub strings_once : (ps qs : List (List ℕ)) (x y : List ℕ) → AllByRecursion IsString ps → AllByRecursion IsString qs → IsTail x → IsTail y → joined (map ended ps) ++ x ≡ joined (map ended qs) ++ y → ps ≡ qs
+pub strings_once : (ps qs : List (List ℕ)) (x y : List ℕ) → AllByRecursion IsString ps → AllByRecursion IsString qs → IsTail x → IsTail y → concat (map with_nul ps) ++ x ≡ concat (map with_nul qs) ++ y → ps ≡ qs
 strings_once [] [] x y a b t u e = refl
-strings_once [] (q ∷ qs) x y a b t u e = absurd (string_first q (joined (map ended qs) ++ y) x b.0 t (sym (regroup q (joined (map ended qs)) y) ∙ sym e))
-strings_once (p ∷ ps) [] x y a b t u e = absurd (string_first p (joined (map ended ps) ++ x) y a.0 u (sym (regroup p (joined (map ended ps)) x) ∙ e))
+strings_once [] (q ∷ qs) x y a b t u e = absurd (string_first q (concat (map with_nul qs) ++ y) x b.0 t (sym (regroup q (concat (map with_nul qs)) y) ∙ sym e))
+strings_once (p ∷ ps) [] x y a b t u e = absurd (string_first p (concat (map with_nul ps) ++ x) y a.0 u (sym (regroup p (concat (map with_nul ps)) x) ∙ e))
 strings_once (p ∷ ps) (q ∷ qs) x y a b t u e =
-    let both = text_once p q (joined (map ended ps) ++ x) (joined (map ended qs) ++ y) a.0.1 b.0.1 (sym (regroup p (joined (map ended ps)) x) ∙ e ∙ regroup q (joined (map ended qs)) y) in
+    let both = text_once p q (concat (map with_nul ps) ++ x) (concat (map with_nul qs) ++ y) a.0.1 b.0.1 (sym (regroup p (concat (map with_nul ps)) x) ∙ e ∙ regroup q (concat (map with_nul qs)) y) in
     let rest = strings_once ps qs x y a.1 b.1 t u both.1 in
     λ i. both.0 i ∷ rest i
 
@@ -87,31 +87,31 @@ numbers_once (n ∷ xs) (m ∷ ys) x y a b l e =
     λ i. head i ∷ rest i
 
 pub record Lengths (s : Sections) : Type 0 where
-  pub whole : length (joined (in_order s)) ≡ length s.paths + (length s.names + (length s.postings + (length s.name_index + length s.list_index)))
-  pub laid : length (laid_out s) ≡ 16 + (length (joined (in_order s)) + 36)
+  pub whole : length (concat (in_order s)) ≡ length s.paths + (length s.names + (length s.postings + (length s.name_index + length s.list_index)))
+  pub laid : length (layout s) ≡ 16 + (length (concat (in_order s)) + 36)
 
 pub lengths : (s : Sections) → Lengths s
 lengths s =
-    let c : length (joined (in_order s)) ≡ length s.paths + length (s.names ++ (s.postings ++ (s.name_index ++ (s.list_index ++ [])))) = length-append s.paths _ in
+    let c : length (concat (in_order s)) ≡ length s.paths + length (s.names ++ (s.postings ++ (s.name_index ++ (s.list_index ++ [])))) = length-append s.paths _ in
     let d : length (s.names ++ (s.postings ++ (s.name_index ++ (s.list_index ++ [])))) ≡ length s.names + length (s.postings ++ (s.name_index ++ (s.list_index ++ []))) = length-append s.names _ in
     let e : length (s.postings ++ (s.name_index ++ (s.list_index ++ []))) ≡ length s.postings + length (s.name_index ++ (s.list_index ++ [])) = length-append s.postings _ in
     let f : length (s.name_index ++ (s.list_index ++ [])) ≡ length s.name_index + length (s.list_index ++ []) = length-append s.name_index _ in
     let g : length (s.list_index ++ []) ≡ length s.list_index + 0 = length-append s.list_index [] in
-    let t : length (joined (in_order s) ++ trailer s) ≡ length (joined (in_order s)) + 36 = length-append (joined (in_order s)) (trailer s) in
+    let t : length (concat (in_order s) ++ trailer s) ≡ length (concat (in_order s)) + 36 = length-append (concat (in_order s)) (trailer s) in
     record { whole = omega (arith, c, d, e, f, g); laid = omega (arith, t) }
 
-pub starts_fit : (s : Sections) → length (laid_out s) < 2 ^ 32 → AllByRecursion (λ n. n < 2 ^ 32) (starts_from 16 (in_order s))
+pub starts_fit : (s : Sections) → length (layout s) < 2 ^ 32 → AllByRecursion (λ n. n < 2 ^ 32) (starts_from 16 (in_order s))
 starts_fit s h =
     let l = lengths s in
     (omega arith, (omega (arith, l.whole, l.laid, h), (omega (arith, l.whole, l.laid, h), (omega (arith, l.whole, l.laid, h), (omega (arith, l.whole, l.laid, h), tt)))))
 
-pub sections_once : (s t : Sections) → length (laid_out s) < 2 ^ 32 → length (laid_out t) < 2 ^ 32 → laid_out s ≡ laid_out t → s ≡ t
+pub sections_once : (s t : Sections) → length (layout s) < 2 ^ 32 → length (layout t) < 2 ^ 32 → layout s ≡ layout t → s ≡ t
 sections_once s t f g e =
     let ls = lengths s in
     let lt = lengths t in
-    let same : length (laid_out s) ≡ length (laid_out t) = ap length e in
-    let rest = append_cancel_left magic (joined (in_order s) ++ trailer s) (joined (in_order t) ++ trailer t) e in
-    let both = apart (joined (in_order s)) (trailer s) (joined (in_order t)) (trailer t) (omega (arith, ls.laid, lt.laid, same)) rest in
+    let same : length (layout s) ≡ length (layout t) = ap length e in
+    let rest = append_cancel_left magic (concat (in_order s) ++ trailer s) (concat (in_order t) ++ trailer t) e in
+    let both = apart (concat (in_order s)) (trailer s) (concat (in_order t)) (trailer t) (omega (arith, ls.laid, lt.laid, same)) rest in
     let starts = numbers_once (starts_from 16 (in_order s)) (starts_from 16 (in_order t)) trailer_magic trailer_magic (starts_fit s f) (starts_fit t g) refl both.1 in
     let b : 16 + length s.paths ≡ 16 + length t.paths = ap (λ l. get_or l 1 0) starts in
     let c : 16 + length s.paths + length s.names ≡ 16 + length t.paths + length t.names = ap (λ l. get_or l 2 0) starts in
@@ -124,9 +124,9 @@ sections_once s t f g e =
     let five : s.list_index ≡ t.list_index = sym (append-nil s.list_index) ∙ four.1 ∙ append-nil t.list_index in
     λ i. record { paths = one.0 i; names = two.0 i; postings = three.0 i; name_index = four.0 i; list_index = five i }
 
-names_tail : (section : List ℕ) (names : List (List ℕ)) → (section ≡ strings_section names) ⊎ (section ≡ joined (map ended names)) → (x : List ℕ) × IsTail x × (section ≡ joined (map ended names) ++ x)
+names_tail : (section : List ℕ) (names : List (List ℕ)) → (section ≡ strings_section names) ⊎ (section ≡ concat (map with_nul names)) → (x : List ℕ) × IsTail x × (section ≡ concat (map with_nul names) ++ x)
 names_tail section names (inl e) = (0 ∷ [], inr refl, e)
-names_tail section names (inr e) = ([], inl refl, e ∙ sym (append-nil (joined (map ended names))))
+names_tail section names (inr e) = ([], inl refl, e ∙ sym (append-nil (concat (map with_nul names))))
 
 pub spelled_once : (bytes : List ℕ) (p q n m : List (List ℕ)) (d e : List ListEntry) → Spells bytes p n d → Spells bytes q m e → (p ≡ q) × (n ≡ m) × (d ≡ e)
 spelled_once bytes p q n m d e g h =

@@ -1,14 +1,20 @@
 -- What the fields of an index say.
 use Rattle.std.proofs.Common.{◌≡◌, ℕ, ◌+◌, ◌-◌, ◌*◌, ◌/◌, ◌<◌, ◌^◌, true, false, not, cond, eqb, List, length, map, ◌%◌, ◌&&◌, Option, Some, Err, sym, ap, ◌∙◌, arith, slice_get}
+use Rattle.cs_index.specs.SectionsRead.{IsRead}
+use Rattle.cs_index.specs.PostingLists.{Ids, read_list}
 use Rattle.std.proofs.lemmas.Bool.{and_parts, eqb-true}
-use Rattle.std.specs.Prelude.{option_map, nat_eq}
+use Rattle.std.specs.Prelude.{option_map, nat_eq, Result, if◌then◌else◌}
+use Rattle.cs_index.specs.declared.fault.IndexFault.{IndexFault}
 use Rattle.std.specs.List.{list_all, starts_with}
 use Rattle.cs_index.specs.declared.fault.IndexFault.TheVariants.{BadMagic, BadTrailer}
 use Rattle.cs_tree.specs.Cover.{same}
-use Rattle.cs_index.specs.Image.{magic, Sections, ListEntry, starts_from, ended}
-use Rattle.cs_index.specs.Spelling.{Ids, read_list}
-use Rattle.cs_index.specs.Opening.{Parts, IsRead, is_name_index, is_list_index, is_entry, rises, entries_in, entry_at, trigram_at, ids_read, parts_of, texts_of, has_trailer, cut_of, cut_ended, cut_before, numbers_from}
+use Rattle.cs_index.specs.Image.{magic, Sections, ListEntry, starts_from, with_nul}
+use Rattle.cs_index.specs.Opening.{Parts, is_name_index, is_list_index, is_entry, rises, entries_in, entry_at, trigram_at, ids_read, parts_of, texts_of, has_trailer, cut_of, cut_before, numbers_from}
 use Rattle.cs_index.proofs.EntryLemmas.{get-in}
+
+-- the sections of bytes that begin with the magic
+abbrev pub cut_ended : List ℕ → Result Sections IndexFault
+cut_ended bytes = if not (has_trailer bytes) then Err BadTrailer else cut_before bytes (length bytes - 36)
 
 pub no_magic : (bytes : List ℕ) → starts_with nat_eq bytes magic ≡ false → cut_of bytes ≡ Err BadMagic
 unfolding cut_of
@@ -25,7 +31,7 @@ cut_there bytes h g = ap (λ b. cond (not b) (Err BadMagic) (cut_ended bytes)) h
 pub name_count : (bytes : List ℕ) (names : List (List ℕ)) → is_name_index bytes names ≡ true → length bytes ≡ 4 * (length names + 1)
 unfolding is_name_index
 name_count bytes names h =
-    let both = and_parts (eqb (length bytes) (0 + 4 * (length names + 1))) (same (numbers_from bytes 0 (length names)) (starts_from 0 (map ended names))) h in
+    let both = and_parts (eqb (length bytes) (0 + 4 * (length names + 1))) (same (numbers_from bytes 0 (length names)) (starts_from 0 (map with_nul names))) h in
     let long = eqb-true (length bytes) (0 + 4 * (length names + 1)) both.0 in
     omega (arith, long)
 

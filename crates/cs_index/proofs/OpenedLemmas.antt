@@ -1,5 +1,7 @@
 -- Bytes open where they are spelled.
 use Rattle.std.proofs.Common.{◌≡◌, ℕ, zero, suc, ◌+◌, ◌-◌, ◌*◌, ◌/◌, ◌%◌, ◌<◌, ◌≤◌, ◌^◌, Bool, true, false, not, cond, ◌&&◌, ◌||◌, eqb, ltb, leb, List, [], ◌∷◌, ◌++◌, length, map, take, drop, get_or, Result, Ok, Err, refl, sym, ap, subst, ◌∙◌, ◌⊎◌, inl, inr, arith, append_assoc, length-append, length-drop, length-take}
+use Rattle.cs_index.specs.Roundtrip.{AreBytes, SpellsParts}
+use Rattle.cs_trigram.specs.Trigram.{Ascends}
 use Rattle.std.proofs.lemmas.Bool.{or_cases, and_parts, and_from, eqb-true, eq-eqb, leb-true, le-leb, ltb-true, ltb-false, lt-ltb}
 use Rattle.std.proofs.lemmas.List.{take_at, drop_at, append-nil, drop_all, length-map}
 use Rattle.std.proofs.lemmas.List.Folds.{drop_split}
@@ -9,9 +11,10 @@ use Rattle.std.specs.Cmp.Lexicographic.{bytes_decides}
 use Rattle.cs_tree.specs.Cover.{same}
 use Rattle.cs_index.specs.declared.fault.IndexFault.{IndexFault}
 use Rattle.cs_index.specs.declared.fault.IndexFault.TheVariants.{BadMagic, BadTrailer, BadOffsets, BadPaths, BadNames, BadNameIndex, BadListIndex}
-use Rattle.cs_index.specs.Image.{four_bytes, joined, ended, starts_from, in_order, Sections, magic, trailer, trailer_magic, laid_out, strings_section, ListEntry, entry_bytes, name_offsets}
-use Rattle.cs_index.specs.Spelling.{Ascends, IsEntry, IsString}
-use Rattle.cs_index.specs.Opening.{AreBytes, Parts, SpellsParts, are_starts, cut_at, cut_before, cut_ended, cut_of, entries_from, entries_in, entry_at, has_trailer, is_entry, is_list_index, is_name_index, is_section, number_at, numbers_from, opened, parts_of, read_cut, read_sections, rises, texts_of}
+use Rattle.cs_index.specs.Image.{four_bytes, concat, with_nul, starts_from, in_order, Sections, magic, trailer, trailer_magic, layout, strings_section, ListEntry, entry_bytes, name_offsets, IsString}
+use Rattle.cs_index.specs.Spelling.{IsEntry}
+use Rattle.cs_index.proofs.OpenLemmas.{cut_ended}
+use Rattle.cs_index.specs.Opening.{Parts, are_starts, cut_at, cut_before, cut_of, entries_from, entries_in, entry_at, has_trailer, is_entry, is_list_index, is_name_index, is_section, number_at, numbers_from, opening, parts_of, read_cut, read_sections, rises, texts_of}
 use Rattle.cs_index.proofs.OnceLemmas.{lengths, starts_fit}
 use Rattle.cs_index.proofs.PlaceLemmas.{Fits, entries_back, entries_laid, length-entries, length-fours, number_small, numbers_back, numbers_laid, slice_laid, slice_small}
 use Rattle.cs_index.proofs.ListReadLemmas.{Small, trigram_small}
@@ -37,7 +40,7 @@ rising a b c d e at first ab bc cd de ea =
 starts : Sections → List ℕ
 starts s = starts_from 16 (in_order s)
 
-in_a_row : (s : Sections) → laid_out s ≡ magic ++ (s.paths ++ (s.names ++ (s.postings ++ (s.name_index ++ (s.list_index ++ trailer s)))))
+in_a_row : (s : Sections) → layout s ≡ magic ++ (s.paths ++ (s.names ++ (s.postings ++ (s.name_index ++ (s.list_index ++ trailer s)))))
 in_a_row s =
     let r : List ℕ = trailer s in
     ap (λ bs. magic ++ bs) (append_assoc s.paths (s.names ++ (s.postings ++ (s.name_index ++ (s.list_index ++ [])))) r
@@ -46,33 +49,33 @@ in_a_row s =
     ∙ ap (λ bs. s.postings ++ bs) (append_assoc s.name_index (s.list_index ++ []) r
     ∙ ap (λ bs. s.name_index ++ bs) (append_assoc s.list_index [] r)))))
 
-has_magic : (s : Sections) → starts_with eqb (laid_out s) magic ≡ true
-has_magic s = (bytes_decides magic (take 16 (laid_out s))).1 (sym (take_at magic (joined (in_order s) ++ trailer s) 16 refl))
+has_magic : (s : Sections) → starts_with eqb (layout s) magic ≡ true
+has_magic s = (bytes_decides magic (take 16 (layout s))).1 (sym (take_at magic (concat (in_order s) ++ trailer s) 16 refl))
 
-has_end : (s : Sections) → length (laid_out s) < 2 ^ 32 → has_trailer (laid_out s) ≡ true
+has_end : (s : Sections) → length (layout s) < 2 ^ 32 → has_trailer (layout s) ≡ true
 has_end s short =
     let l = lengths s in
     let fours : List ℕ = flat_map four_bytes (starts_from 16 (in_order s)) in
-    let front : List ℕ = magic ++ (joined (in_order s) ++ fours) in
-    let whole : laid_out s ≡ front ++ trailer_magic = ap (λ bs. magic ++ bs) (sym (append_assoc (joined (in_order s)) fours trailer_magic)) in
-    let long : length front ≡ length (laid_out s) - 16 = let a = ap length whole in let b = length-append front trailer_magic in omega (arith, a, b) in
-    and_from (leb 52 (length (laid_out s))) _ (le-leb 52 (length (laid_out s)) (omega (arith, l.laid)))
-    (and_from (ltb (length (laid_out s)) 4294967296) _ (lt-ltb (length (laid_out s)) 4294967296 short)
-    ((bytes_decides trailer_magic (drop (length (laid_out s) - 16) (laid_out s))).1 (sym (ap (drop (length (laid_out s) - 16)) whole ∙ drop_at front trailer_magic (length (laid_out s) - 16) long))))
+    let front : List ℕ = magic ++ (concat (in_order s) ++ fours) in
+    let whole : layout s ≡ front ++ trailer_magic = ap (λ bs. magic ++ bs) (sym (append_assoc (concat (in_order s)) fours trailer_magic)) in
+    let long : length front ≡ length (layout s) - 16 = let a = ap length whole in let b = length-append front trailer_magic in omega (arith, a, b) in
+    and_from (leb 52 (length (layout s))) _ (le-leb 52 (length (layout s)) (omega (arith, l.laid)))
+    (and_from (ltb (length (layout s)) 4294967296) _ (lt-ltb (length (layout s)) 4294967296 short)
+    ((bytes_decides trailer_magic (drop (length (layout s) - 16) (layout s))).1 (sym (ap (drop (length (layout s) - 16)) whole ∙ drop_at front trailer_magic (length (layout s) - 16) long))))
 
 -- the numbers of the trailer
-trailer_numbers : (s : Sections) (at : ℕ) → length (laid_out s) < 2 ^ 32 → at ≡ length (laid_out s) - 36 → numbers_from (laid_out s) at 5 ≡ starts_from 16 (in_order s)
+trailer_numbers : (s : Sections) (at : ℕ) → length (layout s) < 2 ^ 32 → at ≡ length (layout s) - 36 → numbers_from (layout s) at 5 ≡ starts_from 16 (in_order s)
 trailer_numbers s at short is =
     let l = lengths s in
-    let front : List ℕ = magic ++ joined (in_order s) in
-    let whole : laid_out s ≡ front ++ (flat_map four_bytes (starts_from 16 (in_order s)) ++ trailer_magic) = sym (append_assoc magic (joined (in_order s)) (trailer s)) in
-    let place : at ≡ length front = let a = length-append magic (joined (in_order s)) in omega (arith, a, is, l.laid) in
+    let front : List ℕ = magic ++ concat (in_order s) in
+    let whole : layout s ≡ front ++ (flat_map four_bytes (starts_from 16 (in_order s)) ++ trailer_magic) = sym (append_assoc magic (concat (in_order s)) (trailer s)) in
+    let place : at ≡ length front = let a = length-append magic (concat (in_order s)) in omega (arith, a, is, l.laid) in
     (λ i. numbers_from (whole i) (place i) 5) ∙ numbers_laid front (starts_from 16 (in_order s)) trailer_magic (starts_fit s short)
 
-cut_laid : (s : Sections) (at : ℕ) → length (laid_out s) < 2 ^ 32 → at ≡ length (laid_out s) - 36 → cut_before (laid_out s) at ≡ Ok s
+cut_laid : (s : Sections) (at : ℕ) → length (layout s) < 2 ^ 32 → at ≡ length (layout s) - 36 → cut_before (layout s) at ≡ Ok s
 cut_laid s at short is =
     let l = lengths s in
-    let bytes : List ℕ = laid_out s in
+    let bytes : List ℕ = layout s in
     let numbers = trailer_numbers s at short is in
     let b : ℕ = 16 + length s.paths in
     let c : ℕ = b + length s.names in
@@ -106,23 +109,23 @@ cut_laid s at short is =
     (slice_laid bytes f3 s.name_index (s.list_index ++ r) d e row3 l3 refl)
     (slice_laid bytes f4 s.list_index r e at row4 l4 last)
 
-cut_spelled : (s : Sections) → length (laid_out s) < 2 ^ 32 → cut_of (laid_out s) ≡ Ok s
-cut_spelled s short = cut_there (laid_out s) (has_magic s) (has_end s short) ∙ cut_laid s (length (laid_out s) - 36) short refl
+cut_spelled : (s : Sections) → length (layout s) < 2 ^ 32 → cut_of (layout s) ≡ Ok s
+cut_spelled s short = cut_there (layout s) (has_magic s) (has_end s short) ∙ cut_laid s (length (layout s) - 36) short refl
 
 -- ---- sections that are spelled are read
 
-starts_small : (at : ℕ) (texts : List (List ℕ)) → at + length (joined (map ended texts)) < 2 ^ 32 → AllByRecursion (λ n. n < 2 ^ 32) (starts_from at (map ended texts))
+starts_small : (at : ℕ) (texts : List (List ℕ)) → at + length (concat (map with_nul texts)) < 2 ^ 32 → AllByRecursion (λ n. n < 2 ^ 32) (starts_from at (map with_nul texts))
 starts_small at [] h = tt
 starts_small at (text ∷ texts) h =
-    let l = length-append (ended text) (joined (map ended texts)) in
-    (omega (arith, h), starts_small (at + length (ended text)) texts (omega (arith, h, l)))
+    let l = length-append (with_nul text) (concat (map with_nul texts)) in
+    (omega (arith, h), starts_small (at + length (with_nul text)) texts (omega (arith, h, l)))
 
-name_index_spelled : (names : List (List ℕ)) (last : List ℕ) → length last ≡ 4 → length (joined (map ended names)) < 2 ^ 32 → is_name_index (name_offsets names ++ last) names ≡ true
+name_index_spelled : (names : List (List ℕ)) (last : List ℕ) → length last ≡ 4 → length (concat (map with_nul names)) < 2 ^ 32 → is_name_index (name_offsets names ++ last) names ≡ true
 unfolding is_name_index
 name_index_spelled names last four short =
-    let starts : List ℕ = starts_from 0 (map ended names) in
+    let starts : List ℕ = starts_from 0 (map with_nul names) in
     let bytes : List ℕ = flat_map four_bytes starts ++ last in
-    let count : length starts ≡ length names = length-starts_from 0 (map ended names) ∙ length-map names ended in
+    let count : length starts ≡ length names = length-starts_from 0 (map with_nul names) ∙ length-map names with_nul in
     let numbers : numbers_from bytes 0 (length names) ≡ starts = ap (numbers_from bytes 0) (sym count) ∙ numbers_laid [] starts last (starts_small 0 names (omega (arith, short))) in
     let long : length bytes ≡ 0 + 4 * (length names + 1) = let a = length-append (flat_map four_bytes starts) last in let b = length-fours starts in omega (arith, a, b, four, count) in
     and_from (eqb (length bytes) (0 + 4 * (length names + 1))) (same (numbers_from bytes 0 (length names)) starts) (eq-eqb (length bytes) (0 + 4 * (length names + 1)) long) ((bytes_decides (numbers_from bytes 0 (length names)) starts).1 numbers)
@@ -176,15 +179,15 @@ all_tests s parts paths names name_index list_index is =
     (cond (not (list_index i)) (Err BadListIndex) (Ok (is i))))))
 
 -- a section of names with one NUL more, or without
-tail_of : (section : List ℕ) (names : List (List ℕ)) → (section ≡ strings_section names) ⊎ (section ≡ joined (map ended names)) → (closing : List ℕ) × ((closing ≡ []) ⊎ (closing ≡ 0 ∷ [])) × (section ≡ joined (map ended names) ++ closing)
+tail_of : (section : List ℕ) (names : List (List ℕ)) → (section ≡ strings_section names) ⊎ (section ≡ concat (map with_nul names)) → (closing : List ℕ) × ((closing ≡ []) ⊎ (closing ≡ 0 ∷ [])) × (section ≡ concat (map with_nul names) ++ closing)
 tail_of section names (inl e) = (0 ∷ [], inr refl, e)
-tail_of section names (inr e) = ([], inl refl, e ∙ sym (append-nil (joined (map ended names))))
+tail_of section names (inr e) = ([], inl refl, e ∙ sym (append-nil (concat (map with_nul names))))
 
-opens_sections : (s : Sections) (parts : Parts) → s.postings ≡ parts.postings → s.paths ≡ strings_section parts.paths → AllByRecursion IsString parts.paths → (s.names ≡ strings_section parts.names) ⊎ (s.names ≡ joined (map ended parts.names)) → AllByRecursion IsString parts.names → (last : List ℕ) → length last ≡ 4 → s.name_index ≡ name_offsets parts.names ++ last → s.list_index ≡ flat_map entry_bytes parts.entries → AllByRecursion (IsEntry s.postings) parts.entries → Ascends (map (λ (e : ListEntry). e.trigram) parts.entries) → length s.names < 2 ^ 32 → read_sections s ≡ Ok parts
+opens_sections : (s : Sections) (parts : Parts) → s.postings ≡ parts.postings → s.paths ≡ strings_section parts.paths → AllByRecursion IsString parts.paths → (s.names ≡ strings_section parts.names) ⊎ (s.names ≡ concat (map with_nul parts.names)) → AllByRecursion IsString parts.names → (last : List ℕ) → length last ≡ 4 → s.name_index ≡ name_offsets parts.names ++ last → s.list_index ≡ flat_map entry_bytes parts.entries → AllByRecursion (IsEntry s.postings) parts.entries → Ascends (map (λ (e : ListEntry). e.trigram) parts.entries) → length s.names < 2 ^ 32 → read_sections s ≡ Ok parts
 opens_sections s parts postings paths each_path names each_name last four name_index list_index each_entry up short =
     let tail = tail_of s.names parts.names names in
     let texts : texts_of s.names ≡ parts.names = ap texts_of tail.2 ∙ texts_spelled parts.names tail.0 each_name tail.1 in
-    let few : length (joined (map ended parts.names)) < 2 ^ 32 = let a = ap length tail.2 in let b = length-append (joined (map ended parts.names)) tail.0 in omega (arith, a, b, short) in
+    let few : length (concat (map with_nul parts.names)) < 2 ^ 32 = let a = ap length tail.2 in let b = length-append (concat (map with_nul parts.names)) tail.0 in omega (arith, a, b, short) in
     let path_texts : texts_of s.paths ≡ parts.paths = ap texts_of paths ∙ texts_spelled parts.paths (0 ∷ []) each_path (inr refl) in
     let entries : entries_in s.list_index ≡ parts.entries = ap entries_in list_index ∙ entries_spelled s.postings parts.entries each_entry in
     all_tests s parts
@@ -194,12 +197,12 @@ opens_sections s parts postings paths each_path names each_name last four name_i
     (list_index_spelled s.postings s.list_index parts.entries list_index each_entry up)
     (λ i. record { paths = path_texts i; names = texts i; entries = entries i; postings = postings i })
 
-pub opens_spelled : (bytes : List ℕ) (parts : Parts) → SpellsParts bytes parts → opened bytes ≡ Ok parts
-unfolding opened
+pub opens_spelled : (bytes : List ℕ) (parts : Parts) → SpellsParts bytes parts → opening bytes ≡ Ok parts
+unfolding opening
 opens_spelled bytes parts h =
     let spelled = h.spelled in
     let s : Sections = spelled.sections in
-    let short : length (laid_out s) < 2 ^ 32 = subst (λ (bs : List ℕ). length bs < 2 ^ 32) spelled.laid spelled.short in
+    let short : length (layout s) < 2 ^ 32 = subst (λ (bs : List ℕ). length bs < 2 ^ 32) spelled.laid spelled.short in
     let cut : cut_of bytes ≡ Ok s = ap cut_of spelled.laid ∙ cut_spelled s short in
     let l = lengths s in
     ap read_cut cut ∙ opens_sections s parts h.postings spelled.paths_are spelled.each_path spelled.names_are spelled.each_name spelled.last_offset spelled.last_is_four spelled.name_index_is spelled.list_index_is spelled.each_entry spelled.ascending (omega (arith, l.whole, l.laid, short))
@@ -253,7 +256,7 @@ starts_between bytes a b c d e at rise within =
     let five : e ≡ 16 + length (slice_range bytes a b) + length (slice_range bytes b c) + length (slice_range bytes c d) + length (slice_range bytes d e) = omega (arith, four, de, rise.de) in
     λ i. rise.first i ∷ two i ∷ three i ∷ four i ∷ five i ∷ []
 
-laid_between : (bytes : List ℕ) (a b c d e at : ℕ) → Small bytes → Rise a b c d e at → 52 ≤ length bytes → at ≡ length bytes - 36 → magic ≡ take 16 bytes → trailer_magic ≡ drop (length bytes - 16) bytes → numbers_from bytes at 5 ≡ a ∷ b ∷ c ∷ d ∷ e ∷ [] → bytes ≡ laid_out (between bytes a b c d e at)
+laid_between : (bytes : List ℕ) (a b c d e at : ℕ) → Small bytes → Rise a b c d e at → 52 ≤ length bytes → at ≡ length bytes - 36 → magic ≡ take 16 bytes → trailer_magic ≡ drop (length bytes - 16) bytes → numbers_from bytes at 5 ≡ a ∷ b ∷ c ∷ d ∷ e ∷ [] → bytes ≡ layout (between bytes a b c d e at)
 unfolding between
 laid_between bytes a b c d e at small rise enough is front end numbers =
     let s : Sections = between bytes a b c d e at in
@@ -272,7 +275,7 @@ laid_between bytes a b c d e at small rise enough is front end numbers =
 
 -- Sections that were cut from bytes.
 record CutFrom (bytes : List ℕ) (s : Sections) : Type 0 where
-  laid : bytes ≡ laid_out s
+  laid : bytes ≡ layout s
   short : length bytes < 2 ^ 32
   name_index : Small s.name_index
   list_index : Small s.list_index
@@ -333,7 +336,7 @@ record Offsets (bytes : List ℕ) (names : List (List ℕ)) (last : List ℕ) : 
 offsets_read : (bytes : List ℕ) (names : List (List ℕ)) → Small bytes → is_name_index bytes names ≡ true → Offsets bytes names (drop (4 * length names) bytes)
 unfolding is_name_index
 offsets_read bytes names small h =
-    let starts : List ℕ = starts_from 0 (map ended names) in
+    let starts : List ℕ = starts_from 0 (map with_nul names) in
     let long = name_count bytes names h in
     let both = and_parts (eqb (length bytes) (0 + 4 * (length names + 1))) (same (numbers_from bytes 0 (length names)) starts) h in
     let numbers : numbers_from bytes 0 (length names) ≡ starts = (bytes_decides (numbers_from bytes 0 (length names)) starts).0 both.1 in
@@ -393,13 +396,13 @@ list_index_read postings bytes small h =
 
 -- names are read with one NUL more, or without
 record NamesRead (section : List ℕ) : Type 0 where
-  are : (section ≡ strings_section (texts_of section)) ⊎ (section ≡ joined (map ended (texts_of section)))
+  are : (section ≡ strings_section (texts_of section)) ⊎ (section ≡ concat (map with_nul (texts_of section)))
   each : AllByRecursion IsString (texts_of section)
 
 names_read : (section : List ℕ) → (is_section (0 ∷ []) section || is_section [] section) ≡ true → NamesRead section
 names_read section h = elim (or_cases (is_section (0 ∷ []) section) (is_section [] section) h) [
   | inl closed ↦ let r = section_read (0 ∷ []) section closed in record { are = inl r.bytes; each = r.each }
-  | inr bare ↦ let r = section_read [] section bare in record { are = inr (r.bytes ∙ append-nil (joined (map ended (texts_of section)))); each = r.each }
+  | inr bare ↦ let r = section_read [] section bare in record { are = inr (r.bytes ∙ append-nil (concat (map with_nul (texts_of section)))); each = r.each }
 ]
 
 spells_parts : (bytes : List ℕ) (s : Sections) (parts : Parts) → CutFrom bytes s → Pass s parts → SpellsParts bytes parts
@@ -427,8 +430,8 @@ spells_parts bytes s parts cut pass =
       postings = refl;
     })
 
-pub spells_opened : (bytes : List ℕ) (parts : Parts) → AreBytes bytes → opened bytes ≡ Ok parts → SpellsParts bytes parts
-unfolding opened
+pub spells_opened : (bytes : List ℕ) (parts : Parts) → AreBytes bytes → opening bytes ≡ Ok parts → SpellsParts bytes parts
+unfolding opening
 spells_opened bytes parts small h = from_cut (cut_of bytes) refl h
   where
     from_cut : (r : Result Sections IndexFault) → cut_of bytes ≡ r → read_cut r ≡ Ok parts → SpellsParts bytes parts

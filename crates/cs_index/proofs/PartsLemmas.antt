@@ -1,9 +1,10 @@
 -- What every index that was opened has.
 use Rattle.std.proofs.Common.{◌≡◌, inl, inr, ℕ, ◌%◌, true, ◌&&◌, eqb, List, [], ◌∷◌, length, arith}
+use Rattle.cs_index.specs.SectionsRead.{IsRead}
 use Rattle.std.proofs.lemmas.Bool.{and_parts, or_cases}
 use Rattle.std.specs.List.{list_all}
 use Rattle.cs_index.specs.Image.{ListEntry, Sections}
-use Rattle.cs_index.specs.Opening.{texts_of, is_section, is_entry, is_list_index, entries_in, rises, parts_of, IsRead}
+use Rattle.cs_index.specs.Opening.{texts_of, is_section, is_entry, is_list_index, entries_in, rises, parts_of}
 use Rattle.cs_index.specs.Parts.{AreParts}
 use Rattle.cs_index.proofs.OpenLemmas.{name_count, entries_rise}
 use Rattle.cs_index.proofs.TextLemmas.{section_read}

@@ -1,5 +1,8 @@
 -- Sections that are read string by string.
 use Rattle.std.proofs.Common.{◌≡◌, ◌≢◌, ℕ, zero, suc, ◌+◌, ◌<◌, ◌≤◌, Bool, true, false, ◌&&◌, ◌||◌, eqb, Result, Ok, Err, List, [], ◌∷◌, ◌++◌, length, map, take, get_or, refl, sym, ap, subst, ◌∙◌, arith, append_assoc, length-append, inl, inr, ◌⊎◌}
+use Rattle.cs_tree.specs.NameOrder.{bytes_cmp, are_ascending}
+use Rattle.cs_index.specs.SectionsRead.{HasNoText}
+use Rattle.cs_tree.specs.Pieces.{onto_first}
 use Rattle.std.proofs.lemmas.Bool.{true≢false, or_cases, eq-eqb, ne_eqb}
 use Rattle.std.proofs.lemmas.List.{append-nil, length_push}
 use Rattle.std.specs.List.{AllByRecursion, list_all}
@@ -10,15 +13,16 @@ use Rattle.std.specs.Ordering.{is_lt, is_ge}
 use Rattle.std.specs.declared.cmp.Ordering.{Ordering}
 use Rattle.std.specs.declared.cmp.Ordering.TheVariants.{Less, Equal, Greater}
 use Rattle.std.specs.Cmp.Lexicographic.{bytes_decides}
-use Rattle.cs_tree.specs.Cover.{bytes_cmp, same}
-use Rattle.cs_index.specs.Image.{joined, ended}
-use Rattle.cs_index.specs.Strings.{texts_in, onto_first}
-use Rattle.cs_index.specs.Opening.{before_empty, names_ascend, texts_of, is_section, NoText}
+use Rattle.cs_tree.specs.Cover.{same}
+use Rattle.cs_index.specs.Image.{concat, with_nul}
+use Rattle.cs_index.specs.Strings.{texts_in}
+use Rattle.cs_index.specs.Opening.{before_empty, texts_of, is_section}
 use Rattle.cs_index.proofs.StringLemmas.{front_text}
+use Rattle.std.proofs.Math.Bool.{and-true}
 
 -- ---- one string more
 
-pub texts_step : (text rest : List ℕ) → AllByRecursion (λ b. 0 < b) text → text ≢ [] → texts_of (ended text ++ rest) ≡ text ∷ texts_of rest
+pub texts_step : (text rest : List ℕ) → AllByRecursion (λ b. 0 < b) text → text ≢ [] → texts_of (with_nul text ++ rest) ≡ text ∷ texts_of rest
 unfolding texts_of
 texts_step [] rest all some = absurd (some refl)
 texts_step (b ∷ text) rest all some = ap before_empty (front_text (b ∷ text) rest all)
@@ -33,23 +37,19 @@ and_swap true false c = refl
 and_swap false true c = refl
 and_swap false false c = refl
 
-pub section_step : (closing text rest : List ℕ) → AllByRecursion (λ b. 0 < b) text → text ≢ [] → is_section closing (ended text ++ rest) ≡ (is_utf8 text && is_section closing rest)
+pub section_step : (closing text rest : List ℕ) → AllByRecursion (λ b. 0 < b) text → text ≢ [] → is_section closing (with_nul text ++ rest) ≡ (is_utf8 text && is_section closing rest)
 unfolding is_section
 section_step closing text rest all some =
     let texts = texts_step text rest all some in
-    (λ i. same (ended text ++ rest) (joined (map ended (texts i)) ++ closing) && list_all is_utf8 (texts i))
-    ∙ ap (λ t. t && (is_utf8 text && list_all is_utf8 (texts_of rest))) (ap (same (ended text ++ rest)) (append_assoc (ended text) (joined (map ended (texts_of rest))) closing) ∙ same_append (ended text) rest (joined (map ended (texts_of rest)) ++ closing))
-    ∙ and_swap (same rest (joined (map ended (texts_of rest)) ++ closing)) (is_utf8 text) (list_all is_utf8 (texts_of rest))
+    (λ i. same (with_nul text ++ rest) (concat (map with_nul (texts i)) ++ closing) && list_all is_utf8 (texts i))
+    ∙ ap (λ t. t && (is_utf8 text && list_all is_utf8 (texts_of rest))) (ap (same (with_nul text ++ rest)) (append_assoc (with_nul text) (concat (map with_nul (texts_of rest))) closing) ∙ same_append (with_nul text) rest (concat (map with_nul (texts_of rest)) ++ closing))
+    ∙ and_swap (same rest (concat (map with_nul (texts_of rest)) ++ closing)) (is_utf8 text) (list_all is_utf8 (texts_of rest))
 
 -- ---- where no string stands in front
 
-and_one : (b : Bool) → (b && true) ≡ b
-and_one true = refl
-and_one false = refl
-
 pub section_end : (closing section : List ℕ) → texts_of section ≡ [] → is_section closing section ≡ same section closing
 unfolding is_section
-section_end closing section none = (λ i. same section (joined (map ended (none i)) ++ closing) && list_all is_utf8 (none i)) ∙ and_one (same section closing)
+section_end closing section none = (λ i. same section (concat (map with_nul (none i)) ++ closing) && list_all is_utf8 (none i)) ∙ and-true (same section closing)
 
 texts_nil : texts_of [] ≡ []
 unfolding texts_of texts_in
@@ -85,21 +85,21 @@ pub open_end : (closing : List ℕ) (b : ℕ) (text : List ℕ) → AllByRecursi
 unfolding is_section texts_of
 open_end closing b text all =
     let texts : texts_of (b ∷ text) ≡ (b ∷ text) ∷ [] = ap before_empty (one_text b text all) in
-    (λ i. same (b ∷ text) (joined (map ended (texts i)) ++ closing) && list_all is_utf8 (texts i))
-    ∙ ap (λ t. t && (is_utf8 (b ∷ text) && true)) (false_unless (same (b ∷ text) ((ended (b ∷ text) ++ []) ++ closing)) (λ h.
-    let long = not_longer (b ∷ text) ((ended (b ∷ text) ++ []) ++ closing) h in
-    let one = length-append (ended (b ∷ text) ++ []) closing in
-    let two : length (ended (b ∷ text) ++ []) ≡ length (b ∷ text) + 1 = ap length (append-nil (ended (b ∷ text))) ∙ length_push (b ∷ text) 0 in
+    (λ i. same (b ∷ text) (concat (map with_nul (texts i)) ++ closing) && list_all is_utf8 (texts i))
+    ∙ ap (λ t. t && (is_utf8 (b ∷ text) && true)) (false_unless (same (b ∷ text) ((with_nul (b ∷ text) ++ []) ++ closing)) (λ h.
+    let long = not_longer (b ∷ text) ((with_nul (b ∷ text) ++ []) ++ closing) h in
+    let one = length-append (with_nul (b ∷ text) ++ []) closing in
+    let two : length (with_nul (b ∷ text) ++ []) ≡ length (b ∷ text) + 1 = ap length (append-nil (with_nul (b ∷ text))) ∙ length_push (b ∷ text) 0 in
     omega (arith, long, one, two)))
 
 pub no_nul : (closing : List ℕ) (b : ℕ) (text : List ℕ) → AllByRecursion (λ c. 0 < c) (b ∷ text) → (closing ≡ []) ⊎ (closing ≡ 0 ∷ []) → same (b ∷ text) closing ≡ false
 no_nul closing b text all (inl e) = ap (same (b ∷ text)) e
 no_nul closing b text all (inr e) = ap (same (b ∷ text)) e ∙ ap (λ t. t && same text []) (ne_eqb b 0 (λ z. absurd (omega (arith, z, all.0))))
 
-pub none_left : (section : List ℕ) → texts_of section ≡ [] → NoText section
+pub none_left : (section : List ℕ) → texts_of section ≡ [] → HasNoText section
 none_left section none = record { closed = section_end (0 ∷ []) section none; bare = section_end [] section none }
 
-pub none_ended : (section : List ℕ) → AllByRecursion (λ c. 0 < c) section → NoText section
+pub none_ended : (section : List ℕ) → AllByRecursion (λ c. 0 < c) section → HasNoText section
 none_ended [] all = none_left [] texts_nil
 none_ended (b ∷ text) all = record {
   closed = open_end (0 ∷ []) b text all ∙ sym (no_nul (0 ∷ []) b text all (inr refl));
@@ -107,7 +107,7 @@ none_ended (b ∷ text) all = record {
 }
 
 -- a section that is its closing bytes has no string
-pub closing_only : (section : List ℕ) → NoText section → (is_section (0 ∷ []) section ≡ true) ⊎ (is_section [] section ≡ true) → texts_of section ≡ []
+pub closing_only : (section : List ℕ) → HasNoText section → (is_section (0 ∷ []) section ≡ true) ⊎ (is_section [] section ≡ true) → texts_of section ≡ []
 closing_only section none (inl h) = ap texts_of ((bytes_decides section (0 ∷ [])).0 (sym none.closed ∙ h)) ∙ texts_nul []
 closing_only section none (inr h) = ap texts_of ((bytes_decides section []).0 (sym none.bare ∙ h)) ∙ texts_nil
 
@@ -135,10 +135,10 @@ apart_from bytes k h e = h (eq-eqb (get_or bytes k 0) 0 e)
 
 -- ---- what was read of a section
 
-pub texts_after : (section text rest : List ℕ) → section ≡ ended text ++ rest → AllByRecursion (λ b. 0 < b) text → text ≢ [] → texts_of section ≡ text ∷ texts_of rest
+pub texts_after : (section text rest : List ℕ) → section ≡ with_nul text ++ rest → AllByRecursion (λ b. 0 < b) text → text ≢ [] → texts_of section ≡ text ∷ texts_of rest
 texts_after section text rest e all some = ap texts_of e ∙ texts_step text rest all some
 
-pub section_after : (closing section text rest : List ℕ) → section ≡ ended text ++ rest → AllByRecursion (λ b. 0 < b) text → text ≢ [] → is_section closing section ≡ (is_utf8 text && is_section closing rest)
+pub section_after : (closing section text rest : List ℕ) → section ≡ with_nul text ++ rest → AllByRecursion (λ b. 0 < b) text → text ≢ [] → is_section closing section ≡ (is_utf8 text && is_section closing rest)
 section_after closing section text rest e all some = ap (is_section closing) e ∙ section_step closing text rest all some
 
 abbrev pub formed : List ℕ → Bool
@@ -148,12 +148,12 @@ both_formed : (u a b : Bool) → ((u && a) || (u && b)) ≡ true → (u ≡ true
 both_formed true a b h = (refl, h)
 both_formed false a b h = absurd (true≢false (sym h))
 
-pub formed_after : (section text rest : List ℕ) → section ≡ ended text ++ rest → AllByRecursion (λ b. 0 < b) text → text ≢ [] → formed section ≡ true → (is_utf8 text ≡ true) × (formed rest ≡ true)
+pub formed_after : (section text rest : List ℕ) → section ≡ with_nul text ++ rest → AllByRecursion (λ b. 0 < b) text → text ≢ [] → formed section ≡ true → (is_utf8 text ≡ true) × (formed rest ≡ true)
 formed_after section text rest e all some h =
     both_formed (is_utf8 text) (is_section (0 ∷ []) rest) (is_section [] rest)
     ((λ i. sym (section_after (0 ∷ []) section text rest e all some) i || sym (section_after [] section text rest e all some) i) ∙ h)
 
-pub none_formed : (section : List ℕ) → NoText section → formed section ≡ true → texts_of section ≡ []
+pub none_formed : (section : List ℕ) → HasNoText section → formed section ≡ true → texts_of section ≡ []
 none_formed section none h = closing_only section none (or_cases (is_section (0 ∷ []) section) (is_section [] section) h)
 
 -- ---- UTF-8
@@ -168,11 +168,11 @@ yes_utf8 A B (Err y) bytes h e = absurd (true≢false e)
 
 -- ---- names in order
 
-pub below_texts : (section : List ℕ) → names_ascend (texts_of section) ≡ names_ascend ([] ∷ texts_of section)
+pub below_texts : (section : List ℕ) → are_ascending (texts_of section) ≡ are_ascending ([] ∷ texts_of section)
 unfolding texts_of
 below_texts section = each (texts_in section)
   where
-    each : (texts : List (List ℕ)) → names_ascend (before_empty texts) ≡ names_ascend ([] ∷ before_empty texts)
+    each : (texts : List (List ℕ)) → are_ascending (before_empty texts) ≡ are_ascending ([] ∷ before_empty texts)
     each [] = refl
     each ([] ∷ texts) = refl
     each ((b ∷ text) ∷ texts) = refl
@@ -187,8 +187,8 @@ less Less h = refl
 less Equal h = absurd (true≢false h)
 less Greater h = absurd (true≢false h)
 
-pub falls : (last text : List ℕ) (names : List (List ℕ)) → is_ge (bytes_cmp last text) ≡ true → names_ascend (last ∷ text ∷ names) ≡ false
-falls last text names h = ap (λ b. b && names_ascend (text ∷ names)) (not_less (bytes_cmp last text) h)
+pub falls : (last text : List ℕ) (names : List (List ℕ)) → is_ge (bytes_cmp last text) ≡ true → are_ascending (last ∷ text ∷ names) ≡ false
+falls last text names h = ap (λ b. b && are_ascending (text ∷ names)) (not_less (bytes_cmp last text) h)
 
-pub climbs : (last text : List ℕ) (names : List (List ℕ)) → is_ge (bytes_cmp last text) ≡ false → names_ascend (last ∷ text ∷ names) ≡ names_ascend (text ∷ names)
-climbs last text names h = ap (λ b. b && names_ascend (text ∷ names)) (less (bytes_cmp last text) h)
+pub climbs : (last text : List ℕ) (names : List (List ℕ)) → is_ge (bytes_cmp last text) ≡ false → are_ascending (last ∷ text ∷ names) ≡ are_ascending (text ∷ names)
+climbs last text names h = ap (λ b. b && are_ascending (text ∷ names)) (less (bytes_cmp last text) h)

@@ -1,17 +1,17 @@
 -- Lists that are found by their slots.
 use Rattle.std.proofs.Common.{◌≡◌, ◌≢◌, ℕ, zero, suc, ◌+◌, ◌-◌, ◌<◌, ◌≤◌, ◌^◌, true, false, cond, eqb, List, [], ◌∷◌, ◌++◌, length, set, get_or, refl, sym, ap, subst, ◌∙◌, inl, inr, arith, length-set}
+use Rattle.cs_trigram.specs.Trigram.{has, set_of_numbers, Ascends}
 use Rattle.std.proofs.lemmas.Bool.{true≢false, cases_Bool, cases_order, eqb-true, eq-eqb}
 use Rattle.std.proofs.lemmas.List.{length_push, length-map, get_or-set_same, get_or-set_other}
 use Rattle.std.proofs.Math.ListN.{get_or-append}
 use Rattle.std.proofs.Math.Seq.{get_or-append_seam}
 use Rattle.std.specs.List.{AllByRecursion}
-use Rattle.cs_index.specs.declared.slots.Slots.{Slots}
-use Rattle.cs_index.specs.Image.{Posting, has, ascending}
-use Rattle.cs_index.specs.Spelling.{Ascends}
+use Rattle.cs_index.specs.declared.writing.slots.Slots.{Slots}
+use Rattle.cs_index.specs.Image.{Posting}
 use Rattle.cs_index.specs.Slots.{slot_of, AreSlotted}
 use Rattle.cs_index.specs.Gathering.{keys, AreDistinct}
-use Rattle.cs_index.proofs.SpellingLemmas.{all_ascending, Above, ascends_head, ascends_tail, ascends_ascending}
 use Rattle.cs_index.proofs.GatheringLemmas.{key_place, has-key_at, keys_push, distinct_push, keys_set, length-ascending}
+use Rattle.cs_trigram.proofs.SetLemmas.{Above, ascends_tail, ascends_head, ascends_set, all_set}
 
 pub slot_absent : (slots : Slots) (lists : List Posting) (g : ℕ) → AreSlotted slots lists → slot_of slots g ≡ 0 → has (keys lists) g ≡ false
 slot_absent slots lists g are none =
@@ -140,5 +140,5 @@ few_keys (n ∷ ns) all up = let rest = below_room n ns all.1 (ascends_tail n ns
 
 pub few_lists : (slots : Slots) (lists : List Posting) → AreSlotted slots lists → length lists ≤ 2 ^ 24
 few_lists slots lists are =
-    let few = few_keys (ascending (keys lists)) (all_ascending (λ n. n < 2 ^ 24) (keys lists) are.below) (ascends_ascending (keys lists)) in
+    let few = few_keys (set_of_numbers (keys lists)) (all_set (λ n. n < 2 ^ 24) (keys lists) are.below) (ascends_set (keys lists)) in
     omega (arith, few, length-ascending (keys lists) are.distinct, length-map lists (λ (p : Posting). p.0))

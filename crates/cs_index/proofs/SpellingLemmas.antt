@@ -1,64 +1,17 @@
 -- What is written is spelled so.
-use Rattle.std.proofs.Common.{◌≡◌, ℕ, ◌+◌, ◌^◌, ◌<◌, ◌≤◌, cond, ltb, eqb, List, [], ◌∷◌, ◌++◌, length, map, refl, sym, ap, subst, ◌∙◌, inl, arith, length-append}
-use Rattle.std.proofs.lemmas.Bool.{cond_both, ltb-true, ltb-false, eqb-false}
+use Rattle.std.proofs.Common.{◌≡◌, ℕ, ◌+◌, ◌^◌, ◌<◌, ◌≤◌, List, [], ◌∷◌, ◌++◌, length, map, refl, sym, ap, subst, ◌∙◌, inl, arith, length-append}
+use Rattle.cs_index.specs.Rising.{RiseWithin}
+use Rattle.cs_trigram.specs.Trigram.{has, Ascends}
+use Rattle.std.proofs.lemmas.Bool.{cond_both}
 use Rattle.std.specs.Prelude.{flat_map}
 use Rattle.std.specs.List.{AllByRecursion}
-use Rattle.cs_index.specs.Image.{four_bytes, joined, ended, placed, ascending, has, Entry, ids_from, Posting, posting_list, postings_of, trigrams_of, closing_list, ListEntry, list_entries, Sections, sections_of, laid_out, names_of, image_of, in_order, trailer}
-use Rattle.cs_index.specs.Spelling.{Ascends, IsEntry, Spells, IsIndexable, RiseWithin}
+use Rattle.cs_index.specs.Image.{four_bytes, concat, with_nul, Entry, ids_from, Posting, posting_list, postings_of, trigrams_of, closing_list, ListEntry, list_entries, Sections, sections_of, layout, names_of, image_of, in_order, trailer}
+use Rattle.cs_index.specs.Spelling.{IsEntry, Spells, IsIndexable}
+use Rattle.cs_trigram.proofs.SetLemmas.{ascends_set, all_set}
 
--- ---- ascending numbers
-
--- every number of the list is above n
-abbrev pub Above : ℕ → List ℕ → Type 0
-Above n [] = Unit {0}
-Above n (m ∷ ms) = n < m
-
-pub ascends_cons : (n : ℕ) (ms : List ℕ) → Above n ms → Ascends ms → Ascends (n ∷ ms)
-ascends_cons n [] h up = tt
-ascends_cons n (m ∷ ms) h up = (h, up)
-
-pub ascends_tail : (n : ℕ) (ms : List ℕ) → Ascends (n ∷ ms) → Ascends ms
-ascends_tail n [] up = tt
-ascends_tail n (m ∷ ms) up = up.1
-
-pub ascends_head : (n : ℕ) (ms : List ℕ) → Ascends (n ∷ ms) → Above n ms
-ascends_head n [] up = tt
-ascends_head n (m ∷ ms) up = up.0
-
-above_placed : (k n : ℕ) (ms : List ℕ) → k < n → Above k ms → Above k (placed n ms)
-above_placed k n [] h g = h
-above_placed k n (m ∷ ms) h g =
-    cond_both (ltb n m) (n ∷ m ∷ ms) (cond (eqb n m) (m ∷ ms) (m ∷ placed n ms)) (Above k) (λ _. h)
-    (λ _. cond_both (eqb n m) (m ∷ ms) (m ∷ placed n ms) (Above k) (λ _. g) (λ _. g))
-
-ascends_placed : (n : ℕ) (ms : List ℕ) → Ascends ms → Ascends (placed n ms)
-ascends_placed n [] up = tt
-ascends_placed n (m ∷ ms) up =
-    cond_both (ltb n m) (n ∷ m ∷ ms) (cond (eqb n m) (m ∷ ms) (m ∷ placed n ms)) Ascends
-    (λ less. (ltb-true n m less, up))
-    (λ more. cond_both (eqb n m) (m ∷ ms) (m ∷ placed n ms) Ascends (λ _. up)
-    (λ apart.
-    let below : m < n = between n m (ltb-false n m more) (eqb-false n m apart) in
-    ascends_cons m (placed n ms) (above_placed m n ms below (ascends_head m ms up)) (ascends_placed n ms (ascends_tail m ms up))))
-  where
-    between : (n m : ℕ) → m ≤ n → (n ≡ m → ⊥) → m < n
-    between n m h g = omega (arith, h, g)
-
-pub ascends_ascending : (ns : List ℕ) → Ascends (ascending ns)
-ascends_ascending [] = tt
-ascends_ascending (n ∷ ns) = ascends_placed n (ascending ns) (ascends_ascending ns)
+-- ---- sets of trigrams
 
 module _ (P : ℕ → Type 0) where
-  all_placed : (n : ℕ) (ms : List ℕ) → P n → AllByRecursion P ms → AllByRecursion P (placed n ms)
-  all_placed n [] h all = (h, tt)
-  all_placed n (m ∷ ms) h all =
-      cond_both (ltb n m) (n ∷ m ∷ ms) (cond (eqb n m) (m ∷ ms) (m ∷ placed n ms)) (AllByRecursion P) (λ _. (h, all))
-      (λ _. cond_both (eqb n m) (m ∷ ms) (m ∷ placed n ms) (AllByRecursion P) (λ _. all) (λ _. (all.0, all_placed n ms h all.1)))
-
-  pub all_ascending : (ns : List ℕ) → AllByRecursion P ns → AllByRecursion P (ascending ns)
-  all_ascending [] all = tt
-  all_ascending (n ∷ ns) all = all_placed n (ascending ns) all.0 (all_ascending ns all.1)
-
   all_append : (xs ys : List ℕ) → AllByRecursion P xs → AllByRecursion P ys → AllByRecursion P (xs ++ ys)
   all_append [] ys a b = b
   all_append (x ∷ xs) ys a b = (a.0, all_append xs ys a.1 b)
@@ -94,10 +47,10 @@ few_ids first g (entry ∷ entries) =
 abbrev Fit : Posting → Type 0
 Fit p = (p.0 < 16777215) × (length p.1 < 2 ^ 32)
 
-entries_fit : (section : List ℕ) (offset : ℕ) (ps : List Posting) → AllByRecursion Fit ps → offset + length (joined (map posting_list ps)) + 4 ≡ length section → length section < 2 ^ 32 → AllByRecursion (IsEntry section) (list_entries offset ps)
+entries_fit : (section : List ℕ) (offset : ℕ) (ps : List Posting) → AllByRecursion Fit ps → offset + length (concat (map posting_list ps)) + 4 ≡ length section → length section < 2 ^ 32 → AllByRecursion (IsEntry section) (list_entries offset ps)
 entries_fit section offset [] fit whole short = tt
 entries_fit section offset (p ∷ ps) fit whole short =
-    let l : length (posting_list p ++ joined (map posting_list ps)) ≡ length (posting_list p) + length (joined (map posting_list ps)) = length-append (posting_list p) _ in (
+    let l : length (posting_list p ++ concat (map posting_list ps)) ≡ length (posting_list p) + length (concat (map posting_list ps)) = length-append (posting_list p) _ in (
       record {
         trigram = omega (arith, fit.0.0);
         count = fit.0.1;
@@ -121,11 +74,11 @@ postings_fit entries [] few all = tt
 postings_fit entries (g ∷ gs) few all = ((all.0, let n = few_ids 0 g entries in omega (arith, few, n)), postings_fit entries gs few all.1)
 
 -- a section is no longer than the whole
-postings_short : (s : Sections) → length s.postings ≤ length (laid_out s)
+postings_short : (s : Sections) → length s.postings ≤ length (layout s)
 postings_short s =
-    let a : length (laid_out s) ≡ 16 + length (joined (in_order s) ++ trailer s) = omega arith in
-    let b : length (joined (in_order s) ++ trailer s) ≡ length (joined (in_order s)) + length (trailer s) = length-append (joined (in_order s)) (trailer s) in
-    let c : length (joined (in_order s)) ≡ length s.paths + length (s.names ++ (s.postings ++ (s.name_index ++ (s.list_index ++ [])))) = length-append s.paths _ in
+    let a : length (layout s) ≡ 16 + length (concat (in_order s) ++ trailer s) = omega arith in
+    let b : length (concat (in_order s) ++ trailer s) ≡ length (concat (in_order s)) + length (trailer s) = length-append (concat (in_order s)) (trailer s) in
+    let c : length (concat (in_order s)) ≡ length s.paths + length (s.names ++ (s.postings ++ (s.name_index ++ (s.list_index ++ [])))) = length-append s.paths _ in
     let d : length (s.names ++ (s.postings ++ (s.name_index ++ (s.list_index ++ [])))) ≡ length s.names + length (s.postings ++ (s.name_index ++ (s.list_index ++ []))) = length-append s.names _ in
     let e : length (s.postings ++ (s.name_index ++ (s.list_index ++ []))) ≡ length s.postings + length (s.name_index ++ (s.list_index ++ [])) = length-append s.postings _ in
     omega (arith, a, b, c, d, e)
@@ -134,7 +87,7 @@ pub image_spelled : (paths : List (List ℕ)) (entries : List Entry) → IsIndex
 image_spelled paths entries h =
     let s : Sections = sections_of paths (names_of entries) (postings_of entries) in
     let short : length s.postings < 2 ^ 32 = let p = postings_short s in omega (arith, p, h.short) in
-    let whole : 0 + length (joined (map posting_list (postings_of entries))) + 4 ≡ length s.postings = let l = length-append (joined (map posting_list (postings_of entries))) closing_list in omega (arith, l) in
+    let whole : 0 + length (concat (map posting_list (postings_of entries))) + 4 ≡ length s.postings = let l = length-append (concat (map posting_list (postings_of entries))) closing_list in omega (arith, l) in
     record {
       sections = s;
       laid = refl;
@@ -143,12 +96,12 @@ image_spelled paths entries h =
       each_path = h.each_path;
       names_are = inl refl;
       each_name = h.each_name;
-      last_offset = four_bytes (length (joined (map ended (names_of entries))));
+      last_offset = four_bytes (length (concat (map with_nul (names_of entries))));
       last_is_four = refl;
       name_index_is = refl;
       list_index_is = refl;
-      each_entry = entries_fit s.postings 0 (postings_of entries) (postings_fit entries (trigrams_of entries) h.few (all_ascending (λ g. g < 16777215) _ (all_sets (λ g. g < 16777215) entries h.trigrams))) whole short;
-      ascending = subst Ascends (sym (entry_trigrams 0 (postings_of entries) ∙ posting_trigrams entries (trigrams_of entries))) (ascends_ascending (flat_map (λ (entry : Entry). entry.1) entries));
+      each_entry = entries_fit s.postings 0 (postings_of entries) (postings_fit entries (trigrams_of entries) h.few (all_set (λ g. g < 16777215) _ (all_sets (λ g. g < 16777215) entries h.trigrams))) whole short;
+      ascending = subst Ascends (sym (entry_trigrams 0 (postings_of entries) ∙ posting_trigrams entries (trigrams_of entries))) (ascends_set (flat_map (λ (entry : Entry). entry.1) entries));
     }
 
 pub image_sections : (paths : List (List ℕ)) (entries : List Entry) (h : IsIndexable paths entries) → (image_spelled paths entries h).sections ≡ sections_of paths (names_of entries) (postings_of entries)

@@ -1,16 +1,16 @@
 -- Strings in a row, and one more.
 use Rattle.std.proofs.Common.{◌≡◌, ℕ, zero, suc, ◌+◌, ◌-◌, ◌<◌, true, ltb, eqb, not, List, [], ◌∷◌, ◌++◌, length, map, take, drop, Option, Some, None, refl, sym, ap, subst, ◌∙◌, arith, append_assoc, length-append, slice_get}
+use Rattle.cs_tree.specs.Pieces.{onto_first}
 use Rattle.std.proofs.lemmas.List.{take_at, drop_at, append-nil, length_push, length-map}
 use Rattle.std.proofs.lemmas.Bool.{true≢false, and_parts, ltb-true}
 use Rattle.std.specs.Prelude.{IsUtf8}
 use Rattle.std.specs.List.{AllByRecursion, list_all}
-use Rattle.cs_index.specs.Image.{joined, ended, starts_from}
-use Rattle.cs_index.specs.Spelling.{IsString}
+use Rattle.cs_index.specs.Image.{concat, with_nul, starts_from, IsString}
 use Rattle.cs_index.specs.Built.{is_storable}
-use Rattle.cs_index.specs.Strings.{onto_first, texts_in, AreStrings}
+use Rattle.cs_index.specs.Strings.{texts_in, AreStrings}
 
 -- a text and its NUL stand in front
-pub front_text : (text rest : List ℕ) → AllByRecursion (λ b. 0 < b) text → texts_in (ended text ++ rest) ≡ text ∷ texts_in rest
+pub front_text : (text rest : List ℕ) → AllByRecursion (λ b. 0 < b) text → texts_in (with_nul text ++ rest) ≡ text ∷ texts_in rest
 unfolding texts_in
 front_text [] rest all = refl
 front_text (zero ∷ text) rest all = absurd (omega (arith, all.0))
@@ -20,29 +20,29 @@ no_texts : texts_in [] ≡ []
 unfolding texts_in
 no_texts = refl
 
-pub texts_back : (texts : List (List ℕ)) → AllByRecursion IsString texts → texts_in (joined (map ended texts)) ≡ texts
+pub texts_back : (texts : List (List ℕ)) → AllByRecursion IsString texts → texts_in (concat (map with_nul texts)) ≡ texts
 texts_back [] all = no_texts
-texts_back (text ∷ texts) all = front_text text (joined (map ended texts)) all.0.1 ∙ ap (λ rest. text ∷ rest) (texts_back texts all.1)
+texts_back (text ∷ texts) all = front_text text (concat (map with_nul texts)) all.0.1 ∙ ap (λ rest. text ∷ rest) (texts_back texts all.1)
 
-pub strings_from : (texts : List (List ℕ)) → AllByRecursion IsString texts → AreStrings (joined (map ended texts)) (starts_from 0 (map ended texts))
+pub strings_from : (texts : List (List ℕ)) → AllByRecursion IsString texts → AreStrings (concat (map with_nul texts)) (starts_from 0 (map with_nul texts))
 strings_from texts all =
-    let is : texts ≡ texts_in (joined (map ended texts)) = sym (texts_back texts all) in
+    let is : texts ≡ texts_in (concat (map with_nul texts)) = sym (texts_back texts all) in
     record {
-      written = ap (λ (ts : List (List ℕ)). joined (map ended ts)) is;
-      begun = ap (λ (ts : List (List ℕ)). starts_from 0 (map ended ts)) is;
+      written = ap (λ (ts : List (List ℕ)). concat (map with_nul ts)) is;
+      starts_are = ap (λ (ts : List (List ℕ)). starts_from 0 (map with_nul ts)) is;
       each = subst (AllByRecursion IsString) is all;
     }
 
-joined_push : (texts : List (List ℕ)) (text : List ℕ) → joined (map ended (texts ++ text ∷ [])) ≡ joined (map ended texts) ++ ended text
-joined_push [] text = append-nil (ended text)
-joined_push (t ∷ texts) text = ap (λ rest. ended t ++ rest) (joined_push texts text) ∙ sym (append_assoc (ended t) (joined (map ended texts)) (ended text))
+joined_push : (texts : List (List ℕ)) (text : List ℕ) → concat (map with_nul (texts ++ text ∷ [])) ≡ concat (map with_nul texts) ++ with_nul text
+joined_push [] text = append-nil (with_nul text)
+joined_push (t ∷ texts) text = ap (λ rest. with_nul t ++ rest) (joined_push texts text) ∙ sym (append_assoc (with_nul t) (concat (map with_nul texts)) (with_nul text))
 
-starts_push : (at : ℕ) (texts : List (List ℕ)) (text : List ℕ) → starts_from at (map ended (texts ++ text ∷ [])) ≡ starts_from at (map ended texts) ++ (at + length (joined (map ended texts))) ∷ []
+starts_push : (at : ℕ) (texts : List (List ℕ)) (text : List ℕ) → starts_from at (map with_nul (texts ++ text ∷ [])) ≡ starts_from at (map with_nul texts) ++ (at + length (concat (map with_nul texts))) ∷ []
 starts_push at [] text = ap (λ n. n ∷ []) (let z : at ≡ at + 0 = omega arith in z)
 starts_push at (t ∷ texts) text =
-    let whole : length (ended t ++ joined (map ended texts)) ≡ length (ended t) + length (joined (map ended texts)) = length-append (ended t) (joined (map ended texts)) in
-    ap (λ rest. at ∷ rest) (starts_push (at + length (ended t)) texts text
-    ∙ ap (λ n. starts_from (at + length (ended t)) (map ended texts) ++ n ∷ []) (let z : at + length (ended t) + length (joined (map ended texts)) ≡ at + length (ended t ++ joined (map ended texts)) = omega (arith, whole) in z))
+    let whole : length (with_nul t ++ concat (map with_nul texts)) ≡ length (with_nul t) + length (concat (map with_nul texts)) = length-append (with_nul t) (concat (map with_nul texts)) in
+    ap (λ rest. at ∷ rest) (starts_push (at + length (with_nul t)) texts text
+    ∙ ap (λ n. starts_from (at + length (with_nul t)) (map with_nul texts) ++ n ∷ []) (let z : at + length (with_nul t) + length (concat (map with_nul texts)) ≡ at + length (with_nul t ++ concat (map with_nul texts)) = omega (arith, whole) in z))
 
 all_texts : (texts : List (List ℕ)) (text : List ℕ) → AllByRecursion IsString texts → IsString text → AllByRecursion IsString (texts ++ text ∷ [])
 all_texts [] text all is = (is, tt)
@@ -56,14 +56,14 @@ pub strings_push : (bytes starts text : List ℕ) → AreStrings bytes starts �
 strings_push bytes starts text are is =
     let texts : List (List ℕ) = texts_in bytes in
     let all : AllByRecursion IsString (texts ++ text ∷ []) = all_texts texts text are.each is in
-    let whole : (bytes ++ text) ++ 0 ∷ [] ≡ joined (map ended (texts ++ text ∷ [])) =
-    append_assoc bytes text (0 ∷ []) ∙ ap (λ bs. bs ++ ended text) are.written ∙ sym (joined_push texts text) in
-    let begun : starts ++ length bytes ∷ [] ≡ starts_from 0 (map ended (texts ++ text ∷ [])) =
-    ap (λ ns. ns ++ length bytes ∷ []) are.begun
-    ∙ ap (λ n. starts_from 0 (map ended texts) ++ n ∷ []) (ap length are.written ∙ (let z : length (joined (map ended texts)) ≡ 0 + length (joined (map ended texts)) = omega arith in z))
+    let whole : (bytes ++ text) ++ 0 ∷ [] ≡ concat (map with_nul (texts ++ text ∷ [])) =
+    append_assoc bytes text (0 ∷ []) ∙ ap (λ bs. bs ++ with_nul text) are.written ∙ sym (joined_push texts text) in
+    let starts_are : starts ++ length bytes ∷ [] ≡ starts_from 0 (map with_nul (texts ++ text ∷ [])) =
+    ap (λ ns. ns ++ length bytes ∷ []) are.starts_are
+    ∙ ap (λ n. starts_from 0 (map with_nul texts) ++ n ∷ []) (ap length are.written ∙ (let z : length (concat (map with_nul texts)) ≡ 0 + length (concat (map with_nul texts)) = omega arith in z))
     ∙ sym (starts_push 0 texts text) in
     record {
-      are = subst (λ bs. AreStrings bs (starts ++ length bytes ∷ [])) (sym whole) (subst (AreStrings (joined (map ended (texts ++ text ∷ [])))) (sym begun) (strings_from (texts ++ text ∷ []) all));
+      are = subst (λ bs. AreStrings bs (starts ++ length bytes ∷ [])) (sym whole) (subst (AreStrings (concat (map with_nul (texts ++ text ∷ [])))) (sym starts_are) (strings_from (texts ++ text ∷ []) all));
       texts = ap texts_in whole ∙ texts_back (texts ++ text ∷ []) all;
     }
 
@@ -83,7 +83,7 @@ length-starts_from at [] = refl
 length-starts_from at (p ∷ pieces) = ap suc (length-starts_from (at + length p) pieces)
 
 pub count_texts : (bytes starts : List ℕ) → AreStrings bytes starts → length starts ≡ length (texts_in bytes)
-count_texts bytes starts are = ap length are.begun ∙ length-starts_from 0 (map ended (texts_in bytes)) ∙ length-map (texts_in bytes) ended
+count_texts bytes starts are = ap length are.starts_are ∙ length-starts_from 0 (map with_nul (texts_in bytes)) ∙ length-map (texts_in bytes) with_nul
 
 -- ---- the last text
 
@@ -101,20 +101,20 @@ pub record Last (bytes : List ℕ) (texts : List (List ℕ)) (start : ℕ) : Typ
   pub within : start < length bytes
   pub text : last_of texts ≡ Some (take (length bytes - 1 - start) (drop start bytes))
 
-last_from : (front : List ℕ) (texts : List (List ℕ)) (start : ℕ) → last_of (starts_from (length front) (map ended texts)) ≡ Some start → Last (front ++ joined (map ended texts)) texts start
+last_from : (front : List ℕ) (texts : List (List ℕ)) (start : ℕ) → last_of (starts_from (length front) (map with_nul texts)) ≡ Some start → Last (front ++ concat (map with_nul texts)) texts start
 last_from front [] start e = cc
 last_from front (t ∷ []) start e =
     let at : length front ≡ start = cc in
-    let bytes : List ℕ = front ++ (ended t ++ []) in
-    let long : length bytes ≡ length front + length (ended t ++ []) = length-append front (ended t ++ []) in
-    let less : length (ended t ++ []) ≡ length t + 1 = ap length (append-nil (ended t)) ∙ length_push t 0 in
-    let rest : drop start bytes ≡ t ++ 0 ∷ [] = drop_at front (ended t ++ []) start at ∙ append-nil (ended t) in
+    let bytes : List ℕ = front ++ (with_nul t ++ []) in
+    let long : length bytes ≡ length front + length (with_nul t ++ []) = length-append front (with_nul t ++ []) in
+    let less : length (with_nul t ++ []) ≡ length t + 1 = ap length (append-nil (with_nul t)) ∙ length_push t 0 in
+    let rest : drop start bytes ≡ t ++ 0 ∷ [] = drop_at front (with_nul t ++ []) start at ∙ append-nil (with_nul t) in
     let count : length bytes - 1 - start ≡ length t = omega (arith, long, less, at) in
     record { within = omega (arith, at, long, less); text = ap Some (sym (ap (λ n. take n (drop start bytes)) count ∙ ap (take (length t)) rest ∙ take_at t (0 ∷ []) (length t) refl)) }
 last_from front (t ∷ u ∷ texts) start e =
-    let grown : length (front ++ ended t) ≡ length front + length (ended t) = length-append front (ended t) in
-    let bytes : (front ++ ended t) ++ joined (map ended (u ∷ texts)) ≡ front ++ joined (map ended (t ∷ u ∷ texts)) = append_assoc front (ended t) (joined (map ended (u ∷ texts))) in
-    let last = last_from (front ++ ended t) (u ∷ texts) start (ap (λ n. last_of (starts_from n (map ended (u ∷ texts)))) grown ∙ e) in
+    let grown : length (front ++ with_nul t) ≡ length front + length (with_nul t) = length-append front (with_nul t) in
+    let bytes : (front ++ with_nul t) ++ concat (map with_nul (u ∷ texts)) ≡ front ++ concat (map with_nul (t ∷ u ∷ texts)) = append_assoc front (with_nul t) (concat (map with_nul (u ∷ texts))) in
+    let last = last_from (front ++ with_nul t) (u ∷ texts) start (ap (λ n. last_of (starts_from n (map with_nul (u ∷ texts)))) grown ∙ e) in
     record { within = subst (λ (bs : List ℕ). start < length bs) bytes last.within; text = last.text ∙ ap (λ (bs : List ℕ). Some (take (length bs - 1 - start) (drop start bs))) bytes }
 
 pub record LastText (bytes : List ℕ) (start : ℕ) : Type 0 where
@@ -123,19 +123,19 @@ pub record LastText (bytes : List ℕ) (start : ℕ) : Type 0 where
 
 pub last_text : (bytes starts : List ℕ) (start : ℕ) → AreStrings bytes starts → slice_get starts (length starts - 1) ≡ Some start → LastText bytes start
 last_text bytes starts start are e =
-    let last = last_from [] (texts_in bytes) start (ap last_of (sym are.begun) ∙ sym (last_is starts) ∙ e) in
+    let last = last_from [] (texts_in bytes) start (ap last_of (sym are.starts_are) ∙ sym (last_is starts) ∙ e) in
     record {
       within = subst (λ (bs : List ℕ). start < length bs) (sym are.written) last.within;
       text = last_is (texts_in bytes) ∙ last.text ∙ ap (λ (bs : List ℕ). Some (take (length bs - 1 - start) (drop start bs))) (sym are.written);
     }
 
 pub no_text : (bytes starts : List ℕ) → AreStrings bytes starts → slice_get starts (length starts - 1) ≡ None → slice_get (texts_in bytes) (length (texts_in bytes) - 1) ≡ None
-no_text bytes starts are e = none (texts_in bytes) (ap last_of (sym are.begun) ∙ sym (last_is starts) ∙ e)
+no_text bytes starts are e = none (texts_in bytes) (ap last_of (sym are.starts_are) ∙ sym (last_is starts) ∙ e)
   where
-    none : (texts : List (List ℕ)) → last_of (starts_from 0 (map ended texts)) ≡ None → slice_get texts (length texts - 1) ≡ None
+    none : (texts : List (List ℕ)) → last_of (starts_from 0 (map with_nul texts)) ≡ None → slice_get texts (length texts - 1) ≡ None
     none [] h = refl
     none (t ∷ texts) h = absurd (some 0 t texts h)
       where
-        some : (at : ℕ) (t : List ℕ) (texts : List (List ℕ)) → last_of (starts_from at (map ended (t ∷ texts))) ≡ None → ⊥
+        some : (at : ℕ) (t : List ℕ) (texts : List (List ℕ)) → last_of (starts_from at (map with_nul (t ∷ texts))) ≡ None → ⊥
         some at t [] h = cc
-        some at t (u ∷ texts) h = some (at + length (ended t)) u texts h
+        some at t (u ∷ texts) h = some (at + length (with_nul t)) u texts h

@@ -1,6 +1,7 @@
 -- Sections that are strings in a row.
-use Rattle.std.proofs.Common.{◌≡◌, ℕ, zero, suc, ◌+◌, ◌<◌, ◌≤◌, Bool, true, false, ◌||◌, List, [], ◌∷◌, ◌++◌, length, map, drop, get_or, refl, sym, ap, subst, ◌∙◌, arith, append_assoc, length-append, inl, inr, ◌⊎◌, Option, Some, Result, Ok, Err, Bor}
-use Rattle.std.proofs.lemmas.Bool.{and_parts, and_from}
+use Rattle.std.proofs.Common.{◌≡◌, ℕ, zero, suc, ◌+◌, ◌<◌, ◌≤◌, true, List, [], ◌∷◌, ◌++◌, length, map, drop, get_or, refl, sym, ap, subst, ◌∙◌, arith, append_assoc, length-append, inl, inr, ◌⊎◌, Option, Some, Result, Ok, Err, Bor}
+use Rattle.cs_tree.specs.Pieces.{onto_first}
+use Rattle.std.proofs.lemmas.Bool.{and_parts, and_from, or_left, or_right}
 use Rattle.std.proofs.lemmas.List.{drop_at}
 use Rattle.std.proofs.lemmas.Str.{IsUtf8-from_is_utf8, is_utf8-from_IsUtf8}
 use Rattle.std.specs.List.{AllByRecursion, list_all}
@@ -9,9 +10,8 @@ use Rattle.std.specs.Result.{result_ok}
 use Rattle.std.specs.Str.{is_utf8}
 use Rattle.std.specs.Cmp.Lexicographic.{bytes_decides}
 use Rattle.cs_tree.specs.Cover.{same}
-use Rattle.cs_index.specs.Image.{joined, ended, starts_from}
-use Rattle.cs_index.specs.Spelling.{IsString}
-use Rattle.cs_index.specs.Strings.{texts_in, onto_first}
+use Rattle.cs_index.specs.Image.{concat, with_nul, starts_from, IsString}
+use Rattle.cs_index.specs.Strings.{texts_in}
 use Rattle.cs_index.specs.Opening.{before_empty, is_section, texts_of}
 use Rattle.cs_index.proofs.ReadingLemmas.{texts_step, formed}
 
@@ -39,15 +39,15 @@ front_strings ((b ∷ text) ∷ texts) all utf8 =
 
 -- Bytes that are strings, each with its NUL, and then some more.
 pub record AreRead (closing section : List ℕ) : Type 0 where
-  pub bytes : section ≡ joined (map ended (texts_of section)) ++ closing
+  pub bytes : section ≡ concat (map with_nul (texts_of section)) ++ closing
   pub each : AllByRecursion IsString (texts_of section)
 
 pub section_read : (closing section : List ℕ) → is_section closing section ≡ true → AreRead closing section
 unfolding is_section texts_of
 section_read closing section h =
-    let both = and_parts (same section (joined (map ended (texts_of section)) ++ closing)) (list_all is_utf8 (texts_of section)) h in
+    let both = and_parts (same section (concat (map with_nul (texts_of section)) ++ closing)) (list_all is_utf8 (texts_of section)) h in
     record {
-      bytes = (bytes_decides section (joined (map ended (texts_of section)) ++ closing)).0 both.0;
+      bytes = (bytes_decides section (concat (map with_nul (texts_of section)) ++ closing)).0 both.0;
       each = front_strings (texts_in section) (each_above section) both.1;
     }
 
@@ -58,40 +58,33 @@ unfolding texts_of texts_in
 texts_end closing (inl e) = ap texts_of e
 texts_end closing (inr e) = ap texts_of e
 
-pub texts_spelled : (texts : List (List ℕ)) (closing : List ℕ) → AllByRecursion IsString texts → (closing ≡ []) ⊎ (closing ≡ 0 ∷ []) → texts_of (joined (map ended texts) ++ closing) ≡ texts
+pub texts_spelled : (texts : List (List ℕ)) (closing : List ℕ) → AllByRecursion IsString texts → (closing ≡ []) ⊎ (closing ≡ 0 ∷ []) → texts_of (concat (map with_nul texts) ++ closing) ≡ texts
 texts_spelled [] closing all tail = texts_end closing tail
 texts_spelled (text ∷ texts) closing all tail =
-    ap texts_of (append_assoc (ended text) (joined (map ended texts)) closing)
-    ∙ texts_step text (joined (map ended texts) ++ closing) all.0.1 all.0.0
+    ap texts_of (append_assoc (with_nul text) (concat (map with_nul texts)) closing)
+    ∙ texts_step text (concat (map with_nul texts) ++ closing) all.0.1 all.0.0
     ∙ ap (λ ts. text ∷ ts) (texts_spelled texts closing all.1 tail)
 
 all_utf8 : (texts : List (List ℕ)) → AllByRecursion IsString texts → list_all is_utf8 texts ≡ true
 all_utf8 [] all = refl
 all_utf8 (text ∷ texts) all = and_from (is_utf8 text) (list_all is_utf8 texts) (is_utf8-from_IsUtf8 text all.0.2) (all_utf8 texts all.1)
 
-pub section_spelled : (texts : List (List ℕ)) (closing : List ℕ) → AllByRecursion IsString texts → (closing ≡ []) ⊎ (closing ≡ 0 ∷ []) → is_section closing (joined (map ended texts) ++ closing) ≡ true
+pub section_spelled : (texts : List (List ℕ)) (closing : List ℕ) → AllByRecursion IsString texts → (closing ≡ []) ⊎ (closing ≡ 0 ∷ []) → is_section closing (concat (map with_nul texts) ++ closing) ≡ true
 unfolding is_section
 section_spelled texts closing all tail =
-    let section : List ℕ = joined (map ended texts) ++ closing in
+    let section : List ℕ = concat (map with_nul texts) ++ closing in
     let is : texts ≡ texts_of section = sym (texts_spelled texts closing all tail) in
-    and_from (same section (joined (map ended (texts_of section)) ++ closing)) (list_all is_utf8 (texts_of section))
-    ((bytes_decides section (joined (map ended (texts_of section)) ++ closing)).1 (ap (λ (ts : List (List ℕ)). joined (map ended ts) ++ closing) is))
+    and_from (same section (concat (map with_nul (texts_of section)) ++ closing)) (list_all is_utf8 (texts_of section))
+    ((bytes_decides section (concat (map with_nul (texts_of section)) ++ closing)).1 (ap (λ (ts : List (List ℕ)). concat (map with_nul ts) ++ closing) is))
     (ap (list_all is_utf8) (sym is) ∙ all_utf8 texts all)
 
-or_left : (a b : Bool) → a ≡ true → (a || b) ≡ true
-or_left a b h = ap (λ t. t || b) h
-
-or_right : (a b : Bool) → b ≡ true → (a || b) ≡ true
-or_right true b h = refl
-or_right false b h = h
-
 -- whether there is one NUL more or none
-pub formed_spelled : (texts : List (List ℕ)) (closing : List ℕ) → AllByRecursion IsString texts → (closing ≡ []) ⊎ (closing ≡ 0 ∷ []) → formed (joined (map ended texts) ++ closing) ≡ true
+pub formed_spelled : (texts : List (List ℕ)) (closing : List ℕ) → AllByRecursion IsString texts → (closing ≡ []) ⊎ (closing ≡ 0 ∷ []) → formed (concat (map with_nul texts) ++ closing) ≡ true
 formed_spelled texts closing all (inl e) =
-    let section : List ℕ = joined (map ended texts) ++ closing in
+    let section : List ℕ = concat (map with_nul texts) ++ closing in
     or_right (is_section (0 ∷ []) section) (is_section [] section) (ap (λ c. is_section c section) (sym e) ∙ section_spelled texts closing all (inl e))
 formed_spelled texts closing all (inr e) =
-    let section : List ℕ = joined (map ended texts) ++ closing in
+    let section : List ℕ = concat (map with_nul texts) ++ closing in
     or_left (is_section (0 ∷ []) section) (is_section [] section) (ap (λ c. is_section c section) (sym e) ∙ section_spelled texts closing all (inr e))
 
 -- ---- where a string begins
@@ -99,25 +92,25 @@ formed_spelled texts closing all (inr e) =
 -- The string at an id begins at the offset.
 pub record Begins (section : List ℕ) (texts : List (List ℕ)) (closing : List ℕ) (offset id : ℕ) : Type 0 where
   pub within : offset ≤ length section
-  pub rest : drop offset section ≡ joined (map ended (drop id texts)) ++ closing
+  pub rest : drop offset section ≡ concat (map with_nul (drop id texts)) ++ closing
 
-begins_from : (front : List ℕ) (texts : List (List ℕ)) (closing : List ℕ) (id : ℕ) → id < length texts → Begins (front ++ (joined (map ended texts) ++ closing)) texts closing (get_or (starts_from (length front) (map ended texts)) id 0) id
+begins_from : (front : List ℕ) (texts : List (List ℕ)) (closing : List ℕ) (id : ℕ) → id < length texts → Begins (front ++ (concat (map with_nul texts) ++ closing)) texts closing (get_or (starts_from (length front) (map with_nul texts)) id 0) id
 begins_from front [] closing id h = absurd (omega (arith, h))
 begins_from front (text ∷ texts) closing zero h =
-    let long = length-append front (joined (map ended (text ∷ texts)) ++ closing) in
-    record { within = omega (arith, long); rest = drop_at front (joined (map ended (text ∷ texts)) ++ closing) (length front) refl }
+    let long = length-append front (concat (map with_nul (text ∷ texts)) ++ closing) in
+    record { within = omega (arith, long); rest = drop_at front (concat (map with_nul (text ∷ texts)) ++ closing) (length front) refl }
 begins_from front (text ∷ texts) closing (suc id) h =
-    let grown : length (front ++ ended text) ≡ length front + length (ended text) = length-append front (ended text) in
-    let rest = begins_from (front ++ ended text) texts closing id (omega (arith, h)) in
-    let bytes : (front ++ ended text) ++ (joined (map ended texts) ++ closing) ≡ front ++ (joined (map ended (text ∷ texts)) ++ closing) =
-    append_assoc front (ended text) (joined (map ended texts) ++ closing) ∙ ap (λ bs. front ++ bs) (sym (append_assoc (ended text) (joined (map ended texts)) closing)) in
-    let place : get_or (starts_from (length (front ++ ended text)) (map ended texts)) id 0 ≡ get_or (starts_from (length front + length (ended text)) (map ended texts)) id 0 = ap (λ n. get_or (starts_from n (map ended texts)) id 0) grown in
+    let grown : length (front ++ with_nul text) ≡ length front + length (with_nul text) = length-append front (with_nul text) in
+    let rest = begins_from (front ++ with_nul text) texts closing id (omega (arith, h)) in
+    let bytes : (front ++ with_nul text) ++ (concat (map with_nul texts) ++ closing) ≡ front ++ (concat (map with_nul (text ∷ texts)) ++ closing) =
+    append_assoc front (with_nul text) (concat (map with_nul texts) ++ closing) ∙ ap (λ bs. front ++ bs) (sym (append_assoc (with_nul text) (concat (map with_nul texts)) closing)) in
+    let place : get_or (starts_from (length (front ++ with_nul text)) (map with_nul texts)) id 0 ≡ get_or (starts_from (length front + length (with_nul text)) (map with_nul texts)) id 0 = ap (λ n. get_or (starts_from n (map with_nul texts)) id 0) grown in
     record {
-      within = subst (λ n. n ≤ length (front ++ (joined (map ended (text ∷ texts)) ++ closing))) place (subst (λ (bs : List ℕ). get_or (starts_from (length (front ++ ended text)) (map ended texts)) id 0 ≤ length bs) bytes rest.within);
+      within = subst (λ n. n ≤ length (front ++ (concat (map with_nul (text ∷ texts)) ++ closing))) place (subst (λ (bs : List ℕ). get_or (starts_from (length (front ++ with_nul text)) (map with_nul texts)) id 0 ≤ length bs) bytes rest.within);
       rest = (λ i. drop (sym place i) (sym bytes i)) ∙ rest.rest;
     }
 
-pub string_begins : (texts : List (List ℕ)) (closing : List ℕ) (id : ℕ) → id < length texts → Begins (joined (map ended texts) ++ closing) texts closing (get_or (starts_from 0 (map ended texts)) id 0) id
+pub string_begins : (texts : List (List ℕ)) (closing : List ℕ) (id : ℕ) → id < length texts → Begins (concat (map with_nul texts) ++ closing) texts closing (get_or (starts_from 0 (map with_nul texts)) id 0) id
 string_begins texts closing id h = begins_from [] texts closing id h
 
 -- ---- a string that is lent

@@ -1,24 +1,24 @@
 -- What is told of ids, one after the other.
 use Rattle.std.proofs.Common.{◌≡◌, ℕ, ◌+◌, ◌-◌, ◌<◌, Bool, true, false, cond, ◌||◌, eqb, List, [], ◌∷◌, ◌++◌, length, get_or, set, Result, Ok, Err, refl, sym, ap, ◌∙◌, inl, inr, arith, append_assoc}
+use Rattle.cs_index.specs.Postings.{ids_given, IsListFault}
+use Rattle.cs_index.specs.PostingLists.{Ids}
 use Rattle.std.proofs.lemmas.Bool.{cases_Bool, eqb-true, eqb-false}
 use Rattle.std.proofs.lemmas.List.{get_or-set_other}
 use Rattle.std.proofs.lemmas.Grind.{get_or-set_at}
 use Rattle.std.specs.Prelude.{IfErr, filter}
 use Rattle.std.specs.Result.{IsErrAnd}
 use Rattle.std.specs.List.{range_with_len}
-use Rattle.cs_index.specs.Candidates.{IsListFault}
 use Rattle.cs_index.specs.declared.fault.IndexFault.{IndexFault}
 use Rattle.cs_index.specs.declared.fault.IndexFault.TheVariants.{BadList}
-use Rattle.cs_index.specs.Spelling.{Ids}
-use Rattle.cs_index.specs.Opening.{told_ids}
 use Rattle.cs_index.proofs.SiftLemmas.{range_step}
+use Rattle.std.proofs.Math.Bool.{or-true}
 
 -- the same is told of the same ids alone
 record Same (r s : Ids) : Type 0 where
   ids : r.ids ≡ s.ids
   whole : r.whole ≡ s.whole
 
-told_once : (xs ys : List ℕ) (a b : Bool) → told_ids (record { ids = xs; whole = a }) ≡ told_ids (record { ids = ys; whole = b }) → (xs ≡ ys) × (a ≡ b)
+told_once : (xs ys : List ℕ) (a b : Bool) → ids_given (record { ids = xs; whole = a }) ≡ ids_given (record { ids = ys; whole = b }) → (xs ≡ ys) × (a ≡ b)
 told_once [] [] true true e = (refl, refl)
 told_once [] [] false false e = (refl, refl)
 told_once [] [] true false e = cc
@@ -30,25 +30,25 @@ told_once (x ∷ xs) [] a false e = absurd (let w : ◌≡◌ {A = Result ℕ In
 told_once (x ∷ xs) (y ∷ ys) a b e =
     let head : ◌≡◌ {A = Result ℕ IndexFault} (Ok x) (Ok y) = cc in
     let is : x ≡ y = cc in
-    let tail : told_ids (record { ids = xs; whole = a }) ≡ told_ids (record { ids = ys; whole = b }) = cc in
+    let tail : ids_given (record { ids = xs; whole = a }) ≡ ids_given (record { ids = ys; whole = b }) = cc in
     let rest = told_once xs ys a b tail in
     ((λ i. is i ∷ rest.0 i), rest.1)
 
-pub told_ok : (r rest : Ids) (id : ℕ) → told_ids r ≡ Ok id ∷ told_ids rest → (r.ids ≡ id ∷ rest.ids) × (r.whole ≡ rest.whole)
+pub told_ok : (r rest : Ids) (id : ℕ) → ids_given r ≡ Ok id ∷ ids_given rest → (r.ids ≡ id ∷ rest.ids) × (r.whole ≡ rest.whole)
 told_ok r rest id e = told_once r.ids (id ∷ rest.ids) r.whole rest.whole e
 
-pub told_err : (r rest : Ids) (fault : IndexFault) → told_ids r ≡ Err fault ∷ told_ids rest → (fault ≡ BadList) × (r.whole ≡ false)
+pub told_err : (r rest : Ids) (fault : IndexFault) → ids_given r ≡ Err fault ∷ ids_given rest → (fault ≡ BadList) × (r.whole ≡ false)
 told_err r rest fault e = bad r.ids r.whole e
   where
-    bad : (xs : List ℕ) (a : Bool) → told_ids (record { ids = xs; whole = a }) ≡ Err fault ∷ told_ids rest → (fault ≡ BadList) × (a ≡ false)
+    bad : (xs : List ℕ) (a : Bool) → ids_given (record { ids = xs; whole = a }) ≡ Err fault ∷ ids_given rest → (fault ≡ BadList) × (a ≡ false)
     bad [] true h = cc
     bad [] false h = let head : ◌≡◌ {A = Result ℕ IndexFault} (Err BadList) (Err fault) = cc in (let is : fault ≡ BadList = cc in is, refl)
     bad (x ∷ xs) a h = absurd (let head : ◌≡◌ {A = Result ℕ IndexFault} (Ok x) (Err fault) = cc in cc)
 
-pub told_none : (r : Ids) → told_ids r ≡ [] → (r.ids ≡ []) × (r.whole ≡ true)
+pub told_none : (r : Ids) → ids_given r ≡ [] → (r.ids ≡ []) × (r.whole ≡ true)
 told_none r e = none r.ids r.whole e
   where
-    none : (xs : List ℕ) (a : Bool) → told_ids (record { ids = xs; whole = a }) ≡ [] → (xs ≡ []) × (a ≡ true)
+    none : (xs : List ℕ) (a : Bool) → ids_given (record { ids = xs; whole = a }) ≡ [] → (xs ≡ []) × (a ≡ true)
     none [] true h = (refl, refl)
     none [] false h = cc
     none (x ∷ xs) a h = cc
@@ -59,19 +59,11 @@ pub mark_step : (marks : List Bool) (id k : ℕ) (rest : Bool) → id < length m
 mark_step marks id k rest h = elim (cases_Bool (eqb id k)) [
   | inl here ↦
       ap (λ b. b || rest) (get_or-set_at marks id k true false (sym (eqb-true id k here)) h)
-      ∙ sym (ap (λ b. get_or marks k false || (b || rest)) here ∙ or_one (get_or marks k false))
+      ∙ sym (ap (λ b. get_or marks k false || (b || rest)) here ∙ or-true (get_or marks k false))
   | inr apart ↦
       ap (λ b. b || rest) (get_or-set_other marks id k true false (λ e. eqb-false id k apart (sym e)))
       ∙ sym (ap (λ b. get_or marks k false || (b || rest)) apart)
 ]
-  where
-    or_one : (b : Bool) → (b || true) ≡ true
-    or_one true = refl
-    or_one false = refl
-
-pub or_none : (b : Bool) → (b || false) ≡ b
-or_none true = refl
-or_none false = refl
 
 pub range_push : (count id : ℕ) (ids new : List ℕ) → id < count → range_with_len 0 count ≡ ids ++ range_with_len id (count - id) → new ≡ ids ++ id ∷ [] → range_with_len 0 count ≡ new ++ range_with_len (id + 1) (count - (id + 1))
 range_push count id ids new h so_far is =

@@ -1,76 +1,11 @@
 -- From names with their trigrams to trigrams with their names, and back.
-use Rattle.std.proofs.Common.{◌≡◌, ℕ, zero, suc, ◌+◌, ◌<◌, Bool, true, false, cond, ◌&&◌, ◌||◌, ltb, eqb, List, [], ◌∷◌, ◌++◌, length, map, get_or, refl, sym, ap, ◌∙◌, inl, inr, arith}
-use Rattle.std.proofs.lemmas.Bool.{true≢false, cases_Bool, cond_both, cases_order, eqb-true, eq-eqb, ne_eqb, or_left, or_right}
+use Rattle.std.proofs.Common.{◌≡◌, ℕ, zero, suc, ◌+◌, ◌<◌, Bool, true, false, cond, ◌&&◌, ◌||◌, eqb, List, [], ◌∷◌, length, map, get_or, refl, sym, ap, ◌∙◌, inl, inr, arith}
+use Rattle.cs_index.specs.PostingLists.{set_at}
+use Rattle.cs_trigram.specs.Trigram.{has, Ascends}
+use Rattle.std.proofs.lemmas.Bool.{cases_Bool, cond_both, eqb-true, eq-eqb, ne_eqb, or_left, or_right}
 use Rattle.std.specs.Prelude.{flat_map, filter}
-use Rattle.cs_index.specs.Image.{placed, ascending, has, Entry, ids_from, Posting, postings_of, trigrams_of}
-use Rattle.cs_index.specs.Spelling.{Ascends, set_at}
-use Rattle.cs_index.proofs.SpellingLemmas.{Above, ascends_tail, ascends_head, ascends_cons, ascends_ascending}
-
--- ---- membership
-
-or_swap : (a b c : Bool) → (a || (b || c)) ≡ (b || (a || c))
-or_swap true true c = refl
-or_swap true false c = refl
-or_swap false b c = refl
-
-or_twice : (a c : Bool) → (a || c) ≡ (a || (a || c))
-or_twice true c = refl
-or_twice false c = refl
-
-pub has-placed : (n g : ℕ) (ms : List ℕ) → has (placed n ms) g ≡ (eqb n g || has ms g)
-has-placed n g [] = refl
-has-placed n g (m ∷ ms) =
-    cond_both (ltb n m) (n ∷ m ∷ ms) (cond (eqb n m) (m ∷ ms) (m ∷ placed n ms)) (λ ns. has ns g ≡ (eqb n g || (eqb m g || has ms g)))
-    (λ _. refl)
-    (λ _. cond_both (eqb n m) (m ∷ ms) (m ∷ placed n ms) (λ ns. has ns g ≡ (eqb n g || (eqb m g || has ms g)))
-    (λ same. or_twice (eqb m g) (has ms g) ∙ ap (λ k. eqb k g || (eqb m g || has ms g)) (sym (eqb-true n m same)))
-    (λ _. ap (λ t. eqb m g || t) (has-placed n g ms) ∙ or_swap (eqb m g) (eqb n g) (has ms g)))
-
-pub has-ascending : (g : ℕ) (ns : List ℕ) → has (ascending ns) g ≡ has ns g
-has-ascending g [] = refl
-has-ascending g (n ∷ ns) = has-placed n g (ascending ns) ∙ ap (λ t. eqb n g || t) (has-ascending g ns)
-
-pub has-append : (g : ℕ) (xs ys : List ℕ) → has (xs ++ ys) g ≡ (has xs g || has ys g)
-has-append g [] ys = refl
-has-append g (x ∷ xs) ys = elim (eqb x g) as (λ b. (b || has (xs ++ ys) g) ≡ ((b || has xs g) || has ys g)) [ true ↦ refl | false ↦ has-append g xs ys ]
-
--- what is below the first of an ascending list is no member
-pub below_none : (n : ℕ) (ms : List ℕ) → Above n ms → Ascends ms → has ms n ≡ false
-below_none n [] h up = refl
-below_none n (m ∷ ms) h up =
-    let apart : eqb m n ≡ false = ne_eqb m n (λ e. absurd (omega (arith, e, h))) in
-    ap (λ b. b || has ms n) apart ∙ below_none n ms (further ms (ascends_head m ms up)) (ascends_tail m ms up)
-  where
-    further : (ks : List ℕ) → Above m ks → Above n ks
-    further [] g = tt
-    further (k ∷ ks) g = omega (arith, h, g)
-
--- ascending lists of the same members are one
-pub ascends_same : (xs ys : List ℕ) → Ascends xs → Ascends ys → ((g : ℕ) → has xs g ≡ has ys g) → xs ≡ ys
-ascends_same [] [] a b h = refl
-ascends_same [] (y ∷ ys) a b h = absurd (true≢false (sym (h y ∙ or_left (eqb y y) (has ys y) (eq-eqb y y refl))))
-ascends_same (x ∷ xs) [] a b h = absurd (true≢false (sym (or_left (eqb x x) (has xs x) (eq-eqb x x refl)) ∙ h x))
-ascends_same (x ∷ xs) (y ∷ ys) a b h =
-    elim (cases_order x y) [
-      | inl e ↦ let rest = ascends_same xs ys (ascends_tail x xs a) (ascends_tail y ys b) (tails e) in λ i. e i ∷ rest i
-      | inr other ↦ elim other [
-        | inl less ↦ absurd (true≢false (sym (or_left (eqb x x) (has xs x) (eq-eqb x x refl)) ∙ h x ∙ below_none x (y ∷ ys) less b))
-        | inr more ↦ absurd (true≢false (sym (or_left (eqb y y) (has ys y) (eq-eqb y y refl)) ∙ sym (h y) ∙ below_none y (x ∷ xs) more a))
-      ]
-    ]
-  where
-    tails : (x ≡ y) → (g : ℕ) → has xs g ≡ has ys g
-    tails e g =
-        elim (cases_Bool (eqb x g)) [
-          | inl here ↦
-              let is : x ≡ g = eqb-true x g here in
-              ap (has xs) (sym is) ∙ below_none x xs (ascends_head x xs a) (ascends_tail x xs a)
-              ∙ sym (below_none y ys (ascends_head y ys b) (ascends_tail y ys b)) ∙ ap (has ys) (sym e ∙ is)
-          | inr apart ↦
-              ap (λ t. t || has xs g) (sym apart) ∙ h g ∙ ap (λ k. eqb k g || has ys g) (sym e) ∙ ap (λ t. t || has ys g) apart
-        ]
-
--- ---- back
+use Rattle.cs_index.specs.Image.{Entry, ids_from, Posting, postings_of, trigrams_of}
+use Rattle.cs_trigram.proofs.SetLemmas.{Above, ascends_cons, ascends_tail, ascends_head, ascends_set, has-set_of_numbers, has-append, ascends_same}
 
 pub id_below : (first g id : ℕ) (entries : List Entry) → id < first → has (ids_from first g entries) id ≡ false
 id_below first g id [] h = refl
@@ -148,9 +83,9 @@ ascends_set_at f id (g ∷ gs) up =
 -- the set of a name is read back from the lists
 pub set_back : (entries : List Entry) (k : ℕ) (d : Entry) → k < length entries → Ascends (get_or entries k d).1 → set_at k (postings_of entries) ≡ (get_or entries k d).1
 set_back entries k d h up =
-    ascends_same _ _ (ascends_set_at (λ h. ids_from 0 h entries) k (trigrams_of entries) (ascends_ascending (flat_map (λ (entry : Entry). entry.1) entries))) up (λ g.
+    ascends_same _ _ (ascends_set_at (λ h. ids_from 0 h entries) k (trigrams_of entries) (ascends_set (flat_map (λ (entry : Entry). entry.1) entries))) up (λ g.
     has-set_at (λ h. ids_from 0 h entries) g k (trigrams_of entries)
-    ∙ ap (λ t. t && has (ids_from 0 g entries) k) (has-ascending g (flat_map (λ (entry : Entry). entry.1) entries))
+    ∙ ap (λ t. t && has (ids_from 0 g entries) k) (has-set_of_numbers g (flat_map (λ (entry : Entry). entry.1) entries))
     ∙ ap (λ t. has (flat_map (λ (entry : Entry). entry.1) entries) g && t) (ap (has (ids_from 0 g entries)) (let z : k ≡ 0 + k = omega arith in z) ∙ id_has 0 g k entries d h)
     ∙ both g (has (get_or entries k d).1 g) refl)
   where

@@ -1,10 +1,11 @@
 -- What is written as varints is read again.
 use Rattle.std.proofs.Common.{◌≡◌, ℕ, zero, suc, ◌+◌, ◌-◌, ◌*◌, ◌/◌, ◌%◌, ◌^◌, ◌<◌, true, false, cond, ltb, List, [], ◌∷◌, ◌++◌, length, refl, ap, subst, ◌∙◌, inl, inr, Some, None, arith, append_assoc}
+use Rattle.cs_index.specs.Rising.{RiseWithin}
+use Rattle.cs_index.specs.PostingLists.{varint_at, below_limit, read_varint, Ids, damaged, onto, after_delta, read_ids}
 use Rattle.std.proofs.lemmas.Bool.{lt-ltb, le-ltb, cases_lt, and_from}
 use Rattle.std.proofs.Math.Nat.{pow-succ'}
 use Rattle.std.specs.Prelude.{option_map, option_and_then, flat_map}
 use Rattle.cs_index.specs.Image.{varint, varint_within, deltas_from}
-use Rattle.cs_index.specs.Spelling.{varint_at, read_varint, below_limit, read_ids, after_delta, Ids, onto, damaged, RiseWithin}
 
 quotient_below : (n p : ℕ) → n < 128 * p → n / 128 < p
 quotient_below n p h = omega (arith, h)

@@ -1,10 +1,10 @@
 -- A varint, group by group.
 use Rattle.std.proofs.Common.{◌≡◌, ℕ, zero, suc, ◌+◌, ◌-◌, ◌*◌, ◌<◌, ◌≤◌, ◌^◌, cond, List, [], ◌∷◌, drop, Some, sym, ap, subst, ◌∙◌, arith, slice_get}
+use Rattle.cs_index.specs.PostingLists.{varint_at}
 use Rattle.std.proofs.lemmas.Bool.{le-ltb}
 use Rattle.std.proofs.Math.Nat.{pow-succ'}
 use Rattle.std.proofs.lemmas.List.{drop-drop}
 use Rattle.std.specs.Prelude.{option_map}
-use Rattle.cs_index.specs.Spelling.{varint_at}
 
 -- room for one group more
 pub room_more : (room : ℕ) → 1 ≤ room → 128 ^ room ≡ 128 * 128 ^ (room - 1)

@@ -1,16 +1,19 @@
 -- What is written of paths and entries opens as them.
 use Rattle.std.proofs.Common.{◌≡◌, ℕ, zero, suc, ◌+◌, ◌<◌, true, ◌&&◌, List, [], ◌∷◌, length, map, get_or, Ok, refl, ap, ◌∙◌, arith}
+use Rattle.cs_index.specs.Roundtrip.{parts_written, Has}
+use Rattle.cs_index.specs.PostingLists.{read_list, IsList, set_at, entries_of}
+use Rattle.cs_trigram.specs.Trigram.{Ascends}
 use Rattle.std.proofs.lemmas.List.{length-map}
 use Rattle.std.specs.List.{AllByRecursion, AllZip, list_all}
 use Rattle.cs_index.specs.Image.{Entry, ListEntry, Posting, image_of, list_entries, names_of, postings_of, posting_list, Sections}
-use Rattle.cs_index.specs.Spelling.{Ascends, IsIndexable, IsList, entries_of, read_list, set_at}
-use Rattle.cs_index.specs.Opening.{Has, Parts, lists_in, opened, parts_written, whole_ids}
+use Rattle.cs_index.specs.Spelling.{IsIndexable}
+use Rattle.cs_index.specs.Opening.{Parts, lists_in, opening, whole_ids}
 use Rattle.cs_index.proofs.ListedLemmas.{image_lists}
 use Rattle.cs_index.proofs.OpenedLemmas.{opens_spelled}
 use Rattle.cs_index.proofs.SpellingLemmas.{image_sections, image_spelled}
 use Rattle.cs_index.proofs.TransposeLemmas.{set_back}
 
-pub image_opens : (paths : List (List ℕ)) (entries : List Entry) → IsIndexable paths entries → opened (image_of paths entries) ≡ Ok (parts_written paths entries)
+pub image_opens : (paths : List (List ℕ)) (entries : List Entry) → IsIndexable paths entries → opening (image_of paths entries) ≡ Ok (parts_written paths entries)
 unfolding parts_written
 image_opens paths entries h = opens_spelled (image_of paths entries) (parts_written paths entries) (record { spelled = image_spelled paths entries h; postings = ap (λ (s : Sections). s.postings) (image_sections paths entries h) })
 

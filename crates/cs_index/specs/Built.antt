@@ -1,14 +1,16 @@
 -- What a builder holds, and what it refuses.
 -- docs/FORMAT.md, "The index as it is written".
-use Rattle.std.specs.Prelude.{◌≡◌, ℕ, ◌-◌, ◌<◌, ◌≤◌, Bool, true, not, ◌&&◌, nat_eq, nat_lt, List, [], ◌∷◌, ◌++◌, length, slice_get}
+use Rattle.std.specs.Prelude.{◌≡◌, ℕ, ◌-◌, ◌<◌, ◌≤◌, Bool, true, false, not, ◌&&◌, nat_eq, nat_lt, List, [], ◌∷◌, ◌++◌, length, slice_get}
+use Rattle.cs_tree.specs.PathSet.{Paths}
+use Rattle.cs_tree.specs.NameOrder.{bytes_cmp}
+use Rattle.cs_trigram.specs.Trigram.{Ascends, closing_trigram}
 use Rattle.std.specs.Option.{option_map_or}
 use Rattle.std.specs.List.{list_all, AllByRecursion}
 use Rattle.std.specs.Ordering.{is_lt}
 use Rattle.std.specs.FinMap as map'
 use Rattle.cs_tree.specs.PathSet as set'
-use Rattle.cs_tree.specs.Cover.{bytes_cmp, covers, Paths}
-use Rattle.cs_index.specs.Image.{Entry, Files, names_of}
-use Rattle.cs_index.specs.Spelling.{IsString, Ascends}
+use Rattle.cs_tree.specs.Cover.{covers}
+use Rattle.cs_index.specs.Image.{Entry, Files, names_of, IsString}
 
 -- The paths, and the names that were added, each with its trigrams.
 pub record Built : Type 0 where
@@ -16,8 +18,8 @@ pub record Built : Type 0 where
   pub entries : List Entry
 
 -- with one more name
-abbrev pub added : Built → List ℕ → List ℕ → Built
-added built name trigrams = record { paths = built.paths; entries = built.entries ++ (name, trigrams) ∷ [] }
+abbrev pub with_name : Built → List ℕ → List ℕ → Built
+with_name built name trigrams = record { paths = built.paths; entries = built.entries ++ (name, trigrams) ∷ [] }
 
 -- the text is not empty and has no NUL
 abbrev pub is_storable : List ℕ → Bool
@@ -35,6 +37,18 @@ is_before path other = is_lt (bytes_cmp path other) && not (covers path other)
 abbrev pub are_reduced : List (List ℕ) → Bool
 are_reduced [] = true
 are_reduced (path ∷ paths) = list_all (is_before path) paths && are_reduced paths
+
+-- more names than these an index does not have
+abbrev pub most_names : ℕ
+most_names = 1073741824
+
+-- the name may stand in an index, and is not above the last one
+abbrev pub IsOutOfOrder : Built → List ℕ → Type 0
+IsOutOfOrder built name = (is_storable name ≡ true) × (is_above (names_of built.entries) name ≡ false)
+
+-- the name could come next, and there are as many names as there may be
+abbrev pub IsOneTooMany : ℕ → Built → List ℕ → Type 0
+IsOneTooMany most built name = (is_storable name ≡ true) × (is_above (names_of built.entries) name ≡ true) × (most ≤ length built.entries)
 
 -- paths that an index may be built of
 abbrev pub are_paths : List (List ℕ) → Bool
@@ -54,6 +68,6 @@ pub record IsBuilt (built : Built) : Type 0 where
   pub each_name : AllByRecursion IsString (names_of built.entries)
   -- names strictly ascend
   pub ascend : map'.is_sorted bytes_cmp built.entries ≡ true
-  pub trigrams : AllByRecursion (λ (entry : Entry). AllByRecursion (λ g. g < 16777215) entry.1) built.entries
+  pub trigrams : AllByRecursion (λ (entry : Entry). AllByRecursion (λ g. g < closing_trigram) entry.1) built.entries
   pub sets : AllByRecursion (λ (entry : Entry). Ascends entry.1) built.entries
-  pub few : length built.entries ≤ 1073741824
+  pub few : length built.entries ≤ most_names

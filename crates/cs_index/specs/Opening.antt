@@ -1,15 +1,15 @@
 -- An index as it is read: which bytes open, what they hold, and which fault the others have.
 -- docs/FORMAT.md, "The index as it is read".
-use Rattle.std.specs.Prelude.{◌≡◌, ℕ, zero, suc, ◌+◌, ◌-◌, ◌*◌, ◌/◌, ◌%◌, Bool, true, not, ◌&&◌, ◌||◌, nat_eq, nat_le, nat_lt, List, [], ◌∷◌, ◌++◌, length, map, slice_index, slice_range, if◌then◌else◌, Result, Ok, Err, Option, find, ◌<◌, ◌^◌}
-use Rattle.std.specs.Ordering.{is_lt}
-use Rattle.std.specs.List.{list_all, starts_with, ends_with, AllByRecursion}
+use Rattle.std.specs.Prelude.{ℕ, zero, suc, ◌+◌, ◌-◌, ◌*◌, ◌/◌, ◌%◌, Bool, true, not, ◌&&◌, ◌||◌, nat_eq, nat_le, nat_lt, List, [], ◌∷◌, ◌++◌, length, map, slice_index, slice_range, if◌then◌else◌, Result, Ok, Err, Option, find, ◌^◌}
+use Rattle.cs_index.specs.PostingLists.{Ids, read_list, entries_of}
+use Rattle.cs_trigram.specs.Trigram.{closing_trigram}
+use Rattle.std.specs.List.{list_all, starts_with, ends_with}
 use Rattle.std.specs.Str.{is_utf8}
 use Rattle.std.specs.Int.{from_be_bytes, w32}
-use Rattle.cs_tree.specs.Cover.{bytes_cmp, same}
+use Rattle.cs_tree.specs.Cover.{same}
 use Rattle.cs_index.specs.declared.fault.IndexFault.{IndexFault}
 use Rattle.cs_index.specs.declared.fault.IndexFault.TheVariants.{BadMagic, BadTrailer, BadOffsets, BadPaths, BadNames, BadNameIndex, BadListIndex, BadList}
-use Rattle.cs_index.specs.Image.{joined, ended, starts_from, Sections, sections_of, magic, trailer_magic, Entry, ListEntry, Posting, names_of, list_entries, postings_of}
-use Rattle.cs_index.specs.Spelling.{Ascends, Ids, Spells, read_list, entries_of}
+use Rattle.cs_index.specs.Image.{concat, with_nul, starts_from, Sections, magic, trailer_magic, Entry, ListEntry, Posting}
 use Rattle.cs_index.specs.Strings.{texts_in}
 
 -- What an index holds: its paths, its names, the entries of its list index, and the section that has the lists.
@@ -47,7 +47,11 @@ texts_of section = before_empty (texts_in section)
 
 -- the section is its strings, each one UTF-8 and ended by a NUL, and then just these bytes
 unfoldable pub is_section : List ℕ → List ℕ → Bool
-is_section closing section = same section (joined (map ended (texts_of section)) ++ closing) && list_all is_utf8 (texts_of section)
+is_section closing section = same section (concat (map with_nul (texts_of section)) ++ closing) && list_all is_utf8 (texts_of section)
+
+-- strings, and at most one NUL behind them
+abbrev pub is_names_section : List ℕ → Bool
+is_names_section section = is_section (0 ∷ []) section || is_section [] section
 
 -- ---- entries
 
@@ -64,7 +68,7 @@ entries_in bytes = entries_from bytes 0 (length bytes / 11)
 
 -- four bytes are left at the offset, and `ff ff ff` has no file
 abbrev pub is_entry : ℕ → ListEntry → Bool
-is_entry room e = nat_le (e.offset + 4) room && (nat_lt e.trigram 16777215 || nat_eq e.count 0)
+is_entry room e = nat_le (e.offset + 4) room && (nat_lt e.trigram closing_trigram || nat_eq e.count 0)
 
 -- each trigram is below the next
 abbrev pub rises : List ListEntry → Bool
@@ -75,7 +79,7 @@ rises (d ∷ e ∷ es) = nat_lt d.trigram e.trigram && rises (e ∷ es)
 -- ---- the tests, in their order
 
 abbrev pub has_trailer : List ℕ → Bool
-has_trailer bytes = nat_le 52 (length bytes) && (nat_lt (length bytes) 4294967296 && ends_with nat_eq bytes trailer_magic)
+has_trailer bytes = nat_le 52 (length bytes) && (nat_lt (length bytes) (2 ^ 32) && ends_with nat_eq bytes trailer_magic)
 
 -- places that rise from 16 to the start of the trailer
 abbrev pub are_starts : ℕ → ℕ → ℕ → ℕ → ℕ → ℕ → Bool
@@ -96,25 +100,18 @@ cut_at bytes a b c d e trailer =
 abbrev pub cut_before : List ℕ → ℕ → Result Sections IndexFault
 cut_before bytes at = cut_at bytes (number_at bytes at) (number_at bytes (at + 4)) (number_at bytes (at + 8)) (number_at bytes (at + 12)) (number_at bytes (at + 16)) at
 
-abbrev pub cut_ended : List ℕ → Result Sections IndexFault
-cut_ended bytes = if not (has_trailer bytes) then Err BadTrailer else cut_before bytes (length bytes - 36)
-
+-- the sections of bytes with both magics
 unfoldable pub cut_of : List ℕ → Result Sections IndexFault
-cut_of bytes = if not (starts_with nat_eq bytes magic) then Err BadMagic else cut_ended bytes
+cut_of bytes =
+    if not (starts_with nat_eq bytes magic) then Err BadMagic
+    else (if not (has_trailer bytes) then Err BadTrailer else cut_before bytes (length bytes - 36))
 
-abbrev pub are_paths_read : Sections → Bool
-are_paths_read s = is_section (0 ∷ []) s.paths
+-- from a place on stand the numbers where names begin, and one number more
+abbrev pub has_starts : List ℕ → ℕ → ℕ → List (List ℕ) → Bool
+has_starts bytes at offset names = nat_eq (length bytes) (at + 4 * (length names + 1)) && same (numbers_from bytes at (length names)) (starts_from offset (map with_nul names))
 
-abbrev pub are_names_read : Sections → Bool
-are_names_read s = is_section (0 ∷ []) s.names || is_section [] s.names
-
--- from a place on stand the numbers where strings begin, and one number more
-abbrev pub offsets_from : List ℕ → ℕ → ℕ → List (List ℕ) → Bool
-offsets_from bytes at offset names = nat_eq (length bytes) (at + 4 * (length names + 1)) && same (numbers_from bytes at (length names)) (starts_from offset (map ended names))
-
--- an offset for each name, and one more number
 unfoldable pub is_name_index : List ℕ → List (List ℕ) → Bool
-is_name_index bytes names = offsets_from bytes 0 0 names
+is_name_index bytes names = has_starts bytes 0 0 names
 
 unfoldable pub is_list_index : ℕ → List ℕ → Bool
 is_list_index room bytes = nat_eq (length bytes % 11) 0 && (rises (entries_in bytes) && list_all (is_entry room) (entries_in bytes))
@@ -124,8 +121,8 @@ parts_of s = record { paths = texts_of s.paths; names = texts_of s.names; entrie
 
 abbrev pub read_sections : Sections → Result Parts IndexFault
 read_sections s =
-    if not (are_paths_read s) then Err BadPaths
-    else (if not (are_names_read s) then Err BadNames
+    if not (is_section (0 ∷ []) s.paths) then Err BadPaths
+    else (if not (is_names_section s.names) then Err BadNames
     else (if not (is_name_index s.name_index (texts_of s.names)) then Err BadNameIndex
     else (if not (is_list_index (length s.postings) s.list_index) then Err BadListIndex
     else Ok (parts_of s))))
@@ -135,42 +132,14 @@ read_cut (Ok s) = read_sections s
 read_cut (Err fault) = Err fault
 
 -- what the bytes open as
-unfoldable pub opened : List ℕ → Result Parts IndexFault
-opened bytes = read_cut (cut_of bytes)
-
--- No string stands in front: the section can only be its closing bytes.
-pub record NoText (section : List ℕ) : Type 0 where
-  pub closed : is_section (0 ∷ []) section ≡ same section (0 ∷ [])
-  pub bare : is_section [] section ≡ same section []
+unfoldable pub opening : List ℕ → Result Parts IndexFault
+opening bytes = read_cut (cut_of bytes)
 
 -- ---- what is asked of an index
-
--- Sections that were read.
-pub record IsRead (s : Sections) : Type 0 where
-  pub paths : are_paths_read s ≡ true
-  pub names : are_names_read s ≡ true
-  pub name_index : is_name_index s.name_index (texts_of s.names) ≡ true
-  pub list_index : is_list_index (length s.postings) s.list_index ≡ true
-  pub few_names : length s.name_index < 2 ^ 32
-  pub few_lists : length s.list_index < 2 ^ 32
-
--- each name is below the next
-abbrev pub names_ascend : List (List ℕ) → Bool
-names_ascend [] = true
-names_ascend (name ∷ []) = true
-names_ascend (name ∷ next ∷ names) = is_lt (bytes_cmp name next) && names_ascend (next ∷ names)
-
--- the entry of a trigram
-abbrev pub entry_of : List ListEntry → ℕ → Option ListEntry
-entry_of entries g = find (λ (e : ListEntry). nat_eq e.trigram g) entries
 
 -- the ids of an entry's list, up to the first damage
 abbrev pub ids_read : Parts → ListEntry → Ids
 ids_read parts e = read_list parts.postings (length parts.names) e
-
--- what an iterator gives of ids: each of them, and a fault where the list is damaged
-abbrev pub told_ids : Ids → List (Result ℕ IndexFault)
-told_ids r = map (λ id. Ok id) r.ids ++ (if r.whole then [] else Err BadList ∷ [])
 
 -- the ids of a list; a damaged one has none
 abbrev pub whole_ids : Ids → List ℕ
@@ -187,31 +156,3 @@ are_whole parts = list_all (λ (e : ListEntry). (ids_read parts e).whole) parts.
 -- each name with the trigrams whose list has its id
 abbrev pub files_read : Parts → List Entry
 files_read parts = entries_of 0 parts.names (lists_in parts)
-
--- ---- what opens, and what is written
-
--- each is a byte
-abbrev pub AreBytes : List ℕ → Type 0
-AreBytes bytes = (at : ℕ) → slice_index bytes at < 256
-
--- The bytes spell these parts.
-pub record SpellsParts (bytes : List ℕ) (parts : Parts) : Type 0 where
-  pub spelled : Spells bytes parts.paths parts.names parts.entries
-  pub postings : spelled.sections.postings ≡ parts.postings
-
--- what an index has that is written of paths and entries
-unfoldable pub parts_written : List (List ℕ) → List Entry → Parts
-parts_written paths entries = record {
-  paths = paths;
-  names = names_of entries;
-  entries = list_entries 0 (postings_of entries);
-  postings = (sections_of paths (names_of entries) (postings_of entries)).postings;
-}
-
--- An index has these paths and entries, and each of its lists is whole.
-pub record Has (parts : Parts) (paths : List (List ℕ)) (entries : List Entry) : Type 0 where
-  pub has_paths : parts.paths ≡ paths
-  pub has_names : parts.names ≡ names_of entries
-  pub has_lists : lists_in parts ≡ postings_of entries
-  pub whole : are_whole parts ≡ true
-  pub has_files : AllByRecursion (λ (entry : Entry). Ascends entry.1) entries → files_read parts ≡ entries

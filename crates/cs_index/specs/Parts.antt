@@ -1,8 +1,8 @@
 -- What is true of the parts of every index that was opened.
 -- docs/FORMAT.md, "The index as it is read".
 use Rattle.std.specs.Prelude.{◌≡◌, ◌<◌, ◌^◌, true, length}
+use Rattle.cs_index.specs.Image.{IsString}
 use Rattle.std.specs.List.{AllByRecursion, list_all}
-use Rattle.cs_index.specs.Spelling.{IsString}
 use Rattle.cs_index.specs.Opening.{Parts, is_entry, rises}
 
 -- Paths and names are strings, the trigrams of the entries rise, and each entry has room for its list;

@@ -5,7 +5,7 @@ use Rattle.std.specs.declared.vec.Vec.{Vec}
 use Rattle.std.specs.declared.alloc.Global.{Global}
 use Rattle.cs_index.specs.Image.{Posting}
 use Rattle.cs_index.specs.Gathering.{AreDistinct, keys}
-use Rattle.cs_index.specs.declared.slots.Slots.{Slots}
+use Rattle.cs_index.specs.declared.writing.slots.Slots.{Slots}
 
 -- a slot in pages; 0 where there is none
 unfoldable pub slot_in : List (Vec ℕ Global) → ℕ → ℕ

@@ -14,7 +14,8 @@ pub enum BuildFault {
     /// The name is not above the last one, as where `/b` is added twice.
     #[error("name out of order")]
     OutOfOrder,
-    /// A path is empty or has a NUL, the paths do not ascend, or one covers another, as `/a` does `/a/b`.
+    /// A path is empty or has a NUL, the paths do not ascend, or one covers another, as `/a` does
+    /// `/a/b`.
     #[error("bad paths")]
     BadPaths,
     /// There are 2^30 names already, or the index would pass 2^32 - 1 bytes.

@@ -1,38 +1,32 @@
 -- Lists of parts that are written out.
 use Rattle.std.proofs.Common.{◌≡◌, ℕ, zero, suc, ◌+◌, ◌-◌, ◌<◌, List, [], ◌∷◌, ◌++◌, refl, ◌∙◌, ap, arith}
+use Rattle.cs_syntax.specs.TreeList.{append}
 use Rattle.cs_syntax.specs.Matching.{Tree, Trees, cat, rep, none, more}
 use Rattle.cs_syntax.specs.Node.{tree_of, trees_of}
 use Rattle.cs_syntax.specs.declared.node.Node.{Node}
-use Rattle.cs_match.proofs.TreesLemmas.{trees_last}
+use Rattle.cs_syntax.proofs.TreeLemmas.{trees_last}
+use Rattle.cs_syntax.proofs.TreeListLemmas.{append_assoc_trees}
 use Rattle.std.specs.Prelude.{None}
-use Rattle.cs_match.specs.WrittenOut.{joined, copies, repeat_written_out}
+use Rattle.cs_match.specs.Expansion.{copies, repeat_expansion}
 
-pub joined_assoc : (a b c : Trees) → joined (joined a b) c ≡ joined a (joined b c)
-joined_assoc none b c = refl
-joined_assoc (more t a) b c = ap (more t) (joined_assoc a b c)
-
-pub joined_none : (a : Trees) → joined a none ≡ a
-joined_none none = refl
-joined_none (more t a) = ap (more t) (joined_none a)
-
-pub copies_joined : (n : ℕ) (t : Tree) (rest : Trees) → joined (copies n t none) rest ≡ copies n t rest
-copies_joined zero t rest = refl
-copies_joined (suc n) t rest = ap (more t) (copies_joined n t rest)
+pub append_copies : (n : ℕ) (t : Tree) (rest : Trees) → append (copies n t none) rest ≡ copies n t rest
+append_copies zero t rest = refl
+append_copies (suc n) t rest = ap (more t) (append_copies n t rest)
 
 copies_last : (n : ℕ) (t : Tree) → copies n t (more t none) ≡ copies (suc n) t none
 copies_last zero t = refl
 copies_last (suc n) t = ap (more t) (copies_last n t)
 
 -- one copy more is pushed
-pub pushed_copy : (old xs : List Node) (x : Node) (t : Tree) (k : ℕ) → trees_of xs ≡ joined (trees_of old) (copies k t none) → tree_of x ≡ t →
-    trees_of (xs ++ x ∷ []) ≡ joined (trees_of old) (copies (k + 1) t none)
+pub pushed_copy : (old xs : List Node) (x : Node) (t : Tree) (k : ℕ) → trees_of xs ≡ append (trees_of old) (copies k t none) → tree_of x ≡ t →
+    trees_of (xs ++ x ∷ []) ≡ append (trees_of old) (copies (k + 1) t none)
 pushed_copy old xs x t k e is =
     let next : suc k ≡ k + 1 = omega arith in
-    trees_last xs x ∙ ap (λ ts. joined ts (more (tree_of x) none)) e ∙ joined_assoc (trees_of old) (copies k t none) (more (tree_of x) none)
-    ∙ ap (λ u. joined (trees_of old) (joined (copies k t none) (more u none))) is
-    ∙ ap (joined (trees_of old)) (copies_joined k t (more t none) ∙ copies_last k t ∙ ap (λ n. copies n t none) next)
+    trees_last xs x ∙ ap (λ ts. append ts (more (tree_of x) none)) e ∙ append_assoc_trees (trees_of old) (copies k t none) (more (tree_of x) none)
+    ∙ ap (λ u. append (trees_of old) (append (copies k t none) (more u none))) is
+    ∙ ap (append (trees_of old)) (append_copies k t (more t none) ∙ copies_last k t ∙ ap (λ n. copies n t none) next)
 
-pub counted_loop : (t : Tree) (n : ℕ) → 0 < n → repeat_written_out t n None ≡ cat (copies (n - 1) t (more (rep t 1 None) none))
+pub counted_loop : (t : Tree) (n : ℕ) → 0 < n → repeat_expansion t n None ≡ cat (copies (n - 1) t (more (rep t 1 None) none))
 counted_loop t zero h = absurd (omega arith)
 counted_loop t (suc n) h =
     let one : n ≡ suc n - 1 = omega arith in ap (λ k. cat (copies k t (more (rep t 1 None) none))) one

@@ -5,9 +5,9 @@ use Rattle.std.proofs.lemmas.Bool.{both_ways, cases_lt, or_cases, or_left, or_ri
 use Rattle.cs_syntax.specs.Matching.{Tree, Found}
 use Rattle.cs_match.specs.Finding.{FindingIsDecided}
 use Rattle.cs_match.specs.Places.{exit_at, IsLooped}
-use Rattle.cs_match.specs.WrittenOut.{written_out}
+use Rattle.cs_match.specs.Expansion.{expansion}
 use Rattle.cs_match.proofs.MarksLemmas.{found_where_left}
-use Rattle.cs_match.proofs.WrittenOutLemmas.{written_out_found, is_looped}
+use Rattle.cs_match.proofs.ExpansionLemmas.{expansion_found, is_looped}
 
 module _ (t : Tree) (s : List ℕ) (looped : IsLooped t) where
   pub found_at : (i : ℕ) → i ≤ length s → exit_at s t (λ _. true) i ≡ true → Found t s
@@ -52,10 +52,10 @@ left_anywhere s t (suc n) i le h =
 
 pub finding_is_decided : FindingIsDecided
 finding_is_decided tree =
-    let t = written_out tree in (
+    let t = expansion tree in (
       λ line. left_by line t (length line),
       λ line.
-          let same = written_out_found tree line in
+          let same = expansion_found tree line in
           let places = found_where_left t line (is_looped tree) in (
             λ h. same.0 (places.1 (left_somewhere line t (length line) h)),
             λ f. let w = places.0 (same.1 f) in left_anywhere line t (length line) w.0 w.1 w.2,

@@ -6,7 +6,7 @@ use Rattle.std.proofs.lemmas.Bool.{and_parts, or_cases, and_from, or_left, or_ri
 use Rattle.cs_syntax.specs.Matching.{Tree, Trees, empty, one_of, cat, alt, rep, line_start, line_end, word_edge, not_word_edge, none, more}
 use Rattle.cs_syntax.specs.Matching.{member, at_word_edge, Chain, Takes, TakesAll, TakesSome, Found}
 use Rattle.cs_match.specs.declared.around.Around.{Around}
-use Rattle.cs_match.specs.Places.{around, places, places_of, blank, blank_all, blank_some, leaves, leaves_all, leaves_some, exits, step, step_all, step_each, marks, exit_at, IsLooped, AreLooped}
+use Rattle.cs_match.specs.Places.{around, places, places_of, nullable, nullable_all, nullable_some, leaves, leaves_all, leaves_some, exits, step, step_all, step_each, marks, exit_at, IsLooped, AreLooped}
 
 mutual
   pub length-step : (t : Tree) (enter : Bool) (ms : List Bool) (a : Around) (b : ℕ) → length (step t enter ms a b) ≡ places t
@@ -70,7 +70,7 @@ module _ (s : List ℕ) where
 
   pub leaves_cat : (t : Tree) (ts : Trees) (enter : ℕ → Bool) (i : ℕ) →
       leaves_all (more t ts) (marks s (cat (more t ts)) enter i) (around s i) ≡
-      (leaves t (marks s t enter i) (around s i) && blank_all ts (around s i)) || leaves_all ts (marks s (cat ts) (exit_at s t enter) i) (around s i)
+      (leaves t (marks s t enter i) (around s i) && nullable_all ts (around s i)) || leaves_all ts (marks s (cat ts) (exit_at s t enter) i) (around s i)
   leaves_cat t ts enter i =
       let A = marks s t enter i in
       let B = marks s (cat ts) (exit_at s t enter) i in
@@ -112,42 +112,42 @@ module _ (s : List ℕ) where
       exit_at s (cat (more t ts)) enter i ≡ exit_at s (cat ts) (exit_at s t enter) i
   exit_cat t ts enter i =
       rw (leaves_cat s t ts enter i)
-      (cat_bools (leaves t (marks s t enter i) (around s i)) (blank_all ts (around s i)) (leaves_all ts (marks s (cat ts) (exit_at s t enter) i) (around s i)) (enter i) (blank t (around s i)))
+      (cat_bools (leaves t (marks s t enter i) (around s i)) (nullable_all ts (around s i)) (leaves_all ts (marks s (cat ts) (exit_at s t enter) i) (around s i)) (enter i) (nullable t (around s i)))
 
   pub exit_alt : (t : Tree) (ts : Trees) (enter : ℕ → Bool) (i : ℕ) →
       exit_at s (alt (more t ts)) enter i ≡ (exit_at s t enter i || exit_at s (alt ts) enter i)
   exit_alt t ts enter i =
       rw (leaves_alt s t ts enter i)
-      (alt_bools (leaves t (marks s t enter i) (around s i)) (leaves_some ts (marks s (alt ts) enter i) (around s i)) (enter i) (blank t (around s i)) (blank_some ts (around s i)))
+      (alt_bools (leaves t (marks s t enter i) (around s i)) (leaves_some ts (marks s (alt ts) enter i) (around s i)) (enter i) (nullable t (around s i)) (nullable_some ts (around s i)))
 
   mutual
-    pub blank_takes : (t : Tree) (i : ℕ) → IsLooped t → blank t (around s i) ≡ true → Takes s t i i
-    blank_takes empty i st h = refl
-    blank_takes (one_of set) i st h = (cc)
-    blank_takes (cat ts) i st h = blank_takes_all ts i st h
-    blank_takes (alt ts) i st h = blank_takes_some ts i st h
-    blank_takes (rep x n m) i st h =
-        elim (or_cases (nat_eq n 0) (blank x (around s i)) h) [
+    pub nullable_takes : (t : Tree) (i : ℕ) → IsLooped t → nullable t (around s i) ≡ true → Takes s t i i
+    nullable_takes empty i st h = refl
+    nullable_takes (one_of set) i st h = (cc)
+    nullable_takes (cat ts) i st h = nullable_takes_all ts i st h
+    nullable_takes (alt ts) i st h = nullable_takes_some ts i st h
+    nullable_takes (rep x n m) i st h =
+        elim (or_cases (nat_eq n 0) (nullable x (around s i)) h) [
           | inl zero_times ↦ let e = eqb-true n 0 zero_times in (0, omega arith, rw st.1 tt, refl)
-          | inr one ↦ (1, st.0, rw st.1 tt, (i, blank_takes x i st.2 one, refl))
+          | inr one ↦ (1, st.0, rw st.1 tt, (i, nullable_takes x i st.2 one, refl))
         ]
-    blank_takes line_start i st h = let e = eqb-true i 0 h in (e, e)
-    blank_takes line_end i st h = let e = eqb-true i (length s) h in (e, e)
-    blank_takes word_edge i st h = (refl, h)
-    blank_takes not_word_edge i st h = (refl, not-true (at_word_edge s i) h)
+    nullable_takes line_start i st h = let e = eqb-true i 0 h in (e, e)
+    nullable_takes line_end i st h = let e = eqb-true i (length s) h in (e, e)
+    nullable_takes word_edge i st h = (refl, h)
+    nullable_takes not_word_edge i st h = (refl, not-true (at_word_edge s i) h)
 
-    pub blank_takes_all : (ts : Trees) (i : ℕ) → AreLooped ts → blank_all ts (around s i) ≡ true → TakesAll s ts i i
-    blank_takes_all none i st h = refl
-    blank_takes_all (more t ts) i st h =
-        let p = and_parts (blank t (around s i)) (blank_all ts (around s i)) h in
-        (i, blank_takes t i st.0 p.0, blank_takes_all ts i st.1 p.1)
+    pub nullable_takes_all : (ts : Trees) (i : ℕ) → AreLooped ts → nullable_all ts (around s i) ≡ true → TakesAll s ts i i
+    nullable_takes_all none i st h = refl
+    nullable_takes_all (more t ts) i st h =
+        let p = and_parts (nullable t (around s i)) (nullable_all ts (around s i)) h in
+        (i, nullable_takes t i st.0 p.0, nullable_takes_all ts i st.1 p.1)
 
-    pub blank_takes_some : (ts : Trees) (i : ℕ) → AreLooped ts → blank_some ts (around s i) ≡ true → TakesSome s ts i i
-    blank_takes_some none i st h = (cc)
-    blank_takes_some (more t ts) i st h =
-        elim (or_cases (blank t (around s i)) (blank_some ts (around s i)) h) [
-          | inl p ↦ inl (blank_takes t i st.0 p)
-          | inr p ↦ inr (blank_takes_some ts i st.1 p)
+    pub nullable_takes_some : (ts : Trees) (i : ℕ) → AreLooped ts → nullable_some ts (around s i) ≡ true → TakesSome s ts i i
+    nullable_takes_some none i st h = (cc)
+    nullable_takes_some (more t ts) i st h =
+        elim (or_cases (nullable t (around s i)) (nullable_some ts (around s i)) h) [
+          | inl p ↦ inl (nullable_takes t i st.0 p)
+          | inr p ↦ inr (nullable_takes_some ts i st.1 p)
         ]
 
   -- t was entered before i, at a place from which it takes the part up to i
@@ -163,11 +163,11 @@ module _ (s : List ℕ) where
 
   pub exit_sound : (t : Tree) → IsLooped t → IsSound t → (enter : ℕ → Bool) (i : ℕ) → i ≤ length s → exit_at s t enter i ≡ true → Comes t enter i
   exit_sound t st sound enter i le h =
-      elim (or_cases (leaves t (marks s t enter i) (around s i)) (enter i && blank t (around s i)) h) [
+      elim (or_cases (leaves t (marks s t enter i) (around s i)) (enter i && nullable t (around s i)) h) [
         | inl p ↦ let c = sound enter i le p in (c.0, omega (arith, c.1), c.2, c.3)
         | inr p ↦
-            let q = and_parts (enter i) (blank t (around s i)) p in
-            (i, omega arith, q.0, blank_takes t i st q.1)
+            let q = and_parts (enter i) (nullable t (around s i)) p in
+            (i, omega arith, q.0, nullable_takes t i st q.1)
       ]
 
   pub Chain_more : (R : ℕ → ℕ → Type 0) (c i j l : ℕ) → Chain R c i j → R j l → Chain R (suc c) i l
@@ -211,9 +211,9 @@ module _ (s : List ℕ) where
     sound_all (more t ts) st enter i le h =
         elim (or_cases _ _ (rw (leaves_cat s t ts enter i) at h)) [
           | inl p ↦
-              let q = and_parts (leaves t (marks s t enter i) (around s i)) (blank_all ts (around s i)) p in
+              let q = and_parts (leaves t (marks s t enter i) (around s i)) (nullable_all ts (around s i)) p in
               let c = sound t st.0 enter i le q.0 in
-              (c.0, c.1, c.2, (i, c.3, blank_takes_all ts i st.1 q.1))
+              (c.0, c.1, c.2, (i, c.3, nullable_takes_all ts i st.1 q.1))
           | inr p ↦
               let c = sound_all ts st.1 (exit_at s t enter) i le p in
               let d = exit_sound t st.0 (sound t st.0) enter c.0 (omega (arith, c.1)) c.2 in
@@ -228,10 +228,10 @@ module _ (s : List ℕ) where
           | inr p ↦ let c = sound_some ts st.1 enter i le p in (c.0, c.1, c.2, inr c.3)
         ]
 
-  blank_exit : (t : Tree) (enter : ℕ → Bool) (k i : ℕ) → enter k ≡ true → k ≡ i → blank t (around s i) ≡ true → exit_at s t enter i ≡ true
-  blank_exit t enter k i e same h =
+  nullable_exit : (t : Tree) (enter : ℕ → Bool) (k i : ℕ) → enter k ≡ true → k ≡ i → nullable t (around s i) ≡ true → exit_at s t enter i ≡ true
+  nullable_exit t enter k i e same h =
       let P : ℕ → Type 0 = λ x. enter x ≡ true in
-      or_right (leaves t (marks s t enter i) (around s i)) _ (and_from (enter i) (blank t (around s i)) (subst P same e) h)
+      or_right (leaves t (marks s t enter i) (around s i)) _ (and_from (enter i) (nullable t (around s i)) (subst P same e) h)
 
   abbrev pub IsComplete : Tree → Type 0
   IsComplete t = (enter : ℕ → Bool) (k i : ℕ) → enter k ≡ true → Takes s t k i → exit_at s t enter i ≡ true
@@ -239,9 +239,9 @@ module _ (s : List ℕ) where
   again_round : (x : Tree) (n : ℕ) (m : Option ℕ) (enter : ℕ → Bool) (i : ℕ) → exit_at s x (again s x n m enter) i ≡ true → again s x n m enter i ≡ true
   unfolding again
   again_round x n m enter i h =
-      elim (or_cases (leaves x (marks s x (again s x n m enter) i) (around s i)) (again s x n m enter i && blank x (around s i)) h) [
+      elim (or_cases (leaves x (marks s x (again s x n m enter) i) (around s i)) (again s x n m enter i && nullable x (around s i)) h) [
         | inl p ↦ or_right (enter i) _ (rw (marks_rep s x n m enter i) p)
-        | inr p ↦ (and_parts (again s x n m enter i) (blank x (around s i)) p).0
+        | inr p ↦ (and_parts (again s x n m enter i) (nullable x (around s i)) p).0
       ]
 
   again_from : (x : Tree) (n : ℕ) (m : Option ℕ) (enter : ℕ → Bool) (k : ℕ) → enter k ≡ true → again s x n m enter k ≡ true
@@ -253,10 +253,10 @@ module _ (s : List ℕ) where
   unfolding again
   round_exit x n m enter i h =
       let left = leaves x (marks s (rep x n m) enter i) (around s i) in
-      elim (or_cases (leaves x (marks s x (again s x n m enter) i) (around s i)) (again s x n m enter i && blank x (around s i)) h) [
+      elim (or_cases (leaves x (marks s x (again s x n m enter) i) (around s i)) (again s x n m enter i && nullable x (around s i)) h) [
         | inl p ↦ or_left left _ (rw (marks_rep s x n m enter i) p)
         | inr p ↦
-            let q = and_parts (again s x n m enter i) (blank x (around s i)) p in
+            let q = and_parts (again s x n m enter i) (nullable x (around s i)) p in
             elim (or_cases (enter i) left q.0) [
               | inl e ↦ or_right left _ (and_from (enter i) _ e (or_right (nat_eq n 0) _ q.1))
               | inr l ↦ or_left left _ l
@@ -274,12 +274,12 @@ module _ (s : List ℕ) where
   loop_exit : (x : Tree) (n : ℕ) (m : Option ℕ) → IsComplete x → (enter : ℕ → Bool) (c k i : ℕ) →
       enter k ≡ true → n ≤ c → Chain (Takes s x) c k i → exit_at s (rep x n m) enter i ≡ true
   loop_exit x n m complete enter zero k i e le h =
-      blank_exit (rep x n m) enter k i e h (or_left (nat_eq n 0) _ (eq-eqb n 0 (omega arith)))
+      nullable_exit (rep x n m) enter k i e h (or_left (nat_eq n 0) _ (eq-eqb n 0 (omega arith)))
   loop_exit x n m complete enter (suc c) k i e le h = rounds_exit x n m complete enter c k i (again_from x n m enter k e) h
 
   mutual
     pub complete : (t : Tree) → IsComplete t
-    complete empty enter k i e h = blank_exit empty enter k i e h refl
+    complete empty enter k i e h = nullable_exit empty enter k i e h refl
     complete (one_of set) enter k i e h =
         let P : ℕ → Type 0 = λ x. exit_at s (one_of set) enter x ≡ true in
         subst P (sym h.2) (or_left (enter k && member set (slice_index s k)) _ (and_from (enter k) _ e h.1))
@@ -287,17 +287,17 @@ module _ (s : List ℕ) where
     complete (alt ts) enter k i e h = complete_some ts enter k i e h
     complete (rep x n m) enter k i e h =
         loop_exit x n m (complete x) enter h.0 k i e h.1 h.3
-    complete line_start enter k i e h = blank_exit line_start enter k i e (h.0 ∙ sym h.1) (eq-eqb i 0 h.1)
-    complete line_end enter k i e h = blank_exit line_end enter k i e (h.0 ∙ sym h.1) (eq-eqb i (length s) h.1)
+    complete line_start enter k i e h = nullable_exit line_start enter k i e (h.0 ∙ sym h.1) (eq-eqb i 0 h.1)
+    complete line_end enter k i e h = nullable_exit line_end enter k i e (h.0 ∙ sym h.1) (eq-eqb i (length s) h.1)
     complete word_edge enter k i e h =
         let P : ℕ → Type 0 = λ x. at_word_edge s x ≡ true in
-        blank_exit word_edge enter k i e h.0 (subst P h.0 h.1)
+        nullable_exit word_edge enter k i e h.0 (subst P h.0 h.1)
     complete not_word_edge enter k i e h =
         let P : ℕ → Type 0 = λ x. at_word_edge s x ≡ false in
-        blank_exit not_word_edge enter k i e h.0 (ap not (subst P h.0 h.1))
+        nullable_exit not_word_edge enter k i e h.0 (ap not (subst P h.0 h.1))
 
     pub complete_all : (ts : Trees) → IsComplete (cat ts)
-    complete_all none enter k i e h = blank_exit (cat none) enter k i e h refl
+    complete_all none enter k i e h = nullable_exit (cat none) enter k i e h refl
     complete_all (more t ts) enter k i e h =
         rw (exit_cat t ts enter i) (complete_all ts (exit_at s t enter) h.0 i (complete t enter k h.0 e h.1) h.2)
 

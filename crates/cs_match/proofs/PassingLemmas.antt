@@ -1,26 +1,23 @@
 -- One part more of a sequence or a choice, where the marks are moved in place.
-use Rattle.std.proofs.Common.{◌≡◌, ℕ, ◌+◌, ◌++◌, ◌||◌, List, Bool, true, false, take, drop, length, refl, sym, ◌∙◌, ap, arith, append_assoc, length-append, length-drop}
+use Rattle.std.proofs.Common.{◌≡◌, ℕ, ◌+◌, ◌++◌, ◌||◌, List, Bool, take, drop, length, sym, ◌∙◌, ap, arith, append_assoc, length-append, length-drop}
+use Rattle.std.proofs.Math.Bool.{or_assoc}
 use Rattle.std.proofs.lemmas.Slice.{take-put_mid, drop-put_mid}
 use Rattle.std.proofs.lemmas.List.{drop-drop, length-take}
 use borrow.Rule.Slice.PartMut.{put_mid}
 use Rattle.cs_syntax.specs.Matching.{Tree, Trees, cat, alt, more}
 use Rattle.cs_match.specs.declared.around.Around.{Around}
-use Rattle.cs_match.specs.Places.{places, places_of, blank, blank_all, blank_some, leaves, leaves_all, leaves_some, exits, step, step_all, step_each}
+use Rattle.cs_match.specs.Places.{places, places_of, nullable, nullable_all, nullable_some, leaves, leaves_all, leaves_some, exits, step, step_all, step_each}
 use Rattle.cs_match.proofs.MarksLemmas.{length-step, cat_bools, alt_bools}
-
-or_assoc : (a b c : Bool) → ((a || b) || c) ≡ (a || (b || c))
-or_assoc true b c = refl
-or_assoc false b c = refl
 
 pub exits_cat : (t : Tree) (ts : Trees) (out : Bool) (ms : List Bool) (here : Around) →
     exits (cat (more t ts)) out ms here ≡ exits (cat ts) (exits t out (take (places t) ms) here) (drop (places t) ms) here
 exits_cat t ts out ms here =
-    cat_bools (leaves t (take (places t) ms) here) (blank_all ts here) (leaves_all ts (drop (places t) ms) here) out (blank t here)
+    cat_bools (leaves t (take (places t) ms) here) (nullable_all ts here) (leaves_all ts (drop (places t) ms) here) out (nullable t here)
 
 pub exits_alt : (t : Tree) (ts : Trees) (out : Bool) (ms : List Bool) (here : Around) →
     exits (alt (more t ts)) out ms here ≡ (exits t out (take (places t) ms) here || exits (alt ts) out (drop (places t) ms) here)
 exits_alt t ts out ms here =
-    alt_bools (leaves t (take (places t) ms) here) (leaves_some ts (drop (places t) ms) here) out (blank t here) (blank_some ts here)
+    alt_bools (leaves t (take (places t) ms) here) (leaves_some ts (drop (places t) ms) here) out (nullable t here) (nullable_some ts here)
 
 module _ (t : Tree) (old ms ys : List Bool) (out : Bool) (here : Around) (byte at n k m : ℕ)
     (is : n ≡ places t) (same : k ≡ n) (long : at + (places t + m) ≡ length ms) (rest : drop at ms ≡ drop at old)

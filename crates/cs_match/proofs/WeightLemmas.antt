@@ -4,7 +4,7 @@ use Rattle.std.specs.Prelude.{Option, Some, None, nat_le, if◌then◌else◌}
 use Rattle.cs_syntax.specs.Matching.{Tree, Trees, empty, one_of, cat, alt, rep, line_start, line_end, word_edge, not_word_edge, none, more}
 use Rattle.cs_syntax.specs.Weight.{weight, weights, times}
 use Rattle.cs_match.specs.Places.{places, places_of}
-use Rattle.cs_match.specs.WrittenOut.{copies, optional, never, repeat_written_out, written_out, all_written_out}
+use Rattle.cs_match.specs.Expansion.{copies, optional, never, repeat_expansion, expansion, expansions}
 use Rattle.std.proofs.lemmas.Bool.{leb-true}
 
 mul_both : (k p t w : ℕ) → k ≤ t → p ≤ w → k * p ≤ t * w
@@ -27,25 +27,25 @@ chosen_light x n m true e =
     let shape : n * places x + d * places x ≡ m * places x = shared n d (places x) ∙ ap (λ k. k * places x) split in
     omega (arith, places_copies n x (copies d (optional x) none), places_copies d (optional x) none, shape)
 
-written_out_light : (x : Tree) (n : ℕ) (m : Option ℕ) (w : ℕ) → places x ≤ w → places (repeat_written_out x n m) ≤ 1 + times n m * w
-written_out_light x zero None w le = omega (arith, mul_both 1 (places x) (times zero None) w (omega arith) le)
-written_out_light x (suc n) None w le =
+repeat_light : (x : Tree) (n : ℕ) (m : Option ℕ) (w : ℕ) → places x ≤ w → places (repeat_expansion x n m) ≤ 1 + times n m * w
+repeat_light x zero None w le = omega (arith, mul_both 1 (places x) (times zero None) w (omega arith) le)
+repeat_light x (suc n) None w le =
     omega (arith, places_copies n x (more (rep x 1 None) none), mul_both (suc n) (places x) (times (suc n) None) w (omega arith) le)
-written_out_light x n (Some m) w le =
+repeat_light x n (Some m) w le =
     omega (arith, chosen_light x n m (nat_le n m) refl, mul_both m (places x) (times n (Some m)) w (omega arith) le)
 
 mutual
-  pub places_light : (t : Tree) → places (written_out t) ≤ weight t
+  pub places_light : (t : Tree) → places (expansion t) ≤ weight t
   places_light empty = omega arith
   places_light (one_of set) = omega arith
   places_light (cat ts) = omega (arith, all_light ts)
   places_light (alt ts) = omega (arith, all_light ts)
-  places_light (rep x n m) = written_out_light (written_out x) n m (weight x) (places_light x)
+  places_light (rep x n m) = repeat_light (expansion x) n m (weight x) (places_light x)
   places_light line_start = omega arith
   places_light line_end = omega arith
   places_light word_edge = omega arith
   places_light not_word_edge = omega arith
 
-  pub all_light : (ts : Trees) → places_of (all_written_out ts) ≤ weights ts
+  pub all_light : (ts : Trees) → places_of (expansions ts) ≤ weights ts
   all_light none = omega arith
   all_light (more t ts) = omega (arith, places_light t, all_light ts)

@@ -1,5 +1,7 @@
--- The places of a tree are its sets, from left to right. A list of marks has one mark for each place.
--- A place is marked after a front of the line where a part that ends there was taken with that place last.
+-- The places of a tree are its sets, from left to right: Glushkov's positions. A list of marks has one mark for each
+-- place, as a set of states of Glushkov's automaton. A place is marked after a front of the line where a part that
+-- ends there was taken with that place last. Nothing of the automaton is laid out: what follows what is found anew
+-- from the tree, at each byte.
 -- Every repeat is a loop here, of at least 0 or at least 1 rounds (`IsLooped`), since counted ones are written out.
 use Rattle.std.specs.Prelude.{ℕ, zero, suc, ◌≡◌, ◌+◌, Bool, true, false, ◌&&◌, ◌||◌, not, List, [], ◌∷◌, ◌++◌, take, drop, length, replicate, nat_eq, ◌≤◌, slice_index, slice_index_or, None}
 use Rattle.cs_syntax.specs.Matching.{Tree, Trees, empty, one_of, cat, alt, rep, line_start, line_end, word_edge, not_word_edge, none, more}
@@ -26,28 +28,29 @@ abbrev mutual
   places_of none = 0
   places_of (more t ts) = places t + places_of ts
 
--- the tree takes the empty part at a place with these surroundings
+-- the tree is nullable at a place with these surroundings: it takes the empty part there
 abbrev mutual
-  pub blank : Tree → Around → Bool
-  blank empty a = true
-  blank (one_of set) a = false
-  blank (cat ts) a = blank_all ts a
-  blank (alt ts) a = blank_some ts a
-  blank (rep x n m) a = nat_eq n 0 || blank x a
-  blank line_start a = a.first
-  blank line_end a = a.last
-  blank word_edge a = a.edge
-  blank not_word_edge a = not a.edge
+  pub nullable : Tree → Around → Bool
+  nullable empty a = true
+  nullable (one_of set) a = false
+  nullable (cat ts) a = nullable_all ts a
+  nullable (alt ts) a = nullable_some ts a
+  nullable (rep x n m) a = nat_eq n 0 || nullable x a
+  nullable line_start a = a.first
+  nullable line_end a = a.last
+  nullable word_edge a = a.edge
+  nullable not_word_edge a = not a.edge
 
-  pub blank_all : Trees → Around → Bool
-  blank_all none a = true
-  blank_all (more t ts) a = blank t a && blank_all ts a
+  pub nullable_all : Trees → Around → Bool
+  nullable_all none a = true
+  nullable_all (more t ts) a = nullable t a && nullable_all ts a
 
-  pub blank_some : Trees → Around → Bool
-  blank_some none a = false
-  blank_some (more t ts) a = blank t a || blank_some ts a
+  pub nullable_some : Trees → Around → Bool
+  nullable_some none a = false
+  nullable_some (more t ts) a = nullable t a || nullable_some ts a
 
--- from a marked place the tree can be left here
+-- some last position of the tree is marked: the tree can be left here, from a place of its own; where what follows is
+-- nullable here, the last positions before it are last ones too
 abbrev mutual
   pub leaves : Tree → List Bool → Around → Bool
   leaves empty ms a = false
@@ -63,7 +66,7 @@ abbrev mutual
   pub leaves_all : Trees → List Bool → Around → Bool
   leaves_all none ms a = false
   leaves_all (more t ts) ms a =
-      (leaves t (take (places t) ms) a && blank_all ts a) || leaves_all ts (drop (places t) ms) a
+      (leaves t (take (places t) ms) a && nullable_all ts a) || leaves_all ts (drop (places t) ms) a
 
   pub leaves_some : Trees → List Bool → Around → Bool
   leaves_some none ms a = false
@@ -71,7 +74,7 @@ abbrev mutual
 
 -- the tree can be left here, where `enter` says whether it can be entered here
 abbrev pub exits : Tree → Bool → List Bool → Around → Bool
-exits t enter ms a = leaves t ms a || (enter && blank t a)
+exits t enter ms a = leaves t ms a || (enter && nullable t a)
 
 -- the marks after the byte b
 abbrev mutual
@@ -121,3 +124,7 @@ abbrev mutual
   pub AreLooped : Trees → Type 0
   AreLooped none = Unit {0}
   AreLooped (more t ts) = IsLooped t × AreLooped ts
+
+-- a tree whose repeats are loops, with the number of its places
+abbrev pub IsProgram : Tree → ℕ → Type 0
+IsProgram t n = (n ≡ places t) × IsLooped t

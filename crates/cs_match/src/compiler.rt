@@ -1,17 +1,17 @@
 // Counted repeats, written out.
 ghost use Rattle.std.specs.Prelude.{◌≡◌, IfOk, OnOk};
 ghost use Rattle.std.specs.Prelude.{None};
-ghost use Rattle.cs_syntax.specs.Matching.{none, rep};
+ghost use Rattle.cs_syntax.specs.Matching.{rep};
 ghost use Rattle.cs_syntax.specs.Node.{tree_of, trees_of};
-ghost use Rattle.cs_match.specs.WrittenOut.{joined, written_out, all_written_out, copies, optional, repeat_written_out};
+ghost use Rattle.cs_match.specs.Expansion.{expansion, expansions, with_copies, optional, repeat_expansion};
 
 use cs_syntax::Node;
 use std::alloc::{AllocError, Global};
 
 /// The tree with its counted repeats written out.
 #[cycle(write_out)]
-pub fn write_out(alloc: Global, node: &Node) -> Result<Node, AllocError>
-    ensures { IfOk result (λ n. tree_of n ≡ written_out (tree_of node.now)) }
+pub(crate) fn write_out(alloc: Global, node: &Node) -> Result<Node, AllocError>
+    ensures { IfOk result (λ n. tree_of n ≡ expansion (tree_of node.now)) }
 {
     match node {
         Node::Empty => Ok(Node::Empty),
@@ -40,7 +40,8 @@ fn write_repeat(
     least: u32,
     most: Option<u32>,
 ) -> Result<Node, AllocError>
-    ensures { IfOk result (λ n. tree_of n ≡ repeat_written_out (written_out (tree_of node.now)) least most) }
+    ensures { IfOk result
+        (λ n. tree_of n ≡ repeat_expansion (expansion (tree_of node.now)) least most) }
 {
     let mut parts = Vec::new(alloc);
     match most {
@@ -66,9 +67,8 @@ fn write_repeat(
 }
 
 #[cycle(write_out)]
-#[tactic(auto, using(crate::proofs::TreesLemmas::trees_last, crate::proofs::CopiesLemmas::joined_assoc, crate::proofs::CopiesLemmas::joined_none))]
 fn write_out_all(alloc: Global, parts: &[Node]) -> Result<Vec<Node>, AllocError>
-    ensures { IfOk result (λ v. trees_of v.items ≡ all_written_out (trees_of parts.now)) }
+    ensures { IfOk result (λ v. trees_of v.items ≡ expansions (trees_of parts.now)) }
 {
     let mut all = Vec::new(alloc);
     for part in parts {
@@ -79,14 +79,15 @@ fn write_out_all(alloc: Global, parts: &[Node]) -> Result<Vec<Node>, AllocError>
 }
 
 #[cycle(write_out)]
-#[tactic(auto, using(crate::proofs::CopiesLemmas::pushed_copy, crate::proofs::CopiesLemmas::joined_none))]
+#[tactic(auto, using(crate::proofs::CopiesLemmas::pushed_copy, cs_syntax::proofs::TreeListLemmas::append_none))]
 fn add_copies(
     alloc: Global,
     node: &Node,
     count: u32,
     parts: &mut Vec<Node>,
 ) -> Result<(), AllocError>
-    ensures { OnOk result (trees_of parts.new.items ≡ joined (trees_of parts.old.items) (copies count (written_out (tree_of node.now)) none)) }
+    ensures { OnOk result (trees_of parts.new.items
+        ≡ with_copies (trees_of parts.old.items) count (expansion (tree_of node.now))) }
 {
     for k in 0..count {
         let copy = write_out(alloc, node)?;
@@ -96,14 +97,15 @@ fn add_copies(
 }
 
 #[cycle(write_out)]
-#[tactic(auto, using(crate::proofs::CopiesLemmas::pushed_copy, crate::proofs::CopiesLemmas::joined_none))]
+#[tactic(auto, using(crate::proofs::CopiesLemmas::pushed_copy, cs_syntax::proofs::TreeListLemmas::append_none))]
 fn add_optional(
     alloc: Global,
     node: &Node,
     count: u32,
     parts: &mut Vec<Node>,
 ) -> Result<(), AllocError>
-    ensures { OnOk result (trees_of parts.new.items ≡ joined (trees_of parts.old.items) (copies count (optional (written_out (tree_of node.now))) none)) }
+    ensures { OnOk result (trees_of parts.new.items
+        ≡ with_copies (trees_of parts.old.items) count (optional (expansion (tree_of node.now)))) }
 {
     for k in 0..count {
         let copy = write_out(alloc, node)?;

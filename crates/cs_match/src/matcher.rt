@@ -43,7 +43,8 @@ impl<'a> Matcher<'a> {
         Ok(Matcher { program, marks })
     }
 
-    /// Whether the program takes some part of the line, whatever lines were asked before. It takes no memory.
+    /// Whether the program takes some part of the line, whatever lines were asked before. It takes
+    /// no memory.
     pub fn is_match(&mut self, line: &[u8]) -> bool
         ensures found { IsTrue result ↔ Found self.old line.now }
         ensures same { self.new ≡ self.old }

@@ -10,7 +10,8 @@ use cs_syntax::{Node, Pattern};
 use std::alloc::{AllocError, Global};
 use std::marker::Model;
 
-/// A pattern made ready for matchers. Contracts see it as a tree, which takes what the pattern takes.
+/// A pattern made ready for matchers. Contracts see it as a tree, which takes what the pattern
+/// takes.
 #[derive(Drop)]
 pub struct Program {
     root: Node,
@@ -18,7 +19,6 @@ pub struct Program {
 }
 
 impl Model for Program {
-    ghost use Rattle.std.specs.Prelude.{◌≡◌};
     ghost use Rattle.cs_syntax.specs.Matching.{Tree};
     ghost use Rattle.cs_syntax.specs.TreeCode.{tree_code};
 
@@ -27,18 +27,19 @@ impl Model for Program {
     ghost coded = { tree_code };
 
     ghost use Rattle.cs_syntax.specs.Node.{tree_of};
-    ghost use Rattle.cs_match.specs.Places.{places, IsLooped};
+    ghost use Rattle.cs_match.specs.Places.{IsProgram};
 
     ghost view = { λ program. tree_of program.root };
 
-    ghost invariant = { λ program. (program.count ≡ places (tree_of program.root)) × IsLooped (tree_of program.root) };
+    ghost invariant = { λ program. IsProgram (tree_of program.root) program.count };
 }
 
 impl Program {
-    /// The program of a pattern: it finds something in the same lines. Counted repeats are written out, so that it
-    /// has at most as many places as the pattern weighs.
+    /// The program of a pattern: it finds something in the same lines. Counted repeats are written
+    /// out, so that it has at most as many places as the pattern weighs.
     pub fn compile(alloc: Global, pattern: &Pattern) -> Result<Program, AllocError>
-        ensures { IfOk result (λ program. (line : List ℕ) → Found program line ↔ Found pattern.now line) }
+        ensures { IfOk result
+            (λ program. (line : List ℕ) → Found program line ↔ Found pattern.now line) }
     {
         let root = write_out(alloc, pattern.tree())?;
         let count = count(&root);

@@ -24,6 +24,9 @@ fn rows_of_patterns_and_lines(rt: HostRuntime) -> Result<(), Fail> {
         ("(^a|b$)*c", "cb", true),
         ("^(a*)*$", "aaab", false),
         ("a.c", "a\nc", false),
+        ("a$", "a\nb", false),
+        ("^b", "a\nb", false),
+        ("^\\xe9$", "é", true),
         ("^a{2,3}$", "aa", true),
         ("^a{2,3}$", "aaa", true),
         ("^a{2,3}$", "a", false),
@@ -47,6 +50,8 @@ fn rows_of_patterns_and_lines(rt: HostRuntime) -> Result<(), Fail> {
             "{pattern} in {line}"
         );
     }
+    // The pattern asks for the character, which is two bytes, and not for the byte.
+    assert!(rt; !found(&rt, "^\\xe9$", &[0xe9])?);
     Ok(())
 }
 
@@ -87,7 +92,8 @@ fn repeated(
     Ok(text)
 }
 
-/// Loops in one another to the parser's depth, a pattern of the greatest weight, and many loops that stay open.
+/// Loops in one another to the parser's depth, a pattern of nearly the greatest weight, and many
+/// loops that stay open.
 #[test]
 fn large_patterns(rt: HostRuntime) -> Result<(), Fail> {
     let nested = repeated(&rt, "(", 200, "a", ")*b")?;

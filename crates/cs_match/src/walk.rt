@@ -9,7 +9,7 @@ use cs_syntax::Node;
 
 /// How many places the tree has.
 #[cycle(count)]
-pub fn count(node: &Node) -> usize
+pub(crate) fn count(node: &Node) -> usize
     requires { places (tree_of node.now) < 2 ^ 64 }
     ensures { result ≡ places (tree_of node.now) }
 {
@@ -36,7 +36,7 @@ fn count_all(parts: &[Node]) -> usize
 
 /// Whether the tree can be left here, where `enter` says whether it can be entered here.
 #[cycle(exit)]
-pub fn exit(node: &Node, enter: bool, marks: &[bool], here: Around) -> bool
+pub(crate) fn exit(node: &Node, enter: bool, marks: &[bool], here: Around) -> bool
     requires { length marks.now ≡ places (tree_of node.now) }
     ensures { result ≡ exits (tree_of node.now) enter marks.now here }
 {
@@ -89,7 +89,7 @@ fn exit_some(parts: &[Node], enter: bool, marks: &[bool], here: Around) -> bool
 
 /// Moves the marks over a byte, and answers whether the tree could be left before it.
 #[cycle(pass)]
-pub fn pass(node: &Node, enter: bool, marks: &mut [bool], here: Around, byte: u8) -> bool
+pub(crate) fn pass(node: &Node, enter: bool, marks: &mut [bool], here: Around, byte: u8) -> bool
     requires { length marks.old ≡ places (tree_of node.now) }
     ensures left { result ≡ exits (tree_of node.now) enter marks.old here }
     ensures marks { marks.new ≡ step (tree_of node.now) enter marks.old here byte }

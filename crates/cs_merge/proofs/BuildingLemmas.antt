@@ -6,8 +6,8 @@ use Rattle.std.specs.List.{prefix_len}
 use Rattle.cs_index.specs.Image.{Entry, image_of}
 use Rattle.cs_index.specs.Built.{Built}
 use Rattle.cs_merge.specs.declared.fault.MergeFault.{MergeFault}
-use Rattle.cs_merge.specs.Building.{added_all, IsAddFault, many, full, IsBuildFault, long, memory}
-use Rattle.cs_merge.specs.Interleaving.{interleaved, is_below}
+use Rattle.cs_merge.specs.Adding.{with_files, IsAddFault, many, full, IsBuildFault, long, memory}
+use Rattle.cs_merge.specs.Interleaving.{interleaving, is_below}
 use Rattle.cs_merge.proofs.ContentLemmas.{many_names}
 use Rattle.cs_merge.proofs.InterleavingLemmas.{split_at, no_files}
 
@@ -27,7 +27,7 @@ fault_built limit paths files fault h (full is) = memory is
 -- The older files that come before a newer one, then it, then what is left.
 pub record Turn (built whole newer older : List Entry) (file : Entry) (index at count : ℕ) : Type 0 where
   pub within : at + count ≤ length older
-  pub are : (built ++ take (at + count - at) (drop at older)) ++ file ∷ interleaved (drop (index + 1) newer) (drop (at + count) older) ≡ whole
+  pub are : (built ++ take (at + count - at) (drop at older)) ++ file ∷ interleaving (drop (index + 1) newer) (drop (at + count) older) ≡ whole
 
 pub next : (files : List Entry) (index : ℕ) (file : Entry) → index < length files → file ≡ get_or files index file → drop index files ≡ file ∷ drop (index + 1) files
 next files index file h is = drop-cons files index file h ∙ (λ i. back i ∷ drop (one i) files)
@@ -38,7 +38,7 @@ next files index file h is = drop-cons files index file h ∙ (λ i. back i ∷ 
     one : suc index ≡ index + 1
     one = omega arith
 
-pub turn : (built whole newer older : List Entry) (file : Entry) (index at count : ℕ) (name : List ℕ) → index < length newer → file ≡ get_or newer index file → name ≡ file.0 → at ≤ length older → count ≡ prefix_len (is_below name) (take (length older - at) (drop at older)) → built ++ interleaved (drop index newer) (drop at older) ≡ whole → Turn built whole newer older file index at count
+pub turn : (built whole newer older : List Entry) (file : Entry) (index at count : ℕ) (name : List ℕ) → index < length newer → file ≡ get_or newer index file → name ≡ file.0 → at ≤ length older → count ≡ prefix_len (is_below name) (take (length older - at) (drop at older)) → built ++ interleaving (drop index newer) (drop at older) ≡ whole → Turn built whole newer older file index at count
 turn built whole newer older file index at count name h is named within counted e =
     let left : List Entry = drop at older in
     let every : take (length older - at) left ≡ left = take_rest older at in
@@ -49,20 +49,20 @@ turn built whole newer older file index at count name h is named within counted 
     let rest : drop (at + count) older ≡ drop (prefix_len (is_below file.0) left) left = ap (λ n. drop (at + n) older) few ∙ sym (drop-drop (prefix_len (is_below file.0) left) at older) in
     record {
       within = omega (arith, few, some, size, within);
-      are = append_assoc built (take (at + count - at) left) (file ∷ interleaved (drop (index + 1) newer) (drop (at + count) older))
-          ∙ (λ i. built ++ (take (number i) left ++ file ∷ interleaved (drop (index + 1) newer) (rest i)))
+      are = append_assoc built (take (at + count - at) left) (file ∷ interleaving (drop (index + 1) newer) (drop (at + count) older))
+          ∙ (λ i. built ++ (take (number i) left ++ file ∷ interleaving (drop (index + 1) newer) (rest i)))
           ∙ ap (λ (files : List Entry). built ++ files) (sym (split_at file (drop (index + 1) newer) left))
-          ∙ ap (λ (files : List Entry). built ++ interleaved files left) (sym (next newer index file h is))
+          ∙ ap (λ (files : List Entry). built ++ interleaving files left) (sym (next newer index file h is))
           ∙ e;
     }
 
 -- once every newer file was passed
-pub last_turn : (built whole newer older : List Entry) (index at : ℕ) → length newer ≤ index → built ++ interleaved (drop index newer) (drop at older) ≡ whole → built ++ take (length older - at) (drop at older) ≡ whole
+pub last_turn : (built whole newer older : List Entry) (index at : ℕ) → length newer ≤ index → built ++ interleaving (drop index newer) (drop at older) ≡ whole → built ++ take (length older - at) (drop at older) ≡ whole
 last_turn built whole newer older index at h e =
-    ap (λ (files : List Entry). built ++ files) (take_rest older at ∙ sym (no_files (drop at older)) ∙ ap (λ (files : List Entry). interleaved files (drop at older)) (sym (drop_all index newer h)))
+    ap (λ (files : List Entry). built ++ files) (take_rest older at ∙ sym (no_files (drop at older)) ∙ ap (λ (files : List Entry). interleaving files (drop at older)) (sym (drop_all index newer h)))
     ∙ e
 
-pub built_from : (before now : Built) (files : List Entry) → now.paths ≡ before.paths → before.entries ≡ [] → now.entries ≡ files → now ≡ added_all before files
+pub built_from : (before now : Built) (files : List Entry) → now.paths ≡ before.paths → before.entries ≡ [] → now.entries ≡ files → now ≡ with_files before files
 built_from before now files paths none entries = λ i. record { paths = paths i; entries = all i }
   where
     all : now.entries ≡ before.entries ++ files

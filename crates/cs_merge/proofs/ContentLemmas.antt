@@ -1,5 +1,9 @@
 -- What can be held is kept by a join, and is determined by its image.
 use Rattle.std.proofs.Common.{◌≡◌, ℕ, suc, ◌+◌, ◌*◌, ◌<◌, ◌≤◌, ◌^◌, Bool, true, false, cond, ◌&&◌, List, [], ◌∷◌, ◌++◌, length, map, refl, sym, ap, subst, ◌∙◌, inl, inr, None, Some, arith, length-append, append_assoc}
+use Rattle.cs_tree.specs.PathSet.{Paths}
+use Rattle.cs_tree.specs.NameOrder.{bytes_cmp}
+use Rattle.cs_index.specs.PostingLists.{IsList, set_at, entries_of}
+use Rattle.cs_trigram.specs.Trigram.{Ascends, IsTrigramSet}
 use Rattle.std.proofs.lemmas.Bool.{cases_Bool}
 use Rattle.std.proofs.lemmas.List.{length-map}
 use Rattle.std.specs.Prelude.{T, flat_map, slice_index_or, is_some}
@@ -10,16 +14,15 @@ use Rattle.std.specs.declared.cmp.Ordering.TheVariants.{Less, Equal, Greater}
 use Rattle.std.specs.FinMap.Entries.{below_all, is_sorted, find}
 use Rattle.std.specs.FinMap as map'
 use Rattle.cs_tree.specs.PathSet as set
-use Rattle.cs_tree.specs.Cover.{bytes_cmp, Paths}
 use Rattle.cs_tree.proofs.Sets.{tied_is, tied_same, same_set}
-use Rattle.cs_index.specs.Image.{Files, Entry, image, image_of, names_of, Posting, posting_list, postings_of, ListEntry, list_entries, joined, ended, closing_list, Sections, sections_of, laid_out, in_order, trailer, name_offsets, four_bytes, starts_from}
-use Rattle.cs_index.specs.Spelling.{IsString, Ascends, IsIndexable, Spells, IsList, entries_of, set_at}
+use Rattle.cs_index.specs.Image.{Files, Entry, image, image_of, names_of, Posting, posting_list, postings_of, ListEntry, list_entries, concat, with_nul, closing_list, Sections, sections_of, layout, in_order, trailer, name_offsets, four_bytes, starts_from, IsString}
+use Rattle.cs_index.specs.Spelling.{IsIndexable, Spells}
 use Rattle.cs_index.proofs.SpellingLemmas.{image_spelled}
 use Rattle.cs_index.proofs.OnceLemmas.{sections_once, spelled_once}
 use Rattle.cs_index.proofs.ListedLemmas.{image_lists}
 use Rattle.cs_index.proofs.TransposeLemmas.{set_back}
 use Rattle.cs_merge.specs.Join.{join_files, join_paths}
-use Rattle.cs_merge.specs.Content.{IsTrigramSet, EachFile, IsContent, LieUnder}
+use Rattle.cs_merge.specs.Content.{EachFile, IsContent, LieUnder}
 use Rattle.cs_merge.proofs.JoinLemmas.{joined_from, path_from, covered_left, covered_right}
 
 -- ---- joining
@@ -107,11 +110,11 @@ long_offsets start (piece ∷ pieces) =
     omega (arith, l, rest)
 
 -- a section is no longer than the whole
-index_short : (s : Sections) → length s.name_index ≤ length (laid_out s)
+index_short : (s : Sections) → length s.name_index ≤ length (layout s)
 index_short s =
-    let a : length (laid_out s) ≡ 16 + length (joined (in_order s) ++ trailer s) = omega arith in
-    let b : length (joined (in_order s) ++ trailer s) ≡ length (joined (in_order s)) + length (trailer s) = length-append (joined (in_order s)) (trailer s) in
-    let c : length (joined (in_order s)) ≡ length s.paths + length (s.names ++ (s.postings ++ (s.name_index ++ (s.list_index ++ [])))) = length-append s.paths _ in
+    let a : length (layout s) ≡ 16 + length (concat (in_order s) ++ trailer s) = omega arith in
+    let b : length (concat (in_order s) ++ trailer s) ≡ length (concat (in_order s)) + length (trailer s) = length-append (concat (in_order s)) (trailer s) in
+    let c : length (concat (in_order s)) ≡ length s.paths + length (s.names ++ (s.postings ++ (s.name_index ++ (s.list_index ++ [])))) = length-append s.paths _ in
     let d : length (s.names ++ (s.postings ++ (s.name_index ++ (s.list_index ++ [])))) ≡ length s.names + length (s.postings ++ (s.name_index ++ (s.list_index ++ []))) = length-append s.names _ in
     let e : length (s.postings ++ (s.name_index ++ (s.list_index ++ []))) ≡ length s.postings + length (s.name_index ++ (s.list_index ++ [])) = length-append s.postings _ in
     let f : length (s.name_index ++ (s.list_index ++ [])) ≡ length s.name_index + length (s.list_index ++ []) = length-append s.name_index _ in
@@ -121,9 +124,9 @@ pub many_names : (paths : List (List ℕ)) (entries : List Entry) → 4 * length
 many_names paths entries =
     let s : Sections = sections_of paths (names_of entries) (postings_of entries) in
     let whole = index_short s in
-    let own : length s.name_index ≡ length (name_offsets (names_of entries)) + 4 = length-append (name_offsets (names_of entries)) (four_bytes (length (joined (map ended (names_of entries))))) in
-    let offsets = long_offsets 0 (map ended (names_of entries)) in
-    let count : length (map ended (names_of entries)) ≡ length entries = length-map (names_of entries) ended ∙ length-map entries (λ (entry : Entry). entry.0) in
+    let own : length s.name_index ≡ length (name_offsets (names_of entries)) + 4 = length-append (name_offsets (names_of entries)) (four_bytes (length (concat (map with_nul (names_of entries))))) in
+    let offsets = long_offsets 0 (map with_nul (names_of entries)) in
+    let count : length (map with_nul (names_of entries)) ≡ length entries = length-map (names_of entries) with_nul ∙ length-map entries (λ (entry : Entry). entry.0) in
     omega (arith, whole, own, offsets, count)
 
 few_names : (paths : List (List ℕ)) (entries : List Entry) → length (image_of paths entries) < 2 ^ 32 → length entries < 2 ^ 31
@@ -200,10 +203,10 @@ entries_once p q d e g h a b same =
     let t : Sections = sections_of q (names_of e) (postings_of e) in
     let once = spelled_once (image_of p d) p q (names_of d) (names_of e) (list_entries 0 (postings_of d)) (list_entries 0 (postings_of e)) (image_spelled p d g) (subst (λ bytes. Spells bytes q (names_of e) (list_entries 0 (postings_of e))) (sym same) (image_spelled q e h)) in
     let sections = sections_once s t g.short h.short same in
-    let lists : joined (map posting_list (postings_of d)) ++ closing_list ≡ joined (map posting_list (postings_of e)) ++ closing_list = ap (λ (u : Sections). u.postings) sections in
+    let lists : concat (map posting_list (postings_of d)) ++ closing_list ≡ concat (map posting_list (postings_of e)) ++ closing_list = ap (λ (u : Sections). u.postings) sections in
     let count : length d ≡ length e = sym (length-map d (λ (x : Entry). x.0)) ∙ ap length once.1 ∙ length-map e (λ (x : Entry). x.0) in
-    let moved = subst (λ section. AllZip (λ (x : ListEntry) (r : Posting). IsList section (length d) x r.1) (list_entries 0 (postings_of e)) (postings_of e)) (sym lists) (subst (λ n. AllZip (λ (x : ListEntry) (r : Posting). IsList (joined (map posting_list (postings_of e)) ++ closing_list) n x r.1) (list_entries 0 (postings_of e)) (postings_of e)) (sym count) (image_lists e h.few)) in
-    let postings : postings_of d ≡ postings_of e = lists_once (joined (map posting_list (postings_of d)) ++ closing_list) (length d) 0 (list_entries 0 (postings_of d)) (postings_of d) (postings_of e) refl once.2 (image_lists d g.few) (subst (λ xs. AllZip (λ (x : ListEntry) (r : Posting). IsList (joined (map posting_list (postings_of d)) ++ closing_list) (length d) x r.1) xs (postings_of e)) (sym once.2) moved) in
+    let moved = subst (λ section. AllZip (λ (x : ListEntry) (r : Posting). IsList section (length d) x r.1) (list_entries 0 (postings_of e)) (postings_of e)) (sym lists) (subst (λ n. AllZip (λ (x : ListEntry) (r : Posting). IsList (concat (map posting_list (postings_of e)) ++ closing_list) n x r.1) (list_entries 0 (postings_of e)) (postings_of e)) (sym count) (image_lists e h.few)) in
+    let postings : postings_of d ≡ postings_of e = lists_once (concat (map posting_list (postings_of d)) ++ closing_list) (length d) 0 (list_entries 0 (postings_of d)) (postings_of d) (postings_of e) refl once.2 (image_lists d g.few) (subst (λ xs. AllZip (λ (x : ListEntry) (r : Posting). IsList (concat (map posting_list (postings_of d)) ++ closing_list) (length d) x r.1) xs (postings_of e)) (sym once.2) moved) in
     (once.0, sym (read_back [] d a) ∙ ap (λ names. entries_of 0 names (postings_of d)) once.1 ∙ ap (entries_of 0 (names_of e)) postings ∙ read_back [] e b)
 
 pub same_paths : (p q : Paths) → set.items p ≡ set.items q → p ≡ q

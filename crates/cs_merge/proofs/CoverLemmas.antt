@@ -1,5 +1,7 @@
 -- Which names are covered by the paths of an index.
 use Rattle.std.proofs.Common.{◌≡◌, ℕ, Bool, true, false, ◌&&◌, ◌||◌, List, [], ◌∷◌, ◌++◌, sym, ap, ◌∙◌, inl, inr}
+use Rattle.cs_tree.specs.PathSet.{Paths}
+use Rattle.cs_tree.specs.NameOrder.{bytes_cmp}
 use Rattle.std.proofs.lemmas.Bool.{true≢false, or_cases, or_left, or_right}
 use Rattle.std.proofs.lemmas.List.Folds.{list_any-append}
 use Rattle.std.specs.Prelude.{is_some}
@@ -9,7 +11,7 @@ use Rattle.std.specs.FinMap as map'
 use Rattle.std.specs.List.{AllByRecursion, list_all, list_any}
 use Rattle.std.specs.Ordering.{eq_by_cmp}
 use Rattle.cs_tree.specs.PathSet as set
-use Rattle.cs_tree.specs.Cover.{bytes_cmp, covered, covers, least, Paths}
+use Rattle.cs_tree.specs.Cover.{is_covered, covers, least}
 use Rattle.cs_tree.proofs.Sets.{some_member, member_passes, tied_same, same_set, contains-union}
 use Rattle.cs_index.specs.Opening.{Parts}
 use Rattle.cs_merge.specs.Content.{paths_in}
@@ -19,7 +21,7 @@ use Rattle.cs_merge.proofs.HoldingLemmas.{from_list_all, marked_items}
 -- ---- sets that are made of lists
 
 contains_listed : (ps : List (List ℕ)) (q : List ℕ) → set.contains (set.from_list ps) q ≡ list_any (eq_by_cmp bytes_cmp q) ps
-contains_listed ps q = ap is_some (map'.get-from_entries nat_list_cmp_total (set.marked ps) q) ∙ marked_items q ps
+contains_listed ps q = ap is_some (map'.get-from_entries nat_list_cmp_total (set.with_units ps) q) ∙ marked_items q ps
 
 -- an item that passes makes the test of the list pass
 each_counts : (test : List ℕ → Bool) (ps qs : List (List ℕ)) → (list_any test qs ≡ true → list_any test ps ≡ true) → AllByRecursion (λ q. test q ≡ true → list_any test ps ≡ true) qs
@@ -35,18 +37,18 @@ passes_on paths test (q ∷ qs) member h =
       | inr there ↦ passes_on paths test qs (λ r m. member r (or_right (eq_by_cmp bytes_cmp r q) (list_any (eq_by_cmp bytes_cmp r) qs) m)) there
     ]
 
-covered_list : (ps : List (List ℕ)) (name : List ℕ) → covered (set.from_list ps) name ≡ list_any (λ path. covers path name) ps
+covered_list : (ps : List (List ℕ)) (name : List ℕ) → is_covered (set.from_list ps) name ≡ list_any (λ path. covers path name) ps
 covered_list ps name = same_tests _ _ down up
   where
-    down : covered (set.from_list ps) name ≡ true → list_any (λ path. covers path name) ps ≡ true
+    down : is_covered (set.from_list ps) name ≡ true → list_any (λ path. covers path name) ps ≡ true
     down h =
         let found = some_member (set.from_list ps) (λ path. covers path name) h in
         from_list_all (λ q. covers q name ≡ true → list_any (λ path. covers path name) ps ≡ true) ps (each_counts (λ path. covers path name) ps ps (λ t. t)) found.path found.member found.passes
 
-    up : list_any (λ path. covers path name) ps ≡ true → covered (set.from_list ps) name ≡ true
+    up : list_any (λ path. covers path name) ps ≡ true → is_covered (set.from_list ps) name ≡ true
     up h = passes_on (set.from_list ps) (λ path. covers path name) ps (λ q m. contains_listed ps q ∙ m) h
 
-pub covered_in : (parts : Parts) (name : List ℕ) → covered (paths_in parts) name ≡ list_any (λ path. covers path name) parts.paths
+pub covered_in : (parts : Parts) (name : List ℕ) → is_covered (paths_in parts) name ≡ list_any (λ path. covers path name) parts.paths
 unfolding paths_in
 covered_in parts name = covered_list parts.paths name
 

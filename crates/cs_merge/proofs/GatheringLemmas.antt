@@ -1,5 +1,9 @@
 -- What is gathered from lists.
 use Rattle.std.proofs.Common.{◌≡◌, ℕ, zero, suc, ◌+◌, ◌-◌, ◌<◌, ◌≤◌, Bool, true, false, cond, ◌&&◌, ◌||◌, eqb, ltb, inl, inr, Option, Some, None, List, [], ◌∷◌, ◌++◌, length, map, take, drop, get_or, Result, Ok, Err, refl, sym, ap, subst, ◌∙◌, arith, set, slice_get}
+use Rattle.cs_index.specs.Postings.{ids_given}
+use Rattle.cs_index.specs.Rising.{RiseWithin}
+use Rattle.cs_index.specs.PostingLists.{read_varint, Ids, damaged, onto, after_delta, read_ids, set_at, entries_of}
+use Rattle.cs_trigram.specs.Trigram.{has}
 use Rattle.std.proofs.lemmas.Bool.{ltb-true, eq-eqb, ne_eqb, and_parts, and_from, cases_Bool}
 use Rattle.std.proofs.lemmas.List.{append-nil}
 use Rattle.std.specs.Prelude.{filter, option_map}
@@ -7,11 +11,10 @@ use Rattle.std.specs.List.{AllByRecursion, list_all}
 use Rattle.cs_tree.specs.Cover.{same}
 use Rattle.cs_index.specs.declared.fault.IndexFault.{IndexFault}
 use Rattle.cs_index.specs.declared.fault.IndexFault.TheVariants.{BadList}
-use Rattle.cs_index.specs.Image.{Entry, ListEntry, Posting, has, three_bytes}
-use Rattle.cs_index.specs.Spelling.{Ids, damaged, onto, after_delta, read_ids, read_varint, RiseWithin, entries_of, set_at}
-use Rattle.cs_index.specs.Opening.{Parts, ids_read, lists_in, are_whole, told_ids, whole_ids}
-use Rattle.cs_merge.specs.Gathering.{one_more, given, without_trigrams, IsListFault, damaged as damaged_list, memory}
-use Rattle.cs_merge.specs.declared.fault.MergeFault.{MergeFault}
+use Rattle.cs_index.specs.Image.{Entry, ListEntry, Posting, three_bytes}
+use Rattle.cs_index.specs.Opening.{Parts, ids_read, lists_in, are_whole, whole_ids}
+use Rattle.cs_merge.specs.Regrouping.{with_trigram_at, with_trigram, without_trigrams}
+use Rattle.cs_index.specs.Postings.{IsListFault}
 
 -- ---- what an iterator of ids gives
 
@@ -34,11 +37,11 @@ told_once (a ∷ us) (b ∷ bs) v w e =
     (λ i. head i ∷ rest.0 i, rest.1)
 
 -- an id is the next one
-pub told_id : (r s : Ids) (id : ℕ) → told_ids r ≡ Ok id ∷ told_ids s → (r.ids ≡ id ∷ s.ids) × (r.whole ≡ s.whole)
+pub told_id : (r s : Ids) (id : ℕ) → ids_given r ≡ Ok id ∷ ids_given s → (r.ids ≡ id ∷ s.ids) × (r.whole ≡ s.whole)
 told_id r s id e = told_once r.ids (id ∷ s.ids) r.whole s.whole e
 
 -- a fault comes of a damaged list
-pub told_fault : (r : Ids) (fault : IndexFault) (rest : List (Result ℕ IndexFault)) → told_ids r ≡ Err fault ∷ rest → r.whole ≡ false
+pub told_fault : (r : Ids) (fault : IndexFault) (rest : List (Result ℕ IndexFault)) → ids_given r ≡ Err fault ∷ rest → r.whole ≡ false
 told_fault r fault rest e = by_parts r.ids r.whole e
   where
     by_parts : (ids : List ℕ) (whole : Bool) → told ids whole ≡ Err fault ∷ rest → whole ≡ false
@@ -46,22 +49,22 @@ told_fault r fault rest e = by_parts r.ids r.whole e
     by_parts [] false e = refl
     by_parts (id ∷ ids) whole e = cc
 
-pub told_no_id : (r s : Ids) (x : Result ℕ IndexFault) → told_ids r ≡ x ∷ told_ids s → ((id : ℕ) → x ≡ Ok id → ⊥) → r.whole ≡ false
+pub told_no_id : (r s : Ids) (x : Result ℕ IndexFault) → ids_given r ≡ x ∷ ids_given s → ((id : ℕ) → x ≡ Ok id → ⊥) → r.whole ≡ false
 told_no_id r s (Ok id) e none = absurd (none id refl)
-told_no_id r s (Err fault) e none = told_fault r fault (told_ids s) e
+told_no_id r s (Err fault) e none = told_fault r fault (ids_given s) e
 
 -- where nothing more comes the list is whole
-pub told_end : (r : Ids) → told_ids r ≡ [] → (r.ids ≡ []) × (r.whole ≡ true)
+pub told_end : (r : Ids) → ids_given r ≡ [] → (r.ids ≡ []) × (r.whole ≡ true)
 told_end r e = told_once r.ids [] r.whole true e
 
 -- ---- one trigram more
 
-pub one_more_set : (files : List Entry) (place trigram : ℕ) (d : Entry) → place < length files → set files place ((get_or files place d).0, (get_or files place d).1 ++ trigram ∷ []) ≡ one_more files place trigram
+pub one_more_set : (files : List Entry) (place trigram : ℕ) (d : Entry) → place < length files → set files place ((get_or files place d).0, (get_or files place d).1 ++ trigram ∷ []) ≡ with_trigram_at files place trigram
 one_more_set [] place trigram d h = refl
 one_more_set (file ∷ files) zero trigram d h = refl
 one_more_set (file ∷ files) (suc place) trigram d h = ap (λ rest. file ∷ rest) (one_more_set files place trigram d (omega (arith, h)))
 
-pub length-one_more : (files : List Entry) (place trigram : ℕ) → length (one_more files place trigram) ≡ length files
+pub length-one_more : (files : List Entry) (place trigram : ℕ) → length (with_trigram_at files place trigram) ≡ length files
 length-one_more [] place trigram = refl
 length-one_more (file ∷ files) zero trigram = refl
 length-one_more (file ∷ files) (suc place) trigram = ap suc (length-one_more files place trigram)
@@ -88,7 +91,7 @@ marked_past first id (file ∷ files) trigram ids h =
     let rest = marked_past (first + 1) id files trigram ids (omega (arith, h)) in
     λ i. (file.0, file.1 ++ cond (other i) (trigram ∷ []) []) ∷ rest i
 
-marked_more : (first place : ℕ) (files : List Entry) (trigram : ℕ) (ids : List ℕ) → has ids (first + place) ≡ false → marked first (one_more files place trigram) trigram ids ≡ marked first files trigram ((first + place) ∷ ids)
+marked_more : (first place : ℕ) (files : List Entry) (trigram : ℕ) (ids : List ℕ) → has ids (first + place) ≡ false → marked first (with_trigram_at files place trigram) trigram ids ≡ marked first files trigram ((first + place) ∷ ids)
 marked_more first place [] trigram ids h = refl
 marked_more first zero (file ∷ files) trigram ids h =
     let at : first + 0 ≡ first = omega arith in
@@ -101,7 +104,7 @@ marked_more first zero (file ∷ files) trigram ids h =
 marked_more first (suc place) (file ∷ files) trigram ids h =
     let at : first + suc place ≡ first + 1 + place = omega arith in
     let other : has ids first ≡ (eqb (first + suc place) first || has ids first) = sym (ap (λ b. b || has ids first) (ne_eqb (first + suc place) first (λ e. absurd (omega (arith, e))))) in
-    let rest : marked (first + 1) (one_more files place trigram) trigram ids ≡ marked (first + 1) files trigram ((first + suc place) ∷ ids) =
+    let rest : marked (first + 1) (with_trigram_at files place trigram) trigram ids ≡ marked (first + 1) files trigram ((first + suc place) ∷ ids) =
     marked_more (first + 1) place files trigram ids (ap (has ids) (sym at) ∙ h) ∙ ap (λ n. marked (first + 1) files trigram (n ∷ ids)) (sym at) in
     λ i. (file.0, file.1 ++ cond (other i) (trigram ∷ []) []) ∷ rest i
 
@@ -112,10 +115,10 @@ absent_below names next (id ∷ ids) n up h =
     let from : next ≤ id = up.0 in
     ap (λ b. b || has ids n) (ne_eqb id n (λ e. absurd (omega (arith, e, h, from)))) ∙ absent_below names (id + 1) ids n up.2 (omega (arith, h, from))
 
-given_marked : (names next : ℕ) (files : List Entry) (trigram : ℕ) (ids : List ℕ) → RiseWithin names next ids → given files trigram ids ≡ marked 0 files trigram ids
+given_marked : (names next : ℕ) (files : List Entry) (trigram : ℕ) (ids : List ℕ) → RiseWithin names next ids → with_trigram files trigram ids ≡ marked 0 files trigram ids
 given_marked names next files trigram [] up = sym (marked_none 0 files trigram)
 given_marked names next files trigram (id ∷ ids) up =
-    given_marked names (id + 1) (one_more files id trigram) trigram ids up.2
+    given_marked names (id + 1) (with_trigram_at files id trigram) trigram ids up.2
     ∙ marked_more 0 id files trigram ids (ap (has ids) (let z : 0 + id ≡ id = omega arith in z) ∙ absent_below names (id + 1) ids id up.2 (omega arith))
     ∙ ap (λ n. marked 0 files trigram (n ∷ ids)) (let z : 0 + id ≡ id = omega arith in z)
 
@@ -134,7 +137,7 @@ marked_push first (name ∷ names) lists trigram ids =
     let rest = marked_push (first + 1) names lists trigram ids in
     λ i. (name, here i) ∷ rest i
 
-pub given_push : (most : ℕ) (names : List (List ℕ)) (lists : List Posting) (trigram : ℕ) (ids : List ℕ) → RiseWithin most 0 ids → given (entries_of 0 names lists) trigram ids ≡ entries_of 0 names (lists ++ (trigram, ids) ∷ [])
+pub given_push : (most : ℕ) (names : List (List ℕ)) (lists : List Posting) (trigram : ℕ) (ids : List ℕ) → RiseWithin most 0 ids → with_trigram (entries_of 0 names lists) trigram ids ≡ entries_of 0 names (lists ++ (trigram, ids) ∷ [])
 given_push most names lists trigram ids up = given_marked most 0 (entries_of 0 names lists) trigram ids up ∙ sym (marked_push 0 names lists trigram ids)
 
 pub no_lists : (first : ℕ) (names : List (List ℕ)) → entries_of first names [] ≡ without_trigrams names
@@ -238,7 +241,7 @@ found_within parts place trigram ids h =
     let at = is_at parts place trigram ids h in
     rise_below (length parts.names) 0 ids.ids (subst (λ (r : Ids). RiseWithin (length parts.names) 0 r.ids) at.ids_are (list_rises parts at.entry))
 
-pub found_given : (parts : Parts) (place trigram : ℕ) (ids : Ids) → ◌≡◌ {A = Option (ℕ × Ids)} (Some (trigram, ids)) (list_answer parts place) → ids.whole ≡ true → given (entries_of 0 parts.names (take place (lists_in parts))) trigram ids.ids ≡ entries_of 0 parts.names (take (place + 1) (lists_in parts))
+pub found_given : (parts : Parts) (place trigram : ℕ) (ids : Ids) → ◌≡◌ {A = Option (ℕ × Ids)} (Some (trigram, ids)) (list_answer parts place) → ids.whole ≡ true → with_trigram (entries_of 0 parts.names (take place (lists_in parts))) trigram ids.ids ≡ entries_of 0 parts.names (take (place + 1) (lists_in parts))
 found_given parts place trigram ids h whole =
     let at = is_at parts place trigram ids h in
     let posting : ◌≡◌ {A = Posting} (read_posting parts at.entry) (trigram, ids.ids) = (λ i. (at.trigram_is i, whole_ids (at.ids_are i))) ∙ ap (λ b. (trigram, cond b ids.ids [])) whole in
@@ -256,9 +259,9 @@ found_damaged parts place trigram ids h whole =
     let at = is_at parts place trigram ids h in
     one_damaged (λ (e : ListEntry). (ids_read parts e).whole) parts.entries place at.entry at.there (ap (λ (r : Ids). r.whole) at.ids_are ∙ whole)
 
-pub found_fault : (parts : Parts) (place trigram : ℕ) (ids : Ids) (fault : MergeFault) → ◌≡◌ {A = Option (ℕ × Ids)} (Some (trigram, ids)) (list_answer parts place) → IsListFault fault ids.whole → IsListFault fault (are_whole parts)
-found_fault parts place trigram ids fault h (damaged_list is whole) = damaged_list is (found_damaged parts place trigram ids h whole)
-found_fault parts place trigram ids fault h (memory is) = memory is
+pub found_fault : (parts : Parts) (place trigram : ℕ) (ids : Ids) (fault : IndexFault) → ◌≡◌ {A = Option (ℕ × Ids)} (Some (trigram, ids)) (list_answer parts place) → IsListFault ids.whole fault → IsListFault (are_whole parts) fault
+found_fault parts place trigram ids fault h (inl damaged) = inl (damaged.0, found_damaged parts place trigram ids h damaged.1)
+found_fault parts place trigram ids fault h (inr memory) = inr memory
 
 pub not_found : (parts : Parts) (place : ℕ) → place < length parts.entries → ◌≡◌ {A = Option (ℕ × Ids)} (list_answer parts place) None → ⊥
 not_found parts place h none = within parts.entries place h none

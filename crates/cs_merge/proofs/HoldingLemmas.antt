@@ -1,5 +1,9 @@
 -- What bytes hold.
 use Rattle.std.proofs.Common.{◌≡◌, ℕ, zero, suc, ◌+◌, ◌<◌, ◌^◌, Bool, true, false, cond, ◌||◌, List, [], ◌∷◌, ◌++◌, length, map, take, drop, get_or, refl, sym, ap, subst, ◌∙◌, inl, inr, ◌⊎◌, Some, arith}
+use Rattle.cs_tree.specs.PathSet.{Paths}
+use Rattle.cs_tree.specs.NameOrder.{bytes_cmp}
+use Rattle.cs_index.specs.PostingLists.{damaged, read_ids, IsList, set_at, entries_of}
+use Rattle.cs_trigram.specs.Trigram.{has, Ascends, IsTrigramSet}
 use Rattle.std.proofs.lemmas.Bool.{true≢false, cases_Bool, cases_eq}
 use Rattle.std.specs.Prelude.{T, is_some, filter}
 use Rattle.std.specs.List.{AllByRecursion, AllZip, list_any}
@@ -8,13 +12,13 @@ use Rattle.std.specs.Ordering.{eq_by_cmp}
 use Rattle.std.specs.FinMap as map'
 use Rattle.std.specs.FinMap.Entries.{is_sorted, find}
 use Rattle.cs_tree.specs.PathSet as set
-use Rattle.cs_tree.specs.Cover.{bytes_cmp, Paths, same}
+use Rattle.cs_tree.specs.Cover.{same}
 use Rattle.cs_tree.proofs.Sets.{tied_is, same_set, entries_in_order}
-use Rattle.cs_index.specs.Image.{Files, Entry, image, names_of, has, Posting, posting_list, postings_of, ListEntry, list_entries, joined, closing_list, Sections, sections_of, laid_out, three_bytes}
-use Rattle.cs_index.specs.Spelling.{IsString, Ascends, IsEntry, IsList, read_ids, damaged, entries_of, set_at}
+use Rattle.cs_index.specs.Image.{Files, Entry, image, names_of, Posting, posting_list, postings_of, ListEntry, list_entries, concat, closing_list, Sections, sections_of, layout, three_bytes, IsString}
+use Rattle.cs_index.specs.Spelling.{IsEntry}
 use Rattle.cs_index.proofs.OnceLemmas.{sections_once, spelled_once}
 use Rattle.cs_index.proofs.ListedLemmas.{image_lists}
-use Rattle.cs_merge.specs.Content.{IsTrigramSet, IsContent, IsListOf, Holds}
+use Rattle.cs_merge.specs.Content.{IsContent, IsListOf, Holds}
 use Rattle.cs_merge.proofs.ContentLemmas.{each_of_map, content_indexable, content_spelled, read_back, ascending_sets}
 
 -- ---- maps and sets made of lists
@@ -34,26 +38,26 @@ find_all {X} P (e ∷ es) name x all h =
 
 -- a member of a set that was made of a list is one of the list
 pub from_list_all : (P : List ℕ → Type 0) (paths : List (List ℕ)) → AllByRecursion P paths → (path : List ℕ) → set.contains (set.from_list paths) path ≡ true → P path
-from_list_all P paths all path member = among paths all (ap is_some (sym (map'.get-from_entries nat_list_cmp_total (set.marked paths) path)) ∙ member)
+from_list_all P paths all path member = among paths all (ap is_some (sym (map'.get-from_entries nat_list_cmp_total (set.with_units paths) path)) ∙ member)
   where
-    among : (ps : List (List ℕ)) → AllByRecursion P ps → is_some (find bytes_cmp path (set.marked ps)) ≡ true → P path
+    among : (ps : List (List ℕ)) → AllByRecursion P ps → is_some (find bytes_cmp path (set.with_units ps)) ≡ true → P path
     among [] all h = absurd (true≢false (sym h))
     among (p ∷ ps) all h =
         elim (cases_Bool (eq_by_cmp bytes_cmp path p)) [
           | inl here ↦ subst P (sym (tied_is path p here)) all.0
-          | inr apart ↦ among ps all.1 (sym (ap (λ t. is_some (cond t (Some tt) (find bytes_cmp path (set.marked ps)))) apart) ∙ h)
+          | inr apart ↦ among ps all.1 (sym (ap (λ t. is_some (cond t (Some tt) (find bytes_cmp path (set.with_units ps)))) apart) ∙ h)
         ]
 
-pub marked_items : (q : List ℕ) (ps : List (List ℕ)) → is_some (find bytes_cmp q (set.marked ps)) ≡ list_any (eq_by_cmp bytes_cmp q) ps
+pub marked_items : (q : List ℕ) (ps : List (List ℕ)) → is_some (find bytes_cmp q (set.with_units ps)) ≡ list_any (eq_by_cmp bytes_cmp q) ps
 marked_items q [] = refl
-marked_items q (p ∷ ps) = elim (eq_by_cmp bytes_cmp q p) as (λ t. is_some (cond t (Some tt) (find bytes_cmp q (set.marked ps))) ≡ (t || list_any (eq_by_cmp bytes_cmp q) ps)) [ true ↦ refl | false ↦ marked_items q ps ]
+marked_items q (p ∷ ps) = elim (eq_by_cmp bytes_cmp q p) as (λ t. is_some (cond t (Some tt) (find bytes_cmp q (set.with_units ps))) ≡ (t || list_any (eq_by_cmp bytes_cmp q) ps)) [ true ↦ refl | false ↦ marked_items q ps ]
 
 -- a set is made of its items, and a map of its entries
 set_of_items : (paths : Paths) → paths ≡ set.from_list (set.items paths)
 set_of_items paths = same_set paths (set.from_list (set.items paths)) (λ q.
     map'.contains_key-keys paths q
     ∙ sym (marked_items q (set.items paths))
-    ∙ ap is_some (sym (map'.get-from_entries nat_list_cmp_total (set.marked (set.items paths)) q)))
+    ∙ ap is_some (sym (map'.get-from_entries nat_list_cmp_total (set.with_units (set.items paths)) q)))
 
 map_of_entries : (files : Files) → files ≡ map'.from_entries (map'.entries files)
 map_of_entries files = map'.same_entries_map files (map'.from_entries (map'.entries files)) (sym (entries_in_order (map'.entries files) (map'.entries_sorted files)))
@@ -78,16 +82,16 @@ content_held paths files content short =
     let es : List Entry = map'.entries files in
     let spells = content_spelled paths files content short in
     let back : entries_of 0 (names_of es) (postings_of es) ≡ es = read_back [] es (ascending_sets files content.sets_are) in
-    let laid : laid_out (sections_of (set.items paths) (names_of es) (postings_of es)) ≡ laid_out spells.sections = spells.laid in
+    let laid : layout (sections_of (set.items paths) (names_of es) (postings_of es)) ≡ layout spells.sections = spells.laid in
     let sections = sections_once (sections_of (set.items paths) (names_of es) (postings_of es)) spells.sections short (subst (λ b. length b < 2 ^ 32) laid short) laid in
-    let lists = lists_of (joined (map posting_list (postings_of es)) ++ closing_list) (length es) 0 (postings_of es) (image_lists es (content_indexable paths files content short).few) in
+    let lists = lists_of (concat (map posting_list (postings_of es)) ++ closing_list) (length es) 0 (postings_of es) (image_lists es (content_indexable paths files content short).few) in
     record {
       path_list = set.items paths;
       names = map'.keys files;
       entries = list_entries 0 (postings_of es);
       lists = postings_of es;
       spells = spells;
-      each_list = subst (λ section. AllZip (IsListOf section (length (names_of es))) (list_entries 0 (postings_of es)) (postings_of es)) (ap (λ (s : Sections). s.postings) sections) (subst (λ n. AllZip (IsListOf (joined (map posting_list (postings_of es)) ++ closing_list) n) (list_entries 0 (postings_of es)) (postings_of es)) (sym (length-names es)) lists);
+      each_list = subst (λ section. AllZip (IsListOf section (length (names_of es))) (list_entries 0 (postings_of es)) (postings_of es)) (ap (λ (s : Sections). s.postings) sections) (subst (λ n. AllZip (IsListOf (concat (map posting_list (postings_of es)) ++ closing_list) n) (list_entries 0 (postings_of es)) (postings_of es)) (sym (length-names es)) lists);
       ascend = ap (is_sorted bytes_cmp) back ∙ is_true (is_sorted bytes_cmp es) (map'.entries_sorted files);
       paths_are = set_of_items paths;
       files_are = map_of_entries files ∙ ap map'.from_entries (sym back);

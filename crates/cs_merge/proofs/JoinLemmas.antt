@@ -1,45 +1,47 @@
 -- What a join has at a name, and what its paths cover.
 use Rattle.std.proofs.Common.{◌≡◌, ℕ, Bool, true, false, not, cond, ◌||◌, List, refl, sym, ap, ◌∙◌, ◌⊎◌, inl, inr, Option, None, Some}
+use Rattle.cs_tree.specs.PathSet.{Paths}
+use Rattle.cs_tree.specs.NameOrder.{bytes_cmp}
 use Rattle.std.proofs.lemmas.Bool.{true≢false, or_cases, or_left, or_right}
 use Rattle.std.specs.Cmp.Lexicographic.{nat_list_cmp_total}
 use Rattle.std.specs.FinMap as map
 use Rattle.cs_tree.specs.PathSet as set
-use Rattle.cs_tree.specs.Cover.{bytes_cmp, Paths, covered}
+use Rattle.cs_tree.specs.Cover.{is_covered}
 use Rattle.cs_tree.proofs.Sets.{alike, or_else, find-append, contains-union}
 use Rattle.cs_tree.proofs.Least.{least_says, covered-least, covered-union}
 use Rattle.cs_merge.specs.Join.{join_files, join_paths}
 
 module _ {X : Type 0} where
-  pub get-join_files : (paths : Paths) (old newer : map.FinMap bytes_cmp X) (name : List ℕ) → map.get (join_files paths old newer) name ≡ or_else (map.get newer name) (cond (not (covered paths name)) (map.get old name) None)
+  pub get-join_files : (paths : Paths) (old newer : map.FinMap bytes_cmp X) (name : List ℕ) → map.get (join_files paths old newer) name ≡ or_else (map.get newer name) (cond (not (is_covered paths name)) (map.get old name) None)
   get-join_files paths old newer name =
       map.get-from_entries nat_list_cmp_total _ name
       ∙ find-append name (map.entries newer) (map.entries kept)
       ∙ ap (λ o. or_else o (map.find bytes_cmp name (map.entries kept))) (sym (map.get-entries newer name))
-      ∙ ap (or_else (map.get newer name)) (sym (map.get-entries kept name) ∙ map.get-retain_keys old _ name (λ x e. ap (λ n. not (covered paths n)) (sym (alike name x e))))
+      ∙ ap (or_else (map.get newer name)) (sym (map.get-entries kept name) ∙ map.get-retain_keys old _ name (λ x e. ap (λ n. not (is_covered paths n)) (sym (alike name x e))))
     where
       kept : map.FinMap bytes_cmp X
-      kept = map.retain_keys old (λ n. not (covered paths n))
+      kept = map.retain_keys old (λ n. not (is_covered paths n))
 
   pub or_none : (o : Option X) → or_else o None ≡ o
   or_none None = refl
   or_none (Some x) = refl
 
   -- at a covered name the newer one has the last word
-  pub newer_at : (paths : Paths) (old newer : map.FinMap bytes_cmp X) (name : List ℕ) → covered paths name ≡ true → map.get (join_files paths old newer) name ≡ map.get newer name
+  pub newer_at : (paths : Paths) (old newer : map.FinMap bytes_cmp X) (name : List ℕ) → is_covered paths name ≡ true → map.get (join_files paths old newer) name ≡ map.get newer name
   newer_at paths old newer name h =
       get-join_files paths old newer name
       ∙ ap (λ b. or_else (map.get newer name) (cond (not b) (map.get old name) None)) h
       ∙ or_none (map.get newer name)
 
   -- at any other name the newer one has nothing, so that the old one stays
-  pub old_at : (paths : Paths) (old newer : map.FinMap bytes_cmp X) (name : List ℕ) → map.get newer name ≡ None → covered paths name ≡ false → map.get (join_files paths old newer) name ≡ map.get old name
+  pub old_at : (paths : Paths) (old newer : map.FinMap bytes_cmp X) (name : List ℕ) → map.get newer name ≡ None → is_covered paths name ≡ false → map.get (join_files paths old newer) name ≡ map.get old name
   old_at paths old newer name none h =
       get-join_files paths old newer name
       ∙ ap (λ b. or_else (map.get newer name) (cond (not b) (map.get old name) None)) h
       ∙ ap (λ o. or_else o (map.get old name)) none
 
   -- a name that stands in a map lies under the paths
-  pub old_under : (paths : Paths) (old newer : map.FinMap bytes_cmp X) (name : List ℕ) → ((q : List ℕ) (x : X) → map.get newer q ≡ Some x → covered paths q ≡ true) → covered paths name ≡ false → map.get (join_files paths old newer) name ≡ map.get old name
+  pub old_under : (paths : Paths) (old newer : map.FinMap bytes_cmp X) (name : List ℕ) → ((q : List ℕ) (x : X) → map.get newer q ≡ Some x → is_covered paths q ≡ true) → is_covered paths name ≡ false → map.get (join_files paths old newer) name ≡ map.get old name
   old_under paths old newer name under h = old_at paths old newer name (lacks (map.get newer name) refl) h
     where
       lacks : (o : Option X) → map.get newer name ≡ o → map.get newer name ≡ None
@@ -48,7 +50,7 @@ module _ {X : Type 0} where
 
   -- what stands in a join stood in one of both
   pub joined_from : (paths : Paths) (old newer : map.FinMap bytes_cmp X) (name : List ℕ) (x : X) → map.get (join_files paths old newer) name ≡ Some x → (map.get newer name ≡ Some x) ⊎ (map.get old name ≡ Some x)
-  joined_from paths old newer name x h = parts (map.get newer name) (map.get old name) (not (covered paths name)) (sym (get-join_files paths old newer name) ∙ h)
+  joined_from paths old newer name x h = parts (map.get newer name) (map.get old name) (not (is_covered paths name)) (sym (get-join_files paths old newer name) ∙ h)
     where
       parts : (n o : Option X) (b : Bool) → or_else n (cond b o None) ≡ Some x → (n ≡ Some x) ⊎ (o ≡ Some x)
       parts (Some y) o b e = inl e
@@ -57,14 +59,14 @@ module _ {X : Type 0} where
 
 -- ---- paths
 
-pub covered-join_paths : (p q : Paths) (name : List ℕ) → covered (join_paths p q) name ≡ (covered p name || covered q name)
+pub covered-join_paths : (p q : Paths) (name : List ℕ) → is_covered (join_paths p q) name ≡ (is_covered p name || is_covered q name)
 covered-join_paths p q name = covered-least (set.union p q) name ∙ covered-union p q name
 
 pub path_from : (p q : Paths) (path : List ℕ) → set.contains (join_paths p q) path ≡ true → (set.contains p path ≡ true) ⊎ (set.contains q path ≡ true)
 path_from p q path h = or_cases (set.contains p path) (set.contains q path) (sym (contains-union p q path) ∙ (least_says (set.union p q) path h).member)
 
-pub covered_left : (p q : Paths) (name : List ℕ) → covered p name ≡ true → covered (join_paths p q) name ≡ true
-covered_left p q name h = covered-join_paths p q name ∙ or_left (covered p name) (covered q name) h
+pub covered_left : (p q : Paths) (name : List ℕ) → is_covered p name ≡ true → is_covered (join_paths p q) name ≡ true
+covered_left p q name h = covered-join_paths p q name ∙ or_left (is_covered p name) (is_covered q name) h
 
-pub covered_right : (p q : Paths) (name : List ℕ) → covered q name ≡ true → covered (join_paths p q) name ≡ true
-covered_right p q name h = covered-join_paths p q name ∙ or_right (covered p name) (covered q name) h
+pub covered_right : (p q : Paths) (name : List ℕ) → is_covered q name ≡ true → is_covered (join_paths p q) name ≡ true
+covered_right p q name h = covered-join_paths p q name ∙ or_right (is_covered p name) (is_covered q name) h

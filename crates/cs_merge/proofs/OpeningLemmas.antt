@@ -1,14 +1,16 @@
 -- What opens as an index holds what the index has.
 use Rattle.std.proofs.Common.{◌≡◌, ℕ, ◌+◌, ◌<◌, ◌^◌, true, cond, List, [], ◌∷◌, length, map, Ok, refl, sym, ap, subst, ◌∙◌}
+use Rattle.cs_tree.specs.PathSet.{Paths}
+use Rattle.cs_tree.specs.NameOrder.{bytes_cmp, are_ascending}
+use Rattle.cs_index.specs.Roundtrip.{AreBytes, SpellsParts}
+use Rattle.cs_index.specs.PostingLists.{Ids, entries_of}
 use Rattle.std.proofs.lemmas.Bool.{and_from, and_parts}
 use Rattle.std.specs.FinMap as map'
 use Rattle.std.specs.List.{AllZip, list_all}
 use Rattle.std.specs.Ordering.{is_lt}
 use Rattle.cs_tree.specs.PathSet as set
-use Rattle.cs_tree.specs.Cover.{bytes_cmp, Paths}
 use Rattle.cs_index.specs.Image.{Files, ListEntry, Posting, Sections}
-use Rattle.cs_index.specs.Opening.{AreBytes, Parts, SpellsParts, are_whole, ids_read, lists_in, names_ascend, opened, whole_ids}
-use Rattle.cs_index.specs.Spelling.{Ids, entries_of}
+use Rattle.cs_index.specs.Opening.{Parts, are_whole, ids_read, lists_in, opening, whole_ids}
 use Rattle.cs_index.proofs.OnceLemmas.{sections_once, spelled_once}
 use Rattle.cs_index.proofs.OpenedLemmas.{opens_spelled, spells_opened}
 use Rattle.cs_merge.specs.Content.{IsListOf, Holds, HasContent, Opens, files_in, paths_in}
@@ -16,10 +18,10 @@ use Rattle.cs_merge.proofs.GatheringLemmas.{read_posting}
 use Rattle.cs_merge.proofs.InterleavingLemmas.{Up, sorted_up, up_named, up_sorted}
 
 -- names that stand in order ascend
-names_up : (first : ℕ) (names : List (List ℕ)) (lists : List Posting) → Up (entries_of first names lists) → names_ascend names ≡ true
+names_up : (first : ℕ) (names : List (List ℕ)) (lists : List Posting) → Up (entries_of first names lists) → are_ascending names ≡ true
 names_up first [] lists up = refl
 names_up first (name ∷ []) lists up = refl
-names_up first (name ∷ next ∷ names) lists up = and_from (is_lt (bytes_cmp name next)) (names_ascend (next ∷ names)) up.0.0 (names_up (first + 1) (next ∷ names) lists up.1)
+names_up first (name ∷ next ∷ names) lists up = and_from (is_lt (bytes_cmp name next)) (are_ascending (next ∷ names)) up.0.0 (names_up (first + 1) (next ∷ names) lists up.1)
 
 -- the lists of entries are those that are read
 lists_read : (parts : Parts) (es : List ListEntry) (ps : List Posting) → AllZip (IsListOf parts.postings (length parts.names)) es ps → ◌≡◌ {A = List Posting} (map (read_posting parts) es) ps
@@ -60,11 +62,11 @@ has_content bytes parts paths files s h =
     record {
       paths_are = ap set.from_list once.0 ∙ sym h.paths_are;
       files_are = (λ i. map'.from_entries (entries_of 0 (once.1 i) (lists i))) ∙ sym h.files_are;
-      ascend = ap names_ascend once.1 ∙ names_up 0 h.names h.lists (up_sorted (entries_of 0 h.names h.lists) h.ascend);
+      ascend = ap are_ascending once.1 ∙ names_up 0 h.names h.lists (up_sorted (entries_of 0 h.names h.lists) h.ascend);
       whole = lists_whole parts parts.entries h.lists each;
     }
 
-holds_from : (bytes : List ℕ) (parts : Parts) → SpellsParts bytes parts → names_ascend parts.names ≡ true → are_whole parts ≡ true → Holds bytes (paths_in parts) (files_in parts)
+holds_from : (bytes : List ℕ) (parts : Parts) → SpellsParts bytes parts → are_ascending parts.names ≡ true → are_whole parts ≡ true → Holds bytes (paths_in parts) (files_in parts)
 unfolding paths_in files_in
 holds_from bytes parts s ascend whole = record {
   path_list = parts.paths;
@@ -97,5 +99,5 @@ opens_held bytes paths files small o =
     subst (Holds bytes paths) o.has.files_are
     (subst (λ p. Holds bytes p (files_in o.parts)) o.has.paths_are (holds_from bytes o.parts (spells_opened bytes o.parts small o.opened) o.has.ascend o.has.whole))
 
-pub opened_has : (bytes : List ℕ) (parts : Parts) (paths : Paths) (files : Files) → AreBytes bytes → opened bytes ≡ Ok parts → Holds bytes paths files → HasContent parts paths files
+pub opened_has : (bytes : List ℕ) (parts : Parts) (paths : Paths) (files : Files) → AreBytes bytes → opening bytes ≡ Ok parts → Holds bytes paths files → HasContent parts paths files
 opened_has bytes parts paths files small e h = has_content bytes parts paths files (spells_opened bytes parts small e) h

@@ -1,5 +1,9 @@
 -- What is read of an index can be built again.
 use Rattle.std.proofs.Common.{◌≡◌, ℕ, ◌+◌, ◌<◌, true, false, not, cond, ◌||◌, eqb, ltb, List, [], ◌∷◌, length, map, take, drop, refl, sym, ap, subst, ◌∙◌, inl, inr, arith}
+use Rattle.cs_tree.specs.PathSet.{Paths}
+use Rattle.cs_tree.specs.NameOrder.{bytes_cmp}
+use Rattle.cs_index.specs.PostingLists.{Ids, damaged, read_ids, set_at}
+use Rattle.cs_trigram.specs.Trigram.{Ascends, IsTrigramSet}
 use Rattle.std.proofs.lemmas.Bool.{true≢false, and_parts, and_from, or_cases, cases_Bool, eqb-true, ne_eqb, ltb-true, lt-ltb}
 use Rattle.std.specs.Prelude.{is_some, nat_le}
 use Rattle.std.specs.FinMap as map'
@@ -9,15 +13,14 @@ use Rattle.std.specs.Ordering.{is_lt, is_eq}
 use Rattle.std.specs.declared.cmp.Ordering.{Ordering}
 use Rattle.std.specs.declared.cmp.Ordering.TheVariants.{Less, Equal, Greater}
 use Rattle.cs_tree.specs.PathSet as set
-use Rattle.cs_tree.specs.Cover.{bytes_cmp, covers, least, same, Paths}
+use Rattle.cs_tree.specs.Cover.{covers, least, same}
 use Rattle.cs_tree.proofs.Least.{IsLeast, least_says}
 use Rattle.cs_tree.proofs.Sets.{contains-union, tied_same}
-use Rattle.cs_index.specs.Image.{Entry, ListEntry, Posting, three_bytes}
+use Rattle.cs_index.specs.Image.{Entry, ListEntry, Posting, three_bytes, IsString}
 use Rattle.cs_index.specs.Built.{are_paths, are_reduced, is_before, is_storable}
 use Rattle.cs_index.specs.Opening.{Parts, files_read, ids_read, is_entry, lists_in, rises, whole_ids}
 use Rattle.cs_index.specs.Parts.{AreParts}
-use Rattle.cs_index.specs.Spelling.{Ascends, Ids, IsString, damaged, read_ids, set_at}
-use Rattle.cs_merge.specs.Content.{IsTrigramSet, paths_in}
+use Rattle.cs_merge.specs.Content.{paths_in}
 use Rattle.cs_merge.specs.Interleaving.{CanAdd}
 use Rattle.cs_merge.specs.Join.{join_paths}
 use Rattle.cs_merge.proofs.ContentLemmas.{all_paths, each_of_map}
@@ -86,7 +89,7 @@ each_storable (text ∷ texts) all = and_from (is_storable text) (list_all is_st
 
 can_add : (files : List Entry) → AllByRecursion (λ (file : Entry). IsString file.0 × IsTrigramSet file.1) files → AllByRecursion CanAdd files
 can_add [] all = tt
-can_add (file ∷ files) all = (record { storable = storable file.0 all.0.0; ascend = all.0.1.0; below = all.0.1.1 }, can_add files all.1)
+can_add (file ∷ files) all = (record { storable = storable file.0 all.0.0; trigrams = all.0.1 }, can_add files all.1)
 
 -- what is read of an index can be added to another
 pub files_can_add : (parts : Parts) → AreParts parts → AllByRecursion CanAdd (files_read parts)

@@ -1,19 +1,19 @@
 -- What an index holds: a set of paths, and a map from the names of files to their sets of trigrams.
 -- docs/FORMAT.md, "The index as it is written" and "The index as it is read".
-use Rattle.std.specs.Prelude.{◌≡◌, ℕ, ◌<◌, true, List, length, Some, Ok}
-use Rattle.std.specs.List.{AllByRecursion, AllZip}
+use Rattle.std.specs.Prelude.{◌≡◌, ℕ, true, List, length, Some, Ok}
+use Rattle.cs_tree.specs.PathSet.{Paths}
+use Rattle.cs_tree.specs.NameOrder.{bytes_cmp, are_ascending}
+use Rattle.cs_index.specs.PostingLists.{IsList, entries_of}
+use Rattle.cs_trigram.specs.Trigram.{IsTrigramSet}
+use Rattle.std.specs.List.{AllZip}
 use Rattle.std.specs.FinMap as map
 use Rattle.cs_tree.specs.PathSet as set
-use Rattle.cs_tree.specs.Cover.{bytes_cmp, Paths, covered}
-use Rattle.cs_index.specs.Image.{Files, ListEntry, Posting}
-use Rattle.cs_index.specs.Opening.{Parts, are_whole, files_read, names_ascend, opened as opened_as}
-use Rattle.cs_index.specs.Spelling.{IsString, Ascends, IsList, Spells, entries_of}
+use Rattle.cs_tree.specs.Cover.{is_covered}
+use Rattle.cs_index.specs.Image.{Files, ListEntry, Posting, IsString}
+use Rattle.cs_index.specs.Opening.{Parts, are_whole, files_read, opening as opened_as}
+use Rattle.cs_index.specs.Spelling.{Spells}
 
 -- ---- what can be held
-
--- the members of a set of trigrams, ascending; ff ff ff is none
-abbrev pub IsTrigramSet : List ℕ → Type 0
-IsTrigramSet trigrams = Ascends trigrams × AllByRecursion (λ trigram. trigram < 16777215) trigrams
 
 -- each file of a map is so
 abbrev pub EachFile : (List ℕ → List ℕ → Type 0) → Files → Type 0
@@ -27,7 +27,7 @@ pub record IsContent (paths : Paths) (files : Files) : Type 0 where
 
 -- each name lies under some path
 abbrev pub LieUnder : Paths → Files → Type 0
-LieUnder paths files = EachFile (λ name trigrams. covered paths name ≡ true) files
+LieUnder paths files = EachFile (λ name trigrams. is_covered paths name ≡ true) files
 
 -- ---- what bytes hold, whoever wrote them
 
@@ -62,7 +62,7 @@ files_in parts = map.from_entries (files_read parts)
 pub record HasContent (parts : Parts) (paths : Paths) (files : Files) : Type 0 where
   pub paths_are : paths_in parts ≡ paths
   pub files_are : files_in parts ≡ files
-  pub ascend : names_ascend parts.names ≡ true
+  pub ascend : are_ascending parts.names ≡ true
   pub whole : are_whole parts ≡ true
 
 -- The bytes open as an index that has these paths and files.

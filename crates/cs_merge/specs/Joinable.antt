@@ -1,20 +1,21 @@
 -- Which indexes are joined, and what the index of both is.
 -- docs/PROMISES.md, "Joining".
 use Rattle.std.specs.Prelude.{◌≡◌, ℕ, Bool, true, ◌&&◌, List}
+use Rattle.cs_tree.specs.NameOrder.{are_ascending}
 use Rattle.std.specs.List.{list_all}
-use Rattle.cs_tree.specs.Cover.{covered}
+use Rattle.cs_tree.specs.Cover.{is_covered}
 use Rattle.cs_index.specs.Image.{image}
-use Rattle.cs_index.specs.Opening.{Parts, are_whole, names_ascend}
+use Rattle.cs_index.specs.Opening.{Parts, are_whole}
 use Rattle.cs_merge.specs.Content.{files_in, paths_in}
 use Rattle.cs_merge.specs.Join.{join_files, join_paths}
 
 -- the names of both strictly ascend
 abbrev pub both_ascend : Parts → Parts → Bool
-both_ascend old newer = names_ascend old.names && names_ascend newer.names
+both_ascend old newer = are_ascending old.names && are_ascending newer.names
 
 -- each name lies under some path
 unfoldable pub are_covered : Parts → Bool
-are_covered parts = list_all (λ name. covered (paths_in parts) name) parts.names
+are_covered parts = list_all (λ name. is_covered (paths_in parts) name) parts.names
 
 -- each list of both is whole
 abbrev pub both_whole : Parts → Parts → Bool

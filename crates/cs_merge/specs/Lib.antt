@@ -1,9 +1,16 @@
--- what public contracts rest on
+-- What public contracts rest on.
+pub use Rattle.cs_index.specs.Roundtrip
+pub use Rattle.cs_index.specs.PostingLists
+pub use Rattle.cs_index.specs.Spelling
+pub use Rattle.cs_tree.specs.PathSet
+pub use Rattle.cs_tree.specs.Cover
+pub use Rattle.cs_index.specs.Image
+pub use Rattle.cs_index.specs.Opening
 pub mod Join
 pub mod Content
 pub mod Joinable
--- what functions inside promise each other
-pub mod Gathering
+-- What functions inside promise each other.
+pub mod Regrouping
 pub mod Interleaving
-pub mod Building
+pub mod Adding
 pub mod Joining

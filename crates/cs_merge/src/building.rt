@@ -1,12 +1,12 @@
 // The index that is built of the files of two.
 ghost use Rattle.std.specs.Prelude.{◌≡◌, ◌⊎◌, ◌<◌, ◌≤◌, ◌++◌, [], true, length, map, string_bytes, IfOk, IfErr, OnOk, MatchResult};
+ghost use Rattle.cs_tree.specs.NameOrder.{bytes_cmp};
 ghost use Rattle.std.specs.List.{AllByRecursion, prefix_len};
 ghost use Rattle.std.specs.FinMap as map';
-ghost use Rattle.cs_tree.specs.Cover.{bytes_cmp};
 ghost use Rattle.cs_index.specs.Image.{image_of, names_of};
-ghost use Rattle.cs_index.specs.Built.{added, are_paths, is_above};
-ghost use Rattle.cs_merge.specs.Building.{added_all, IsAddFault, IsBuildFault, IsWithin};
-ghost use Rattle.cs_merge.specs.Interleaving.{interleaved, is_below, CanAdd};
+ghost use Rattle.cs_index.specs.Built.{with_name, are_paths, is_above};
+ghost use Rattle.cs_merge.specs.Adding.{with_files, IsAddFault, IsBuildFault, IsWithin};
+ghost use Rattle.cs_merge.specs.Interleaving.{interleaving, is_below, CanAdd};
 
 use crate::fault::MergeFault;
 use crate::files::File;
@@ -14,7 +14,7 @@ use cs_index::{BuildFault, Builder};
 use std::alloc::Global;
 
 /// The index of the paths and the files, unless it has more than a number of bytes.
-pub fn build(
+pub(crate) fn build(
     alloc: Global,
     most: u32,
     paths: &[String],
@@ -22,17 +22,19 @@ pub fn build(
     newer: &[File<'_>],
 ) -> Result<Vec<u8>, MergeFault>
     requires paths { are_paths (map string_bytes paths.now) ≡ true }
-    requires files { AllByRecursion CanAdd (interleaved newer.now older.now) }
-    requires ascend { map'.is_sorted bytes_cmp (interleaved newer.now older.now) ≡ true }
-    ensures ok { IfOk result (λ index. IsWithin most (image_of (map string_bytes paths.now) (interleaved newer.now older.now)) index.items) }
-    ensures fault { IfErr result (λ fault. IsBuildFault most (image_of (map string_bytes paths.now) (interleaved newer.now older.now)) fault) }
+    requires files { AllByRecursion CanAdd (interleaving newer.now older.now) }
+    requires ascend { map'.is_sorted bytes_cmp (interleaving newer.now older.now) ≡ true }
+    ensures ok { IfOk result (λ index. IsWithin most
+        (image_of (map string_bytes paths.now) (interleaving newer.now older.now)) index.items) }
+    ensures fault { IfErr result (λ fault. IsBuildFault most
+        (image_of (map string_bytes paths.now) (interleaving newer.now older.now)) fault) }
 {
     let mut builder = begun(alloc, paths)?;
     add_both(&mut builder, older, newer)?;
     finished(builder, most)
 }
 
-// A builder of an index of the paths.
+/// A builder of an index of the paths.
 fn begun(alloc: Global, paths: &[String]) -> Result<Builder, MergeFault>
     requires { are_paths (map string_bytes paths.now) ≡ true }
     ensures paths { IfOk result (λ builder. builder.paths ≡ map string_bytes paths.now) }
@@ -45,13 +47,14 @@ fn begun(alloc: Global, paths: &[String]) -> Result<Builder, MergeFault>
     }
 }
 
-// Adds the newer files and the older ones, side by side.
+/// Adds the newer files and the older ones, side by side.
 fn add_both(builder: &mut Builder, older: &[File<'_>], newer: &[File<'_>]) -> Result<(), MergeFault>
     requires empty { builder.old.entries ≡ [] }
-    requires files { AllByRecursion CanAdd (interleaved newer.now older.now) }
-    requires ascend { map'.is_sorted bytes_cmp (interleaved newer.now older.now) ≡ true }
-    ensures ok { OnOk result (builder.new ≡ added_all builder.old (interleaved newer.now older.now)) }
-    ensures fault { IfErr result (λ fault. IsAddFault (interleaved newer.now older.now) fault) }
+    requires files { AllByRecursion CanAdd (interleaving newer.now older.now) }
+    requires ascend { map'.is_sorted bytes_cmp (interleaving newer.now older.now) ≡ true }
+    ensures ok { OnOk result
+        (builder.new ≡ with_files builder.old (interleaving newer.now older.now)) }
+    ensures fault { IfErr result (λ fault. IsAddFault (interleaving newer.now older.now) fault) }
 {
     let mut at = 0;
     'newer: for file in newer {
@@ -63,7 +66,7 @@ fn add_both(builder: &mut Builder, older: &[File<'_>], newer: &[File<'_>]) -> Re
     add_all(builder, &older[at..])
 }
 
-// How many files at the front are below the name.
+/// How many files at the front are below the name.
 fn count_below(files: &[File<'_>], name: &str) -> usize
     ensures { result ≡ prefix_len (is_below name.now) files.now }
 {
@@ -77,11 +80,11 @@ fn count_below(files: &[File<'_>], name: &str) -> usize
     count
 }
 
-// Adds files in the order of their names.
+/// Adds files in the order of their names.
 fn add_all(builder: &mut Builder, files: &[File<'_>]) -> Result<(), MergeFault>
     requires files { AllByRecursion CanAdd files.now }
     requires ascend { map'.is_sorted bytes_cmp (builder.old.entries ++ files.now) ≡ true }
-    ensures ok { OnOk result (builder.new ≡ added_all builder.old files.now) }
+    ensures ok { OnOk result (builder.new ≡ with_files builder.old files.now) }
     ensures fault { IfErr result (λ fault. IsAddFault (builder.old.entries ++ files.now) fault) }
 {
     'files: for file in files {
@@ -90,10 +93,11 @@ fn add_all(builder: &mut Builder, files: &[File<'_>]) -> Result<(), MergeFault>
     Ok(())
 }
 
+/// Adds one file.
 fn add(builder: &mut Builder, file: &File<'_>) -> Result<(), MergeFault>
     requires file { CanAdd file.now }
     requires above { is_above (names_of builder.old.entries) file.now.0 ≡ true }
-    ensures ok { OnOk result (builder.new ≡ added builder.old file.now.0 file.now.1) }
+    ensures ok { OnOk result (builder.new ≡ with_name builder.old file.now.0 file.now.1) }
     ensures fault { IfErr result (λ fault. IsAddFault builder.old.entries fault) }
 {
     match builder.add(file.name(), file.trigrams()) {
@@ -102,10 +106,12 @@ fn add(builder: &mut Builder, file: &File<'_>) -> Result<(), MergeFault>
     }
 }
 
-// The index that was built, unless it has more than a number of bytes.
+/// The index that was built, unless it has more than a number of bytes.
 fn finished(builder: Builder, most: u32) -> Result<Vec<u8>, MergeFault>
-    ensures ok { IfOk result (λ index. IsWithin most (image_of builder.paths builder.entries) index.items) }
-    ensures fault { IfErr result (λ fault. IsBuildFault most (image_of builder.paths builder.entries) fault) }
+    ensures ok { IfOk result (λ index. IsWithin most
+        (image_of builder.paths builder.entries) index.items) }
+    ensures fault { IfErr result (λ fault. IsBuildFault most
+        (image_of builder.paths builder.entries) fault) }
 {
     let index = match builder.finish() {
         Ok(index) => index,
@@ -117,7 +123,7 @@ fn finished(builder: Builder, most: u32) -> Result<Vec<u8>, MergeFault>
     Ok(index)
 }
 
-// What is refused of the files of two indexes.
+/// What is refused of the files of two indexes.
 fn refused(fault: BuildFault) -> MergeFault
     requires { (fault ≡ BuildFault.TooLarge) ⊎ (fault ≡ BuildFault.Memory) }
     ensures too_large { fault ≡ BuildFault.TooLarge → result ≡ MergeFault.TooLarge }

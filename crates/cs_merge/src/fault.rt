@@ -41,3 +41,17 @@ impl<T: Drop> From<AllocFailed<T>> for MergeFault {
         MergeFault::Memory
     }
 }
+
+/// A list that is damaged. Want of memory is a fault of its own.
+impl From<IndexFault> for MergeFault {
+    ghost use Rattle.cs_merge.specs.Regrouping.{merge_fault_of};
+
+    ghost from_gives = { λ index fault. fault ≡ merge_fault_of index };
+
+    fn from(index: IndexFault) -> Self {
+        match index {
+            IndexFault::Memory => MergeFault::Memory,
+            _ => MergeFault::Index(index),
+        }
+    }
+}

@@ -2,16 +2,16 @@
 ghost use Rattle.std.specs.Prelude.{◌≡◌, ◌<◌, ◌∷◌, ◌++◌, [], true, false, length, IfOk, OnOk, OnErr, MatchResult};
 ghost use Rattle.std.specs.List.{AllByRecursion};
 ghost use Rattle.cs_index.specs.Opening.{are_whole, files_read};
-ghost use Rattle.cs_merge.specs.Gathering.{given, without_trigrams, IsListFault};
+ghost use Rattle.cs_merge.specs.Regrouping.{with_trigram, without_trigrams};
+ghost use Rattle.cs_index.specs.Postings.{IsListFault};
 
-use crate::fault::MergeFault;
 use cs_index::{Index, IndexFault, Postings};
 use std::alloc::{AllocError, Global};
 use std::marker::Model;
 
 /// A name that an index lends, and the trigrams of its text, ascending.
 #[derive(Drop)]
-pub struct File<'a> {
+pub(crate) struct File<'a> {
     name: &'a str,
     trigrams: Vec<u32>,
 }
@@ -44,13 +44,15 @@ impl<'a> File<'a> {
         Ok(())
     }
 
-    pub fn name(&self) -> &'a str
+    /// The name.
+    pub(crate) fn name(&self) -> &'a str
         ensures { result.now ≡ self.now.0 }
     {
         self.name
     }
 
-    pub fn trigrams(&self) -> &[u32]
+    /// The trigrams.
+    pub(crate) fn trigrams(&self) -> &[u32]
         ensures { result.now ≡ self.now.1 }
     {
         &self.trigrams
@@ -58,17 +60,18 @@ impl<'a> File<'a> {
 }
 
 /// The files of an index, in the order of their ids. Every list is read to its end.
-pub fn read_files<'a>(alloc: Global, index: &Index<'a>) -> Result<Vec<File<'a>>, MergeFault>
+pub(crate) fn read_files<'a>(alloc: Global, index: &Index<'a>) -> Result<Vec<File<'a>>, IndexFault>
     ensures files { IfOk result (λ files. files.items ≡ files_read index.now) }
     ensures whole { IfOk result (λ _. are_whole index.now ≡ true) }
-    ensures fault { MatchResult result (λ _. are_whole index.now ≡ true) (λ fault. IsListFault fault (are_whole index.now)) }
+    ensures fault { MatchResult result (λ _. are_whole index.now ≡ true)
+        (IsListFault (are_whole index.now)) }
 {
     let mut files = named(alloc, index)?;
     gather(&mut files, index)?;
     Ok(files)
 }
 
-// The names of an index, without trigrams.
+/// The names of an index, without trigrams.
 fn named<'a>(alloc: Global, index: &Index<'a>) -> Result<Vec<File<'a>>, AllocError>
     ensures { IfOk result (λ files. files.items ≡ without_trigrams index.now.names) }
 {
@@ -79,11 +82,12 @@ fn named<'a>(alloc: Global, index: &Index<'a>) -> Result<Vec<File<'a>>, AllocErr
     Ok(files)
 }
 
-// Gives each name the trigrams of its lists.
-fn gather(files: &mut [File<'_>], index: &Index<'_>) -> Result<(), MergeFault>
+/// Gives each name the trigrams of its lists.
+fn gather(files: &mut [File<'_>], index: &Index<'_>) -> Result<(), IndexFault>
     requires { files.old ≡ without_trigrams index.now.names }
     ensures files { OnOk result (files.new ≡ files_read index.now) }
-    ensures fault { MatchResult result (λ _. are_whole index.now ≡ true) (λ fault. IsListFault fault (are_whole index.now)) }
+    ensures fault { MatchResult result (λ _. are_whole index.now ≡ true)
+        (IsListFault (are_whole index.now)) }
 {
     'lists: for place in 0..index.lists() {
         if let Some((trigram, ids)) = index.list_at(place) {
@@ -93,15 +97,16 @@ fn gather(files: &mut [File<'_>], index: &Index<'_>) -> Result<(), MergeFault>
     Ok(())
 }
 
-// Gives the trigram to the names that have the ids.
-fn give_all(files: &mut [File<'_>], trigram: u32, ids: Postings<'_>) -> Result<(), MergeFault>
+/// Gives the trigram to the names that have the ids.
+fn give_all(files: &mut [File<'_>], trigram: u32, ids: Postings<'_>) -> Result<(), IndexFault>
     requires within { AllByRecursion (λ id. id < length files.old) ids.ids }
-    ensures given { OnOk result (files.new ≡ given files.old trigram ids.entry.ids) }
-    ensures fault { MatchResult result (λ _. ids.entry.whole ≡ true) (λ fault. IsListFault fault ids.entry.whole) }
+    ensures given { OnOk result (files.new ≡ with_trigram files.old trigram ids.entry.ids) }
+    ensures fault { MatchResult result (λ _. ids.entry.whole ≡ true)
+        (IsListFault ids.entry.whole) }
 {
     'ids: for told in ids {
         let Ok(id) = told else {
-            return Err(MergeFault::Index(IndexFault::BadList));
+            return Err(IndexFault::BadList);
         };
         files[id as usize].give(trigram)?;
     }

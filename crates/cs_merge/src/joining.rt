@@ -1,11 +1,10 @@
 // The joining of an index with a newer one.
 ghost use Rattle.std.specs.Prelude.{◌≡◌, ◌↔◌, ◌<◌, ◌≤◌, ◌^◌, ◌++◌, true, false, Err, length, map, string_bytes, IfOk, OnOk, MatchResult};
 ghost use Rattle.cs_tree.specs.PathSet as set;
-ghost use Rattle.cs_index.specs.Image.{image};
 ghost use Rattle.cs_index.specs.Parts.{AreParts};
-ghost use Rattle.cs_merge.specs.Content.{files_in, paths_in};
-ghost use Rattle.cs_merge.specs.Join.{join_files, join_paths};
-ghost use Rattle.cs_merge.specs.Joinable.{are_covered, both_ascend, both_whole, AreJoinable, AreTested};
+ghost use Rattle.cs_merge.specs.Content.{paths_in};
+ghost use Rattle.cs_merge.specs.Join.{join_paths};
+ghost use Rattle.cs_merge.specs.Joinable.{are_covered, both_ascend, both_whole, joined_index, AreJoinable, AreTested};
 ghost use Rattle.cs_merge.specs.Joining.{IsJoined, IsJoinFault};
 
 use crate::building::build;
@@ -17,22 +16,23 @@ use cs_tree::reduce;
 use std::alloc::{AllocError, Global};
 
 /// The index of what both have: the newer one has the last word on all that its paths cover. Its
-/// paths are those of both that no other one covers. Refused are, in this order: names out of order,
-/// a newer name under no newer path, a damaged list of one of both, too many bytes. Only the last two
-/// tests take memory, and they read every list of both to its end.
+/// paths are those of both that no other one covers. Refused are, in this order: names out of
+/// order, a newer name under no newer path, a damaged list of one of both, too many bytes. Only the
+/// last two tests take memory, and they read every list of both to its end.
 pub fn merge(alloc: Global, old: &Index<'_>, newer: &Index<'_>) -> Result<Vec<u8>, MergeFault>
-    ensures joined { IfOk result (λ index. index.items ≡
-        image (join_paths (paths_in old.now) (paths_in newer.now)) (join_files (paths_in newer.now) (files_in old.now) (files_in newer.now))) }
+    ensures joined { IfOk result (λ index. index.items ≡ joined_index old.now newer.now) }
     ensures short { IfOk result (λ index. length index.items < 2 ^ 32) }
     ensures sound { IfOk result (λ _. AreJoinable old.now newer.now) }
-    ensures unsorted { (result ≡ Err MergeFault.Unsorted) ↔ (both_ascend old.now newer.now ≡ false) }
+    ensures unsorted { (result ≡ Err MergeFault.Unsorted) ↔
+        (both_ascend old.now newer.now ≡ false) }
     ensures uncovered { (result ≡ Err MergeFault.Uncovered) ↔
         ((both_ascend old.now newer.now ≡ true) × (are_covered newer.now ≡ false)) }
     ensures bad_list { result ≡ Err (MergeFault.Index IndexFault.BadList) →
         AreTested old.now newer.now × (both_whole old.now newer.now ≡ false) }
-    ensures too_large { result ≡ Err MergeFault.TooLarge → AreJoinable old.now newer.now × (2 ^ 32 ≤
-        length (image (join_paths (paths_in old.now) (paths_in newer.now)) (join_files (paths_in newer.now) (files_in old.now) (files_in newer.now)))) }
-    ensures other { (fault : IndexFault) → result ≡ Err (MergeFault.Index fault) → fault ≡ IndexFault.BadList }
+    ensures too_large { result ≡ Err MergeFault.TooLarge →
+        AreJoinable old.now newer.now × (2 ^ 32 ≤ length (joined_index old.now newer.now)) }
+    ensures other { (fault : IndexFault) → result ≡ Err (MergeFault.Index fault) →
+        fault ≡ IndexFault.BadList }
 {
     merge_within(alloc, u32::MAX, old, newer)
 }
@@ -44,7 +44,8 @@ pub(crate) fn merge_within(
     old: &Index<'_>,
     newer: &Index<'_>,
 ) -> Result<Vec<u8>, MergeFault>
-    ensures { MatchResult result (λ index. IsJoined old.now newer.now most index.items) (λ fault. IsJoinFault old.now newer.now most fault) }
+    ensures { MatchResult result (λ index. IsJoined old.now newer.now most index.items)
+        (λ fault. IsJoinFault old.now newer.now most fault) }
 {
     if !old.in_order() {
         return Err(MergeFault::Unsorted);
@@ -58,12 +59,13 @@ pub(crate) fn merge_within(
     join(alloc, most, old, newer)
 }
 
-// Joins indexes whose names ascend, where each newer one lies under a newer path.
+/// Joins indexes whose names ascend, where each newer one lies under a newer path.
 fn join(alloc: Global, most: u32, old: &Index<'_>, newer: &Index<'_>) -> Result<Vec<u8>, MergeFault>
     requires old_parts { AreParts old.now }
     requires newer_parts { AreParts newer.now }
     requires tested { AreTested old.now newer.now }
-    ensures { MatchResult result (λ index. IsJoined old.now newer.now most index.items) (λ fault. IsJoinFault old.now newer.now most fault) }
+    ensures { MatchResult result (λ index. IsJoined old.now newer.now most index.items)
+        (λ fault. IsJoinFault old.now newer.now most fault) }
 {
     let old_files = kept_files(alloc, old, newer)?;
     let newer_files = read_files(alloc, newer)?;
@@ -71,13 +73,14 @@ fn join(alloc: Global, most: u32, old: &Index<'_>, newer: &Index<'_>) -> Result<
     build(alloc, most, &paths, &old_files, &newer_files)
 }
 
-// The paths of both that no other one of both covers, ascending.
+/// The paths of both that no other one of both covers, ascending.
 fn joined_paths(
     alloc: Global,
     old: &Index<'_>,
     newer: &Index<'_>,
 ) -> Result<Vec<String>, AllocError>
-    ensures { IfOk result (λ paths. map string_bytes paths.items ≡ set.items (join_paths (paths_in old.now) (paths_in newer.now))) }
+    ensures { IfOk result (λ paths. map string_bytes paths.items ≡
+        set.items (join_paths (paths_in old.now) (paths_in newer.now))) }
 {
     let mut paths = Vec::new(alloc);
     copy(alloc, &mut paths, old.paths())?;
@@ -86,9 +89,10 @@ fn joined_paths(
     Ok(kept)
 }
 
-// Puts a copy of each text behind the others.
+/// Puts a copy of each text behind the others.
 fn copy(alloc: Global, copies: &mut Vec<String>, texts: Texts<'_>) -> Result<(), AllocError>
-    ensures { OnOk result (map string_bytes copies.new.items ≡ map string_bytes copies.old.items ++ texts.entry) }
+    ensures { OnOk result (map string_bytes copies.new.items ≡
+        map string_bytes copies.old.items ++ texts.entry) }
 {
     'texts: for text in texts {
         copies.push(String::from_str(alloc, text)?)?;

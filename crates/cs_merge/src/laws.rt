@@ -1,29 +1,36 @@
 // Laws of joining, and of what an index holds. None of these functions does anything.
 ghost use Rattle.std.specs.Prelude.{◌≡◌, ◌<◌, ◌^◌, ◌||◌, ◌↔◌, List, ℕ, true, false, Some, Ok, length, slice_index_or};
+ghost use Rattle.cs_tree.specs.PathSet.{Paths};
+ghost use Rattle.cs_tree.specs.NameOrder.{bytes_cmp};
+ghost use Rattle.cs_index.specs.Roundtrip.{AreBytes};
+ghost use Rattle.cs_index.specs.PostingLists.{set_at};
 ghost use Rattle.std.specs.FinMap as map;
 ghost use Rattle.cs_tree.specs.PathSet as set;
-ghost use Rattle.cs_tree.specs.Cover.{Paths, covered, bytes_cmp};
+ghost use Rattle.cs_tree.specs.Cover.{is_covered};
 ghost use Rattle.cs_index.specs.Image.{Files, image, list_entries, postings_of};
-ghost use Rattle.cs_index.specs.Opening.{AreBytes, Parts, opened};
-ghost use Rattle.cs_index.specs.Spelling.{Spells, set_at};
+ghost use Rattle.cs_index.specs.Opening.{Parts, opening};
+ghost use Rattle.cs_index.specs.Spelling.{Spells};
 ghost use Rattle.cs_merge.specs.Join.{join_files, join_paths};
 ghost use Rattle.cs_merge.specs.Content.{IsContent, LieUnder, Holds, HasContent, Opens};
 
 /// At a name that the newer paths cover the join has what the newer index has.
 pub fn newer_wins()
-    ensures { (paths : Paths) (old newer : Files) (name : List ℕ) → covered paths name ≡ true →
+    ensures { (paths : Paths) (old newer : Files) (name : List ℕ) → is_covered paths name ≡ true →
         map.get (join_files paths old newer) name ≡ map.get newer name }
 {}
 
-/// At any other name the join has what the old index has, where the newer names lie under the newer paths.
+/// At any other name the join has what the old index has, where the newer names lie under the newer
+/// paths.
 pub fn others_stay()
-    ensures { (paths : Paths) (old newer : Files) (name : List ℕ) → LieUnder paths newer → covered paths name ≡ false →
+    ensures { (paths : Paths) (old newer : Files) (name : List ℕ) →
+        LieUnder paths newer → is_covered paths name ≡ false →
         map.get (join_files paths old newer) name ≡ map.get old name }
 {}
 
 /// The joined paths cover what the paths of one of both cover.
 pub fn joined_paths_cover()
-    ensures { (old newer : Paths) (name : List ℕ) → covered (join_paths old newer) name ≡ (covered old name || covered newer name) }
+    ensures { (old newer : Paths) (name : List ℕ) → is_covered (join_paths old newer) name ≡
+        (is_covered old name || is_covered newer name) }
 {}
 
 /// What can be held stays so when it is joined.
@@ -36,37 +43,47 @@ pub fn joining_keeps_content()
 
 /// The image of what can be held spells just that and holds it, where 32 bits can count its bytes.
 pub fn images_hold_their_content()
-    ensures spelled { (paths : Paths) (files : Files) → IsContent paths files → length (image paths files) < 2 ^ 32 →
-        Spells (image paths files) (set.items paths) (map.keys files) (list_entries 0 (postings_of (map.entries files))) }
-    ensures held { (paths : Paths) (files : Files) → IsContent paths files → length (image paths files) < 2 ^ 32 →
+    ensures spelled { (paths : Paths) (files : Files) → IsContent paths files →
+        length (image paths files) < 2 ^ 32 →
+        Spells (image paths files) (set.items paths) (map.keys files)
+        (list_entries 0 (postings_of (map.entries files))) }
+    ensures held { (paths : Paths) (files : Files) → IsContent paths files →
+        length (image paths files) < 2 ^ 32 →
         Holds (image paths files) paths files }
 {}
 
 /// Bytes hold one content alone, and it can be held.
 pub fn bytes_hold_one_content()
-    ensures once { (bytes : List ℕ) (p q : Paths) (f g : Files) → Holds bytes p f → Holds bytes q g → (p ≡ q) × (f ≡ g) }
-    ensures content { (bytes : List ℕ) (paths : Paths) (files : Files) → Holds bytes paths files → IsContent paths files }
+    ensures once { (bytes : List ℕ) (p q : Paths) (f g : Files) → Holds bytes p f →
+        Holds bytes q g → (p ≡ q) × (f ≡ g) }
+    ensures content { (bytes : List ℕ) (paths : Paths) (files : Files) → Holds bytes paths files →
+        IsContent paths files }
 {}
 
-/// The names of an index are those of its files, in their order, and each file has the set of its name.
+/// The names of an index are those of its files, in their order, and each file has the set of its
+/// name.
 pub fn names_have_their_sets()
-    ensures names { (bytes : List ℕ) (paths : Paths) (files : Files) (holds : Holds bytes paths files) →
+    ensures names { (bytes : List ℕ) (paths : Paths) (files : Files)
+        (holds : Holds bytes paths files) →
         map.keys files ≡ holds.names }
-    ensures sets { (bytes : List ℕ) (paths : Paths) (files : Files) (holds : Holds bytes paths files)
-        (id : ℕ) (d : List ℕ) → id < length holds.names →
+    ensures sets { (bytes : List ℕ) (paths : Paths) (files : Files)
+        (holds : Holds bytes paths files) (id : ℕ) (d : List ℕ) → id < length holds.names →
         map.get files (slice_index_or holds.names id d) ≡ Some (set_at id holds.lists) }
 {}
 
 /// Bytes that 32 bits can count are the image of one content alone.
 pub fn images_have_one_content()
-    ensures { (p q : Paths) (f g : Files) → IsContent p f → IsContent q g → length (image p f) < 2 ^ 32 →
+    ensures { (p q : Paths) (f g : Files) → IsContent p f → IsContent q g →
+        length (image p f) < 2 ^ 32 →
         image p f ≡ image q g → (p ≡ q) × (f ≡ g) }
 {}
 
 /// Bytes hold paths and files exactly where they open as an index that has these, its names
 /// ascending and its lists whole.
 pub fn held_bytes_open()
-    ensures exactly { (bytes : List ℕ) (paths : Paths) (files : Files) → AreBytes bytes → Holds bytes paths files ↔ Opens bytes paths files }
-    ensures has { (bytes : List ℕ) (parts : Parts) (paths : Paths) (files : Files) → AreBytes bytes → opened bytes ≡ Ok parts →
+    ensures exactly { (bytes : List ℕ) (paths : Paths) (files : Files) → AreBytes bytes →
+        Holds bytes paths files ↔ Opens bytes paths files }
+    ensures has { (bytes : List ℕ) (parts : Parts) (paths : Paths) (files : Files) →
+        AreBytes bytes → opening bytes ≡ Ok parts →
         Holds bytes paths files → HasContent parts paths files }
 {}

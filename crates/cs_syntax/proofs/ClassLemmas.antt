@@ -1,5 +1,6 @@
 -- Classes, byte by byte and item by item.
 use Rattle.std.proofs.Common.{◌≡◌, ℕ, zero, suc, ◌+◌, Bool, true, false, ◌&&◌, ◌||◌, not, List, [], ◌∷◌, ◌++◌, drop, refl, sym, ◌∙◌, ap, arith}
+use Rattle.std.proofs.Math.Bool.{or_assoc, or-false}
 use Rattle.std.specs.Prelude.{Option, Some, None, codes, nat_eq}
 use Rattle.std.specs.Option.{option_map}
 use Rattle.std.specs.List.{starts_with}
@@ -12,14 +13,6 @@ use Rattle.cs_syntax.specs.ClassState.{with_items}
 use Rattle.cs_syntax.specs.declared.class_item.ClassItem.{ClassItem}
 use Rattle.cs_syntax.specs.declared.fault.PatternFault.{PatternFault}
 use Rattle.cs_syntax.proofs.SetLemmas.{set_of-same}
-
-or_false : (x : Bool) → (x || false) ≡ x
-or_false true = refl
-or_false false = refl
-
-or_assoc : (x y z : Bool) → ((x || y) || z) ≡ (x || (y || z))
-or_assoc true y z = refl
-or_assoc false y z = refl
 
 pub name_length-next : (text rest : List ℕ) (b : ℕ) → text ≡ b ∷ rest → starts_with nat_eq text (codes ":]") ≡ false → name_length text ≡ option_map suc (name_length rest)
 name_length-next text rest b s other = let e : starts_with nat_eq (b ∷ rest) (codes ":]") ≡ false = rw s at other in rw (s, e) refl
@@ -62,7 +55,7 @@ pub items_from-close : (text rest : List ℕ) (b behind : ℕ) (start : Bool) �
 items_from-close text rest b behind start here closes = rw (here, items_from, closes) refl
 
 any-last : (fold : Bool) (is : List ClassItem) (i : ClassItem) (b : ℕ) → (is_in_items fold is b || is_in_item fold i b) ≡ is_in_items fold (is ++ i ∷ []) b
-any-last fold [] i b = sym (or_false (is_in_item fold i b))
+any-last fold [] i b = sym (or-false (is_in_item fold i b))
 any-last fold (j ∷ is) i b = or_assoc (is_in_item fold j b) (is_in_items fold is b) (is_in_item fold i b) ∙ ap (λ x. is_in_item fold j b || x) (any-last fold is i b)
 
 -- one more item in the set

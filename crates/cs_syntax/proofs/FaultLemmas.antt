@@ -8,14 +8,14 @@ use Rattle.cs_syntax.specs.Fronts.{Item, unit, repeat, bar, group_start, group_e
 use Rattle.cs_syntax.specs.Repeats.{counts, is_bad, lazy}
 use Rattle.cs_syntax.specs.Groups.{name, is_flag, is_cleared_flag, with_set, with_cleared, after_flags, cleared_flags, set_flags, head, group}
 use Rattle.cs_syntax.specs.Escapes.{escaped_char, escaped_class, escaped_tree, is_left_out, char_front, escape}
-use Rattle.cs_syntax.specs.Classes.{ClassFront, piece, misread, ClassChar, one, wrong, class_escape, class_char, range_to, range_from, span, name_length, bracketed, after_backslash, class_front, ClassRest, closed, failed, with_item, items_from, class_of, class}
+use Rattle.cs_syntax.specs.Classes.{ClassFront, piece, misread, ClassChar, one, wrong, class_escape, class_char, range_to, range_from, span, name_length, posix_class, after_backslash, class_front, ClassRest, closed, failed, with_item, items_from, class_of, class}
 use Rattle.cs_syntax.specs.Items.{item_by, front}
 use Rattle.cs_syntax.specs.Signs.{sign_of}
-use Rattle.cs_syntax.specs.Reading.{IsTextFault, Level, Rest, levels, broken, inside, opened, closed as closed_group, with_unit, with_repeat, with_bar, Group, at_end, rest, answer, Reading, tree, refused, Breaks, at_first}
+use Rattle.cs_syntax.specs.Reading.{IsTextFault, Level, Rest, levels, broken, inside, with_open, with_close, with_unit, with_repeat, with_bar, Group, at_end, most_open, rest, answer, Reading, tree, refused, Breaks, flags_at_start}
 use Rattle.cs_syntax.specs.declared.class_item.ClassItem.{ClassItem}
 use Rattle.cs_syntax.specs.declared.class_item.ClassItem.TheVariants.{Range, Named}
 use Rattle.cs_syntax.specs.declared.class_item.NamedClass.{NamedClass}
-use Rattle.cs_syntax.specs.declared.escapes.Escaped.{Escaped}
+use Rattle.cs_syntax.specs.declared.escapes.EscapedChar.{EscapedChar}
 use Rattle.cs_syntax.specs.declared.repeats.Counts.{Counts}
 use Rattle.cs_syntax.specs.declared.before.Before.{Before}
 use Rattle.cs_syntax.specs.declared.before.Before.TheVariants.{Start, Operand, Counted}
@@ -25,52 +25,53 @@ use Rattle.cs_syntax.specs.declared.sign.Sign.TheVariants.{Star, Plus, Question,
 use Rattle.cs_syntax.specs.declared.fault.PatternFault.{PatternFault}
 use Rattle.cs_syntax.specs.declared.fault.PatternFault.TheVariants.{NoOperand, StackedRepeat, BadRepeat, BadGroup, StrayClose, TooDeep, NotInProfile, BadEscape, BadRange}
 
+-- what holds of both holds of the one that is taken
+either : {A : Type 0} (P : A → Type 0) (b : Bool) (x y : A) → P x → P y → P (if b then x else y)
+either P true x y p q = p
+either P false x y p q = q
+
 abbrev OfText : Front → Type 0
 OfText (item x len) = Unit {0}
 OfText (fault k behind) = IsTextFault k
 
-either : (b : Bool) (x y : Front) → OfText x → OfText y → OfText (if b then x else y)
-either true x y p q = p
-either false x y p q = q
-
 counted : (text : List ℕ) (o : Option Counts) →
     OfText (elim o [ None ↦ item (unit (one_of (char_set false 123))) 0 | Some c ↦ if is_bad c then fault BadRepeat 0 else lazy c.least c.most c.len text ])
 counted text None = tt
-counted text (Some c) = either (is_bad c) (fault BadRepeat 0) (lazy c.least c.most c.len text) tt tt
+counted text (Some c) = either OfText (is_bad c) (fault BadRepeat 0) (lazy c.least c.most c.len text) tt tt
 
 after_flags-of : (flags : Flags) (len : ℕ) (text : List ℕ) → OfText (after_flags flags len text)
-after_flags-of flags len text = either (is_front 58 text) _ _ tt (either (is_front 41 text) _ _ tt tt)
+after_flags-of flags len text = either OfText (is_front 58 text) _ _ tt (either OfText (is_front 41 text) _ _ tt tt)
 
 cleared_flags-of : (flags : Flags) (len : ℕ) (text : List ℕ) → OfText (cleared_flags flags len text)
 cleared_flags-of flags len text =
     let n = prefix_len is_cleared_flag text in
     let new = with_cleared (take n text) flags in
     let end = after_flags new (len + n) (drop n text) in
-    either (is_front 109 (drop n text)) (fault NotInProfile 0) (if nat_eq n 0 then fault BadGroup 0 else end) tt
-    (either (nat_eq n 0) (fault BadGroup 0) end tt (after_flags-of new (len + n) (drop n text)))
+    either OfText (is_front 109 (drop n text)) (fault NotInProfile 0) (if nat_eq n 0 then fault BadGroup 0 else end) tt
+    (either OfText (nat_eq n 0) (fault BadGroup 0) end tt (after_flags-of new (len + n) (drop n text)))
 
 set_flags-of : (flags : Flags) (text : List ℕ) → OfText (set_flags flags text)
 set_flags-of flags text =
     let n = prefix_len is_flag text in
     let new = with_set (take n text) flags in
-    either (is_front 45 (drop n text)) (cleared_flags new (n + 2) (drop (n + 1) text)) (after_flags new (n + 1) (drop n text))
+    either OfText (is_front 45 (drop n text)) (cleared_flags new (n + 2) (drop (n + 1) text)) (after_flags new (n + 1) (drop n text))
     (cleared_flags-of new (n + 2) (drop (n + 1) text)) (after_flags-of new (n + 1) (drop n text))
 
 name-of : (flags : Flags) (len : ℕ) (text : List ℕ) → OfText (name flags len text)
 name-of flags len text =
     let n = prefix_len is_word text in
-    either (nat_lt 0 n && is_front 62 (drop n text)) (item (group_start flags) (len + n + 1)) (fault BadGroup 0) tt tt
+    either OfText (nat_lt 0 n && is_front 62 (drop n text)) (item (group_start flags) (len + n + 1)) (fault BadGroup 0) tt tt
 
 head-of : (flags : Flags) (text : List ℕ) → OfText (head flags text)
 head-of flags text =
     let named_p = is_front 80 text && is_front 60 (drop 1 text) in
-    either (is_front 60 text) (name flags 2 (drop 1 text)) (if named_p then name flags 3 (drop 2 text) else set_flags flags text)
-    (name-of flags 2 (drop 1 text)) (either named_p (name flags 3 (drop 2 text)) (set_flags flags text) (name-of flags 3 (drop 2 text)) (set_flags-of flags text))
+    either OfText (is_front 60 text) (name flags 2 (drop 1 text)) (if named_p then name flags 3 (drop 2 text) else set_flags flags text)
+    (name-of flags 2 (drop 1 text)) (either OfText named_p (name flags 3 (drop 2 text)) (set_flags flags text) (name-of flags 3 (drop 2 text)) (set_flags-of flags text))
 
 group-of : (flags : Flags) (text : List ℕ) → OfText (group flags text)
-group-of flags text = either (is_front 63 text) (head flags (drop 1 text)) (item (group_start flags) 0) (head-of flags (drop 1 text)) tt
+group-of flags text = either OfText (is_front 63 text) (head flags (drop 1 text)) (item (group_start flags) 0) (head-of flags (drop 1 text)) tt
 
-escaped : (o : Option Escaped) (fold : Bool) → OfText (elim o [ None ↦ fault BadEscape 0 | Some c ↦ item (unit (char_tree fold c.char)) c.len ])
+escaped : (o : Option EscapedChar) (fold : Bool) → OfText (elim o [ None ↦ fault BadEscape 0 | Some c ↦ item (unit (char_tree fold c.char)) c.len ])
 escaped None fold = tt
 escaped (Some c) fold = tt
 
@@ -84,7 +85,7 @@ escaped_item (Some t) fold text = tt
 
 escape-of : (fold : Bool) (text : List ℕ) → OfText (escape fold text)
 escape-of fold [] = tt
-escape-of fold (e ∷ text) = either (is_left_out e) _ _ tt (escaped_item (escaped_tree e) fold (e ∷ text))
+escape-of fold (e ∷ text) = either OfText (is_left_out e) _ _ tt (escaped_item (escaped_tree e) fold (e ∷ text))
 
 abbrev OfClass : ClassFront → Type 0
 OfClass (piece i len) = Unit {0}
@@ -94,33 +95,25 @@ abbrev OfChar : ClassChar → Type 0
 OfChar (one c len) = Unit {0}
 OfChar (wrong k) = IsTextFault k
 
-either_class : (b : Bool) (x y : ClassFront) → OfClass x → OfClass y → OfClass (if b then x else y)
-either_class true x y p q = p
-either_class false x y p q = q
-
-either_char : (b : Bool) (x y : ClassChar) → OfChar x → OfChar y → OfChar (if b then x else y)
-either_char true x y p q = p
-either_char false x y p q = q
-
-escaped_in_class : (o : Option Escaped) → OfChar (elim o [ None ↦ wrong BadEscape | Some c ↦ if nat_lt c.char 128 then one c.char c.len else wrong NotInProfile ])
+escaped_in_class : (o : Option EscapedChar) → OfChar (elim o [ None ↦ wrong BadEscape | Some c ↦ if nat_lt c.char 128 then one c.char c.len else wrong NotInProfile ])
 escaped_in_class None = tt
-escaped_in_class (Some c) = either_char (nat_lt c.char 128) (one c.char c.len) (wrong NotInProfile) tt tt
+escaped_in_class (Some c) = either OfChar (nat_lt c.char 128) (one c.char c.len) (wrong NotInProfile) tt tt
 
 class_escape-of : (text : List ℕ) → OfChar (class_escape text)
 class_escape-of [] = tt
-class_escape-of (e ∷ text) = either_char (is_left_out e) _ _ tt (escaped_in_class (escaped_char (e ∷ text)))
+class_escape-of (e ∷ text) = either OfChar (is_left_out e) _ _ tt (escaped_in_class (escaped_char (e ∷ text)))
 
 class_char-of : (b : ℕ) (text : List ℕ) → OfChar (class_char b text)
-class_char-of b text = either_char (nat_eq b 92) _ _ (class_escape-of text) (either_char (nat_lt b 128) _ _ tt tt)
+class_char-of b text = either OfChar (nat_eq b 92) _ _ (class_escape-of text) (either OfChar (nat_lt b 128) _ _ tt tt)
 
 range_to-of : (low len : ℕ) (c : ClassChar) → OfChar c → OfClass (range_to low len c)
 range_to-of low len (wrong k) p = p
-range_to-of low len (one high more) p = either_class (nat_lt high low) _ _ tt tt
+range_to-of low len (one high more) p = either OfClass (nat_lt high low) _ _ tt tt
 
 range_from-of : (low len : ℕ) (text : List ℕ) → OfClass (range_from low len text)
 range_from-of low len [] = tt
 range_from-of low len (b ∷ []) = tt
-range_from-of low len (b ∷ c ∷ text) = either_class (nat_eq b 45 && not (nat_eq c 93)) _ _ (range_to-of low (len + 2) (class_char c text) (class_char-of c text)) tt
+range_from-of low len (b ∷ c ∷ text) = either OfClass (nat_eq b 45 && not (nat_eq c 93)) _ _ (range_to-of low (len + 2) (class_char c text) (class_char-of c text)) tt
 
 span-of : (c : ClassChar) (text : List ℕ) → OfChar c → OfClass (span c text)
 span-of (wrong k) text p = p
@@ -130,7 +123,7 @@ bracketed_class : (o : Option NamedClass) (negated : Bool) (len : ℕ) → OfCla
 bracketed_class None negated len = tt
 bracketed_class (Some class) negated len = tt
 
-colon_class : (o : Option ℕ) (text : List ℕ) → OfClass (elim o [ None ↦ piece (Range 91 91) 0 | Some n ↦ bracketed (take n text) ])
+colon_class : (o : Option ℕ) (text : List ℕ) → OfClass (elim o [ None ↦ piece (Range 91 91) 0 | Some n ↦ posix_class (take n text) ])
 colon_class None text = tt
 colon_class (Some n) text = bracketed_class _ _ _
 
@@ -144,8 +137,8 @@ after_backslash-of (e ∷ text) = backslash_class (escaped_class e) (e ∷ text)
 
 class_front-of : (b : ℕ) (text : List ℕ) → OfClass (class_front b text)
 class_front-of b text =
-    either_class (nat_eq b 91 && is_front 58 text) _ _ (colon_class (name_length (drop 1 text)) (drop 1 text))
-    (either_class (nat_eq b 92) _ _ (after_backslash-of text) (span-of (class_char b text) text (class_char-of b text)))
+    either OfClass (nat_eq b 91 && is_front 58 text) _ _ (colon_class (name_length (drop 1 text)) (drop 1 text))
+    (either OfClass (nat_eq b 92) _ _ (after_backslash-of text) (span-of (class_char b text) text (class_char-of b text)))
 
 abbrev OfRest : ClassRest → Type 0
 OfRest (closed items len) = Unit {0}
@@ -154,10 +147,6 @@ OfRest (failed k behind) = IsTextFault k
 with_item-of : (i : ClassItem) (r : ClassRest) → OfRest r → OfRest (with_item i r)
 with_item-of i (closed items len) p = tt
 with_item-of i (failed k behind) p = p
-
-either_rest : (b : Bool) (x y : ClassRest) → OfRest x → OfRest y → OfRest (if b then x else y)
-either_rest true x y p q = p
-either_rest false x y p q = q
 
 next_item : (f : ClassFront) (behind : ℕ) (r : ℕ → ClassRest) → OfClass f → ((len : ℕ) → OfRest (r len)) →
     OfRest (elim f [ misread k by ↦ failed k (behind + by) | piece i len ↦ with_item i (r len) ])
@@ -168,7 +157,7 @@ items_from-of : (skip behind : ℕ) (start : Bool) (text : List ℕ) → OfRest 
 items_from-of skip behind start [] = tt
 items_from-of (suc skip) behind start (b ∷ text) = items_from-of skip (behind + 1) start text
 items_from-of zero behind start (b ∷ text) =
-    either_rest (nat_eq b 93 && not start) (closed [] behind) _ tt
+    either OfRest (nat_eq b 93 && not start) (closed [] behind) _ tt
     (next_item (class_front b text) behind (λ len. items_from len (behind + 1) false text) (class_front-of b text) (λ len. items_from-of len (behind + 1) false text))
 
 class_of-of : (fold negated : Bool) (r : ClassRest) → OfRest r → OfText (class_of fold negated r)
@@ -177,7 +166,7 @@ class_of-of fold negated (failed k behind) p = p
 
 class-of : (fold : Bool) (text : List ℕ) → OfText (class fold text)
 class-of fold text =
-    either (is_front 94 text) _ _ (class_of-of fold true _ (items_from-of 0 2 true (drop 1 text))) (class_of-of fold false _ (items_from-of 0 1 true text))
+    either OfText (is_front 94 text) _ _ (class_of-of fold true _ (items_from-of 0 2 true (drop 1 text))) (class_of-of fold false _ (items_from-of 0 1 true text))
 
 item_by-of : (s : Sign) (flags : Flags) (b : ℕ) (text : List ℕ) → OfText (item_by s flags b text)
 item_by-of Star flags b text = tt
@@ -203,22 +192,18 @@ abbrev OfReading : Rest → Type 0
 OfReading (levels l ls) = Unit {0}
 OfReading (broken k at) = IsTextFault k
 
-either_reading : (b : Bool) (x y : Rest) → OfReading x → OfReading y → OfReading (if b then x else y)
-either_reading true x y p q = p
-either_reading false x y p q = q
-
 inside-of : (f : Level → Level) (r : Rest) → OfReading r → OfReading (inside f r)
 inside-of f (levels l ls) p = tt
 inside-of f (broken k at) p = p
 
-opened-of : (r : Rest) → OfReading r → OfReading (opened r)
-opened-of (levels l []) p = tt
-opened-of (levels l (outer ∷ ls)) p = tt
-opened-of (broken k at) p = p
+with_open-of : (r : Rest) → OfReading r → OfReading (with_open r)
+with_open-of (levels l []) p = tt
+with_open-of (levels l (outer ∷ ls)) p = tt
+with_open-of (broken k at) p = p
 
-closed-of : (r : Rest) → OfReading r → OfReading (closed_group r)
-closed-of (levels l ls) p = tt
-closed-of (broken k at) p = p
+with_close-of : (r : Rest) → OfReading r → OfReading (with_close r)
+with_close-of (levels l ls) p = tt
+with_close-of (broken k at) p = p
 
 at_end-of : (groups : List Group) → OfReading (at_end groups)
 at_end-of [] = tt
@@ -231,9 +216,9 @@ repeat_next Counted at n m r p = tt
 repeat_next Operand at n m r p = inside-of (with_repeat n m) r p
 
 close_next : (groups : List Group) (at : ℕ) (r : Before → List Group → Flags → Rest) → ((b : Before) (gs : List Group) (f : Flags) → OfReading (r b gs f)) →
-    OfReading (elim groups [ [] ↦ broken StrayClose at | g ∷ gs ↦ closed_group (r Operand gs g.flags) ])
+    OfReading (elim groups [ [] ↦ broken StrayClose at | g ∷ gs ↦ with_close (r Operand gs g.flags) ])
 close_next [] at r p = tt
-close_next (g ∷ gs) at r p = closed-of (r Operand gs g.flags) (p Operand gs g.flags)
+close_next (g ∷ gs) at r p = with_close-of (r Operand gs g.flags) (p Operand gs g.flags)
 
 item_next : (x : Item) (at : ℕ) (before : Before) (groups : List Group) (flags : Flags) (r : Before → List Group → Flags → Rest) → ((b : Before) (gs : List Group) (f : Flags) → OfReading (r b gs f)) →
     OfReading
@@ -241,8 +226,8 @@ item_next : (x : Item) (at : ℕ) (before : Before) (groups : List Group) (flags
       | unit t ↦ inside (with_unit t) (r Operand groups flags)
       | repeat n m ↦ elim before [ Start ↦ broken NoOperand at | Counted ↦ broken StackedRepeat at | Operand ↦ inside (with_repeat n m) (r Counted groups flags) ]
       | bar ↦ inside with_bar (r Start groups flags)
-      | group_start inner ↦ if nat_eq (length groups) 200 then broken TooDeep at else opened (r Start (record { at = at; flags = flags } ∷ groups) inner)
-      | group_end ↦ elim groups [ [] ↦ broken StrayClose at | g ∷ gs ↦ closed_group (r Operand gs g.flags) ]
+      | group_start inner ↦ if nat_eq (length groups) most_open then broken TooDeep at else with_open (r Start (record { at = at; flags = flags } ∷ groups) inner)
+      | group_end ↦ elim groups [ [] ↦ broken StrayClose at | g ∷ gs ↦ with_close (r Operand gs g.flags) ]
       | flags_from_here new ↦ r Start groups new
     ])
 item_next (unit t) at before groups flags r p = inside-of (with_unit t) (r Operand groups flags) (p Operand groups flags)
@@ -250,7 +235,7 @@ item_next (repeat n m) at before groups flags r p = repeat_next before at n m (r
 item_next bar at before groups flags r p = inside-of with_bar (r Start groups flags) (p Start groups flags)
 item_next (group_start inner) at before groups flags r p =
     let g : Group = record { at = at; flags = flags } in
-    either_reading (nat_eq (length groups) 200) (broken TooDeep at) (opened (r Start (g ∷ groups) inner)) tt (opened-of (r Start (g ∷ groups) inner) (p Start (g ∷ groups) inner))
+    either OfReading (nat_eq (length groups) most_open) (broken TooDeep at) (with_open (r Start (g ∷ groups) inner)) tt (with_open-of (r Start (g ∷ groups) inner) (p Start (g ∷ groups) inner))
 item_next group_end at before groups flags r p = close_next groups at r p
 item_next (flags_from_here new) at before groups flags r p = p Start groups new
 
@@ -263,8 +248,8 @@ front_next : (f : Front) (at : ℕ) (before : Before) (groups : List Group) (fla
             | unit t ↦ inside (with_unit t) (r len Operand groups flags)
             | repeat n m ↦ elim before [ Start ↦ broken NoOperand at | Counted ↦ broken StackedRepeat at | Operand ↦ inside (with_repeat n m) (r len Counted groups flags) ]
             | bar ↦ inside with_bar (r len Start groups flags)
-            | group_start inner ↦ if nat_eq (length groups) 200 then broken TooDeep at else opened (r len Start (record { at = at; flags = flags } ∷ groups) inner)
-            | group_end ↦ elim groups [ [] ↦ broken StrayClose at | g ∷ gs ↦ closed_group (r len Operand gs g.flags) ]
+            | group_start inner ↦ if nat_eq (length groups) most_open then broken TooDeep at else with_open (r len Start (record { at = at; flags = flags } ∷ groups) inner)
+            | group_end ↦ elim groups [ [] ↦ broken StrayClose at | g ∷ gs ↦ with_close (r len Operand gs g.flags) ]
             | flags_from_here new ↦ r len Start groups new
           ]
     ])
@@ -288,4 +273,4 @@ answer-of (broken k at) p = p
 
 -- the weight and want of memory break no text
 pub text_fault : (text : List ℕ) (fold : Bool) (k : PatternFault) (at : ℕ) → Breaks text fold k at → IsTextFault k
-text_fault text fold k at e = subst OfAnswer e (answer-of (rest 0 0 Start [] (at_first fold) text) (rest-of 0 0 Start [] (at_first fold) text))
+text_fault text fold k at e = subst OfAnswer e (answer-of (rest 0 0 Start [] (flags_at_start fold) text) (rest-of 0 0 Start [] (flags_at_start fold) text))

@@ -1,6 +1,7 @@
 use Rattle.std.proofs.Common.{◌≡◌, ℕ, Bool, List, refl, inl, inr}
+use Rattle.cs_syntax.specs.Decided.{IsDecided}
 use Rattle.cs_syntax.specs.Matching.{Tree}
-use Rattle.cs_syntax.specs.Reading.{Reading, tree, refused, reading, IsDecided}
+use Rattle.cs_syntax.specs.Reading.{Reading, tree, refused, reading}
 
 tree_is : (t u : Tree) → tree t ≡ tree u → t ≡ u
 tree_is t u h = (cc)

@@ -1,5 +1,6 @@
 -- Lists of answers.
-use Rattle.std.proofs.Common.{◌≡◌, ℕ, zero, suc, ◌+◌, ◌<◌, Bool, false, List, [], ◌∷◌, length, get_or, refl, ◌∙◌, ap, arith}
+use Rattle.std.proofs.Common.{◌≡◌, ℕ, zero, suc, ◌+◌, ◌<◌, Bool, true, false, List, [], ◌∷◌, length, get_or, refl, ◌∙◌, ap, arith}
+use Rattle.cs_syntax.specs.Matching.{member}
 use Rattle.cs_syntax.specs.ByteSet.{answers, set_of}
 
 pub length-answers : (f : ℕ → Bool) (from n : ℕ) → length (answers f from n) ≡ n
@@ -39,3 +40,8 @@ answers-same f g from (suc n) h = let e = h from in let r = answers-same f g (su
 pub set_of-same : (f g : ℕ → Bool) → ((k : ℕ) → f k ≡ g k) → set_of f ≡ set_of g
 unfolding set_of
 set_of-same f g h = answers-same f g 0 256 h
+
+-- b is the one member below n
+abbrev pub IsOnlyBelow : List Bool → ℕ → ℕ → Type 0
+IsOnlyBelow set n b =
+    (b < n) × (member set b ≡ true) × ((x : ℕ) → x < n → member set x ≡ true → x ≡ b)

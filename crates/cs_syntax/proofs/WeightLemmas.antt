@@ -1,7 +1,7 @@
 -- Weights are positive, and many rounds are heavy.
 use Rattle.std.proofs.Common.{ℕ, ◌+◌, ◌*◌, ◌<◌, ◌≤◌, arith}
 use Rattle.cs_syntax.specs.Matching.{Tree, empty, one_of, cat, alt, rep, line_start, line_end, word_edge, not_word_edge}
-use Rattle.cs_syntax.specs.Weight.{weight}
+use Rattle.cs_syntax.specs.Weight.{most_weight, weight}
 
 pub weight_pos : (t : Tree) → 1 ≤ weight t
 weight_pos empty = omega arith
@@ -14,8 +14,8 @@ weight_pos line_end = omega arith
 weight_pos word_edge = omega arith
 weight_pos not_word_edge = omega arith
 
-pub heavy : (k w : ℕ) → 10000 ≤ k → 1 ≤ w → 10000 < 1 + k * w
+pub heavy : (k w : ℕ) → most_weight ≤ k → 1 ≤ w → most_weight < 1 + k * w
 heavy k w many some = grind arith
 
-pub heavy_inside : (k w : ℕ) → 1 ≤ k → 10000 < w → 10000 < 1 + k * w
+pub heavy_inside : (k w : ℕ) → 1 ≤ k → most_weight < w → most_weight < 1 + k * w
 heavy_inside k w some many = grind arith

@@ -3,6 +3,7 @@
 use Rattle.std.specs.Prelude.{ℕ, Bool, List, [], ◌∷◌}
 use Rattle.std.specs.List.{list_any}
 use Rattle.cs_syntax.specs.Matching.{differ}
+use Rattle.cs_syntax.specs.Ranges.{word_ranges}
 use Rattle.cs_syntax.specs.ByteSet.{set_of, is_in_folded}
 use Rattle.cs_syntax.specs.declared.class_item.NamedClass.{NamedClass}
 use Rattle.cs_syntax.specs.declared.class_item.NamedClass.TheVariants.{Alnum, Alpha, Ascii, Blank, Cntrl, Digit, Graph, Lower, Print, Punct, Space, Upper, Word, Xdigit, White}
@@ -23,7 +24,7 @@ ranges_of Print = (32, 126) ∷ []
 ranges_of Punct = (33, 47) ∷ (58, 64) ∷ (91, 96) ∷ (123, 126) ∷ []
 ranges_of Space = (9, 13) ∷ (32, 32) ∷ []
 ranges_of Upper = (65, 90) ∷ []
-ranges_of Word = (48, 57) ∷ (65, 90) ∷ (95, 95) ∷ (97, 122) ∷ []
+ranges_of Word = word_ranges
 ranges_of Xdigit = (48, 57) ∷ (65, 70) ∷ (97, 102) ∷ []
 ranges_of White = (9, 10) ∷ (12, 13) ∷ (32, 32) ∷ []
 

@@ -66,8 +66,8 @@ name_length (b ∷ rest) =
     if starts_with nat_eq (b ∷ rest) (codes ":]") then Some 0 else option_map suc (name_length rest)
 
 -- the class of a name
-unfoldable pub named : List ℕ → Option NamedClass
-named name =
+unfoldable pub class_by_name : List ℕ → Option NamedClass
+class_by_name name =
     if pointwise nat_eq name (codes "alnum") then Some Alnum
     else if pointwise nat_eq name (codes "alpha") then Some Alpha
     else if pointwise nat_eq name (codes "ascii") then Some Ascii
@@ -84,16 +84,16 @@ named name =
     else if pointwise nat_eq name (codes "xdigit") then Some Xdigit
     else None
 
--- `[:name:]` or `[:^name:]`, where the name and its `^` are these bytes
-abbrev pub bracketed : List ℕ → ClassFront
-bracketed name =
+-- a POSIX class, `[:name:]` or `[:^name:]`, where the name and its `^` are these bytes
+abbrev pub posix_class : List ℕ → ClassFront
+posix_class name =
     let negated = is_front 94 name in
-    elim (named (if negated then drop 1 name else name)) [ None ↦ misread BadRange 0 | Some class ↦ piece (Named class negated) (length name + 3) ]
+    elim (class_by_name (if negated then drop 1 name else name)) [ None ↦ misread BadRange 0 | Some class ↦ piece (Named class negated) (length name + 3) ]
 
 -- behind `[:`, where a `[` is a character if no `:]` follows
 abbrev pub after_colon : List ℕ → ClassFront
 after_colon text =
-    elim (name_length text) [ None ↦ piece (Range 91 91) 0 | Some n ↦ bracketed (take n text) ]
+    elim (name_length text) [ None ↦ piece (Range 91 91) 0 | Some n ↦ posix_class (take n text) ]
 
 -- behind a backslash
 abbrev pub after_backslash : List ℕ → ClassFront

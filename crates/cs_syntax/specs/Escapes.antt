@@ -10,7 +10,7 @@ use Rattle.cs_syntax.specs.Fronts.{Front, item, fault, unit, is_front, char_tree
 use Rattle.cs_syntax.specs.declared.class_item.NamedClass.TheVariants.{Digit, White, Word}
 use Rattle.cs_syntax.specs.declared.class_item.ClassItem.{ClassItem}
 use Rattle.cs_syntax.specs.declared.class_item.ClassItem.TheVariants.{Named}
-use Rattle.cs_syntax.specs.declared.escapes.Escaped.{Escaped}
+use Rattle.cs_syntax.specs.declared.escapes.EscapedChar.{EscapedChar}
 use Rattle.cs_syntax.specs.declared.fault.PatternFault.TheVariants.{BadEscape, LoneBackslash, NotInProfile}
 
 -- the number is that of a character: at most 10ffff, and not from d800 to dfff
@@ -18,32 +18,32 @@ abbrev pub is_scalar : ℕ → Bool
 is_scalar c = nat_lt c 55296 || (nat_le 57344 c && nat_le c 1114111)
 
 -- a character by its number, in so many bytes behind the backslash
-abbrev pub numbered : ℕ → ℕ → Option Escaped
-numbered c len = if is_scalar c then Some (record { char = c; len = len }) else None
+abbrev pub char_by_number : ℕ → ℕ → Option EscapedChar
+char_by_number c len = if is_scalar c then Some (record { char = c; len = len }) else None
 
 -- `0` and up to two more octal digits, or another octal digit and one or two more
-abbrev pub octal : List ℕ → Option Escaped
-octal text =
+abbrev pub octal_char : List ℕ → Option EscapedChar
+octal_char text =
     let len = min (count_digits 8 text) 3 in
-    if is_front 48 text || nat_lt 1 len then numbered (value_in 8 (take len text)) len else None
+    if is_front 48 text || nat_lt 1 len then char_by_number (value_in 8 (take len text)) len else None
 
 -- behind `x{`: hexadecimal digits and a `}`
-abbrev pub hex_in_braces : List ℕ → Option Escaped
-hex_in_braces text =
+abbrev pub hex_char_in_braces : List ℕ → Option EscapedChar
+hex_char_in_braces text =
     let len = count_digits 16 text in
-    if nat_lt 0 len && is_front 125 (drop len text) then numbered (value_in 16 (take len text)) (len + 3)
+    if nat_lt 0 len && is_front 125 (drop len text) then char_by_number (value_in 16 (take len text)) (len + 3)
     else None
 
 -- behind `x`: two hexadecimal digits, or some in braces
-abbrev pub hex : List ℕ → Option Escaped
-hex text =
-    if is_front 123 text then hex_in_braces (drop 1 text)
-    else if nat_lt 1 (count_digits 16 text) then numbered (value_in 16 (take 2 text)) 3
+abbrev pub hex_char : List ℕ → Option EscapedChar
+hex_char text =
+    if is_front 123 text then hex_char_in_braces (drop 1 text)
+    else if nat_lt 1 (count_digits 16 text) then char_by_number (value_in 16 (take 2 text)) 3
     else None
 
 -- `\a`, `\f`, `\t`, `\n`, `\r` and `\v`
-abbrev pub control : ℕ → Option ℕ
-control e =
+abbrev pub control_char : ℕ → Option ℕ
+control_char e =
     if nat_eq e 97 then Some 7
     else if nat_eq e 102 then Some 12
     else if nat_eq e 116 then Some 9
@@ -53,14 +53,14 @@ control e =
     else None
 
 -- behind a backslash: an escape that gives a character, in a class and outside
-abbrev pub escaped_char : List ℕ → Option Escaped
+abbrev pub escaped_char : List ℕ → Option EscapedChar
 escaped_char [] = None
 escaped_char (e ∷ rest) =
-    elim (control e) [
+    elim (control_char e) [
       | Some c ↦ Some (record { char = c; len = 1 })
       | None ↦
-          if nat_eq e 120 then hex rest
-          else if is_digit 8 e then octal (e ∷ rest)
+          if nat_eq e 120 then hex_char rest
+          else if is_digit 8 e then octal_char (e ∷ rest)
           else if nat_lt e 128 && not (is_letter e || is_digit 10 e) then Some (record { char = e; len = 1 })
           else None
     ]

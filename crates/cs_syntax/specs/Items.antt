@@ -18,9 +18,9 @@ use Rattle.cs_syntax.specs.declared.sign.Sign.TheVariants.{Star, Plus, Question,
 abbrev pub is_continuation : ℕ → Bool
 is_continuation b = nat_le 128 b && nat_lt b 192
 
--- a character past ASCII is one unit, the bytes of its UTF-8 form in order
-abbrev pub written : ℕ → List ℕ → Front
-written b rest =
+-- a character past ASCII, as it is written, is one unit, the bytes of its UTF-8 form in order
+abbrev pub wide_char : ℕ → List ℕ → Front
+wide_char b rest =
     let n = prefix_len is_continuation rest in
     item (unit (bytes_tree (b ∷ take n rest))) n
 
@@ -38,7 +38,7 @@ item_by Open flags b rest = group flags rest
 item_by Close flags b rest = item group_end 0
 item_by Class flags b rest = class flags.fold rest
 item_by Backslash flags b rest = escape flags.fold rest
-item_by Wide flags b rest = written b rest
+item_by Wide flags b rest = wide_char b rest
 item_by Plain flags b rest = item (unit (one_of (char_set flags.fold b))) 0
 
 -- what stands at the front of a text whose first byte is b, under these flags

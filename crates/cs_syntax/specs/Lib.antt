@@ -1,6 +1,9 @@
 -- What public contracts rest on: what a tree takes, and what a text reads as.
+pub mod Ranges
 pub mod Matching
+pub mod TreeList
 pub mod ByteSet
+pub mod Members
 pub mod ClassSets
 pub mod Node
 pub mod Weight
@@ -13,12 +16,12 @@ pub mod Classes
 pub mod Signs
 pub mod Items
 pub mod Reading
+pub mod Decided
 pub mod Refusal
 -- What functions inside promise each other.
-pub mod TreeList
 pub mod TreeCode
-pub mod Seen
+pub mod ItemViews
 pub mod ClassState
-pub mod Capped
-pub mod Begun
+pub mod U32Numbers
+pub mod PartialGroups
 pub mod ParserState

@@ -1,6 +1,7 @@
 -- The tree of a pattern, and what part of a line it takes.
 -- docs/PATTERNS.md, "Lines and matching"; the RE2 syntax page.
-use Rattle.std.specs.Prelude.{ℕ, zero, suc, ◌≡◌, ◌-◌, ◌<◌, ◌≤◌, ◌⊎◌, ◌&&◌, ◌||◌, not, Bool, true, false, List, length, slice_index, slice_index_or, nat_le, nat_lt, nat_eq, Option, Some, None}
+use Rattle.std.specs.Prelude.{ℕ, zero, suc, ◌≡◌, ◌-◌, ◌<◌, ◌≤◌, ◌⊎◌, ◌&&◌, not, Bool, true, false, List, length, slice_index, slice_index_or, nat_le, nat_lt, Option, Some, None}
+use Rattle.cs_syntax.specs.Ranges.{is_in_ranges, word_ranges}
 
 mutual
   pub data Tree : Type 0 where
@@ -23,10 +24,9 @@ mutual
 abbrev pub member : List Bool → ℕ → Bool
 member set b = slice_index_or set b false
 
--- 0-9, A-Z, a-z or _
+-- the byte is a digit, a letter or `_`
 abbrev pub is_word : ℕ → Bool
-is_word b =
-    (nat_le 48 b && nat_le b 57) || (nat_le 65 b && nat_le b 90) || (nat_le 97 b && nat_le b 122) || nat_eq b 95
+is_word b = is_in_ranges word_ranges b
 
 -- the byte before the place is there and is a word byte
 unfoldable pub word_before : List ℕ → ℕ → Bool

@@ -3,8 +3,8 @@ use Rattle.std.specs.Prelude.{ℕ, ◌≡◌, ◌⊎◌, Bool, true, false, List
 use Rattle.cs_syntax.specs.Matching.{Trees, none, more}
 use Rattle.cs_syntax.specs.Node.{trees_of}
 use Rattle.cs_syntax.specs.Fronts.{Item, unit, repeat, bar, group_start, group_end, flags_from_here}
-use Rattle.cs_syntax.specs.Reading.{Reading, refused, Group, at_first, at_end, rest}
-use Rattle.cs_syntax.specs.Begun.{Begun, continued, with_last_unit, with_last_repeated, with_last_branch, finished, just_begun}
+use Rattle.cs_syntax.specs.Reading.{Reading, refused, Group, flags_at_start, most_open, at_end, rest}
+use Rattle.cs_syntax.specs.PartialGroups.{PartialGroup, whole_reading, with_last_unit, with_last_unit_repeated, with_last_branch, tree_so_far, empty_group}
 use Rattle.cs_syntax.specs.declared.before.Before.{Before}
 use Rattle.cs_syntax.specs.declared.before.Before.TheVariants.{Start, Operand, Counted}
 use Rattle.cs_syntax.specs.declared.draft.Draft.{Draft}
@@ -17,32 +17,33 @@ use Rattle.cs_syntax.specs.declared.parser.Parser.{Parser}
 
 -- a group that waits for the one in it: where its inner group begins, the flags before that, and
 -- what it has so far
-pub record Waiting : Type 0 where
+pub record WaitingGroup : Type 0 where
   pub at : ℕ
   pub flags : Flags
-  pub begun : Begun
+  pub so_far : PartialGroup
 
--- the groups that wait, the innermost first; the group that is read; what stands directly before;
--- and the flags
+-- the groups around, the innermost first; what the group that is read has so far; what stands
+-- directly before; and the flags
 pub record State : Type 0 where
-  pub waiting : List Waiting
-  pub begun : Begun
+  pub around : List WaitingGroup
+  pub so_far : PartialGroup
   pub before : Before
   pub flags : Flags
 
 -- nothing is read yet
 abbrev pub at_start : Bool → State
-at_start fold = record { waiting = []; begun = just_begun; before = Start; flags = at_first fold }
+at_start fold = record { around = []; so_far = empty_group; before = Start; flags = flags_at_start fold }
 
-abbrev pub group_of : Waiting → Group
+-- as the reading has it
+abbrev pub group_of : WaitingGroup → Group
 group_of w = record { at = w.at; flags = w.flags }
 
 -- what the whole text reads as, where the text from offset `at` on is this one, and its first
 -- `skip` bytes are read
 unfoldable pub reading_on : State → ℕ → ℕ → List ℕ → Reading
 reading_on s skip at text =
-    continued (map (λ w. w.begun) s.waiting) s.begun
-    (rest skip at s.before (map group_of s.waiting) s.flags text)
+    whole_reading (map (λ w. w.so_far) s.around) s.so_far
+    (rest skip at s.before (map group_of s.around) s.flags text)
 
 -- what an item does: the state goes on, or the text breaks by a fault at the item
 pub data Step : Type 0 where
@@ -53,40 +54,40 @@ abbrev pub step_repeat : Before → ℕ → Option ℕ → State → Step
 step_repeat Start n m s = stops NoOperand
 step_repeat Counted n m s = stops StackedRepeat
 step_repeat Operand n m s =
-    goes_on (record s { begun = with_last_repeated n m s.begun; before = Counted })
+    goes_on (record s { so_far = with_last_unit_repeated n m s.so_far; before = Counted })
 
 abbrev pub step_open : Bool → Flags → ℕ → State → Step
 step_open true inner at s = stops TooDeep
 step_open false inner at s =
-    let w : Waiting = record { at = at; flags = s.flags; begun = s.begun } in
-    goes_on (record { waiting = w ∷ s.waiting; begun = just_begun; before = Start; flags = inner })
+    let w : WaitingGroup = record { at = at; flags = s.flags; so_far = s.so_far } in
+    goes_on (record { around = w ∷ s.around; so_far = empty_group; before = Start; flags = inner })
 
-abbrev pub step_close : List Waiting → State → Step
+abbrev pub step_close : List WaitingGroup → State → Step
 step_close [] s = stops StrayClose
 step_close (w ∷ ws) s =
-    let outer = with_last_unit w.begun (finished s.begun) in
-    goes_on (record { waiting = ws; begun = outer; before = Operand; flags = w.flags })
+    let outer = with_last_unit w.so_far (tree_so_far s.so_far) in
+    goes_on (record { around = ws; so_far = outer; before = Operand; flags = w.flags })
 
 abbrev pub step : Item → ℕ → State → Step
-step (unit t) at s = goes_on (record s { begun = with_last_unit s.begun t; before = Operand })
+step (unit t) at s = goes_on (record s { so_far = with_last_unit s.so_far t; before = Operand })
 step (repeat n m) at s = step_repeat s.before n m s
-step bar at s = goes_on (record s { begun = with_last_branch s.begun; before = Start })
-step (group_start inner) at s = step_open (nat_eq (length s.waiting) 200) inner at s
-step group_end at s = step_close s.waiting s
+step bar at s = goes_on (record s { so_far = with_last_branch s.so_far; before = Start })
+step (group_start inner) at s = step_open (nat_eq (length s.around) most_open) inner at s
+step group_end at s = step_close s.around s
 step (flags_from_here new) at s = goes_on (record s { before = Start; flags = new })
 
 -- what a draft has of its group
-abbrev pub begun_of : Draft → Begun
-begun_of d = record { branches = trees_of d.branches.items; units = trees_of d.units.items }
+abbrev pub partial_group : Draft → PartialGroup
+partial_group d = record { branches = trees_of d.branches.items; units = trees_of d.units.items }
 
-abbrev pub waiting_of : Open → Waiting
-waiting_of o = record { at = o.at; flags = o.flags; begun = begun_of o.outer }
+abbrev pub waiting_group : Open → WaitingGroup
+waiting_group o = record { at = o.at; flags = o.flags; so_far = partial_group o.outer }
 
 unfoldable pub state_of : Parser → State
 state_of p =
     record {
-      waiting = map waiting_of (reverse p.open.items);
-      begun = begun_of p.draft;
+      around = map waiting_group (reverse p.open.items);
+      so_far = partial_group p.draft;
       before = p.before;
       flags = p.flags;
     }
@@ -98,7 +99,7 @@ reading_from p text at = reading_on (state_of p) 0 at (drop at text)
 -- the same, where the text ends there
 unfoldable pub reading_at_end : State → Reading
 reading_at_end s =
-    continued (map (λ w. w.begun) s.waiting) s.begun (at_end (map group_of s.waiting))
+    whole_reading (map (λ w. w.so_far) s.around) s.so_far (at_end (map group_of s.around))
 
 -- after an operand there is a unit that can be repeated
 abbrev pub IsOperand : Before → Trees → Type 0
@@ -108,15 +109,19 @@ IsOperand Operand none = ⊥
 IsOperand Operand (more u us) = Unit {0}
 
 abbrev pub HasOperand : State → Type 0
-HasOperand s = IsOperand s.before s.begun.units
+HasOperand s = IsOperand s.before s.so_far.units
+
+-- a growth was refused
+abbrev pub IsWantOfMemory : PatternError → Type 0
+IsWantOfMemory e = (e.fault ≡ Memory) × (e.at ≡ 0)
 
 -- the error is want of memory, or the fault of this reading
 abbrev pub IsRefusal : Reading → PatternError → Type 0
-IsRefusal r e = ((e.fault ≡ Memory) × (e.at ≡ 0)) ⊎ (r ≡ refused e.fault e.at)
+IsRefusal r e = IsWantOfMemory e ⊎ (r ≡ refused e.fault e.at)
 
 -- the error is want of memory, or the fault by which the text breaks at this place
 abbrev pub IsStop : Step → ℕ → PatternError → Type 0
-IsStop s at e = ((e.fault ≡ Memory) × (e.at ≡ 0)) ⊎ ((s ≡ stops e.fault) × (e.at ≡ at))
+IsStop s at e = IsWantOfMemory e ⊎ ((s ≡ stops e.fault) × (e.at ≡ at))
 
 -- the item takes the parser from one state to the next
 abbrev pub Advances : Item → ℕ → Parser → Parser → Type 0

@@ -19,8 +19,8 @@ pub record Level : Type 0 where
   pub repeats : List (ℕ × Option ℕ)
 
 -- nothing stands up to the end
-abbrev pub blank : Level
-blank = record { units = none; branches = none; repeats = [] }
+abbrev pub empty_level : Level
+empty_level = record { units = none; branches = none; repeats = [] }
 
 -- one branch is itself, more are a choice
 abbrev pub choice : Tree → Trees → Tree
@@ -28,17 +28,17 @@ choice t none = t
 choice t (more u us) = alt (more t (more u us))
 
 -- the whole group
-abbrev pub whole : Level → Tree
-whole l = choice (sequence l.units) l.branches
+abbrev pub whole_group : Level → Tree
+whole_group l = choice (sequence l.units) l.branches
 
--- the repeats of a unit, the first innermost
-abbrev pub repeated : Tree → List (ℕ × Option ℕ) → Tree
-repeated t [] = t
-repeated t (r ∷ rs) = repeated (rep t r.0 r.1) rs
+-- a unit under its repeats, the first of them innermost
+abbrev pub with_repeats : Tree → List (ℕ × Option ℕ) → Tree
+with_repeats t [] = t
+with_repeats t (r ∷ rs) = with_repeats (rep t r.0 r.1) rs
 
 -- one unit before what is read
 abbrev pub with_unit : Tree → Level → Level
-with_unit t l = record { units = more (repeated t l.repeats) l.units; branches = l.branches; repeats = [] }
+with_unit t l = record { units = more (with_repeats t l.repeats) l.units; branches = l.branches; repeats = [] }
 
 -- one repeat, for the unit that comes before it
 abbrev pub with_repeat : ℕ → Option ℕ → Level → Level
@@ -60,25 +60,29 @@ abbrev pub inside : (Level → Level) → Rest → Rest
 inside f (levels l ls) = levels (f l) ls
 inside f (broken k at) = broken k at
 
--- a `)`: the group that it closes ends here, and the group around it goes on
-abbrev pub closed : Rest → Rest
-closed (levels l ls) = levels blank (l ∷ ls)
-closed (broken k at) = broken k at
+-- a `)` before it: the group that this closes ends here, and the group around it goes on
+abbrev pub with_close : Rest → Rest
+with_close (levels l ls) = levels empty_level (l ∷ ls)
+with_close (broken k at) = broken k at
 
--- the group up to its `)` is one unit of what follows it
-abbrev pub opened : Rest → Rest
-opened (levels l []) = broken OpenGroup 0  -- never: there is one level more than open groups
-opened (levels l (outer ∷ ls)) = levels (with_unit (whole l) outer) ls
-opened (broken k at) = broken k at
+-- a `(` before it: the group up to its `)` is one unit of what follows that
+abbrev pub with_open : Rest → Rest
+with_open (levels l []) = broken OpenGroup 0  -- never: there is one level more than open groups
+with_open (levels l (outer ∷ ls)) = levels (with_unit (whole_group l) outer) ls
+with_open (broken k at) = broken k at
 
 -- an open group: where its `(` stands, and the flags before it
 pub record Group : Type 0 where
   pub at : ℕ
   pub flags : Flags
 
+-- how many groups may be open at one time
+abbrev pub most_open : ℕ
+most_open = 200
+
 -- at the end of the text no group may be open
 abbrev pub at_end : List Group → Rest
-at_end [] = levels blank []
+at_end [] = levels empty_level []
 at_end (g ∷ gs) = broken OpenGroup g.at
 
 -- `rest skip at before groups flags text`: the text at offset `at`, whose first `skip` bytes belong
@@ -100,9 +104,9 @@ rest zero at before groups flags (b ∷ text) =
                 ]
             | bar ↦ inside with_bar (rest len (at + 1) Start groups flags text)
             | group_start inner ↦
-                if nat_eq (length groups) 200 then broken TooDeep at
-                else opened (rest len (at + 1) Start (record { at = at; flags = flags } ∷ groups) inner text)
-            | group_end ↦ elim groups [ [] ↦ broken StrayClose at | g ∷ gs ↦ closed (rest len (at + 1) Operand gs g.flags text) ]
+                if nat_eq (length groups) most_open then broken TooDeep at
+                else with_open (rest len (at + 1) Start (record { at = at; flags = flags } ∷ groups) inner text)
+            | group_end ↦ elim groups [ [] ↦ broken StrayClose at | g ∷ gs ↦ with_close (rest len (at + 1) Operand gs g.flags text) ]
             | flags_from_here new ↦ rest len (at + 1) Start groups new text
           ]
     ]
@@ -114,16 +118,16 @@ pub data Reading : Type 0 where
 
 -- at the start of the text there is one group
 abbrev pub answer : Rest → Reading
-answer (levels l ls) = tree (whole l)
+answer (levels l ls) = tree (whole_group l)
 answer (broken k at) = refused k at
 
 -- the flags at the start
-abbrev pub at_first : Bool → Flags
-at_first fold = record { fold = fold; dot_all = false }
+abbrev pub flags_at_start : Bool → Flags
+flags_at_start fold = record { fold = fold; dot_all = false }
 
 -- what the text reads as; with `fold` a letter stands for both of its cases
 abbrev pub reading : List ℕ → Bool → Reading
-reading text fold = answer (rest 0 0 Start [] (at_first fold) text)
+reading text fold = answer (rest 0 0 Start [] (flags_at_start fold) text)
 
 -- the text reads as the tree
 abbrev pub Reads : List ℕ → Bool → Tree → Type 0
@@ -132,14 +136,6 @@ Reads text fold t = reading text fold ≡ tree t
 -- The first fault from the left, and its offset: the items before it are well formed.
 abbrev pub Breaks : List ℕ → Bool → PatternFault → ℕ → Type 0
 Breaks text fold k at = reading text fold ≡ refused k at
-
--- exactly one tree is read, or exactly one fault breaks the text, and never both
-abbrev pub IsDecided : List ℕ → Bool → Type 0
-IsDecided text fold =
-    (((t : Tree) × Reads text fold t) ⊎ ((k : PatternFault) × ((at : ℕ) × Breaks text fold k at)))
-    × ((t u : Tree) → Reads text fold t → Reads text fold u → t ≡ u)
-    × ((k j : PatternFault) (at by : ℕ) → Breaks text fold k at → Breaks text fold j by → (k ≡ j) × (at ≡ by))
-    × ((t : Tree) (k : PatternFault) (at : ℕ) → Reads text fold t → Breaks text fold k at → ⊥)
 
 -- the faults that a text can have: all but those of the weight and of memory
 abbrev pub IsTextFault : PatternFault → Type 0

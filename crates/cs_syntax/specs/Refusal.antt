@@ -2,7 +2,7 @@
 -- docs/PATTERNS.md, "Faults".
 use Rattle.std.specs.Prelude.{ℕ, ◌≡◌, ◌<◌, Bool, List}
 use Rattle.cs_syntax.specs.Matching.{Tree}
-use Rattle.cs_syntax.specs.Weight.{weight}
+use Rattle.cs_syntax.specs.Weight.{most_weight, weight}
 use Rattle.cs_syntax.specs.Reading.{Reads, Breaks, IsTextFault}
 use Rattle.cs_syntax.specs.declared.fault.PatternFault.TheVariants.{TooLarge, Memory}
 use Rattle.cs_syntax.specs.declared.fault.PatternError.{PatternError}
@@ -13,5 +13,5 @@ pub data IsRefused (text : List ℕ) (fold : Bool) (e : PatternError) : Type 0 w
   breaks : IsTextFault e.fault → Breaks text fold e.fault e.at → IsRefused text fold e
   too_large :
       e.fault ≡ TooLarge → e.at ≡ 0 →
-      (t : Tree) → Reads text fold t → 10000 < weight t → IsRefused text fold e
+      (t : Tree) → Reads text fold t → most_weight < weight t → IsRefused text fold e
   memory : e.fault ≡ Memory → e.at ≡ 0 → IsRefused text fold e

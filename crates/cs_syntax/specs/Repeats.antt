@@ -41,10 +41,14 @@ counts_from n rest =
 abbrev pub counts : List ℕ → Option Counts
 counts text = elim (number text) [ None ↦ None | Some n ↦ counts_from n (drop n.len text) ]
 
--- a count passes 1000, or the second is below the first
+-- the largest count
+abbrev pub most_times : ℕ
+most_times = 1000
+
+-- a count is too large, or the second is below the first
 abbrev pub is_bad : Counts → Bool
 is_bad c =
-    nat_lt 1000 c.least || elim c.most [ None ↦ false | Some m ↦ nat_lt 1000 m || nat_lt m c.least ]
+    nat_lt most_times c.least || elim c.most [ None ↦ false | Some m ↦ nat_lt most_times m || nat_lt m c.least ]
 
 -- behind `{`, which is a literal where no counts follow
 abbrev pub brace : List ℕ → Front

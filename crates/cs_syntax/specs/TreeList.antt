@@ -2,10 +2,10 @@
 use Rattle.cs_syntax.specs.Matching.{Tree, Trees, none, more}
 
 -- one list of trees after another
-abbrev pub joined : Trees → Trees → Trees
-joined none us = us
-joined (more t ts) us = more t (joined ts us)
+abbrev pub append : Trees → Trees → Trees
+append none us = us
+append (more t ts) us = more t (append ts us)
 
 -- one more tree at the end
-abbrev pub last : Trees → Tree → Trees
-last ts t = joined ts (more t none)
+abbrev pub with_last : Trees → Tree → Trees
+with_last ts t = append ts (more t none)

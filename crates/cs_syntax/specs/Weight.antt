@@ -1,7 +1,11 @@
--- The weight of a tree, which is at most 10000 in a pattern.
+-- The weight of a tree, which has a limit in a pattern.
 -- docs/PATTERNS.md, "Weight".
 use Rattle.std.specs.Prelude.{ℕ, ◌+◌, ◌*◌, max, Option, Some, None}
 use Rattle.cs_syntax.specs.Matching.{Tree, Trees, empty, one_of, cat, alt, rep, line_start, line_end, word_edge, not_word_edge, none, more}
+
+-- the largest weight of a pattern
+abbrev pub most_weight : ℕ
+most_weight = 10000
 
 -- how often the weight of what is repeated counts
 abbrev pub times : ℕ → Option ℕ → ℕ

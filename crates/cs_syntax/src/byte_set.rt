@@ -1,7 +1,9 @@
 // Sets of bytes.
 ghost use Rattle.std.specs.Prelude.{⊤, ◌≡◌, ◌<◌, ◌||◌, ℕ, List, Bool, false, not, Option, IfSome, IfNone, length};
+ghost use Rattle.cs_syntax.specs.Members.{count, IsOnly};
 ghost use Rattle.cs_syntax.specs.Matching.{member};
-ghost use Rattle.cs_syntax.specs.ByteSet.{set_of, count, is_letter, other_case, is_in_ranges, is_in_folded, char_set, is_in_dot, dot_set, IsOnly};
+ghost use Rattle.cs_syntax.specs.ByteSet.{set_of, is_letter, other_case, is_in_folded, char_set, is_in_dot, dot_set};
+ghost use Rattle.cs_syntax.specs.Ranges.{is_in_ranges};
 ghost use Rattle.cs_syntax.specs.ClassSets.{ranges_of, is_in_item};
 
 use crate::class_item::{ClassItem, NamedClass};
@@ -79,8 +81,8 @@ impl ByteSet {
 
     /// The bytes of the item too.
     pub(crate) fn add(&mut self, fold: bool, item: ClassItem)
-        ensures { (test : ℕ → Bool) → self.old ≡ set_of test → self.new ≡ set_of
-            (λ b. test b || is_in_item fold item b) }
+        ensures { (test : ℕ → Bool) → self.old ≡ set_of test
+            → self.new ≡ set_of (λ b. test b || is_in_item fold item b) }
     {
         for (b, m) in self.members.iter_mut().enumerate() {
             *m = *m || is_in_item(fold, item, b);
@@ -98,7 +100,8 @@ impl ByteSet {
 
     /// All other bytes.
     pub(crate) fn complement(&mut self)
-        ensures { (test : ℕ → Bool) → self.old ≡ set_of test → self.new ≡ set_of (λ b. not (test b)) }
+        ensures { (test : ℕ → Bool) → self.old ≡ set_of test
+            → self.new ≡ set_of (λ b. not (test b)) }
     {
         for m in self.members.iter_mut() {
             *m = !*m;

@@ -1,7 +1,7 @@
 // Characters and ranges in a class.
 ghost use Rattle.std.specs.Prelude.{◌≡◌, ◌+◌, ◌≤◌, ◌<◌, ◌^◌, ℕ, length, drop, MatchResult, IfOk};
 ghost use Rattle.cs_syntax.specs.Classes.{class_escape, class_char, range_to, range_from, span};
-ghost use Rattle.cs_syntax.specs.Seen.{class_front_seen, class_char_seen};
+ghost use Rattle.cs_syntax.specs.ItemViews.{IsWithin, class_front_view, class_char_view};
 
 use crate::class_item::ClassItem;
 use crate::escapes::{escaped_char, is_left_out};
@@ -9,8 +9,8 @@ use crate::fault::PatternFault;
 use crate::item::Misread;
 
 /// Behind a backslash.
-pub fn class_escape(text: &[u8]) -> Result<(u8, usize), PatternFault>
-    ensures value { class_char_seen result ≡ class_escape text.now }
+pub(crate) fn class_escape(text: &[u8]) -> Result<(u8, usize), PatternFault>
+    ensures value { class_char_view result ≡ class_escape text.now }
     ensures within { IfOk result (λ r. r.1 ≤ length text.now) }
 {
     let Some((&letter, _)) = text.split_first() else {
@@ -29,8 +29,8 @@ pub fn class_escape(text: &[u8]) -> Result<(u8, usize), PatternFault>
 }
 
 /// One character, and how many bytes stand behind its first one.
-pub fn class_char(byte: u8, rest: &[u8]) -> Result<(u8, usize), PatternFault>
-    ensures value { class_char_seen result ≡ class_char byte rest.now }
+pub(crate) fn class_char(byte: u8, rest: &[u8]) -> Result<(u8, usize), PatternFault>
+    ensures value { class_char_view result ≡ class_char byte rest.now }
     ensures within { IfOk result (λ r. r.1 ≤ length rest.now) }
 {
     if byte == b'\\' {
@@ -49,8 +49,9 @@ fn range_to(
     high: Result<(u8, usize), PatternFault>,
 ) -> Result<(ClassItem, usize), Misread>
     requires { IfOk high (λ r. len + r.1 < 2 ^ 64) }
-    ensures value { class_front_seen result ≡ range_to low len (class_char_seen high) }
-    ensures within { MatchResult result (λ r. IfOk high (λ h. r.1 ≤ len + h.1)) (λ m. m.behind ≤ len) }
+    ensures value { class_front_view result ≡ range_to low len (class_char_view high) }
+    ensures within { MatchResult result
+        (λ r. IfOk high (λ h. r.1 ≤ len + h.1)) (λ m. m.behind ≤ len) }
 {
     match high {
         Err(fault) => Err(Misread { fault, behind: len }),
@@ -69,9 +70,8 @@ fn range_to(
 /// Behind a character, which may be the first of a range.
 fn range_from(low: u8, len: usize, rest: &[u8]) -> Result<(ClassItem, usize), Misread>
     requires { len + length rest.now < 2 ^ 63 }
-    ensures value { class_front_seen result ≡ range_from low len rest.now }
-    ensures within { MatchResult result (λ r. r.1 ≤ len + length rest.now)
-        (λ m. m.behind ≤ len + length rest.now) }
+    ensures value { class_front_view result ≡ range_from low len rest.now }
+    ensures within { IsWithin (len + length rest.now) (len + length rest.now) result }
 {
     match rest {
         [b'-', c, after @ ..] if *c != b']' => range_to(low, len + 2, class_char(*c, after)),
@@ -80,13 +80,13 @@ fn range_from(low: u8, len: usize, rest: &[u8]) -> Result<(ClassItem, usize), Mi
 }
 
 /// A character, or a range that begins with it.
-pub fn span(
+pub(crate) fn span(
     low: Result<(u8, usize), PatternFault>,
     rest: &[u8],
 ) -> Result<(ClassItem, usize), Misread>
     requires { IfOk low (λ l. l.1 ≤ length rest.now) }
-    ensures value { class_front_seen result ≡ span (class_char_seen low) rest.now }
-    ensures within { MatchResult result (λ r. r.1 ≤ length rest.now) (λ m. m.behind ≤ length rest.now) }
+    ensures value { class_front_view result ≡ span (class_char_view low) rest.now }
+    ensures within { IsWithin (length rest.now) (length rest.now) result }
 {
     match low {
         Err(fault) => Err(Misread { fault, behind: 0 }),

@@ -1,8 +1,8 @@
 // Items of a class.
-ghost use Rattle.std.specs.Prelude.{◌≡◌, ◌+◌, ◌≤◌, ◌<◌, ◌^◌, ℕ, length, drop, take, MatchResult, IfSome};
+ghost use Rattle.std.specs.Prelude.{◌≡◌, ◌+◌, ◌≤◌, ◌<◌, ◌^◌, ℕ, length, drop, take, IfSome};
 ghost use Rattle.std.specs.Option.{option_map};
-ghost use Rattle.cs_syntax.specs.Classes.{name_length, named, bracketed, after_colon, after_backslash, class_front};
-ghost use Rattle.cs_syntax.specs.Seen.{class_front_seen};
+ghost use Rattle.cs_syntax.specs.Classes.{name_length, class_by_name, posix_class, after_colon, after_backslash, class_front};
+ghost use Rattle.cs_syntax.specs.ItemViews.{IsWithin, class_front_view};
 
 use crate::class_chars::{class_char, class_escape, span};
 use crate::class_item::{ClassItem, NamedClass};
@@ -25,9 +25,9 @@ fn name_length(text: &[u8]) -> Option<usize>
 }
 
 /// The class of a name.
-#[tactic(auto, unfolding(crate::specs::Classes::named))]
-fn named(name: &[u8]) -> Option<NamedClass>
-    ensures { result ≡ named name.now }
+#[tactic(auto, unfolding(crate::specs::Classes::class_by_name))]
+fn class_by_name(name: &[u8]) -> Option<NamedClass>
+    ensures { result ≡ class_by_name name.now }
 {
     if name == b"alnum".as_slice() {
         Some(NamedClass::Alnum)
@@ -63,14 +63,14 @@ fn named(name: &[u8]) -> Option<NamedClass>
 }
 
 /// An item by its name, with its `^`.
-fn bracketed(name: &[u8]) -> Result<(ClassItem, usize), Misread>
+fn posix_class(name: &[u8]) -> Result<(ClassItem, usize), Misread>
     requires { length name.now + 3 < 2 ^ 64 }
-    ensures value { class_front_seen result ≡ bracketed name.now }
-    ensures within { MatchResult result (λ r. r.1 ≤ length name.now + 3) (λ m. m.behind ≡ 0) }
+    ensures value { class_front_view result ≡ posix_class name.now }
+    ensures within { IsWithin (length name.now + 3) 0 result }
 {
     let negated = is_front(b'^', name);
     let word = if negated { &name[1..] } else { name };
-    match named(word) {
+    match class_by_name(word) {
         Some(class) => Ok((ClassItem::Named(class, negated), name.len() + 3)),
         None => Err(Misread {
             fault: PatternFault::BadRange,
@@ -82,19 +82,19 @@ fn bracketed(name: &[u8]) -> Result<(ClassItem, usize), Misread>
 /// Behind `[:`.
 fn after_colon(text: &[u8]) -> Result<(ClassItem, usize), Misread>
     requires { length text.now + 1 < 2 ^ 63 }
-    ensures value { class_front_seen result ≡ after_colon text.now }
-    ensures within { MatchResult result (λ r. r.1 ≤ length text.now + 1) (λ m. m.behind ≤ length text.now + 1) }
+    ensures value { class_front_view result ≡ after_colon text.now }
+    ensures within { IsWithin (length text.now + 1) (length text.now + 1) result }
 {
     match name_length(text) {
-        Some(n) => bracketed(&text[..n]),
+        Some(n) => posix_class(&text[..n]),
         None => Ok((ClassItem::Range(b'[', b'['), 0)),
     }
 }
 
 /// Behind a backslash.
 fn after_backslash(rest: &[u8]) -> Result<(ClassItem, usize), Misread>
-    ensures value { class_front_seen result ≡ after_backslash rest.now }
-    ensures within { MatchResult result (λ r. r.1 ≤ length rest.now) (λ m. m.behind ≤ length rest.now) }
+    ensures value { class_front_view result ≡ after_backslash rest.now }
+    ensures within { IsWithin (length rest.now) (length rest.now) result }
 {
     let Some((&letter, _)) = rest.split_first() else {
         return Err(Misread {
@@ -109,9 +109,9 @@ fn after_backslash(rest: &[u8]) -> Result<(ClassItem, usize), Misread>
 }
 
 /// The item that begins with the byte.
-pub fn class_front(byte: u8, rest: &[u8]) -> Result<(ClassItem, usize), Misread>
-    ensures value { class_front_seen result ≡ class_front byte rest.now }
-    ensures within { MatchResult result (λ r. r.1 ≤ length rest.now) (λ m. m.behind ≤ length rest.now) }
+pub(crate) fn class_front(byte: u8, rest: &[u8]) -> Result<(ClassItem, usize), Misread>
+    ensures value { class_front_view result ≡ class_front byte rest.now }
+    ensures within { IsWithin (length rest.now) (length rest.now) result }
 {
     if byte == b'[' && is_front(b':', rest) {
         return after_colon(&rest[1..]);

@@ -2,7 +2,7 @@
 
 /// A set of bytes that has a name, or an escape for one.
 #[derive(Clone, Copy, Drop)]
-pub enum NamedClass {
+pub(crate) enum NamedClass {
     Alnum,
     Alpha,
     Ascii,
@@ -23,7 +23,7 @@ pub enum NamedClass {
 
 /// An item of a class.
 #[derive(Clone, Copy, Drop)]
-pub enum ClassItem {
+pub(crate) enum ClassItem {
     /// The bytes from the first to the second.
     Range(u8, u8),
     /// The bytes of a class, or with `true` all others.

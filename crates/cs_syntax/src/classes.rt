@@ -2,7 +2,7 @@
 ghost use Rattle.std.specs.Prelude.{◌≡◌, ◌+◌, ◌<◌, ◌≤◌, ◌^◌, ◌&&◌, not, nat_eq, ℕ, List, true, length, MatchResult};
 ghost use Rattle.cs_syntax.specs.Classes.{items_from, class};
 ghost use Rattle.cs_syntax.specs.ClassState.{IsReadAs};
-ghost use Rattle.cs_syntax.specs.Seen.{front_seen};
+ghost use Rattle.cs_syntax.specs.ItemViews.{IsWithin, front_view};
 
 use crate::byte_set::ByteSet;
 use crate::class_fronts::class_front;
@@ -51,9 +51,9 @@ fn items(fold: bool, behind: usize, text: &[u8]) -> Result<(ByteSet, usize), Mis
 }
 
 /// Behind `[`.
-pub fn class(fold: bool, rest: &[u8]) -> Result<(Item, usize), Misread>
-    ensures value { (front : List ℕ) → front_seen front result ≡ class fold rest.now }
-    ensures within { MatchResult result (λ r. r.1 ≤ length rest.now) (λ m. m.behind ≤ length rest.now + 1) }
+pub(crate) fn class(fold: bool, rest: &[u8]) -> Result<(Item, usize), Misread>
+    ensures value { (front : List ℕ) → front_view front result ≡ class fold rest.now }
+    ensures within { IsWithin (length rest.now) (length rest.now + 1) result }
 {
     if is_front(b'^', rest) {
         let (mut set, len) = items(fold, 2, &rest[1..])?;

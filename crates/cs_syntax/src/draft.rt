@@ -2,7 +2,7 @@
 ghost use Rattle.std.specs.Prelude.{◌≡◌, ◌<◌, ℕ, OnOk, IfOk, length, Option};
 ghost use Rattle.cs_syntax.specs.Fronts.{sequence};
 ghost use Rattle.cs_syntax.specs.Node.{tree_of, trees_of};
-ghost use Rattle.cs_syntax.specs.Begun.{with_last_unit, with_last_repeated, with_last_branch, finished, just_begun};
+ghost use Rattle.cs_syntax.specs.PartialGroups.{with_last_unit, with_last_unit_repeated, with_last_branch, tree_so_far, empty_group};
 
 use crate::node::Node;
 use std::alloc::{AllocError, Global};
@@ -10,14 +10,14 @@ use std::mem;
 
 /// The branches of a group that are done, and the units of the one that is not.
 #[derive(Drop)]
-pub struct Draft {
-    pub branches: Vec<Node>,
-    pub units: Vec<Node>,
+pub(crate) struct Draft {
+    branches: Vec<Node>,
+    units: Vec<Node>,
 }
 
 /// One unit as it is, or several in order.
 #[tactic(auto, using(crate::proofs::TreeLemmas::several))]
-pub fn in_order(mut units: Vec<Node>) -> Node
+pub(crate) fn in_order(mut units: Vec<Node>) -> Node
     ensures { tree_of result ≡ sequence (trees_of units.items) }
 {
     if units.len() != 1 {
@@ -34,10 +34,10 @@ pub fn in_order(mut units: Vec<Node>) -> Node
 }
 
 impl Draft {
-    ghost use Rattle.cs_syntax.specs.ParserState.{begun_of};
+    ghost use Rattle.cs_syntax.specs.ParserState.{partial_group};
 
-    pub fn new(alloc: Global) -> Draft
-        ensures { begun_of result ≡ just_begun }
+    pub(crate) fn new(alloc: Global) -> Draft
+        ensures { partial_group result ≡ empty_group }
     {
         Draft {
             branches: Vec::new(alloc),
@@ -47,8 +47,9 @@ impl Draft {
 
     /// One more unit.
     #[tactic(auto, using(crate::proofs::TreeLemmas::trees_last))]
-    pub fn add(&mut self, unit: Node) -> Result<(), AllocError>
-        ensures more { OnOk result (begun_of self.new ≡ with_last_unit (begun_of self.old) (tree_of unit)) }
+    pub(crate) fn add(&mut self, unit: Node) -> Result<(), AllocError>
+        ensures more { OnOk result (partial_group self.new
+            ≡ with_last_unit (partial_group self.old) (tree_of unit)) }
         ensures some { OnOk result (0 < length self.new.units.items) }
     {
         self.units.push(unit)?;
@@ -57,9 +58,15 @@ impl Draft {
 
     /// The last unit is repeated.
     #[tactic(auto, using(crate::proofs::TreeLemmas::trees_last))]
-    pub fn repeat(&mut self, alloc: Global, least: u32, most: Option<u32>) -> Result<(), AllocError>
+    pub(crate) fn repeat(
+        &mut self,
+        alloc: Global,
+        least: u32,
+        most: Option<u32>,
+    ) -> Result<(), AllocError>
         requires { 0 < length self.old.units.items }
-        ensures { OnOk result (begun_of self.new ≡ with_last_repeated least most (begun_of self.old)) }
+        ensures { OnOk result (partial_group self.new
+            ≡ with_last_unit_repeated least most (partial_group self.old)) }
     {
         let unit = match self.units.pop() {
             Some(unit) => unit,
@@ -72,8 +79,8 @@ impl Draft {
 
     /// The units so far are a branch.
     #[tactic(auto, using(crate::proofs::TreeLemmas::trees_last))]
-    pub fn bar(&mut self, alloc: Global) -> Result<(), AllocError>
-        ensures { OnOk result (begun_of self.new ≡ with_last_branch (begun_of self.old)) }
+    pub(crate) fn bar(&mut self, alloc: Global) -> Result<(), AllocError>
+        ensures { OnOk result (partial_group self.new ≡ with_last_branch (partial_group self.old)) }
     {
         let units = mem::replace(&mut self.units, Vec::new(alloc));
         self.branches.push(in_order(units))?;
@@ -82,8 +89,8 @@ impl Draft {
 
     /// The whole group.
     #[tactic(auto, using(crate::proofs::TreeLemmas::branches_last))]
-    pub fn finish(self) -> Result<Node, AllocError>
-        ensures { IfOk result (λ n. tree_of n ≡ finished (begun_of self)) }
+    pub(crate) fn finish(self) -> Result<Node, AllocError>
+        ensures { IfOk result (λ n. tree_of n ≡ tree_so_far (partial_group self)) }
     {
         let Draft {
             mut branches,

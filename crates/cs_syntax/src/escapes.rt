@@ -1,10 +1,10 @@
 // Escapes.
-ghost use Rattle.std.specs.Prelude.{◌≡◌, ◌+◌, ◌≤◌, ◌<◌, ◌^◌, ℕ, Bool, List, length, min, take, drop, MatchResult, IfSome, ◌∷◌};
+ghost use Rattle.std.specs.Prelude.{◌≡◌, ◌+◌, ◌≤◌, ◌<◌, ◌^◌, ℕ, Bool, List, length, min, take, drop, IfSome, ◌∷◌};
 ghost use Rattle.cs_syntax.specs.ByteSet.{is_letter};
 ghost use Rattle.std.specs.Option.{option_map};
 ghost use Rattle.cs_syntax.specs.Fronts.{char_tree};
-ghost use Rattle.cs_syntax.specs.Seen.{front_seen, unit_tree};
-ghost use Rattle.cs_syntax.specs.Escapes.{is_scalar, numbered, octal, hex_in_braces, hex, control, escaped_char, escaped_class, is_left_out, escaped_tree, char_front, escape};
+ghost use Rattle.cs_syntax.specs.ItemViews.{IsWithin, front_view, unit_tree};
+ghost use Rattle.cs_syntax.specs.Escapes.{is_scalar, char_by_number, octal_char, hex_char_in_braces, hex_char, control_char, escaped_char, escaped_class, is_left_out, escaped_tree, char_front, escape};
 
 use crate::byte_set::{ByteSet, is_letter};
 use crate::class_item::{ClassItem, NamedClass};
@@ -15,58 +15,58 @@ use crate::numbers::{count_digits, is_digit, value_in};
 
 /// A character that an escape gives, and how many bytes stand behind the backslash.
 #[derive(Clone, Copy, Drop)]
-pub struct Escaped {
-    pub char: char,
-    pub len: usize,
+pub(crate) struct EscapedChar {
+    pub(crate) char: char,
+    pub(crate) len: usize,
 }
 
 /// A character by its number, which is the largest `u32` where it is larger.
-fn numbered(number: u32, len: usize) -> Option<Escaped>
-    ensures { (real : ℕ) → number ≡ min real u32.MAX → result ≡ numbered real len }
+fn char_by_number(number: u32, len: usize) -> Option<EscapedChar>
+    ensures { (real : ℕ) → number ≡ min real u32.MAX → result ≡ char_by_number real len }
 {
     let char = char::from_u32(number)?;
-    Some(Escaped { char, len })
+    Some(EscapedChar { char, len })
 }
 
-fn octal(text: &[u8]) -> Option<Escaped>
-    ensures value { result ≡ octal text.now }
+fn octal_char(text: &[u8]) -> Option<EscapedChar>
+    ensures value { result ≡ octal_char text.now }
     ensures within { IfSome result (λ c. c.len ≤ length text.now) }
 {
     let len = count_digits(8, text).min(3);
     if !is_front(b'0', text) && len < 2 {
         return None;
     }
-    numbered(value_in(8, &text[..len]), len)
+    char_by_number(value_in(8, &text[..len]), len)
 }
 
 /// Behind `x{`.
-fn hex_in_braces(text: &[u8]) -> Option<Escaped>
-    ensures value { result ≡ hex_in_braces text.now }
+fn hex_char_in_braces(text: &[u8]) -> Option<EscapedChar>
+    ensures value { result ≡ hex_char_in_braces text.now }
     ensures within { IfSome result (λ c. c.len ≤ 2 + length text.now) }
 {
     let len = count_digits(16, text);
     if len == 0 || !is_front(b'}', &text[len..]) {
         return None;
     }
-    numbered(value_in(16, &text[..len]), len + 3)
+    char_by_number(value_in(16, &text[..len]), len + 3)
 }
 
 /// Behind `x`.
-fn hex(text: &[u8]) -> Option<Escaped>
-    ensures value { result ≡ hex text.now }
+fn hex_char(text: &[u8]) -> Option<EscapedChar>
+    ensures value { result ≡ hex_char text.now }
     ensures within { IfSome result (λ c. c.len ≤ 1 + length text.now) }
 {
     if is_front(b'{', text) {
-        return hex_in_braces(&text[1..]);
+        return hex_char_in_braces(&text[1..]);
     }
     if count_digits(16, text) < 2 {
         return None;
     }
-    numbered(value_in(16, &text[..2]), 3)
+    char_by_number(value_in(16, &text[..2]), 3)
 }
 
-fn control(letter: u8) -> Option<char>
-    ensures { result ≡ control letter }
+fn control_char(letter: u8) -> Option<char>
+    ensures { result ≡ control_char letter }
 {
     match letter {
         b'a' => Some('\u{7}'),
@@ -80,22 +80,22 @@ fn control(letter: u8) -> Option<char>
 }
 
 /// Behind a backslash: an escape that gives a character.
-pub fn escaped_char(text: &[u8]) -> Option<Escaped>
+pub(crate) fn escaped_char(text: &[u8]) -> Option<EscapedChar>
     ensures value { result ≡ escaped_char text.now }
     ensures within { IfSome result (λ c. c.len ≤ length text.now) }
 {
     let (&e, rest) = text.split_first()?;
-    if let Some(char) = control(e) {
-        return Some(Escaped { char, len: 1 });
+    if let Some(char) = control_char(e) {
+        return Some(EscapedChar { char, len: 1 });
     }
     if e == b'x' {
-        return hex(rest);
+        return hex_char(rest);
     }
     if is_digit(8, e) {
-        return octal(text);
+        return octal_char(text);
     }
     if e < 128 && !is_letter(e as usize) && !is_digit(10, e) {
-        return Some(Escaped {
+        return Some(EscapedChar {
             char: e as char,
             len: 1,
         });
@@ -105,7 +105,7 @@ pub fn escaped_char(text: &[u8]) -> Option<Escaped>
 
 /// The class that an escape stands for.
 #[tactic(auto, unfolding(crate::specs::Escapes::escaped_class))]
-pub fn escaped_class(letter: u8) -> Option<ClassItem>
+pub(crate) fn escaped_class(letter: u8) -> Option<ClassItem>
     ensures { result ≡ escaped_class letter }
 {
     match letter {
@@ -120,7 +120,7 @@ pub fn escaped_class(letter: u8) -> Option<ClassItem>
 }
 
 /// Whether the escape is one that is left out.
-pub fn is_left_out(letter: u8) -> bool
+pub(crate) fn is_left_out(letter: u8) -> bool
     ensures { result ≡ is_left_out letter }
 {
     matches!(letter, b'A' | b'z' | b'Q' | b'p' | b'P')
@@ -140,8 +140,8 @@ fn char_unit(fold: bool, char: char) -> Unit
 /// Behind a backslash outside a class, where it gives a character or nothing.
 #[tactic(auto, unfolding(crate::specs::Escapes::char_front))]
 fn char_front(fold: bool, text: &[u8]) -> Result<(Item, usize), Misread>
-    ensures value { (front : List ℕ) → front_seen front result ≡ char_front fold text.now }
-    ensures within { MatchResult result (λ r. r.1 ≤ length text.now) (λ m. m.behind ≡ 0) }
+    ensures value { (front : List ℕ) → front_view front result ≡ char_front fold text.now }
+    ensures within { IsWithin (length text.now) 0 result }
 {
     let Some(escaped) = escaped_char(text) else {
         return Err(Misread {
@@ -169,9 +169,9 @@ fn escaped_unit(letter: u8) -> Option<Unit>
 }
 
 /// Behind a backslash outside a class.
-pub fn escape(fold: bool, text: &[u8]) -> Result<(Item, usize), Misread>
-    ensures value { (front : List ℕ) → front_seen front result ≡ escape fold text.now }
-    ensures within { MatchResult result (λ r. r.1 ≤ length text.now) (λ m. m.behind ≡ 0) }
+pub(crate) fn escape(fold: bool, text: &[u8]) -> Result<(Item, usize), Misread>
+    ensures value { (front : List ℕ) → front_view front result ≡ escape fold text.now }
+    ensures within { IsWithin (length text.now) 0 result }
 {
     let Some((&letter, _)) = text.split_first() else {
         return Err(Misread {

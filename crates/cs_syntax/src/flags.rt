@@ -2,9 +2,9 @@
 
 /// The flags that are on at a place of a pattern. The flags `m` and `U` change nothing.
 #[derive(Clone, Copy, Drop)]
-pub struct Flags {
+pub(crate) struct Flags {
     /// `i`: a letter stands for both of its cases.
-    pub fold: bool,
+    pub(crate) fold: bool,
     /// `s`: a dot takes newlines too.
-    pub dot_all: bool,
+    pub(crate) dot_all: bool,
 }

@@ -1,8 +1,8 @@
 // Heads of groups, and flags.
-ghost use Rattle.std.specs.Prelude.{◌≡◌, ◌+◌, ◌≤◌, ◌<◌, ◌^◌, ℕ, Bool, List, length, take, drop, MatchResult};
+ghost use Rattle.std.specs.Prelude.{◌≡◌, ◌+◌, ◌≤◌, ◌<◌, ◌^◌, ℕ, Bool, List, length, take, drop};
 ghost use Rattle.std.specs.List.{prefix_len, list_any};
 ghost use Rattle.cs_syntax.specs.Matching.{is_word};
-ghost use Rattle.cs_syntax.specs.Seen.{front_seen};
+ghost use Rattle.cs_syntax.specs.ItemViews.{IsWithin, front_view};
 ghost use Rattle.cs_syntax.specs.Groups.{name, is_flag, is_cleared_flag, has, with_set, with_cleared, after_flags, cleared_flags, set_flags, head, group};
 
 use crate::fault::PatternFault;
@@ -87,8 +87,8 @@ fn cleared_len(text: &[u8]) -> usize
 /// Behind `(?<` or `(?P<`, of which `len` bytes stand behind the parenthesis.
 fn name(flags: Flags, len: usize, text: &[u8]) -> Result<(Item, usize), Misread>
     requires { len + length text.now ≤ 2 ^ 63 }
-    ensures value { (front : List ℕ) → front_seen front result ≡ name flags len text.now }
-    ensures within { MatchResult result (λ r. r.1 ≤ len + length text.now) (λ m. m.behind ≡ 0) }
+    ensures value { (front : List ℕ) → front_view front result ≡ name flags len text.now }
+    ensures within { IsWithin (len + length text.now) 0 result }
 {
     let n = name_len(text);
     if n == 0 || !is_front(b'>', &text[n..]) {
@@ -100,8 +100,8 @@ fn name(flags: Flags, len: usize, text: &[u8]) -> Result<(Item, usize), Misread>
 /// At the end of the flags.
 fn after_flags(flags: Flags, len: usize, rest: &[u8]) -> Result<(Item, usize), Misread>
     requires { len + length rest.now ≤ 2 ^ 63 }
-    ensures value { (front : List ℕ) → front_seen front result ≡ after_flags flags len rest.now }
-    ensures within { MatchResult result (λ r. r.1 ≤ len + length rest.now) (λ m. m.behind ≡ 0) }
+    ensures value { (front : List ℕ) → front_view front result ≡ after_flags flags len rest.now }
+    ensures within { IsWithin (len + length rest.now) 0 result }
 {
     if is_front(b':', rest) {
         return Ok((Item::GroupStart(flags), len + 1));
@@ -115,8 +115,8 @@ fn after_flags(flags: Flags, len: usize, rest: &[u8]) -> Result<(Item, usize), M
 /// Behind the `-`.
 fn cleared_flags(flags: Flags, len: usize, text: &[u8]) -> Result<(Item, usize), Misread>
     requires { len + length text.now ≤ 2 ^ 63 }
-    ensures value { (front : List ℕ) → front_seen front result ≡ cleared_flags flags len text.now }
-    ensures within { MatchResult result (λ r. r.1 ≤ len + length text.now) (λ m. m.behind ≡ 0) }
+    ensures value { (front : List ℕ) → front_view front result ≡ cleared_flags flags len text.now }
+    ensures within { IsWithin (len + length text.now) 0 result }
 {
     let n = cleared_len(text);
     if is_front(b'm', &text[n..]) {
@@ -133,8 +133,8 @@ fn cleared_flags(flags: Flags, len: usize, text: &[u8]) -> Result<(Item, usize),
 
 /// Behind `(?`.
 fn set_flags(flags: Flags, text: &[u8]) -> Result<(Item, usize), Misread>
-    ensures value { (front : List ℕ) → front_seen front result ≡ set_flags flags text.now }
-    ensures within { MatchResult result (λ r. r.1 ≤ 1 + length text.now) (λ m. m.behind ≡ 0) }
+    ensures value { (front : List ℕ) → front_view front result ≡ set_flags flags text.now }
+    ensures within { IsWithin (1 + length text.now) 0 result }
 {
     let n = set_len(text);
     let set = with_set(&text[..n], flags);
@@ -146,8 +146,8 @@ fn set_flags(flags: Flags, text: &[u8]) -> Result<(Item, usize), Misread>
 
 /// Behind `(?`.
 fn head(flags: Flags, text: &[u8]) -> Result<(Item, usize), Misread>
-    ensures value { (front : List ℕ) → front_seen front result ≡ head flags text.now }
-    ensures within { MatchResult result (λ r. r.1 ≤ 1 + length text.now) (λ m. m.behind ≡ 0) }
+    ensures value { (front : List ℕ) → front_view front result ≡ head flags text.now }
+    ensures within { IsWithin (1 + length text.now) 0 result }
 {
     if is_front(b'<', text) {
         return name(flags, 2, &text[1..]);
@@ -159,9 +159,9 @@ fn head(flags: Flags, text: &[u8]) -> Result<(Item, usize), Misread>
 }
 
 /// Behind `(`.
-pub fn group(flags: Flags, rest: &[u8]) -> Result<(Item, usize), Misread>
-    ensures value { (front : List ℕ) → front_seen front result ≡ group flags rest.now }
-    ensures within { MatchResult result (λ r. r.1 ≤ length rest.now) (λ m. m.behind ≡ 0) }
+pub(crate) fn group(flags: Flags, rest: &[u8]) -> Result<(Item, usize), Misread>
+    ensures value { (front : List ℕ) → front_view front result ≡ group flags rest.now }
+    ensures within { IsWithin (length rest.now) 0 result }
 {
     if is_front(b'?', rest) {
         return head(flags, &rest[1..]);

@@ -5,7 +5,7 @@ use crate::flags::Flags;
 
 /// What stands for itself in a pattern.
 #[derive(Clone, Copy, Drop)]
-pub enum Unit {
+pub(crate) enum Unit {
     Set(ByteSet),
     /// A character past ASCII that an escape gives.
     Char(char),
@@ -19,7 +19,7 @@ pub enum Unit {
 
 /// What a pattern's text is made of.
 #[derive(Clone, Copy, Drop)]
-pub enum Item {
+pub(crate) enum Item {
     Unit(Unit),
     /// At least so many times, and at most so many where that is given, what stands before.
     Repeat(u32, Option<u32>),
@@ -33,7 +33,7 @@ pub enum Item {
 
 /// A fault, and how many bytes it lies behind the front of the item at fault.
 #[derive(Clone, Copy, Drop)]
-pub struct Misread {
-    pub fault: PatternFault,
-    pub behind: usize,
+pub(crate) struct Misread {
+    pub(crate) fault: PatternFault,
+    pub(crate) behind: usize,
 }

@@ -1,8 +1,8 @@
 // Items: what stands at the front of a text.
-ghost use Rattle.std.specs.Prelude.{◌≡◌, ◌+◌, ◌≤◌, ℕ, List, ◌∷◌, length, MatchResult};
+ghost use Rattle.std.specs.Prelude.{◌≡◌, ◌+◌, ◌≤◌, ℕ, List, ◌∷◌, length};
 ghost use Rattle.std.specs.List.{prefix_len};
 ghost use Rattle.cs_syntax.specs.Items.{front, is_continuation};
-ghost use Rattle.cs_syntax.specs.Seen.{front_seen};
+ghost use Rattle.cs_syntax.specs.ItemViews.{IsWithin, front_view};
 
 use crate::byte_set::ByteSet;
 use crate::classes::class;
@@ -30,9 +30,9 @@ fn written_len(rest: &[u8]) -> usize
 
 /// The item that begins with the byte, and how many bytes stand behind that.
 #[tactic(auto, unfolding(crate::specs::Items::front))]
-pub fn front_item(flags: Flags, byte: u8, rest: &[u8]) -> Result<(Item, usize), Misread>
-    ensures value { front_seen (byte ∷ rest.now) result ≡ front flags byte rest.now }
-    ensures within { MatchResult result (λ r. r.1 ≤ length rest.now) (λ m. m.behind ≤ length rest.now + 1) }
+pub(crate) fn front_item(flags: Flags, byte: u8, rest: &[u8]) -> Result<(Item, usize), Misread>
+    ensures value { front_view (byte ∷ rest.now) result ≡ front flags byte rest.now }
+    ensures within { IsWithin (length rest.now) (length rest.now + 1) result }
 {
     match Sign::of(byte) {
         Sign::Star => Ok(lazy(0, None, 0, rest)),

@@ -16,14 +16,14 @@ fn digit_value(byte: u8) -> u32
 }
 
 /// Whether the byte is a digit.
-pub fn is_digit(base: u32, byte: u8) -> bool
+pub(crate) fn is_digit(base: u32, byte: u8) -> bool
     ensures { result ≡ is_digit base byte }
 {
     digit_value(byte) < base
 }
 
 /// How many digits stand at the front.
-pub fn count_digits(base: u32, text: &[u8]) -> usize
+pub(crate) fn count_digits(base: u32, text: &[u8]) -> usize
     ensures count { result ≡ count_digits base text.now }
     ensures within { result ≤ length text.now }
 {
@@ -31,7 +31,7 @@ pub fn count_digits(base: u32, text: &[u8]) -> usize
 }
 
 /// The number that the digits write, or the largest `u32` where it is larger.
-pub fn value_in(base: u32, digits: &[u8]) -> u32
+pub(crate) fn value_in(base: u32, digits: &[u8]) -> u32
     ensures { result ≡ min (value_in base digits.now) u32.MAX }
 {
     let mut value: u32 = 0;

@@ -4,8 +4,8 @@ ghost use Rattle.cs_syntax.specs.Fronts.{unit, repeat, bar, group_start, group_e
 ghost use Rattle.cs_syntax.specs.Node.{tree_of};
 ghost use Rattle.cs_syntax.specs.Reading.{Reads, reading, tree};
 ghost use Rattle.cs_syntax.specs.Refusal.{IsRefused};
-ghost use Rattle.cs_syntax.specs.Seen.{unit_tree, item_seen};
-ghost use Rattle.cs_syntax.specs.Weight.{weight};
+ghost use Rattle.cs_syntax.specs.ItemViews.{unit_tree, item_view};
+ghost use Rattle.cs_syntax.specs.Weight.{most_weight, weight};
 
 use crate::before::Before;
 use crate::draft::Draft;
@@ -25,7 +25,7 @@ const MOST_OPEN: usize = 200;
 /// A group that waits for the one in it: where its inner group begins, the flags before that,
 /// and what it has so far.
 #[derive(Drop)]
-pub struct Open {
+struct Open {
     at: usize,
     flags: Flags,
     outer: Draft,
@@ -33,7 +33,7 @@ pub struct Open {
 
 /// A text that is read up to some place.
 #[derive(Drop)]
-pub struct Parser {
+struct Parser {
     open: Vec<Open>,
     draft: Draft,
     before: Before,
@@ -60,8 +60,9 @@ impl Parser {
     }
 
     #[tactic(auto, unfolding(crate::specs::ParserState::state_of))]
-    fn unit(&mut self, alloc: Global, found: Unit, own: &[u8], at: usize) -> Result<(), AllocError>
-        ensures { OnOk result (Advances (unit (unit_tree own.now found)) at self.old self.new) }
+    fn unit(&mut self, alloc: Global, found: Unit, own: &[u8]) -> Result<(), AllocError>
+        ensures { OnOk result ((at : ℕ)
+            → Advances (unit (unit_tree own.now found)) at self.old self.new) }
     {
         let node = unit_node(alloc, found, own)?;
         self.draft.add(node)?;
@@ -99,8 +100,8 @@ impl Parser {
     }
 
     #[tactic(auto, unfolding(crate::specs::ParserState::state_of))]
-    fn bar(&mut self, alloc: Global, at: usize) -> Result<(), AllocError>
-        ensures { OnOk result (Advances bar at self.old self.new) }
+    fn bar(&mut self, alloc: Global) -> Result<(), AllocError>
+        ensures { OnOk result ((at : ℕ) → Advances bar at self.old self.new) }
     {
         self.draft.bar(alloc)?;
         self.before = Before::Start;
@@ -156,8 +157,8 @@ impl Parser {
     }
 
     #[tactic(auto, unfolding(crate::specs::ParserState::state_of))]
-    fn set_flags(&mut self, flags: Flags, at: usize)
-        ensures { Advances (flags_from_here flags) at self.old self.new }
+    fn set_flags(&mut self, flags: Flags)
+        ensures { (at : ℕ) → Advances (flags_from_here flags) at self.old self.new }
     {
         self.before = Before::Start;
         self.flags = flags;
@@ -166,17 +167,17 @@ impl Parser {
     /// Takes the item at the place, whose own text is `own`.
     fn take(&mut self, alloc: Global, item: Item, own: &[u8], at: usize) -> Result<(), PatternError>
         requires { HasOperand (state_of self.old) }
-        ensures goes_on { OnOk result (Advances (item_seen own.now item) at self.old self.new) }
-        ensures refused { IfErr result (StopsAt (item_seen own.now item) at self.old) }
+        ensures goes_on { OnOk result (Advances (item_view own.now item) at self.old self.new) }
+        ensures refused { IfErr result (StopsAt (item_view own.now item) at self.old) }
     {
         match item {
-            Item::Unit(found) => Ok(self.unit(alloc, found, own, at)?),
+            Item::Unit(found) => Ok(self.unit(alloc, found, own)?),
             Item::Repeat(least, most) => self.repeat(alloc, least, most, at),
-            Item::Bar => Ok(self.bar(alloc, at)?),
+            Item::Bar => Ok(self.bar(alloc)?),
             Item::GroupStart(flags) => self.open_group(alloc, flags, at),
             Item::GroupEnd => self.close_group(at),
             Item::FlagsFromHere(flags) => {
-                self.set_flags(flags, at);
+                self.set_flags(flags);
                 Ok(())
             }
         }
@@ -231,7 +232,7 @@ ghost use Rattle.cs_syntax.specs.ParserState.{IsRefusal};
 /// Reads a pattern. With `fold` a letter stands for both of its cases, until a flag says otherwise.
 pub fn parse(alloc: Global, text: &str, fold: bool) -> Result<Pattern, PatternError>
     ensures reads { IfOk result (λ p. Reads text.now fold p) }
-    ensures light { IfOk result (λ p. weight p ≤ 10000) }
+    ensures light { IfOk result (λ p. weight p ≤ most_weight) }
     ensures refused { IfErr result (IsRefused text.now fold) }
 {
     let root = read(alloc, text, fold)?;

@@ -1,7 +1,7 @@
 // Patterns: trees within the weight.
 ghost use Rattle.std.specs.Prelude.{◌≡◌, ◌≤◌, ◌<◌, MatchOption};
 ghost use Rattle.cs_syntax.specs.Node.{tree_of};
-ghost use Rattle.cs_syntax.specs.Weight.{weight};
+ghost use Rattle.cs_syntax.specs.Weight.{most_weight, weight};
 
 use crate::node::Node;
 use crate::weight::weigh;
@@ -18,7 +18,7 @@ impl Model for Pattern {
     ghost use Rattle.cs_syntax.specs.Matching.{Tree};
     ghost use Rattle.cs_syntax.specs.TreeCode.{tree_code};
     ghost use Rattle.cs_syntax.specs.Node.{tree_of};
-    ghost use Rattle.cs_syntax.specs.Weight.{weight};
+    ghost use Rattle.cs_syntax.specs.Weight.{most_weight, weight};
 
     ghost Value = { Tree };
 
@@ -26,14 +26,14 @@ impl Model for Pattern {
 
     ghost view = { λ p. tree_of p.root };
 
-    ghost invariant = { λ p. weight (tree_of p.root) ≤ 10000 };
+    ghost invariant = { λ p. weight (tree_of p.root) ≤ most_weight };
 }
 
 impl Pattern {
     /// The pattern of a tree, where the tree is not too heavy.
     pub(crate) fn new(root: Node) -> Option<Pattern>
-        ensures { MatchOption result (10000 < weight (tree_of root))
-            (λ p. (p ≡ tree_of root) × (weight p ≤ 10000)) }
+        ensures { MatchOption result (most_weight < weight (tree_of root))
+            (λ p. (p ≡ tree_of root) × (weight p ≤ most_weight)) }
     {
         if weigh(&root).is_none() {
             return None;
@@ -44,7 +44,7 @@ impl Pattern {
     /// The pattern's tree.
     pub fn tree(&self) -> &Node
         ensures tree { tree_of result.now ≡ self.now }
-        ensures light { weight (tree_of result.now) ≤ 10000 }
+        ensures light { weight (tree_of result.now) ≤ most_weight }
     {
         &self.root
     }

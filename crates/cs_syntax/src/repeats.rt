@@ -1,9 +1,9 @@
 // Repeats.
-ghost use Rattle.std.specs.Prelude.{◌≡◌, ◌+◌, ◌≤◌, ◌<◌, ◌^◌, ℕ, length, min, take, drop, MatchResult, MatchOption, IfSome, IfOk, OnOk};
+ghost use Rattle.std.specs.Prelude.{◌≡◌, ◌+◌, ◌≤◌, ◌<◌, ◌^◌, ℕ, length, min, take, drop, MatchOption, IfSome, IfOk, OnOk};
 ghost use Rattle.std.specs.Prelude.{List};
 ghost use Rattle.std.specs.Option.{option_map};
 ghost use Rattle.cs_syntax.specs.Fronts.{item};
-ghost use Rattle.cs_syntax.specs.Seen.{item_seen, front_seen};
+ghost use Rattle.cs_syntax.specs.ItemViews.{IsWithin, item_view, front_view};
 ghost use Rattle.cs_syntax.specs.Repeats.{number, counts_to, counts_from, counts, is_bad, brace, lazy};
 
 use crate::byte_set::ByteSet;
@@ -17,25 +17,25 @@ const MOST_TIMES: u32 = 1000;
 
 /// A decimal number, and how many digits it has.
 #[derive(Clone, Copy, Drop)]
-pub struct Number {
-    pub value: u32,
-    pub len: usize,
+struct Number {
+    value: u32,
+    len: usize,
 }
 
 /// How often something is repeated, and how many bytes say so.
 #[derive(Clone, Copy, Drop)]
-pub struct Counts {
-    pub least: u32,
-    pub most: Option<u32>,
-    pub len: usize,
+struct Counts {
+    least: u32,
+    most: Option<u32>,
+    len: usize,
 }
 
-ghost use Rattle.cs_syntax.specs.Capped.{capped, all_capped};
+ghost use Rattle.cs_syntax.specs.U32Numbers.{u32_number, u32_counts};
 ghost use Rattle.cs_syntax.specs.declared.repeats.Number.{Number};
 
 /// The number at the front; one too large for a `u32` is the largest.
 fn read_number(text: &[u8]) -> Option<Number>
-    ensures value { result ≡ option_map capped (number text.now) }
+    ensures value { result ≡ option_map u32_number (number text.now) }
     ensures within { IfSome result (λ n. n.len ≤ length text.now) }
 {
     let len = count_digits(10, text);
@@ -51,7 +51,8 @@ fn read_number(text: &[u8]) -> Option<Number>
 /// Behind `n,`.
 fn counts_to(n: Number, rest: &[u8]) -> Option<Counts>
     requires { n.len + length rest.now < 2 ^ 63 }
-    ensures value { (real : Number) → n ≡ capped real → result ≡ option_map all_capped (counts_to real rest.now) }
+    ensures value { (real : Number) → n ≡ u32_number real → result
+        ≡ option_map u32_counts (counts_to real rest.now) }
     ensures within { IfSome result (λ c. c.len ≤ n.len + 1 + length rest.now) }
 {
     if is_front(b'}', rest) {
@@ -75,8 +76,8 @@ fn counts_to(n: Number, rest: &[u8]) -> Option<Counts>
 /// Behind `n`.
 fn counts_from(n: Number, rest: &[u8]) -> Option<Counts>
     requires { n.len + length rest.now < 2 ^ 63 }
-    ensures value { (real : Number) → n ≡ capped real → result
-        ≡ option_map all_capped (counts_from real rest.now) }
+    ensures value { (real : Number) → n ≡ u32_number real → result
+        ≡ option_map u32_counts (counts_from real rest.now) }
     ensures within { IfSome result (λ c. c.len ≤ n.len + length rest.now) }
 {
     if is_front(b'}', rest) {
@@ -94,7 +95,7 @@ fn counts_from(n: Number, rest: &[u8]) -> Option<Counts>
 
 /// Behind `{`.
 fn read_counts(text: &[u8]) -> Option<Counts>
-    ensures value { result ≡ option_map all_capped (counts text.now) }
+    ensures value { result ≡ option_map u32_counts (counts text.now) }
     ensures within { IfSome result (λ c. c.len ≤ length text.now) }
 {
     let n = read_number(text)?;
@@ -102,9 +103,10 @@ fn read_counts(text: &[u8]) -> Option<Counts>
 }
 
 /// A repeat that has `len` bytes behind its first one, before the `?` that may belong to it.
-pub fn lazy(least: u32, most: Option<u32>, len: usize, rest: &[u8]) -> (Item, usize)
+pub(crate) fn lazy(least: u32, most: Option<u32>, len: usize, rest: &[u8]) -> (Item, usize)
     requires { len ≤ length rest.now }
-    ensures value { (text : List ℕ) → item (item_seen text result.0) result.1 ≡ lazy least most len rest.now }
+    ensures value { (text : List ℕ)
+        → item (item_view text result.0) result.1 ≡ lazy least most len rest.now }
     ensures within { result.1 ≤ length rest.now }
 {
     let len = if is_front(b'?', &rest[len..]) {
@@ -125,9 +127,9 @@ fn is_bad(c: Counts) -> bool
 }
 
 /// Behind `{`.
-pub fn brace(rest: &[u8]) -> Result<(Item, usize), Misread>
-    ensures value { (text : List ℕ) → front_seen text result ≡ brace rest.now }
-    ensures within { MatchResult result (λ r. r.1 ≤ length rest.now) (λ m. m.behind ≤ length rest.now) }
+pub(crate) fn brace(rest: &[u8]) -> Result<(Item, usize), Misread>
+    ensures value { (text : List ℕ) → front_view text result ≡ brace rest.now }
+    ensures within { IsWithin (length rest.now) (length rest.now) result }
 {
     let Some(counts) = read_counts(rest) else {
         return Ok((Item::Unit(Unit::Set(ByteSet::of_char(false, b'{'))), 0));

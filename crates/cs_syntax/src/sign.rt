@@ -3,7 +3,7 @@ ghost use Rattle.std.specs.Prelude.{◌≡◌};
 
 /// What a byte means at the front of an item.
 #[derive(Clone, Copy, Drop)]
-pub enum Sign {
+pub(crate) enum Sign {
     Star,
     Plus,
     Question,
@@ -25,7 +25,7 @@ impl Sign {
 
     /// What the byte means at the front of an item.
     #[tactic(auto, unfolding(crate::specs::Signs::sign_of))]
-    pub fn of(byte: u8) -> Sign
+    pub(crate) fn of(byte: u8) -> Sign
         ensures { result ≡ sign_of byte }
     {
         match byte {

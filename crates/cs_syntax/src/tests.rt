@@ -10,31 +10,20 @@ fn repeated(alloc: Global, piece: &str, times: usize) -> Result<String, AllocErr
     Ok(text)
 }
 
+/// Each fault of a text once; further rows are worked in `proofs/Examples.antt`.
 #[test]
 fn refuses_at_the_fault(rt: HostRuntime) {
     for (text, fault, at) in [
         ("*a", PatternFault::NoOperand, 0),
-        ("a(?i)*", PatternFault::NoOperand, 5),
         ("a**", PatternFault::StackedRepeat, 2),
-        ("a*??", PatternFault::StackedRepeat, 3),
-        ("a{1001}", PatternFault::BadRepeat, 1),
-        ("a{2,1}", PatternFault::BadRepeat, 1),
         ("a{99999999999999999999}", PatternFault::BadRepeat, 1),
-        ("x{2}{1001}", PatternFault::BadRepeat, 4),
         ("((a)(", PatternFault::OpenGroup, 4),
         ("a)", PatternFault::StrayClose, 1),
         ("(?z)", PatternFault::BadGroup, 0),
-        ("(?P<>a)", PatternFault::BadGroup, 0),
         ("é[a", PatternFault::OpenClass, 2),
         ("[b-a]", PatternFault::BadRange, 1),
-        ("[[:foo:]]", PatternFault::BadRange, 1),
-        ("\\8", PatternFault::BadEscape, 0),
-        ("[a-\\d]", PatternFault::BadEscape, 3),
-        ("\\x{110000}", PatternFault::BadEscape, 0),
         ("\\x{99999999999999999999}", PatternFault::BadEscape, 0),
         ("a\\", PatternFault::LoneBackslash, 1),
-        ("\\A", PatternFault::NotInProfile, 0),
-        ("(?-m)a", PatternFault::NotInProfile, 0),
         ("[é]", PatternFault::NotInProfile, 1),
         ("(a{1000}){20}", PatternFault::TooLarge, 0),
     ] {

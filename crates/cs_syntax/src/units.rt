@@ -2,7 +2,7 @@
 ghost use Rattle.std.specs.Prelude.{◌≡◌, ◌+◌, IfOk};
 ghost use Rattle.cs_syntax.specs.Fronts.{bytes_tree};
 ghost use Rattle.cs_syntax.specs.Node.{tree_of};
-ghost use Rattle.cs_syntax.specs.Seen.{unit_tree};
+ghost use Rattle.cs_syntax.specs.ItemViews.{unit_tree};
 
 use crate::byte_set::ByteSet;
 use crate::draft::in_order;
@@ -22,7 +22,7 @@ fn bytes_node(alloc: Global, bytes: &[u8]) -> Result<Node, AllocError>
 }
 
 /// The tree of a unit, whose own text is `own`.
-pub fn unit_node(alloc: Global, unit: Unit, own: &[u8]) -> Result<Node, AllocError>
+pub(crate) fn unit_node(alloc: Global, unit: Unit, own: &[u8]) -> Result<Node, AllocError>
     ensures { IfOk result (λ n. tree_of n ≡ unit_tree own.now unit) }
 {
     match unit {

@@ -1,33 +1,31 @@
 // Weights of trees.
 ghost use Rattle.std.specs.Prelude.{◌≡◌, ◌+◌, ◌*◌, ◌<◌, ◌≤◌, MatchOption};
 ghost use Rattle.cs_syntax.specs.Node.{tree_of, trees_of};
-ghost use Rattle.cs_syntax.specs.Weight.{weight, weights, times};
+ghost use Rattle.cs_syntax.specs.Weight.{most_weight, weight, weights, times};
 
 use crate::node::Node;
 
-/// The weight of the tree, where it is at most 10000.
+/// The largest weight of a pattern.
+const MOST_WEIGHT: u32 = 10000;
+
+/// The weight of the tree, where it is no more than a pattern's may be.
 #[cycle(weigh)]
-pub fn weigh(node: &Node) -> Option<u32>
-    ensures { MatchOption result (10000 < weight (tree_of node.now))
-        (λ w. (w ≡ weight (tree_of node.now)) × (w ≤ 10000)) }
+pub(crate) fn weigh(node: &Node) -> Option<u32>
+    ensures { MatchOption result (most_weight < weight (tree_of node.now))
+        (λ w. (w ≡ weight (tree_of node.now)) × (w ≤ most_weight)) }
 {
     match node {
-        Node::Cat(parts) => {
+        Node::Cat(parts) | Node::Alt(parts) => {
             let sum = weigh_all(parts)?;
-            if sum < 10000 { Some(1 + sum) } else { None }
-        }
-        Node::Alt(parts) => {
-            let sum = weigh_all(parts)?;
-            if sum < 10000 { Some(1 + sum) } else { None }
+            one_more(sum)
         }
         Node::Rep(x, least, most) => {
             let once = weigh(x)?;
             let count = count_of(*least, *most);
-            if count >= 10000 {
+            if count >= MOST_WEIGHT {
                 return None;
             }
-            let all = count * once;
-            if all < 10000 { Some(1 + all) } else { None }
+            one_more(count * once)
         }
         Node::Empty
         | Node::Set(_)
@@ -40,20 +38,29 @@ pub fn weigh(node: &Node) -> Option<u32>
 
 #[cycle(weigh)]
 fn weigh_all(parts: &[Node]) -> Option<u32>
-    ensures { MatchOption result (10000 < weights (trees_of parts.now))
-        (λ w. (w ≡ weights (trees_of parts.now)) × (w ≤ 10000)) }
+    ensures { MatchOption result (most_weight < weights (trees_of parts.now))
+        (λ w. (w ≡ weights (trees_of parts.now)) × (w ≤ most_weight)) }
 {
     let mut sum: u32 = 0;
     for part in parts {
-        let Some(w) = weigh(part) else {
-            return None;
-        };
-        sum += w;
-        if sum > 10000 {
+        sum += weigh(part)?;
+        if sum > MOST_WEIGHT {
             return None;
         }
     }
     Some(sum)
+}
+
+/// The weight of a tree whose parts weigh so much.
+fn one_more(parts: u32) -> Option<u32>
+    ensures { MatchOption result (most_weight < 1 + parts)
+        (λ w. (w ≡ 1 + parts) × (w ≤ most_weight)) }
+{
+    if parts < MOST_WEIGHT {
+        Some(1 + parts)
+    } else {
+        None
+    }
 }
 
 /// How often the weight of what is repeated counts.

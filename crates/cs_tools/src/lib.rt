@@ -1,29 +1,15 @@
-//! The tools that search: inputs line by line, and what is printed of them. Read `specs/Report.antt`
-//! first, which says what a search of one input prints, then `specs/Searches.antt`.
+//! The three tools, `cindex`, `csearch` and `cgrep`, with the words that ask for them and the lines in which they
+//! refuse. This crate is a door and has no code. What stands behind it, and which file of `specs/` to read first:
+//!
+//! - `cs_words`, `Words`: words, jobs, and the lines of refusals (`read_words`, `message`).
+//! - `cs_search`, `Report`: what a search prints (`grep`, `cgrep`, `csearch`).
+//! - `cs_cindex`, `Steps`: what a job does to the index (`cindex`). What all jobs come to is the main promise,
+//!   `Headline` of `cs_history`.
 #![tactic(auto)]
 
-mod blocks;
-mod buffer;
-mod csearching;
-mod form;
-mod grep_fault;
-mod grepped;
-pub mod laws;
-mod names;
-mod reading;
-mod report;
-mod searcher;
-mod searching;
-mod status;
-mod stop;
-mod tally;
-
-pub use csearching::csearch;
-pub use grep_fault::{GrepFault, ReadFault};
-pub use grepped::Grepped;
-pub use report::{MOST_SEARCHED, grep};
-pub use searching::cgrep;
-pub use status::Status;
-
-#[cfg(test)]
-mod tests;
+pub use cs_cindex::cindex;
+pub use cs_search::{GrepFault, Grepped, MOST_SEARCHED, ReadFault, Status, cgrep, csearch, grep};
+pub use cs_words::{
+    CindexFault, FileFault, GrepJob, IndexJob, Job, Refusal, Reply, SearchJob, Style, Tool,
+    ToolFault, WordFault, fault_line, message, read_words, skip_line,
+};

@@ -7,8 +7,9 @@ use Rattle.std.proofs.lemmas.Bool.{eq-eqb, eqb-true}
 use Rattle.std.proofs.lemmas.List.Folds.{list_any-append}
 use Rattle.std.specs.Cmp.{both_ways as same_tests}
 use Rattle.cs_tree.specs.Cover.{slash, begins, same}
-use Rattle.cs_tree.specs.Clean.{elements, steps, stepped, slashed, path_of, absolute, cleaned, has_nul, longest_path}
-use Rattle.cs_tree.specs.Cleaning.{texts, parts_path, parts_fault, clean_fault}
+use Rattle.cs_tree.specs.Clean.{elements, steps, with_element, with_slashes, path_of, absolute, clean_path, has_nul, longest_path}
+use Rattle.cs_tree.specs.Cleaning.{clean_fault}
+use Rattle.cs_tree.specs.PathParts.{texts, parts_path, parts_fault}
 use Rattle.cs_tree.specs.declared.cleaning.PathFault.TheVariants.{Empty, Nul, TooLong}
 use Rattle.cs_tree.proofs.Splitting.{elements-append}
 
@@ -18,36 +19,36 @@ on_ok (Err e) f h = tt
 
 pub steps-append : (above : List (List ℕ)) (xs ys : List (List ℕ)) → steps above (xs ++ ys) ≡ steps (steps above xs) ys
 steps-append above [] ys = refl
-steps-append above (x ∷ xs) ys = steps-append (stepped above x) xs ys
+steps-append above (x ∷ xs) ys = steps-append (with_element above x) xs ys
 
-pub steps-one : (above now : List (List ℕ)) (element : List ℕ) (pieces later : List (List ℕ)) → pieces ≡ element ∷ later → now ≡ stepped above element → steps now later ≡ steps above pieces
+pub steps-one : (above now : List (List ℕ)) (element : List ℕ) (pieces later : List (List ℕ)) → pieces ≡ element ∷ later → now ≡ with_element above element → steps now later ≡ steps above pieces
 steps-one above now element pieces later e is = ap (λ a. steps a later) is ∙ ap (steps above) (sym e)
 
-pub slashed_more : (lent : List (Bor (List ℕ))) (i : ℕ) (d : Bor (List ℕ)) → i < length lent → slashed (reverse (texts (take (i + 1) lent))) ≡ slashed (reverse (texts (take i lent))) ++ slash ∷ (get_or lent i d).now
-slashed_more lent i d h = ap (λ xs. slashed (reverse (texts xs))) (take_more lent i d h) ∙ ap (λ xs. slashed (reverse xs)) (map-append (λ (t : Bor (List ℕ)). t.now) (take i lent) (get_or lent i d ∷ [])) ∙ ap slashed (reverse-push (texts (take i lent)) (get_or lent i d).now)
+pub slashed_more : (lent : List (Bor (List ℕ))) (i : ℕ) (d : Bor (List ℕ)) → i < length lent → with_slashes (reverse (texts (take (i + 1) lent))) ≡ with_slashes (reverse (texts (take i lent))) ++ slash ∷ (get_or lent i d).now
+slashed_more lent i d h = ap (λ xs. with_slashes (reverse (texts xs))) (take_more lent i d h) ∙ ap (λ xs. with_slashes (reverse xs)) (map-append (λ (t : Bor (List ℕ)). t.now) (take i lent) (get_or lent i d ∷ [])) ∙ ap with_slashes (reverse-push (texts (take i lent)) (get_or lent i d).now)
   where
     reverse-push : (xs : List (List ℕ)) (x : List ℕ) → reverse (xs ++ x ∷ []) ≡ x ∷ reverse xs
     reverse-push xs x = reverse-append xs (x ∷ [])
 
-path_some : (above : List (List ℕ)) → 0 < length above → path_of above ≡ slashed above
+path_some : (above : List (List ℕ)) → 0 < length above → path_of above ≡ with_slashes above
 path_some [] h = absurd (omega (arith, h))
 path_some (name ∷ above) h = refl
 
-pub path_joined : (lent : List (Bor (List ℕ))) → 0 < length lent → path_of (reverse (texts lent)) ≡ slashed (reverse (texts lent))
-path_joined lent h = path_some (reverse (texts lent)) (omega (arith, h, length-reverse (texts lent), length-map lent (λ (t : Bor (List ℕ)). t.now)))
+pub path_slashed : (lent : List (Bor (List ℕ))) → 0 < length lent → path_of (reverse (texts lent)) ≡ with_slashes (reverse (texts lent))
+path_slashed lent h = path_some (reverse (texts lent)) (omega (arith, h, length-reverse (texts lent), length-map lent (λ (t : Bor (List ℕ)). t.now)))
 
 -- ---- a text that is joined to a folder, or not
 
-path_absolute : (folder text : List ℕ) → begins (slash ∷ []) text ≡ true → absolute folder text ≡ text
+pub path_absolute : (folder text : List ℕ) → begins (slash ∷ []) text ≡ true → absolute folder text ≡ text
 path_absolute folder text h = ap (λ b. cond b text (folder ++ slash ∷ text)) h
 
 path_relative : (folder text : List ℕ) → begins (slash ∷ []) text ≡ false → absolute folder text ≡ folder ++ slash ∷ text
 path_relative folder text h = ap (λ b. cond b text (folder ++ slash ∷ text)) h
 
-pub cleaned_absolute : (folder text : List ℕ) → begins (slash ∷ []) text ≡ true → parts_path [] text ≡ cleaned folder text
+pub cleaned_absolute : (folder text : List ℕ) → begins (slash ∷ []) text ≡ true → parts_path [] text ≡ clean_path folder text
 cleaned_absolute folder text h = ap (λ t. path_of (steps [] (elements t))) (sym (path_absolute folder text h))
 
-pub cleaned_relative : (folder text : List ℕ) → begins (slash ∷ []) text ≡ false → parts_path folder text ≡ cleaned folder text
+pub cleaned_relative : (folder text : List ℕ) → begins (slash ∷ []) text ≡ false → parts_path folder text ≡ clean_path folder text
 cleaned_relative folder text h =
     ap path_of (sym (steps-append [] (elements folder) (elements text)))
     ∙ ap (λ es. path_of (steps [] es)) (sym (elements-append folder text))
@@ -57,17 +58,17 @@ cleaned_relative folder text h =
 fault_of : (parts_nul nul : Bool) (parts path : List ℕ) → parts_nul ≡ nul → parts ≡ path → cond parts_nul (Some Nul) (cond (nat_lt longest_path (length parts)) (Some TooLong) None) ≡ cond nul (Some Nul) (cond (nat_lt longest_path (length path)) (Some TooLong) None)
 fault_of parts_nul nul parts path e f = ap (λ b. cond b (Some Nul) (cond (nat_lt longest_path (length parts)) (Some TooLong) None)) e ∙ ap (λ p. cond nul (Some Nul) (cond (nat_lt longest_path (length p)) (Some TooLong) None)) f
 
-not_empty : (folder text : List ℕ) → same text [] ≡ false → cond (has_nul (absolute folder text)) (Some Nul) (cond (nat_lt longest_path (length (cleaned folder text))) (Some TooLong) None) ≡ clean_fault folder text
-not_empty folder text h = sym (ap (λ b. cond b (Some Empty) (cond (has_nul (absolute folder text)) (Some Nul) (cond (nat_lt longest_path (length (cleaned folder text))) (Some TooLong) None))) h)
+not_empty : (folder text : List ℕ) → same text [] ≡ false → cond (has_nul (absolute folder text)) (Some Nul) (cond (nat_lt longest_path (length (clean_path folder text))) (Some TooLong) None) ≡ clean_fault folder text
+not_empty folder text h = sym (ap (λ b. cond b (Some Empty) (cond (has_nul (absolute folder text)) (Some Nul) (cond (nat_lt longest_path (length (clean_path folder text))) (Some TooLong) None))) h)
 
 pub fault_absolute : (folder text : List ℕ) → same text [] ≡ false → begins (slash ∷ []) text ≡ true → parts_fault [] text ≡ clean_fault folder text
 fault_absolute folder text some h =
-    fault_of (has_nul [] || has_nul text) (has_nul (absolute folder text)) (parts_path [] text) (cleaned folder text) (ap has_nul (sym (path_absolute folder text h))) (cleaned_absolute folder text h)
+    fault_of (has_nul [] || has_nul text) (has_nul (absolute folder text)) (parts_path [] text) (clean_path folder text) (ap has_nul (sym (path_absolute folder text h))) (cleaned_absolute folder text h)
     ∙ not_empty folder text some
 
 pub fault_relative : (folder text : List ℕ) → same text [] ≡ false → begins (slash ∷ []) text ≡ false → parts_fault folder text ≡ clean_fault folder text
 fault_relative folder text some h =
-    fault_of (has_nul folder || has_nul text) (has_nul (absolute folder text)) (parts_path folder text) (cleaned folder text)
+    fault_of (has_nul folder || has_nul text) (has_nul (absolute folder text)) (parts_path folder text) (clean_path folder text)
     (sym (ap has_nul (path_relative folder text h) ∙ list_any-append (λ b. eqb b 0) folder (slash ∷ text))) (cleaned_relative folder text h)
     ∙ not_empty folder text some
 

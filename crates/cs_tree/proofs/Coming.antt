@@ -1,15 +1,17 @@
 -- What a walk comes to from a path: the path itself, and what it comes to from the paths of what a folder
 -- lists there.
 use Rattle.std.proofs.Common.{◌≡◌, ℕ, ◌+◌, ◌<◌, Bool, true, false, not, ◌||◌, cond, List, [], ◌∷◌, ◌++◌, length, map, drop, refl, sym, ap, subst, ◌∙◌, ◌⊎◌, inl, inr, eqb, nat_le, arith, append_assoc, length-append}
+use Rattle.cs_tree.specs.Covering.{Covers, itself, below, root}
+use Rattle.cs_tree.specs.Folders.{stem_of, child, lists, is_name, HasNames, IsTree}
 use Rattle.std.proofs.lemmas.Bool.{cases_Bool, eqb-true, true≢false, false_from_ne_true, and_parts, and_from, or_cases, or_left, or_right, not-true}
 use Rattle.std.proofs.Math.Seq.{drop-append-add}
 use Rattle.std.specs.Prelude.{filter}
 use Rattle.std.specs.Cmp.{both_ways as same_tests}
 use Rattle.std.specs.Cmp.Lexicographic.{bytes_decides}
 use Rattle.std.specs.List.{list_any, list_all}
-use Rattle.cs_tree.specs.Cover.{slash, same, covers, Covers, itself, below, root}
+use Rattle.cs_tree.specs.Cover.{slash, same, covers}
 use Rattle.cs_tree.specs.Clean.{elements, longest_path}
-use Rattle.cs_tree.specs.Snapshot.{Snapshot, Item, IsTree, HasNames, item_at, folder, file, cut, other, bad, lists, child, stem_of, is_name}
+use Rattle.cs_tree.specs.Snapshot.{Snapshot, Item, item_at, folder, file, cut, other, bad}
 use Rattle.cs_tree.specs.Reached.{elements_under, is_left_out, leads}
 use Rattle.cs_tree.specs.Visits.{comes, comes_by, children, is_walked, names_listed}
 use Rattle.cs_tree.proofs.Covering.{covers_says, covers_from, covers_chain, covers_itself, covers_longer}

@@ -1,18 +1,42 @@
 -- Worked rows, by computation.
-use Rattle.std.proofs.Common.{◌≡◌, true, false, [], ◌∷◌, refl}
+use Rattle.std.proofs.Common.{◌≡◌, true, false, [], ◌∷◌, Some, refl}
 use Rattle.std.specs.Prelude.{codes}
-use Rattle.cs_tree.specs.Clean.{cleaned}
+use Rattle.cs_tree.specs.Clean.{clean_path, is_clean}
+use Rattle.cs_tree.specs.Cleaning.{is_settled}
+use Rattle.cs_tree.specs.Proper.{is_proper_path}
+use Rattle.cs_tree.specs.Puts.{put_fault}
+use Rattle.cs_tree.specs.Snapshot.{file}
+use Rattle.cs_tree.specs.declared.mem_tree.PutFault.TheVariants.{BadPath}
+use Rattle.std.specs.FinMap as map
 use Rattle.cs_tree.specs.Cover.{covers}
 use Rattle.cs_tree.specs.Reached.{elements_under}
 
-dots_go : cleaned (codes "/w") (codes "a/./b/../c/") ≡ codes "/w/a/c"
+dots_go : clean_path (codes "/w") (codes "a/./b/../c/") ≡ codes "/w/a/c"
 dots_go = refl
 
-nothing_lies_above_the_root : cleaned (codes "/w") (codes "../..") ≡ codes "/"
+nothing_lies_above_the_root : clean_path (codes "/w") (codes "../..") ≡ codes "/"
 nothing_lies_above_the_root = refl
 
-an_absolute_path_is_not_joined : cleaned (codes "/w") (codes "/t//x") ≡ codes "/t/x"
+an_absolute_path_is_not_joined : clean_path (codes "/w") (codes "/t//x") ≡ codes "/t/x"
 an_absolute_path_is_not_joined = refl
+
+the_root_is_clean : is_clean (codes "/") ≡ true
+the_root_is_clean = refl
+
+the_root_is_no_proper_path : is_proper_path (codes "/") ≡ false
+the_root_is_no_proper_path = refl
+
+a_slash_at_the_end_is_cleaned : is_clean (codes "/a/") ≡ false
+a_slash_at_the_end_is_cleaned = refl
+
+a_relative_path_is_not_settled : is_settled (codes "a/b") ≡ false
+a_relative_path_is_not_settled = refl
+
+a_clean_path_is_settled : is_settled (codes "/a/.b") ≡ true
+a_clean_path_is_settled = refl
+
+nothing_is_put_at_the_root : put_fault map.empty (codes "/") (file []) ≡ Some BadPath
+nothing_is_put_at_the_root = refl
 
 a_path_covers_what_is_below_it : covers (codes "/a/b") (codes "/a/b/c") ≡ true
 a_path_covers_what_is_below_it = refl

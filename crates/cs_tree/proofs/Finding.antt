@@ -1,5 +1,6 @@
 -- What a walk has gathered from all of its paths, put in order, is what it finds.
 use Rattle.std.proofs.Common.{◌≡◌, ℕ, ◌+◌, ◌<◌, length, take, slice_index_or, Bool, true, false, ◌&&◌, ◌||◌, cond, List, [], ◌∷◌, ◌++◌, map, refl, sym, ap, subst, ◌∙◌, inl, inr, arith, Option, Some, None}
+use Rattle.cs_tree.specs.NameOrder.{are_ascending, bytes_cmp}
 use Rattle.std.proofs.lemmas.Bool.{cases_Bool}
 use Rattle.std.proofs.lemmas.List.{take_more, map-append}
 use Rattle.std.specs.Prelude.{is_some, Contains, String, string_bytes}
@@ -11,10 +12,10 @@ use Rattle.std.specs.List.{list_any}
 use Rattle.std.specs.Ordering.{eq_by_cmp}
 use Rattle.std.specs.declared.alloc.Global.{Global}
 use Rattle.cs_tree.specs.PathSet as set
-use Rattle.cs_tree.specs.Cover.{bytes_cmp, same}
+use Rattle.cs_tree.specs.Cover.{same}
 use Rattle.cs_tree.specs.Snapshot.{Snapshot, item_at}
 use Rattle.cs_tree.specs.Reached.{reaches, is_reached}
-use Rattle.cs_tree.specs.Walks.{Left, trouble_at, ascend, is_among, fault_among, left_paths, names_of, faults_of, Finds, FindsIn, CountsFaults}
+use Rattle.cs_tree.specs.Walks.{Left, trouble_at, is_among, fault_among, left_paths, names_walked, faults_walked, Finds, FindsIn, CountsFaults}
 use Rattle.cs_tree.specs.Visits.{reaches_by, is_taken, is_left, AreRight, Gathers, GathersIn, KeepsCounts}
 use Rattle.cs_tree.specs.declared.walking.Walked.{Walked}
 use Rattle.cs_tree.specs.declared.walking.WalkFault.{WalkFault}
@@ -24,11 +25,11 @@ use Rattle.cs_tree.proofs.Sets.{some_item, item_passes, some_member, member_pass
 -- ---- the set of the paths
 
 contains-from_list : (ps : List (List ℕ)) (q : List ℕ) → set.contains (set.from_list ps) q ≡ list_any (eq_by_cmp bytes_cmp q) ps
-contains-from_list ps q = ap is_some (map'.get-from_entries nat_list_cmp_total (set.marked ps) q) ∙ marked ps
+contains-from_list ps q = ap is_some (map'.get-from_entries nat_list_cmp_total (set.with_units ps) q) ∙ marked ps
   where
-    marked : (qs : List (List ℕ)) → is_some (find bytes_cmp q (set.marked qs)) ≡ list_any (eq_by_cmp bytes_cmp q) qs
+    marked : (qs : List (List ℕ)) → is_some (find bytes_cmp q (set.with_units qs)) ≡ list_any (eq_by_cmp bytes_cmp q) qs
     marked [] = refl
-    marked (p ∷ qs) = elim (eq_by_cmp bytes_cmp q p) as (λ b. is_some (cond b (Some tt) (find bytes_cmp q (set.marked qs))) ≡ (b || list_any (eq_by_cmp bytes_cmp q) qs)) [ true ↦ refl | false ↦ marked qs ]
+    marked (p ∷ qs) = elim (eq_by_cmp bytes_cmp q p) as (λ b. is_some (cond b (Some tt) (find bytes_cmp q (set.with_units qs))) ≡ (b || list_any (eq_by_cmp bytes_cmp q) qs)) [ true ↦ refl | false ↦ marked qs ]
 
 pub reached_by : (tree : Snapshot) (ps : List (List ℕ)) (q : List ℕ) → reaches_by tree ps q ≡ is_reached tree (set.from_list ps) q
 reached_by tree ps q = same_tests _ _
@@ -60,13 +61,13 @@ fault_right tree (left ∷ faults) q h =
 
 -- what was gathered, and the same in order
 pub record InOrder (gathered : Walked) (names : List (List ℕ)) (faults : List Left) : Type 0 where
-  pub names_ascend : ascend names ≡ true
-  pub names_same : (q : List ℕ) → is_among names q ≡ is_among (names_of gathered) q
-  pub faults_ascend : ascend (left_paths faults) ≡ true
-  pub faults_same : (q : List ℕ) → is_among (left_paths faults) q ≡ is_among (left_paths (faults_of gathered)) q
-  pub kept : (left : Left) → Contains faults left → Contains (faults_of gathered) left
+  pub names_ascend : are_ascending names ≡ true
+  pub names_same : (q : List ℕ) → is_among names q ≡ is_among (names_walked gathered) q
+  pub faults_ascend : are_ascending (left_paths faults) ≡ true
+  pub faults_same : (q : List ℕ) → is_among (left_paths faults) q ≡ is_among (left_paths (faults_walked gathered)) q
+  pub kept : (left : Left) → Contains faults left → Contains (faults_walked gathered) left
 
-finds : (tree : Snapshot) (ps : List (List ℕ)) (old gathered : Walked) (names : List (List ℕ)) (faults : List Left) → names_of old ≡ [] → faults_of old ≡ [] → Gathers tree (reaches_by tree ps) old gathered → InOrder gathered names faults → Finds tree (set.from_list ps) names faults
+finds : (tree : Snapshot) (ps : List (List ℕ)) (old gathered : Walked) (names : List (List ℕ)) (faults : List Left) → names_walked old ≡ [] → faults_walked old ≡ [] → Gathers tree (reaches_by tree ps) old gathered → InOrder gathered names faults → Finds tree (set.from_list ps) names faults
 finds tree ps old gathered names faults no_names no_faults h order = record {
   names_ascend = order.names_ascend;
   names_are = λ q. order.names_same q ∙ h.names q ∙ ap (λ xs. is_among xs q || (reaches_by tree ps q && is_taken tree q)) no_names ∙ ap (λ b. b && is_taken tree q) (reached_by tree ps q);
@@ -78,17 +79,17 @@ finds tree ps old gathered names faults no_names no_faults h order = record {
 }
   where
     right : AreRight tree faults
-    right = all_kept _ (faults_of gathered) faults order.kept (h.right (subst (AreRight tree) (sym no_faults) tt))
+    right = all_kept _ (faults_walked gathered) faults order.kept (h.right (subst (AreRight tree) (sym no_faults) tt))
 
     left_at : (b : Bool) (o : Option WalkFault) → cond (b && is_some o) o None ≡ cond b o None
     left_at true (Some f) = refl
     left_at true None = refl
     left_at false o = refl
 
-pub finds_in : (told : Option Snapshot) (ps : List (List ℕ)) (old gathered : Walked) (names : List (List ℕ)) (faults : List Left) → names_of old ≡ [] → faults_of old ≡ [] → GathersIn told (λ tree. reaches_by tree ps) old gathered → InOrder gathered names faults → FindsIn told (set.from_list ps) names faults
+pub finds_in : (told : Option Snapshot) (ps : List (List ℕ)) (old gathered : Walked) (names : List (List ℕ)) (faults : List Left) → names_walked old ≡ [] → faults_walked old ≡ [] → GathersIn told (λ tree. reaches_by tree ps) old gathered → InOrder gathered names faults → FindsIn told (set.from_list ps) names faults
 finds_in None ps old gathered names faults no_names no_faults h order = tt
 finds_in (Some tree) ps old gathered names faults no_names no_faults h order = λ good. finds tree ps old gathered names faults no_names no_faults (h good) order
 
-pub counts_in_order : (count later : ℕ) (old gathered : Walked) (names : List (List ℕ)) (faults : List Left) → faults_of old ≡ [] → KeepsCounts count later old gathered → InOrder gathered names faults → CountsFaults faults count later
+pub counts_in_order : (count later : ℕ) (old gathered : Walked) (names : List (List ℕ)) (faults : List Left) → faults_walked old ≡ [] → KeepsCounts count later old gathered → InOrder gathered names faults → CountsFaults faults count later
 counts_in_order count later old gathered names faults no_faults h order =
-    all_kept _ (faults_of gathered) faults order.kept (h count (omega arith) (subst (λ fs. CountsFaults fs count count) (sym no_faults) tt))
+    all_kept _ (faults_walked gathered) faults order.kept (h count (omega arith) (subst (λ fs. CountsFaults fs count count) (sym no_faults) tt))

@@ -1,5 +1,6 @@
 -- What a walk gathers from path to path.
 use Rattle.std.proofs.Common.{◌≡◌, ℕ, ◌<◌, ◌≤◌, Bool, true, false, not, ◌&&◌, ◌||◌, cond, List, [], ◌∷◌, ◌++◌, length, map, refl, sym, ap, subst, ◌∙◌, inl, inr, arith, Option, Some, None}
+use Rattle.cs_tree.specs.Folders.{child, name_of}
 use Rattle.std.proofs.lemmas.Bool.{true≢false}
 use Rattle.std.proofs.lemmas.List.{map-append}
 use Rattle.std.proofs.lemmas.List.Folds.{list_any-append}
@@ -8,9 +9,9 @@ use Rattle.std.specs.Cmp.Lexicographic.{bytes_decides}
 use Rattle.std.specs.List.{list_any, AllByRecursion}
 use Rattle.cs_tree.specs.Cover.{same, covers}
 use Rattle.cs_tree.specs.Clean.{longest_path}
-use Rattle.cs_tree.specs.Snapshot.{Snapshot, item_at, child, name_of}
+use Rattle.cs_tree.specs.Snapshot.{Snapshot, item_at}
 use Rattle.cs_tree.specs.Reached.{is_left_out, reaches, leads, elements_under}
-use Rattle.cs_tree.specs.Walks.{Left, trouble_at, is_among, left_paths, names_of, faults_of, CountsFault, CountsFaults}
+use Rattle.cs_tree.specs.Walks.{Left, trouble_at, is_among, left_paths, names_walked, faults_walked, CountsFault, CountsFaults}
 use Rattle.cs_tree.specs.Visits.{comes, comes_by, is_taken, is_left, Gains, AreRight, Gathers, GathersIn, KeepsCounts, is_file_seen, fault_seen, names_seen, Shows, ShowsIn, IsEntered, CountsSight, children, is_walked, named_if, left_if, AreDeeper}
 use Rattle.cs_tree.specs.declared.walking.Walked.{Walked}
 use Rattle.cs_tree.specs.declared.walking.WalkFault.{WalkFault}
@@ -67,22 +68,22 @@ gains_one old new b path keep kept e = λ q.
 
 pub gathers_chain : (tree : Snapshot) {a b : List ℕ → Bool} {old mid new : Walked} → Gathers tree a old mid → Gathers tree b mid new → Gathers tree (λ q. a q || b q) old new
 gathers_chain tree {a} {b} {old} {mid} {new} first second = record {
-  names = gains_chain (names_of old) (names_of mid) (names_of new) a b (is_taken tree) first.names second.names;
-  paths = gains_chain (left_paths (faults_of old)) (left_paths (faults_of mid)) (left_paths (faults_of new)) a b (is_left tree) first.paths second.paths;
+  names = gains_chain (names_walked old) (names_walked mid) (names_walked new) a b (is_taken tree) first.names second.names;
+  paths = gains_chain (left_paths (faults_walked old)) (left_paths (faults_walked mid)) (left_paths (faults_walked new)) a b (is_left tree) first.paths second.paths;
   right = λ h. second.right (first.right h);
 }
 
 pub gathers_same : (tree : Snapshot) {a b : List ℕ → Bool} {old new : Walked} → ((q : List ℕ) → a q ≡ b q) → Gathers tree a old new → Gathers tree b old new
 gathers_same tree {a} {b} {old} {new} is h = record {
-  names = gains_same (names_of old) (names_of new) a b (is_taken tree) is h.names;
-  paths = gains_same (left_paths (faults_of old)) (left_paths (faults_of new)) a b (is_left tree) is h.paths;
+  names = gains_same (names_walked old) (names_walked new) a b (is_taken tree) is h.names;
+  paths = gains_same (left_paths (faults_walked old)) (left_paths (faults_walked new)) a b (is_left tree) is h.paths;
   right = h.right;
 }
 
 pub gathers_none : (tree : Snapshot) (walked : Walked) → Gathers tree (λ q. false) walked walked
 gathers_none tree walked = record {
-  names = gains_none (names_of walked) (is_taken tree);
-  paths = gains_none (left_paths (faults_of walked)) (is_left tree);
+  names = gains_none (names_walked walked) (is_taken tree);
+  paths = gains_none (left_paths (faults_walked walked)) (is_left tree);
   right = λ h. h;
 }
 
@@ -98,11 +99,11 @@ right_left : (tree : Snapshot) (o : Option WalkFault) (path : List ℕ) → o �
 right_left tree None path e = tt
 right_left tree (Some fault) path e = (sym e, tt)
 
-pub gathers_one : (tree : Snapshot) (path : List ℕ) (seen : Sight) (old new : Walked) → Shows tree path seen → names_of new ≡ names_of old ++ named_if (is_file_seen seen) path → faults_of new ≡ faults_of old ++ left_if (fault_seen seen) path → Gathers tree (λ q. same path q) old new
+pub gathers_one : (tree : Snapshot) (path : List ℕ) (seen : Sight) (old new : Walked) → Shows tree path seen → names_walked new ≡ names_walked old ++ named_if (is_file_seen seen) path → faults_walked new ≡ faults_walked old ++ left_if (fault_seen seen) path → Gathers tree (λ q. same path q) old new
 gathers_one tree path seen old new shows names faults = record {
-  names = gains_one (names_of old) (names_of new) (is_file_seen seen) path (is_taken tree) shows.file names;
-  paths = gains_one (left_paths (faults_of old)) (left_paths (faults_of new)) (is_some (fault_seen seen)) path (is_left tree) (ap is_some shows.fault) (ap left_paths faults ∙ paths_left (faults_of old) (fault_seen seen) path);
-  right = λ h. subst (AreRight tree) (sym faults) (all-append _ (faults_of old) (left_if (fault_seen seen) path) h (right_left tree (fault_seen seen) path shows.fault));
+  names = gains_one (names_walked old) (names_walked new) (is_file_seen seen) path (is_taken tree) shows.file names;
+  paths = gains_one (left_paths (faults_walked old)) (left_paths (faults_walked new)) (is_some (fault_seen seen)) path (is_left tree) (ap is_some shows.fault) (ap left_paths faults ∙ paths_left (faults_walked old) (fault_seen seen) path);
+  right = λ h. subst (AreRight tree) (sym faults) (all-append _ (faults_walked old) (left_if (fault_seen seen) path) h (right_left tree (fault_seen seen) path shows.fault));
 }
 
 -- ---- a named path
@@ -145,7 +146,7 @@ none_in None walked = tt
 none_in (Some tree) walked = λ good. gathers_none tree walked
 
 -- the path, and the paths that it leads to
-pub path_in : (told later : Option Snapshot) (path : List ℕ) (seen : Sight) (deeper : List (List ℕ)) (old mid new : Walked) → later ≡ told → ShowsIn told path seen → names_of mid ≡ names_of old ++ named_if (is_file_seen seen) path → faults_of mid ≡ faults_of old ++ left_if (fault_seen seen) path → deeper ≡ children path (names_seen seen) → GathersIn later (λ tree. comes_by tree deeper) mid new → GathersIn told (λ tree. comes tree path) old new
+pub path_in : (told later : Option Snapshot) (path : List ℕ) (seen : Sight) (deeper : List (List ℕ)) (old mid new : Walked) → later ≡ told → ShowsIn told path seen → names_walked mid ≡ names_walked old ++ named_if (is_file_seen seen) path → faults_walked mid ≡ faults_walked old ++ left_if (fault_seen seen) path → deeper ≡ children path (names_seen seen) → GathersIn later (λ tree. comes_by tree deeper) mid new → GathersIn told (λ tree. comes tree path) old new
 path_in told later path seen deeper old mid new e shows names faults onwards h = by_told told shows (subst (λ o. GathersIn o (λ tree. comes_by tree deeper) mid new) e h)
   where
     by_told : (o : Option Snapshot) → ShowsIn o path seen → GathersIn o (λ tree. comes_by tree deeper) mid new → GathersIn o (λ tree. comes tree path) old new
@@ -204,16 +205,16 @@ counts_seen (sight.Folder listing) path start count later up h =
 counts_seen sight.Other path start count later up h = tt
 counts_seen (sight.Left f) path start count later up h = (counts_sooner f start count later up h, tt)
 
-pub counts_one : (count later : ℕ) (path : List ℕ) (seen : Sight) (old new : Walked) → count ≤ later → CountsSight seen count later → faults_of new ≡ faults_of old ++ left_if (fault_seen seen) path → KeepsCounts count later old new
+pub counts_one : (count later : ℕ) (path : List ℕ) (seen : Sight) (old new : Walked) → count ≤ later → CountsSight seen count later → faults_walked new ≡ faults_walked old ++ left_if (fault_seen seen) path → KeepsCounts count later old new
 counts_one count later path seen old new up h faults = λ start below all.
     subst (λ fs. CountsFaults fs start later) (sym faults)
-    (all-append _ (faults_of old) (left_if (fault_seen seen) path) (all_later (faults_of old) start count later up all) (counts_seen seen path start count later below h))
+    (all-append _ (faults_walked old) (left_if (fault_seen seen) path) (all_later (faults_walked old) start count later up all) (counts_seen seen path start count later below h))
 
 pub counts_chain : (count mid later : ℕ) (old between new : Walked) → count ≤ mid → KeepsCounts count mid old between → KeepsCounts mid later between new → KeepsCounts count later old new
 counts_chain count mid later old between new up first second = λ start below all. second start (omega (arith, below, up)) (first start below all)
 
 pub counts_none : (count later : ℕ) (walked : Walked) → count ≤ later → KeepsCounts count later walked walked
-counts_none count later walked up = λ start below all. all_later (faults_of walked) start count later up all
+counts_none count later walked up = λ start below all. all_later (faults_walked walked) start count later up all
 
 -- ---- the paths that a walk goes on by
 

@@ -1,5 +1,6 @@
 -- Lists that are put in the order of their keys, each key once.
 use Rattle.std.proofs.Common.{◌≡◌, ℕ, zero, suc, ◌<◌, arith, slice_index_or, Bool, true, false, cond, ◌||◌, List, [], ◌∷◌, length, map, refl, sym, ap, subst, ◌∙◌, inl, inr}
+use Rattle.cs_tree.specs.NameOrder.{are_ascending, bytes_cmp}
 use Rattle.std.proofs.lemmas.Bool.{cases_Bool, and_from}
 use Rattle.std.proofs.lemmas.List.Kept.{IsStrictlySortedBy-dedup, Contains-from_dedup}
 use Rattle.std.proofs.lemmas.List.Sorted.{IsPermutation-map, IsPermutation-sym, Contains-permutation}
@@ -10,8 +11,8 @@ use Rattle.std.specs.List.{list_any, AllByRecursion, dedup, dedup_from}
 use Rattle.std.specs.List.Sorted.{IsStrictlySortedBy}
 use Rattle.std.specs.Ordering.{is_lt}
 use Rattle.std.specs.declared.cmp.Ordering.{Ordering}
-use Rattle.cs_tree.specs.Cover.{bytes_cmp, same}
-use Rattle.cs_tree.specs.Walks.{ascend, is_among}
+use Rattle.cs_tree.specs.Cover.{same}
+use Rattle.cs_tree.specs.Walks.{is_among}
 
 module _ {X : Type 0} (key : X → List ℕ) where
   abbrev pub by_key : X → X → Ordering
@@ -20,14 +21,14 @@ module _ {X : Type 0} (key : X → List ℕ) where
   abbrev pub same_key : X → X → Bool
   same_key x y = same (key x) (key y)
 
-  pub keys_ascend : (xs : List X) → IsStrictlySortedBy by_key xs → ascend (map key xs) ≡ true
+  pub keys_ascend : (xs : List X) → IsStrictlySortedBy by_key xs → are_ascending (map key xs) ≡ true
   unfolding IsStrictlySortedBy
   keys_ascend [] h = refl
   keys_ascend (x ∷ []) h = refl
   keys_ascend (x ∷ y ∷ xs) h = and_from _ _ (ap is_lt h.0.0) (keys_ascend (y ∷ xs) h.1)
 
   -- once sorted, and with one of each key, the keys ascend
-  pub sorted_once : (xs : List X) → IsSorted by_key xs → ascend (map key (dedup same_key xs)) ≡ true
+  pub sorted_once : (xs : List X) → IsSorted by_key xs → are_ascending (map key (dedup same_key xs)) ≡ true
   sorted_once xs up = keys_ascend (dedup same_key xs) (IsStrictlySortedBy-dedup (on_total key nat_list_cmp_total) (λ x y. texts_ties (key x) (key y)) xs up)
 
   -- a test of keys passes as often

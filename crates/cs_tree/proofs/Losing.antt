@@ -1,7 +1,8 @@
 -- Reads one after another.
 use Rattle.std.proofs.Common.{◌≡◌, ◌≤◌, ℕ, ◌+◌, ◌-◌, List, sym, ap, ◌∙◌, drop, length, Option, Some, None, arith, length-append}
+use Rattle.cs_tree.specs.Transfers.{Loses, LosesAtMost}
 use Rattle.std.proofs.Math.Seq.{drop-append_seam}
-use Rattle.cs_tree.specs.Told.{Told, Loses, LosesAtMost}
+use Rattle.cs_tree.specs.Told.{Told}
 
 -- what lost these bytes lost at most so many
 pub Loses_few : (a b : Option Told) (xs : List ℕ) (most : ℕ) → Loses a b xs → length xs ≤ most → LosesAtMost most a b

@@ -1,5 +1,6 @@
 -- The last byte of a name, and the last element of a path.
 use lib.Utf8.{encode}
+use Rattle.cs_tree.specs.Folders.{name_of}
 use Rattle.std.proofs.Common.{◌≡◌, ◌≢◌, ℕ, suc, ◌-◌, ◌<◌, false, not, List, [], ◌∷◌, length, drop, get_or, refl, sym, ap, ◌∙◌, eqb, Option, Some, None, Bor, arith}
 use Rattle.std.proofs.lemmas.Bool.{ne_eqb}
 use Rattle.std.proofs.lemmas.List.Sums.{suffix_len_is}
@@ -8,7 +9,6 @@ use Rattle.std.specs.List.{suffix_len, slice_get}
 use Rattle.std.specs.Option.{MatchOption}
 use Rattle.std.specs.Str.Pattern.{RFindsChar, SplitsAroundMatch}
 use Rattle.cs_tree.specs.Cover.{slash}
-use Rattle.cs_tree.specs.Snapshot.{name_of}
 use Rattle.cs_tree.specs.Reached.{ends_in_tilde}
 use Rattle.cs_tree.proofs.Splitting.{rsplit_says, name_of-last}
 

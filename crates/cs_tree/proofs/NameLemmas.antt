@@ -1,14 +1,15 @@
 -- The names that a folder lists, and those of them whose paths another path covers.
 use Rattle.std.proofs.Common.{◌≡◌, ℕ, Bool, true, false, not, ◌&&◌, ◌||◌, List, [], ◌∷◌, ◌++◌, length, map, drop, get_or, refl, sym, ap, subst, ◌∙◌, eqb, cond, inl, inr, ◌⊎◌, arith, length-append}
-use Rattle.std.proofs.lemmas.Bool.{cases_Bool, true≢false, and_parts, and_from, or_right, not-true}
+use Rattle.cs_tree.specs.Covering.{Covers, itself, below, root}
+use Rattle.cs_tree.specs.Folders.{stem_of, child, is_name, are_distinct, are_names}
+use Rattle.std.proofs.lemmas.Bool.{cases_Bool, true≢false, and_parts, and_from, or_parts, or_right, not-true}
 use Rattle.std.proofs.lemmas.List.{map-append}
 use Rattle.std.proofs.lemmas.List.Folds.{list_all-append, list_any-append}
 use Rattle.std.specs.Prelude.{filter}
 use Rattle.std.specs.Cmp.{both_ways as same_tests}
 use Rattle.std.specs.Cmp.Lexicographic.{bytes_decides}
 use Rattle.std.specs.List.{list_any, list_all}
-use Rattle.cs_tree.specs.Cover.{slash, same, begins, covers, Covers, itself, below, root}
-use Rattle.cs_tree.specs.Snapshot.{are_names, are_distinct, is_name, child, stem_of}
+use Rattle.cs_tree.specs.Cover.{slash, same, begins, covers}
 use Rattle.cs_tree.proofs.Covering.{covers_says, covers_from, covers_chain, begins_rest}
 use Rattle.cs_tree.proofs.Splitting.{NoSlash, stem-other}
 
@@ -48,13 +49,9 @@ module _ {X : Type 0} where
   list_any-filter : (p t : X → Bool) (xs : List X) → list_any t xs ≡ false → list_any t (filter p xs) ≡ false
   list_any-filter p t [] h = refl
   list_any-filter p t (x ∷ xs) h =
-      let parts = or_none (t x) (list_any t xs) h in
+      let parts = or_parts (t x) (list_any t xs) h in
       let rest = list_any-filter p t xs parts.1 in
       elim (p x) as (λ b. list_any t (cond b (x ∷ filter p xs) (filter p xs)) ≡ false) [ true ↦ ap (λ b. b || list_any t (filter p xs)) parts.0 ∙ rest | false ↦ rest ]
-    where
-      or_none : (a b : Bool) → (a || b) ≡ false → (a ≡ false) × (b ≡ false)
-      or_none true b e = absurd (true≢false e)
-      or_none false b e = (refl, e)
 
 -- ---- names in a folder
 
@@ -65,14 +62,10 @@ distinct-push : (names : List (List ℕ)) (name : List ℕ) → are_distinct nam
 distinct-push [] name h new = refl
 distinct-push (x ∷ names) name h new =
     let parts = and_parts (not (list_any (λ o. same o x) names)) (are_distinct names) h in
-    let apart = or_none (same x name) (list_any (λ listed. same listed name) names) new in
+    let apart = or_parts (same x name) (list_any (λ listed. same listed name) names) new in
     and_from _ _
     (ap not (list_any-append (λ o. same o x) names (name ∷ []) ∙ ap (λ b. b || (same name x || false)) (not-true _ parts.0) ∙ ap (λ b. b || false) (same-sym name x ∙ apart.0)))
     (distinct-push names name parts.1 apart.1)
-  where
-    or_none : (a b : Bool) → (a || b) ≡ false → (a ≡ false) × (b ≡ false)
-    or_none true b e = absurd (true≢false e)
-    or_none false b e = (refl, e)
 
 distinct-filter : (p : List ℕ → Bool) (names : List (List ℕ)) → are_distinct names ≡ true → are_distinct (filter p names) ≡ true
 distinct-filter p [] h = refl

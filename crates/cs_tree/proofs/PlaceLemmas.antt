@@ -1,5 +1,8 @@
 -- The items of a tree in memory, and its snapshot.
 use Rattle.std.proofs.Common.{◌≡◌, ℕ, zero, suc, ◌+◌, ◌<◌, ◌≤◌, Bool, true, false, not, cond, List, [], ◌∷◌, ◌++◌, length, map, set, take, drop, add-one, get_or, refl, sym, ap, subst, ◌∙◌, inl, inr, Option, Some, None, Ok, arith, length-take}
+use Rattle.cs_tree.specs.Folders.{HasNames, IsTree}
+use Rattle.cs_tree.specs.NameOrder.{bytes_cmp}
+use Rattle.cs_tree.specs.Transfers.{ReadGives}
 use Rattle.std.proofs.lemmas.Bool.{true≢false, ltb-true, ltb-false, or_cases, or_left, or_right}
 use Rattle.std.proofs.lemmas.List.{map-append, drop-drop, drop_at}
 use Rattle.std.proofs.lemmas.Str.{IsUtf8-string_bytes}
@@ -10,11 +13,12 @@ use Rattle.std.specs.Cmp.Lexicographic.{bytes_decides, nat_list_cmp_total}
 use Rattle.std.specs.List.{position_or_len, list_any, AllByRecursion}
 use Rattle.std.specs.Ordering.{eq_by_cmp}
 use Rattle.std.specs.FinMap.{find, get, insert, from_entries, get-from_entries, get-insert, get-empty, empty, from_entries_push, same_map}
-use Rattle.cs_tree.specs.Cover.{bytes_cmp, slash, same}
-use Rattle.cs_tree.specs.Snapshot.{Item, item_at, is_folder, folder, bad, missing, HasNames, IsTree, unlisting, left_without, goes_with}
+use Rattle.cs_tree.specs.Cover.{slash, same}
+use Rattle.cs_tree.specs.Snapshot.{Item, item_at, folder, bad, missing}
+use Rattle.cs_tree.specs.Changes.{is_folder, unlisting, left_without, goes_with}
 use Rattle.cs_tree.specs.Stored.{snapshot_of, pair_of, item_of, place_at, left_of, left_at, unlisted_pair}
-use Rattle.cs_tree.specs.Told.{Told, ends, fails, Reads}
-use Rattle.cs_tree.specs.Trees.{ReadsOpen}
+use Rattle.cs_tree.specs.Told.{Told, ends, fails}
+use Rattle.cs_tree.specs.Trees.{OpenReadGives}
 use Rattle.cs_tree.specs.declared.stored.Names.{Names}
 use Rattle.cs_tree.specs.declared.stored.Stored.{Stored}
 use Rattle.cs_tree.specs.declared.stored.StoredItem.{StoredItem}
@@ -276,10 +280,10 @@ left_on items (Some i) front told rest taken n e bytes ending l = by_item (slice
     by_item (Some s) f = item_on s.item front told rest taken n f bytes ending l
 
 -- a read of what is left of the open file
-pub reads_on : (items : List Stored) (opened : Option ℕ) (told rest : Told) (taken n : ℕ) (buf : List ℕ) → left_at items taken opened ≡ Some told → n ≤ length buf → Reads (Some told) (Some rest) (Ok n) buf → ReadsOpen (left_at items taken opened) (left_at items (taken + n) opened) (Ok n) buf
+pub reads_on : (items : List Stored) (opened : Option ℕ) (told rest : Told) (taken n : ℕ) (buf : List ℕ) → left_at items taken opened ≡ Some told → n ≤ length buf → ReadGives (Some told) (Some rest) (Ok n) buf → OpenReadGives (left_at items taken opened) (left_at items (taken + n) opened) (Ok n) buf
 reads_on items opened told rest taken n buf e few h =
     let later = left_on items opened (take n buf) told rest taken n e h.0.0 h.0.1 (omega (arith, length-take n buf)) in
-    subst (λ o. ReadsOpen o (left_at items (taken + n) opened) (Ok n) buf) (sym e) (subst (λ o. ReadsOpen (Some told) o (Ok n) buf) (sym later) h)
+    subst (λ o. OpenReadGives o (left_at items (taken + n) opened) (Ok n) buf) (sym e) (subst (λ o. OpenReadGives (Some told) o (Ok n) buf) (sym later) h)
 
 -- ---- what goes with a path
 

@@ -1,11 +1,13 @@
 -- What is reached is a named path, or what a folder that is reached lists.
 use Rattle.std.proofs.Common.{◌≡◌, ℕ, true, false, not, List, [], ◌∷◌, drop, refl, sym, ap, subst, ◌∙◌, inl, inr}
+use Rattle.cs_tree.specs.Folders.{child, lists, IsTree, name_of}
+use Rattle.cs_tree.specs.PathSet.{Paths}
 use Rattle.std.proofs.lemmas.Bool.{and_parts, and_from, not-true, leb-true, le-leb}
 use Rattle.std.specs.Prelude.{◌↔◌}
 use Rattle.std.specs.Cmp.Lexicographic.{bytes_decides}
 use Rattle.cs_tree.specs.PathSet as set
-use Rattle.cs_tree.specs.Cover.{Paths, covers}
-use Rattle.cs_tree.specs.Snapshot.{Snapshot, IsTree, lists, child, name_of}
+use Rattle.cs_tree.specs.Cover.{covers}
+use Rattle.cs_tree.specs.Snapshot.{Snapshot}
 use Rattle.cs_tree.specs.Reached.{is_left_out, is_reached, reaches, elements_under}
 use Rattle.cs_tree.specs.Visits.{comes}
 use Rattle.cs_tree.specs.Walks.{Reached, named, listed}

@@ -1,5 +1,8 @@
 -- Paths in order, and those that no other one covers.
 use denote.Ref.{Bor}
+use Rattle.cs_tree.specs.Covering.{Covers, itself, below, root}
+use Rattle.cs_tree.specs.PathSet.{Paths}
+use Rattle.cs_tree.specs.NameOrder.{bytes_cmp}
 use Rattle.std.proofs.Common.{◌≡◌, ℕ, ◌+◌, ◌<◌, Bool, true, false, not, cond, ◌&&◌, ◌||◌, List, [], ◌∷◌, ◌++◌, length, map, drop, get_or, nat_eq, Option, Some, None, refl, sym, ap, subst, ◌∙◌, ◌⊎◌, inl, inr, arith, append_assoc, length-append}
 use Rattle.std.specs.Prelude.{T, is_some, filter, Result, Ok, Err, is_ok}
 use Rattle.std.specs.List.{list_any, dedup, AllByRecursion}
@@ -21,8 +24,8 @@ use Rattle.std.proofs.lemmas.List.Folds.{Any-from_list_any, list_any-from_Any, l
 use Rattle.std.proofs.lemmas.List.Sorted.{list_any-IsPermutation, searchable_from_sorted}
 use Rattle.std.proofs.lemmas.List.Kept.{Any-dedup, Contains-from_dedup, IsStrictlySortedBy-dedup, IsStrictlySortedBy-filter}
 use Rattle.std.proofs.lemmas.Map.Keys.{Less-from_sorted}
-use Rattle.cs_tree.specs.Cover.{slash, same, begins, covers, Covers, itself, below, root, least, bytes_cmp, Paths}
-use Rattle.cs_tree.specs.Cleaning.{texts}
+use Rattle.cs_tree.specs.Cover.{slash, same, begins, covers, least}
+use Rattle.cs_tree.specs.PathParts.{texts}
 use Rattle.cs_tree.specs.Reducing.{other_covers, lies_below}
 use Rattle.cs_tree.specs.PathSet as set
 use Rattle.std.proofs.lemmas.Str.Pattern.{NoCharPasses-char}
@@ -32,22 +35,22 @@ use Rattle.cs_tree.proofs.Sets.{alike, tied_is, same_set, items_in_order, contai
 
 -- ---- sets of paths as lists
 
-found-marked : (q : List ℕ) (paths : List (List ℕ)) → is_some (find bytes_cmp q (set.marked paths)) ≡ list_any (eq_by_cmp bytes_cmp q) paths
+found-marked : (q : List ℕ) (paths : List (List ℕ)) → is_some (find bytes_cmp q (set.with_units paths)) ≡ list_any (eq_by_cmp bytes_cmp q) paths
 found-marked q [] = refl
 found-marked q (path ∷ paths) =
-    elim (eq_by_cmp bytes_cmp q path) as (λ b. is_some (cond b (Some tt) (find bytes_cmp q (set.marked paths))) ≡ (b || list_any (eq_by_cmp bytes_cmp q) paths)) [ true ↦ refl | false ↦ found-marked q paths ]
+    elim (eq_by_cmp bytes_cmp q path) as (λ b. is_some (cond b (Some tt) (find bytes_cmp q (set.with_units paths))) ≡ (b || list_any (eq_by_cmp bytes_cmp q) paths)) [ true ↦ refl | false ↦ found-marked q paths ]
 
 pub contains-from_list : (paths : List (List ℕ)) (q : List ℕ) → set.contains (set.from_list paths) q ≡ list_any (eq_by_cmp bytes_cmp q) paths
-contains-from_list paths q = ap is_some (map'.get-from_entries nat_list_cmp_total (set.marked paths) q) ∙ found-marked q paths
+contains-from_list paths q = ap is_some (map'.get-from_entries nat_list_cmp_total (set.with_units paths) q) ∙ found-marked q paths
 
-below-marked : (x : List ℕ) (ys : List (List ℕ)) → AllByRecursion (λ y. bytes_cmp x y ≡ Less) ys → below_all bytes_cmp x (set.marked ys) ≡ true
+below-marked : (x : List ℕ) (ys : List (List ℕ)) → AllByRecursion (λ y. bytes_cmp x y ≡ Less) ys → below_all bytes_cmp x (set.with_units ys) ≡ true
 below-marked x [] h = refl
-below-marked x (y ∷ ys) h = ap (λ r. is_lt r && below_all bytes_cmp x (set.marked ys)) h.0 ∙ below-marked x ys h.1
+below-marked x (y ∷ ys) h = ap (λ r. is_lt r && below_all bytes_cmp x (set.with_units ys)) h.0 ∙ below-marked x ys h.1
 
-is_sorted-marked : (ys : List (List ℕ)) → IsStrictlySortedBy bytes_cmp ys → map'.is_sorted bytes_cmp (set.marked ys) ≡ true
+is_sorted-marked : (ys : List (List ℕ)) → IsStrictlySortedBy bytes_cmp ys → map'.is_sorted bytes_cmp (set.with_units ys) ≡ true
 unfolding IsStrictlySortedBy
 is_sorted-marked [] h = refl
-is_sorted-marked (y ∷ ys) h = and_from (below_all bytes_cmp y (set.marked ys)) _ (below-marked y ys h.0) (is_sorted-marked ys h.1)
+is_sorted-marked (y ∷ ys) h = and_from (below_all bytes_cmp y (set.with_units ys)) _ (below-marked y ys h.0) (is_sorted-marked ys h.1)
 
 -- paths in order are the items of the set of them
 pub items-from_list : (ys : List (List ℕ)) → IsStrictlySortedBy bytes_cmp ys → set.items (set.from_list ys) ≡ ys

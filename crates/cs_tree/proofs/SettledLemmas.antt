@@ -1,15 +1,19 @@
 -- Paths that cleaning leaves as they are.
-use Rattle.std.proofs.Common.{◌≡◌, ℕ, ◌≤◌, Bool, true, false, not, cond, ◌||◌, List, [], ◌∷◌, ◌++◌, length, drop, eqb, Option, Some, None, refl, sym, ap, subst, ◌∙◌, ◌⊎◌, inl, inr, append_assoc, append-nil}
-use Rattle.std.specs.Prelude.{codes, nat_lt}
+use Rattle.std.proofs.Common.{◌≡◌, ◌≢◌, ℕ, ◌<◌, ◌≤◌, arith, Bool, true, false, not, cond, ◌||◌, List, [], ◌∷◌, ◌++◌, length, drop, eqb, Option, Some, None, refl, sym, ap, subst, ◌∙◌, ◌⊎◌, inl, inr, append_assoc, append-nil}
+use Rattle.cs_tree.specs.Pieces.{onto_first}
+use Rattle.std.specs.Prelude.{codes, nat_lt, is_none}
+use Rattle.std.specs.Cmp.{both_ways as same_tests}
 use Rattle.std.specs.List.{list_all, list_any, AllByRecursion}
 use Rattle.std.specs.Cmp.Lexicographic.{bytes_decides}
-use Rattle.std.proofs.lemmas.Bool.{true≢false, and_parts, and_from, or_cases, or_left, or_right, cond_both, eqb-true, not-true, le-ltb, ltb-false}
+use Rattle.std.proofs.lemmas.Bool.{true≢false, and_parts, and_from, ne_eqb, eqb-false, or_cases, or_parts, or_from, or_left, or_right, cond_both, eqb-true, not-true, le-ltb, ltb-false}
 use Rattle.std.proofs.lemmas.List.Folds.{list_all-append}
 use Rattle.cs_tree.specs.Cover.{slash, same, begins}
-use Rattle.cs_tree.specs.Clean.{elements, onto_first, without_first, stepped, steps, slashed, path_of, absolute, cleaned, is_proper, is_clean, has_nul, longest_path}
-use Rattle.cs_tree.specs.Cleaning.{IsSettled}
+use Rattle.cs_tree.specs.Clean.{is_clean, elements, without_first, with_element, steps, with_slashes, path_of, absolute, clean_path, has_nul, longest_path}
+use Rattle.cs_tree.specs.Proper.{is_proper, is_proper_path}
+use Rattle.cs_tree.specs.Cleaning.{clean_fault, is_settled}
 use Rattle.cs_tree.specs.declared.cleaning.PathFault.{PathFault}
 use Rattle.cs_tree.specs.declared.cleaning.PathFault.TheVariants.{Empty, Nul, TooLong}
+use Rattle.cs_tree.proofs.CleanLemmas.{path_absolute}
 use Rattle.cs_tree.proofs.Splitting.{NoSlash, elements-append, elements-one, elements-some, HasFirst, proper_last}
 
 -- ---- what cleaning gives is clean
@@ -23,7 +27,7 @@ all_without : (above : List (List ℕ)) → AllByRecursion IsElement above → A
 all_without [] all = tt
 all_without (x ∷ above) all = all.1
 
-all_stepped : (above : List (List ℕ)) (name : List ℕ) → AllByRecursion IsElement above → NoSlash name → AllByRecursion IsElement (stepped above name)
+all_stepped : (above : List (List ℕ)) (name : List ℕ) → AllByRecursion IsElement above → NoSlash name → AllByRecursion IsElement (with_element above name)
 all_stepped above name all apart =
     cond_both (same name [] || same name (codes ".")) above (cond (same name (codes "..")) (without_first above) (name ∷ above)) (AllByRecursion IsElement)
     (λ _. all)
@@ -33,7 +37,7 @@ all_stepped above name all apart =
 
 all_steps : (above names : List (List ℕ)) → AllByRecursion IsElement above → AllByRecursion NoSlash names → AllByRecursion IsElement (steps above names)
 all_steps above [] all apart = all
-all_steps above (name ∷ names) all apart = all_steps (stepped above name) names (all_stepped above name all apart.0) apart.1
+all_steps above (name ∷ names) all apart = all_steps (with_element above name) names (all_stepped above name all apart.0) apart.1
 
 elements_apart : (text : List ℕ) → AllByRecursion NoSlash (elements text)
 elements_apart [] = (refl, tt)
@@ -44,11 +48,11 @@ elements_apart (b ∷ rest) =
     onto apart [] all = (ap (λ t. t || false) apart, tt)
     onto apart (piece ∷ pieces) all = (ap (λ t. t || list_any (λ x. eqb x slash) piece) apart ∙ all.0, all.1)
 
-clean_stem : (above : List (List ℕ)) (name : List ℕ) → AllByRecursion IsElement above → IsElement name → is_clean (slashed above ++ slash ∷ name) ≡ true
+clean_stem : (above : List (List ℕ)) (name : List ℕ) → AllByRecursion IsElement above → IsElement name → is_proper_path (with_slashes above ++ slash ∷ name) ≡ true
 clean_stem [] name all good = proper_last name (elements-one name good.apart) ∙ good.proper
-clean_stem (top ∷ above) name all good = on (slashed (top ∷ above)) (clean_stem above top all.1 all.0)
+clean_stem (top ∷ above) name all good = on (with_slashes (top ∷ above)) (clean_stem above top all.1 all.0)
   where
-    on : (front : List ℕ) → is_clean front ≡ true → is_clean (front ++ slash ∷ name) ≡ true
+    on : (front : List ℕ) → is_proper_path front ≡ true → is_proper_path (front ++ slash ∷ name) ≡ true
     on [] h = absurd (true≢false (sym h))
     on (b ∷ front) h =
         let parts = and_parts (eqb b slash) (list_all is_proper (elements front)) h in
@@ -57,12 +61,12 @@ clean_stem (top ∷ above) name all good = on (slashed (top ∷ above)) (clean_s
         ∙ list_all-append is_proper (elements front) (elements name)
         ∙ and_from (list_all is_proper (elements front)) _ parts.1 (proper_last name (elements-one name good.apart) ∙ good.proper))
 
-clean_path : (above : List (List ℕ)) → AllByRecursion IsElement above → (path_of above ≡ slash ∷ []) ⊎ (is_clean (path_of above) ≡ true)
-clean_path [] all = inl refl
-clean_path (name ∷ above) all = inr (clean_stem above name all.1 all.0)
+clean_steps : (above : List (List ℕ)) → AllByRecursion IsElement above → (path_of above ≡ slash ∷ []) ⊎ (is_proper_path (path_of above) ≡ true)
+clean_steps [] all = inl refl
+clean_steps (name ∷ above) all = inr (clean_stem above name all.1 all.0)
 
-pub cleaned_clean : (folder text : List ℕ) → (cleaned folder text ≡ slash ∷ []) ⊎ (is_clean (cleaned folder text) ≡ true)
-cleaned_clean folder text = clean_path (steps [] (elements (absolute folder text))) (all_steps [] (elements (absolute folder text)) tt (elements_apart (absolute folder text)))
+pub cleaned_clean : (folder text : List ℕ) → (clean_path folder text ≡ slash ∷ []) ⊎ (is_proper_path (clean_path folder text) ≡ true)
+cleaned_clean folder text = clean_steps (steps [] (elements (absolute folder text))) (all_steps [] (elements (absolute folder text)) tt (elements_apart (absolute folder text)))
 
 -- ---- what is clean is left as it is
 
@@ -82,61 +86,58 @@ slashes-elements (b ∷ rest) = step (eqb b slash) refl (slashes-elements rest) 
         ap (λ pieces. after_slashes (onto_first b pieces)) some.is
         ∙ ap (λ tail. slash ∷ b ∷ tail) (sym (ap (λ pieces. drop 1 (after_slashes pieces)) some.is) ∙ ap (drop 1) whole)
 
-proper_step : (above : List (List ℕ)) (name : List ℕ) → is_proper name ≡ true → stepped above name ≡ name ∷ above
+proper_step : (above : List (List ℕ)) (name : List ℕ) → is_proper name ≡ true → with_element above name ≡ name ∷ above
 proper_step above name proper =
     let parts = and_parts (not (same name [] || same name (codes "."))) (not (same name (codes ".."))) proper in
     ap (λ t. cond t above (cond (same name (codes "..")) (without_first above) (name ∷ above))) (not-true _ parts.0)
     ∙ ap (λ t. cond t (without_first above) (name ∷ above)) (not-true _ parts.1)
 
-slashed-steps : (above names : List (List ℕ)) → list_all is_proper names ≡ true → slashed (steps above names) ≡ slashed above ++ after_slashes names
+slashed-steps : (above names : List (List ℕ)) → list_all is_proper names ≡ true → with_slashes (steps above names) ≡ with_slashes above ++ after_slashes names
 unfolding after_slashes
-slashed-steps above [] proper = sym (append-nil (slashed above))
+slashed-steps above [] proper = sym (append-nil (with_slashes above))
 slashed-steps above (name ∷ names) proper =
     let parts = and_parts (is_proper name) (list_all is_proper names) proper in
-    ap (λ now. slashed (steps now names)) (proper_step above name parts.0)
+    ap (λ now. with_slashes (steps now names)) (proper_step above name parts.0)
     ∙ slashed-steps (name ∷ above) names parts.1
-    ∙ append_assoc (slashed above) (slash ∷ name) (after_slashes names)
+    ∙ append_assoc (with_slashes above) (slash ∷ name) (after_slashes names)
 
-filled_path : (above : List (List ℕ)) (rest : List ℕ) → slashed above ≡ slash ∷ rest → path_of above ≡ slash ∷ rest
+filled_path : (above : List (List ℕ)) (rest : List ℕ) → with_slashes above ≡ slash ∷ rest → path_of above ≡ slash ∷ rest
 filled_path [] rest e = cc
 filled_path (name ∷ above) rest e = e
 
-settled_rest : (folder rest : List ℕ) → list_all is_proper (elements rest) ≡ true → cleaned folder (slash ∷ rest) ≡ slash ∷ rest
+settled_rest : (folder rest : List ℕ) → list_all is_proper (elements rest) ≡ true → clean_path folder (slash ∷ rest) ≡ slash ∷ rest
 settled_rest folder rest proper = filled_path (steps [] (elements rest)) rest (slashed-steps [] (elements rest) proper ∙ slashes-elements rest)
 
-pub settled_clean : (folder path : List ℕ) → is_clean path ≡ true → cleaned folder path ≡ path
+pub settled_clean : (folder path : List ℕ) → is_proper_path path ≡ true → clean_path folder path ≡ path
 settled_clean folder [] h = absurd (true≢false (sym h))
 settled_clean folder (b ∷ rest) h =
     let parts = and_parts (eqb b slash) (list_all is_proper (elements rest)) h in
-    subst (λ c. cleaned folder (c ∷ rest) ≡ c ∷ rest) (sym (eqb-true b slash parts.0)) (settled_rest folder rest parts.1)
+    subst (λ c. clean_path folder (c ∷ rest) ≡ c ∷ rest) (sym (eqb-true b slash parts.0)) (settled_rest folder rest parts.1)
 
-pub settled_either : (path : List ℕ) → (path ≡ slash ∷ []) ⊎ (is_clean path ≡ true) → (folder : List ℕ) → cleaned folder path ≡ path
-settled_either path (inl is) folder = subst (λ p. cleaned folder p ≡ p) (sym is) refl
+pub settled_either : (path : List ℕ) → (path ≡ slash ∷ []) ⊎ (is_proper_path path ≡ true) → (folder : List ℕ) → clean_path folder path ≡ path
+settled_either path (inl is) folder = subst (λ p. clean_path folder p ≡ p) (sym is) refl
 settled_either path (inr clean) folder = settled_clean folder path clean
 
-pub either_settled : (path : List ℕ) → ((folder : List ℕ) → cleaned folder path ≡ path) → (path ≡ slash ∷ []) ⊎ (is_clean path ≡ true)
-either_settled path h = subst (λ p. (p ≡ slash ∷ []) ⊎ (is_clean p ≡ true)) (h []) (cleaned_clean [] path)
+pub either_settled : (path : List ℕ) → ((folder : List ℕ) → clean_path folder path ≡ path) → (path ≡ slash ∷ []) ⊎ (is_proper_path path ≡ true)
+either_settled path h = subst (λ p. (p ≡ slash ∷ []) ⊎ (is_proper_path p ≡ true)) (h []) (cleaned_clean [] path)
 
 -- cleaning twice is cleaning once, whatever the folders are
-pub cleaned_settled : (folder text other : List ℕ) → cleaned other (cleaned folder text) ≡ cleaned folder text
-cleaned_settled folder text other = settled_either (cleaned folder text) (cleaned_clean folder text) other
+pub cleaned_settled : (folder text other : List ℕ) → clean_path other (clean_path folder text) ≡ clean_path folder text
+cleaned_settled folder text other = settled_either (clean_path folder text) (cleaned_clean folder text) other
 
 -- ---- what cleaning takes
 
-starts_clean : (path : List ℕ) → is_clean path ≡ true → begins (slash ∷ []) path ≡ true
-starts_clean [] h = absurd (true≢false (sym h))
-starts_clean (b ∷ rest) h = subst (λ c. begins (slash ∷ []) (c ∷ rest) ≡ true) (sym (eqb-true b slash (and_parts (eqb b slash) (list_all is_proper (elements rest)) h).0)) refl
+starts_proper : (path : List ℕ) → is_proper_path path ≡ true → begins (slash ∷ []) path ≡ true
+starts_proper [] h = absurd (true≢false (sym h))
+starts_proper (b ∷ rest) h = subst (λ c. begins (slash ∷ []) (c ∷ rest) ≡ true) (sym (eqb-true b slash (and_parts (eqb b slash) (list_all is_proper (elements rest)) h).0)) refl
 
-starts_either : (path : List ℕ) → (path ≡ slash ∷ []) ⊎ (is_clean path ≡ true) → begins (slash ∷ []) path ≡ true
+starts_either : (path : List ℕ) → (path ≡ slash ∷ []) ⊎ (is_proper_path path ≡ true) → begins (slash ∷ []) path ≡ true
 starts_either path (inl is) = subst (λ p. begins (slash ∷ []) p ≡ true) (sym is) refl
-starts_either path (inr clean) = starts_clean path clean
+starts_either path (inr clean) = starts_proper path clean
 
 filled_begins : (path : List ℕ) → begins (slash ∷ []) path ≡ true → same path [] ≡ false
 filled_begins [] h = absurd (true≢false (sym h))
 filled_begins (b ∷ rest) h = refl
-
-absolute-begins : (folder path : List ℕ) → begins (slash ∷ []) path ≡ true → absolute folder path ≡ path
-absolute-begins folder path h = ap (λ b. cond b path (folder ++ slash ∷ path)) h
 
 abbrev fault_at : Bool → Bool → Bool → Option PathFault
 fault_at empty nul long = cond empty (Some Empty) (cond nul (Some Nul) (cond long (Some TooLong) None))
@@ -150,28 +151,95 @@ no_fault_parts false true long e = cc
 no_fault_parts false false true e = cc
 no_fault_parts false false false e = (refl, refl)
 
-pub settled_from : (path : List ℕ) → ((folder : List ℕ) → cleaned folder path ≡ path) → has_nul path ≡ false → length path ≤ longest_path → IsSettled path
-settled_from path unchanged plain short =
-    let starts = starts_either path (either_settled path unchanged) in
-    record {
-      unchanged = unchanged;
-      accepted = λ folder. no_fault (same path []) (has_nul (absolute folder path)) (nat_lt longest_path (length (cleaned folder path))) (filled_begins path starts)
-          (ap has_nul (absolute-begins folder path starts) ∙ plain)
-          (ap (λ p. nat_lt longest_path (length p)) (unchanged folder) ∙ le-ltb longest_path (length path) short);
-    }
-
--- no NUL, and not too long
-pub settled_whole : (path : List ℕ) → IsSettled path → (has_nul path ≡ false) × (length path ≤ longest_path)
-settled_whole path h =
-    let starts = starts_either path (either_settled path h.unchanged) in
-    let parts = no_fault_parts (same path []) (has_nul (absolute [] path)) (nat_lt longest_path (length (cleaned [] path))) (h.accepted []) in
-    (sym (ap has_nul (absolute-begins [] path starts)) ∙ parts.0, ltb-false longest_path (length path) (sym (ap (λ p. nat_lt longest_path (length p)) (h.unchanged [])) ∙ parts.1))
+none_is : (fault : Option PathFault) → is_none fault ≡ true → fault ≡ None
+none_is None h = refl
+none_is (Some fault) h = absurd (true≢false (sym h))
 
 -- ---- by a test
 
-pub either_test : (path : List ℕ) → (same path (slash ∷ []) || is_clean path) ≡ true → (path ≡ slash ∷ []) ⊎ (is_clean path ≡ true)
-either_test path h = elim (or_cases (same path (slash ∷ [])) (is_clean path) h) [ inl is ↦ inl ((bytes_decides path (slash ∷ [])).0 is) | inr clean ↦ inr clean ]
+either_test : (path : List ℕ) → (same path (slash ∷ []) || is_proper_path path) ≡ true → (path ≡ slash ∷ []) ⊎ (is_proper_path path ≡ true)
+either_test path h = elim (or_cases (same path (slash ∷ [])) (is_proper_path path) h) [ inl is ↦ inl ((bytes_decides path (slash ∷ [])).0 is) | inr proper ↦ inr proper ]
 
-pub test_either : (path : List ℕ) → (path ≡ slash ∷ []) ⊎ (is_clean path ≡ true) → (same path (slash ∷ []) || is_clean path) ≡ true
+test_either : (path : List ℕ) → (path ≡ slash ∷ []) ⊎ (is_proper_path path ≡ true) → (same path (slash ∷ []) || is_proper_path path) ≡ true
 test_either path (inl is) = or_left (same path (slash ∷ [])) _ ((bytes_decides path (slash ∷ [])).1 is)
-test_either path (inr clean) = or_right (same path (slash ∷ [])) _ clean
+test_either path (inr proper) = or_right (same path (slash ∷ [])) _ proper
+
+-- what cleaning leaves alone from the root, it leaves alone from any folder
+pub clean_stays : (path : List ℕ) → is_clean path ≡ true → (folder : List ℕ) → clean_path folder path ≡ path
+clean_stays path h folder =
+    let stays : clean_path (slash ∷ []) path ≡ path = (bytes_decides (clean_path (slash ∷ []) path) path).0 h in
+    ap (clean_path folder) (sym stays) ∙ cleaned_settled (slash ∷ []) path folder ∙ stays
+
+pub stays_clean : (path : List ℕ) → clean_path (slash ∷ []) path ≡ path → is_clean path ≡ true
+stays_clean path stays = (bytes_decides (clean_path (slash ∷ []) path) path).1 stays
+
+-- by its elements
+pub clean_by_elements : (path : List ℕ) → (same path (slash ∷ []) || is_proper_path path) ≡ is_clean path
+clean_by_elements path = same_tests (same path (slash ∷ []) || is_proper_path path) (is_clean path)
+    (λ h. stays_clean path (settled_either path (either_test path h) (slash ∷ [])))
+    (λ h. test_either path (either_settled path (clean_stays path h)))
+
+-- below the root
+pub clean_below : (path : List ℕ) → same path (slash ∷ []) ≡ false → is_proper_path path ≡ is_clean path
+clean_below path below = ap (λ b. b || is_proper_path path) (sym below) ∙ clean_by_elements path
+
+pub clean_starts : (path : List ℕ) → is_clean path ≡ true → begins (slash ∷ []) path ≡ true
+clean_starts path h = starts_either path (either_settled path (clean_stays path h))
+
+-- ---- settled paths
+
+pub settled_from : (path : List ℕ) → ((folder : List ℕ) → clean_path folder path ≡ path) → has_nul path ≡ false → length path ≤ longest_path → is_settled path ≡ true
+settled_from path unchanged plain short =
+    let starts = starts_either path (either_settled path unchanged) in
+    let accepted = no_fault (same path []) (has_nul (absolute (slash ∷ []) path)) (nat_lt longest_path (length (clean_path (slash ∷ []) path))) (filled_begins path starts)
+    (ap has_nul (path_absolute (slash ∷ []) path starts) ∙ plain)
+    (ap (λ p. nat_lt longest_path (length p)) (unchanged (slash ∷ [])) ∙ le-ltb longest_path (length path) short) in
+    and_from (is_none (clean_fault (slash ∷ []) path)) (is_clean path) (ap is_none accepted) (stays_clean path (unchanged (slash ∷ [])))
+
+settled_parts : (path : List ℕ) → is_settled path ≡ true → (is_none (clean_fault (slash ∷ []) path) ≡ true) × (is_clean path ≡ true)
+settled_parts path h = and_parts (is_none (clean_fault (slash ∷ []) path)) (is_clean path) h
+
+pub settled_stays : (path : List ℕ) → is_settled path ≡ true → (folder : List ℕ) → clean_path folder path ≡ path
+settled_stays path h = clean_stays path (settled_parts path h).1
+
+pub settled_starts : (path : List ℕ) → is_settled path ≡ true → begins (slash ∷ []) path ≡ true
+settled_starts path h = starts_either path (either_settled path (settled_stays path h))
+
+pub settled_filled : (path : List ℕ) → is_settled path ≡ true → path ≢ []
+settled_filled path h e = true≢false (sym (settled_starts path h) ∙ ap (begins (slash ∷ [])) e)
+
+pub settled_accepted : (path : List ℕ) → is_settled path ≡ true → (folder : List ℕ) → clean_fault folder path ≡ None
+settled_accepted path h folder =
+    let root = slash ∷ [] in
+    let starts = settled_starts path h in
+    let now = ap has_nul (path_absolute folder path starts ∙ sym (path_absolute root path starts)) in
+    let long = ap (λ p. nat_lt longest_path (length p)) (settled_stays path h folder ∙ sym (settled_stays path h root)) in
+    ap (λ nul. fault_at (same path []) nul (nat_lt longest_path (length (clean_path folder path)))) now
+    ∙ ap (λ more. fault_at (same path []) (has_nul (absolute root path)) more) long
+    ∙ none_is (clean_fault root path) (settled_parts path h).0
+
+-- no NUL, and not too long
+settled_whole : (path : List ℕ) → is_settled path ≡ true → (has_nul path ≡ false) × (length path ≤ longest_path)
+settled_whole path h =
+    let starts = settled_starts path h in
+    let parts = no_fault_parts (same path []) (has_nul (absolute [] path)) (nat_lt longest_path (length (clean_path [] path))) (settled_accepted path h []) in
+    (sym (ap has_nul (path_absolute [] path starts)) ∙ parts.0, ltb-false longest_path (length path) (sym (ap (λ p. nat_lt longest_path (length p)) (settled_stays path h [])) ∙ parts.1))
+
+pub settled_no_nul : (path : List ℕ) → is_settled path ≡ true → has_nul path ≡ false
+settled_no_nul path h = (settled_whole path h).0
+
+pub settled_short : (path : List ℕ) → is_settled path ≡ true → length path ≤ longest_path
+settled_short path h = (settled_whole path h).1
+
+pub settled_anywhere : (path : List ℕ) → ((folder : List ℕ) → (clean_fault folder path ≡ None) × (clean_path folder path ≡ path)) → is_settled path ≡ true
+settled_anywhere path h = and_from (is_none (clean_fault (slash ∷ []) path)) (is_clean path) (ap is_none (h (slash ∷ [])).0) (stays_clean path (h (slash ∷ [])).1)
+
+-- ---- texts without NUL
+
+pub no_nul_bytes : (text : List ℕ) → has_nul text ≡ false → AllByRecursion (λ b. 0 < b) text
+no_nul_bytes [] h = tt
+no_nul_bytes (b ∷ text) h = let parts = or_parts (eqb b 0) (has_nul text) h in ((let apart = eqb-false b 0 parts.0 in omega (arith, apart)), no_nul_bytes text parts.1)
+
+pub bytes_no_nul : (text : List ℕ) → AllByRecursion (λ b. 0 < b) text → has_nul text ≡ false
+bytes_no_nul [] all = refl
+bytes_no_nul (b ∷ text) all = or_from (eqb b 0) (has_nul text) (ne_eqb b 0 (λ e. let some = all.0 in omega (arith, some, e))) (bytes_no_nul text all.1)

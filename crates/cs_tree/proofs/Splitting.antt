@@ -1,7 +1,9 @@
 -- Paths taken apart at their slashes.
 use lib.Utf8.{encode}
+use Rattle.cs_tree.specs.Folders.{stem_of, child, is_name, name_of}
+use Rattle.cs_tree.specs.Pieces.{onto_first}
 use Rattle.std.proofs.Common.{◌≡◌, ◌≢◌, ℕ, zero, suc, ◌+◌, ◌-◌, ◌<◌, Bool, true, false, not, ◌&&◌, ◌||◌, List, [], ◌∷◌, ◌++◌, length, take, drop, get_or, refl, sym, ap, subst, ◌∙◌, eqb, cond, Option, Some, None, Bor, inl, inr, arith, length-append, take-append-drop}
-use Rattle.std.proofs.lemmas.Bool.{false_from_ne_true, true≢false, and_parts, and_from, or_cases, or_left, eqb-true, ne_eqb}
+use Rattle.std.proofs.lemmas.Bool.{false_from_ne_true, true≢false, and_parts, and_from, or_cases, or_parts, or_left, eqb-true, ne_eqb}
 use Rattle.std.proofs.lemmas.List.Folds.{list_all-append}
 use Rattle.std.proofs.lemmas.Bool.Decides.{Decides-eqb}
 use Rattle.std.proofs.lemmas.List.{append_cancel_left, take_at}
@@ -15,8 +17,9 @@ use Rattle.std.specs.List.{list_any, list_all, before_last, suffix_len}
 use Rattle.std.specs.Option.{MatchOption}
 use Rattle.std.specs.Str.Pattern.{RFindsChar, SplitsAroundMatch}
 use Rattle.cs_tree.specs.Cover.{slash, same}
-use Rattle.cs_tree.specs.Clean.{elements, onto_first, is_proper, is_clean, has_nul}
-use Rattle.cs_tree.specs.Snapshot.{child, stem_of, is_name, name_of, parent_of}
+use Rattle.cs_tree.specs.Clean.{elements, has_nul}
+use Rattle.cs_tree.specs.Proper.{is_proper, is_proper_path}
+use Rattle.cs_tree.specs.Changes.{parent_of}
 
 -- ---- a path after a folder's stem
 
@@ -43,12 +46,8 @@ pub no_slash : (text : List ℕ) → ((i : ℕ) → i < length text → get_or t
 no_slash [] h = refl
 no_slash (b ∷ text) h = ap (λ t. t || list_any (λ x. eqb x slash) text) (ne_eqb b slash (h zero (omega arith))) ∙ no_slash text (λ i l. h (suc i) (omega (arith, l)))
 
-or_none : (a b : Bool) → (a || b) ≡ false → (a ≡ false) × (b ≡ false)
-or_none true b h = absurd (true≢false h)
-or_none false b h = (refl, h)
-
 pub no_slash_parts : (b : ℕ) (text : List ℕ) → NoSlash (b ∷ text) → (eqb b slash ≡ false) × NoSlash text
-no_slash_parts b text h = or_none (eqb b slash) (list_any (λ x. eqb x slash) text) h
+no_slash_parts b text h = or_parts (eqb b slash) (list_any (λ x. eqb x slash) text) h
 
 -- there is a first element
 pub record HasFirst (pieces : List (List ℕ)) : Type 0 where
@@ -102,12 +101,12 @@ pub record LastSlash (path front name : List ℕ) : Type 0 where
   pub whole : path ≡ front ++ slash ∷ name
   pub last : NoSlash name
 
-apart_without : (path : List ℕ) → ((i : ℕ) → i < length path → get_or path i 0 ≢ slash) → is_clean path ≡ false
+apart_without : (path : List ℕ) → ((i : ℕ) → i < length path → get_or path i 0 ≢ slash) → (same path (slash ∷ []) || is_proper_path path) ≡ false
 apart_without [] h = refl
-apart_without (b ∷ rest) h = ap (λ t. t && list_all is_proper (elements rest)) (ne_eqb b slash (h zero (omega arith)))
+apart_without (b ∷ rest) h = ap (λ t. (t && same rest []) || (t && list_all is_proper (elements rest))) (ne_eqb b slash (h zero (omega arith)))
 
 abbrev pub RSplitSays : List ℕ → Option (Bor (List ℕ) × Bor (List ℕ)) → Type 0
-RSplitSays path result = MatchOption result (is_clean path ≡ false) (λ parts. LastSlash path parts.0.now parts.1.now)
+RSplitSays path result = MatchOption result ((same path (slash ∷ []) || is_proper_path path) ≡ false) (λ parts. LastSlash path parts.0.now parts.1.now)
 
 pub rsplit_says : (path : List ℕ) (result : Option (Bor (List ℕ) × Bor (List ℕ))) → MatchOption result (RFindsChar slash path None) (λ x. SplitsAroundMatch (RFindsChar slash) path x.0.now x.1.now) → RSplitSays path result
 unfolding encode
@@ -173,8 +172,8 @@ split_says text (Some x) h =
     let parts = split_parts slash text (Some x) h (omega arith) in
     ap elements parts.0 ∙ elements-append x.0.now x.1.now ∙ ap (λ es. es ++ elements x.1.now) (elements-one x.0.now (no_slash x.0.now parts.1))
 
--- a clean path begins with a slash
-pub unclean : (path : List ℕ) → ((rest : List ℕ) → path ≢ slash ∷ rest) → is_clean path ≡ false
+-- a proper path begins with a slash
+pub unclean : (path : List ℕ) → ((rest : List ℕ) → path ≢ slash ∷ rest) → is_proper_path path ≡ false
 unclean [] h = refl
 unclean (b ∷ rest) h = ap (λ t. t && list_all is_proper (elements rest)) (ne_eqb b slash (λ e. h rest (ap (λ x. x ∷ rest) e)))
 
@@ -185,7 +184,7 @@ proper_more text element later e h = ap (list_all is_proper) e ∙ ap (λ t. t &
 pub proper_last : (text : List ℕ) → elements text ≡ text ∷ [] → list_all is_proper (elements text) ≡ is_proper text
 proper_last text e = ap (list_all is_proper) e ∙ elim (is_proper text) as (λ b. (b && true) ≡ b) [ true ↦ refl | false ↦ refl ]
 
--- ---- the name of a clean path
+-- ---- the name of a proper path
 
 -- a text that has a slash has a last one
 pub some_slash : (text : List ℕ) → list_any (λ b. eqb b slash) text ≡ true → (front : List ℕ) × (name : List ℕ) × LastSlash text front name
@@ -207,15 +206,15 @@ last_proper front name h all =
     let parts = and_parts (list_all is_proper (elements front)) (list_all is_proper (elements name)) (sym (ap (list_all is_proper) (elements-append front name) ∙ list_all-append is_proper (elements front) (elements name)) ∙ all) in
     sym (proper_last name (elements-one name h)) ∙ parts.1
 
-clean_last : (path front name : List ℕ) → LastSlash path front name → is_clean path ≡ true → is_proper name ≡ true
+clean_last : (path front name : List ℕ) → LastSlash path front name → is_proper_path path ≡ true → is_proper name ≡ true
 clean_last path [] name h clean =
-    let parts = and_parts (eqb slash slash) (list_all is_proper (elements name)) (sym (ap is_clean h.whole) ∙ clean) in
+    let parts = and_parts (eqb slash slash) (list_all is_proper (elements name)) (sym (ap is_proper_path h.whole) ∙ clean) in
     sym (proper_last name (elements-one name h.last)) ∙ parts.1
 clean_last path (b ∷ front) name h clean =
-    let parts = and_parts (eqb b slash) (list_all is_proper (elements (front ++ slash ∷ name))) (sym (ap is_clean h.whole) ∙ clean) in
+    let parts = and_parts (eqb b slash) (list_all is_proper (elements (front ++ slash ∷ name))) (sym (ap is_proper_path h.whole) ∙ clean) in
     last_proper front name h.last parts.1
 
-clean_slash : (path : List ℕ) → is_clean path ≡ true → list_any (λ b. eqb b slash) path ≡ true
+clean_slash : (path : List ℕ) → is_proper_path path ≡ true → list_any (λ b. eqb b slash) path ≡ true
 clean_slash [] h = absurd (true≢false (sym h))
 clean_slash (b ∷ rest) h = or_left (eqb b slash) _ (and_parts (eqb b slash) _ h).0
 
@@ -223,7 +222,7 @@ proper_some : (name : List ℕ) → is_proper name ≡ true → same name [] ≡
 proper_some [] h = absurd (true≢false (sym h))
 proper_some (b ∷ name) h = refl
 
-pub clean_name : (path : List ℕ) → is_clean path ≡ true → has_nul path ≡ false → is_name (name_of path) ≡ true
+pub clean_name : (path : List ℕ) → is_proper_path path ≡ true → has_nul path ≡ false → is_name (name_of path) ≡ true
 clean_name path clean plain =
     let found = some_slash path (clean_slash path clean) in
     let good = clean_last path found.0 found.1 found.2 clean in
@@ -233,4 +232,4 @@ clean_name path clean plain =
   where
     no_nul : (front name : List ℕ) → has_nul (front ++ slash ∷ name) ≡ false → has_nul name ≡ false
     no_nul [] name h = h
-    no_nul (b ∷ front) name h = no_nul front name (or_none (eqb b 0) (has_nul (front ++ slash ∷ name)) h).1
+    no_nul (b ∷ front) name h = no_nul front name (or_parts (eqb b 0) (has_nul (front ++ slash ∷ name)) h).1

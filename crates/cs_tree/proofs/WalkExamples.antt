@@ -1,9 +1,10 @@
 -- Worked rows of walks, by computation.
 use Rattle.std.proofs.Common.{◌≡◌, true, false, [], ◌∷◌, Some, None, refl}
+use Rattle.cs_tree.specs.NameOrder.{are_ascending}
 use Rattle.std.specs.Prelude.{codes}
 use Rattle.cs_tree.specs.Reached.{is_left_out}
 use Rattle.cs_tree.specs.Snapshot.{folder, cut, other, bad, missing}
-use Rattle.cs_tree.specs.Walks.{trouble_at, is_file, ascend, is_among, fault_among}
+use Rattle.cs_tree.specs.Walks.{trouble_at, is_file, is_among, fault_among}
 use Rattle.cs_tree.specs.declared.fault.TreeFault.TheVariants.{Missing}
 use Rattle.cs_tree.specs.declared.walking.WalkFault.TheVariants.{Tree, Unnamed, TooLong}
 
@@ -31,10 +32,10 @@ a_link_is_no_file = refl
 a_cut_file_is_a_file : is_file (cut []) ≡ true
 a_cut_file_is_a_file = refl
 
-a_dash_comes_before_a_slash : ascend (codes "/a/b-x/f" ∷ codes "/a/b/f" ∷ codes "/a/g" ∷ []) ≡ true
+a_dash_comes_before_a_slash : are_ascending (codes "/a/b-x/f" ∷ codes "/a/b/f" ∷ codes "/a/g" ∷ []) ≡ true
 a_dash_comes_before_a_slash = refl
 
-a_name_does_not_ascend_to_itself : ascend (codes "/a" ∷ codes "/a" ∷ []) ≡ false
+a_name_does_not_ascend_to_itself : are_ascending (codes "/a" ∷ codes "/a" ∷ []) ≡ false
 a_name_does_not_ascend_to_itself = refl
 
 the_first_entry_counts : fault_among ((codes "/a", TooLong) ∷ (codes "/a", Unnamed) ∷ []) (codes "/a") ≡ Some TooLong

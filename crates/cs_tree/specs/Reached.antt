@@ -1,12 +1,15 @@
 -- What a walk of a tree finds: what it comes to from the paths that it is given, by names that are
 -- listed and not left out. docs/FORMAT.md, "Paths and names".
 use Rattle.std.specs.Prelude.{ℕ, ◌+◌, Bool, true, false, not, ◌&&◌, ◌||◌, nat_eq, nat_le, cond, if◌then◌else◌, List, [], ◌∷◌, length, drop, Option, None, option_map, filter_map}
+use Rattle.cs_tree.specs.Folders.{child, lists, name_of}
+use Rattle.cs_tree.specs.PathSet.{Paths}
+use Rattle.cs_tree.specs.NameOrder.{bytes_cmp}
 use Rattle.std.specs.List.{list_any}
 use Rattle.std.specs.FinMap as map
 use Rattle.cs_tree.specs.PathSet as set
-use Rattle.cs_tree.specs.Cover.{bytes_cmp, Paths, slash, same, covers}
+use Rattle.cs_tree.specs.Cover.{slash, same, covers}
 use Rattle.cs_tree.specs.Clean.{elements, longest_path}
-use Rattle.cs_tree.specs.Snapshot.{Snapshot, Item, file, item_at, child, lists, name_of}
+use Rattle.cs_tree.specs.Snapshot.{Snapshot, Item, file, item_at}
 
 -- ---- what is left out: a name that begins with `.`, `#` or `~`, or ends with `~`
 
@@ -49,5 +52,5 @@ module _ {X : Type 0} (read : List ℕ → Option X) where
   found_at tree paths name = cond (is_reached tree paths name && nat_le (length name) longest_path) (read_item (item_at tree name)) None
 
   -- the files that a walk comes to and that can be read, with what is read of them
-  abbrev pub found : Snapshot → Paths → map.FinMap bytes_cmp X
-  found tree paths = map.from_entries (filter_map (λ name. option_map (λ (x : X). (name, x)) (found_at tree paths name)) (map.keys tree))
+  abbrev pub files_reached : Snapshot → Paths → map.FinMap bytes_cmp X
+  files_reached tree paths = map.from_entries (filter_map (λ name. option_map (λ (x : X). (name, x)) (found_at tree paths name)) (map.keys tree))

@@ -1,11 +1,12 @@
 -- What a walk gathers on its way: from the paths that it has come to so far, on top of what it had.
 use Rattle.std.specs.Prelude.{◌≡◌, ◌<◌, ◌≤◌, ℕ, Bool, true, false, not, ◌&&◌, ◌||◌, nat_le, if◌then◌else◌, List, [], ◌∷◌, map, filter, length, is_some, Option, Some, None, string_bytes}
+use Rattle.cs_tree.specs.Folders.{child, IsTree}
 use Rattle.std.specs.List.{list_any, AllByRecursion}
 use Rattle.cs_tree.specs.Cover.{same, covers}
 use Rattle.cs_tree.specs.Clean.{longest_path}
-use Rattle.cs_tree.specs.Snapshot.{Snapshot, Item, IsTree, item_at, folder, file, cut, other, bad, child}
+use Rattle.cs_tree.specs.Snapshot.{Snapshot, Item, item_at, folder, file, cut, other, bad}
 use Rattle.cs_tree.specs.Reached.{elements_under, is_left_out, leads, reaches}
-use Rattle.cs_tree.specs.Walks.{Left, trouble_at, is_file, is_among, left_paths, names_of, faults_of, CountsFault, CountsFaults}
+use Rattle.cs_tree.specs.Walks.{Left, trouble_at, is_file, is_among, left_paths, names_walked, faults_walked, CountsFault, CountsFaults}
 use Rattle.cs_tree.specs.declared.walking.Walked.{Walked}
 use Rattle.cs_tree.specs.declared.walking.WalkFault.{WalkFault}
 use Rattle.cs_tree.specs.declared.walking.WalkFault.TheVariants.{Unnamed}
@@ -41,9 +42,9 @@ abbrev pub AreRight : Snapshot → List Left → Type 0
 AreRight tree faults = AllByRecursion (λ (left : Left). trouble_at left.0 (item_at tree left.0) ≡ Some left.1) faults
 
 pub record Gathers (tree : Snapshot) (come : List ℕ → Bool) (old new : Walked) : Type 0 where
-  pub names : Gains (names_of old) (names_of new) (λ name. come name && is_taken tree name)
-  pub paths : Gains (left_paths (faults_of old)) (left_paths (faults_of new)) (λ path. come path && is_left tree path)
-  pub right : AreRight tree (faults_of old) → AreRight tree (faults_of new)
+  pub names : Gains (names_walked old) (names_walked new) (λ name. come name && is_taken tree name)
+  pub paths : Gains (left_paths (faults_walked old)) (left_paths (faults_walked new)) (λ path. come path && is_left tree path)
+  pub right : AreRight tree (faults_walked old) → AreRight tree (faults_walked new)
 
 abbrev pub GathersIn : Option Snapshot → (Snapshot → List ℕ → Bool) → Walked → Walked → Type 0
 GathersIn None come old new = Unit {0}
@@ -51,7 +52,7 @@ GathersIn (Some tree) come old new = IsTree tree → Gathers tree (come tree) ol
 
 -- where each fault was counted from a start on, each is still
 abbrev pub KeepsCounts : ℕ → ℕ → Walked → Walked → Type 0
-KeepsCounts count later old new = (start : ℕ) → start ≤ count → CountsFaults (faults_of old) start count → CountsFaults (faults_of new) start later
+KeepsCounts count later old new = (start : ℕ) → start ≤ count → CountsFaults (faults_walked old) start count → CountsFaults (faults_walked new) start later
 
 -- ---- what is seen at one path
 

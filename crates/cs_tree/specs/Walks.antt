@@ -1,14 +1,18 @@
 -- What a walk finds below its paths: the files that it comes to, and why other paths are left.
 -- docs/FORMAT.md, "Paths and names".
-use Rattle.std.specs.Prelude.{◌≡◌, ◌⊎◌, ◌<◌, ◌≤◌, ℕ, Bool, true, false, ◌&&◌, nat_le, if◌then◌else◌, List, [], ◌∷◌, map, length, Option, Some, None, String, string_bytes}
-use Rattle.std.specs.List.{list_any, AllByRecursion}
-use Rattle.std.specs.Ordering.{is_lt}
+use Rattle.std.specs.Prelude.{◌≡◌, ◌≤◌, ℕ, Bool, true, false, ◌&&◌, nat_le, if◌then◌else◌, List, [], ◌∷◌, map, length, Option, Some, None, String, string_bytes}
+use Rattle.cs_tree.specs.Failures.{HasFailed}
+use Rattle.cs_tree.specs.TreeAnswers.{fault_of}
+use Rattle.cs_tree.specs.Folders.{child, lists, IsTree, name_of}
+use Rattle.cs_tree.specs.PathSet.{Paths}
+use Rattle.cs_tree.specs.NameOrder.{are_ascending}
+use Rattle.std.specs.List.{AllByRecursion}
 use Rattle.std.specs.declared.alloc.Global.{Global}
 use Rattle.cs_tree.specs.PathSet as set
-use Rattle.cs_tree.specs.Cover.{bytes_cmp, Paths, same}
+use Rattle.cs_tree.specs.Cover.{same}
+pub use Rattle.cs_tree.specs.Cover.{is_among}
 use Rattle.cs_tree.specs.Clean.{longest_path}
-use Rattle.cs_tree.specs.Snapshot.{Snapshot, Item, IsTree, item_at, folder, file, cut, other, bad, lists, child, name_of}
-use Rattle.cs_tree.specs.Trees.{fault_of}
+use Rattle.cs_tree.specs.Snapshot.{Snapshot, Item, item_at, folder, file, cut, other, bad}
 use Rattle.cs_tree.specs.Reached.{is_left_out, is_reached}
 use Rattle.cs_tree.specs.declared.walking.Walked.{Walked}
 use Rattle.cs_tree.specs.declared.walking.WalkFault.{WalkFault}
@@ -58,15 +62,6 @@ fault_at tree paths path = if is_reached tree paths path then trouble_at path (i
 abbrev pub Left : Type 0
 Left = List ℕ × WalkFault
 
--- each name is below the next one
-abbrev pub ascend : List (List ℕ) → Bool
-ascend [] = true
-ascend (a ∷ []) = true
-ascend (a ∷ b ∷ names) = is_lt (bytes_cmp a b) && ascend (b ∷ names)
-
-abbrev pub is_among : List (List ℕ) → List ℕ → Bool
-is_among names name = list_any (λ one. same one name) names
-
 -- why the path is left, by the first entry that has it
 abbrev pub fault_among : List Left → List ℕ → Option WalkFault
 fault_among [] path = None
@@ -78,9 +73,9 @@ left_paths faults = map (λ (left : Left). left.0) faults
 -- The names are those that a walk finds, and the faults those of the paths that it leaves, each once
 -- and in order.
 pub record Finds (tree : Snapshot) (paths : Paths) (names : List (List ℕ)) (faults : List Left) : Type 0 where
-  pub names_ascend : ascend names ≡ true
+  pub names_ascend : are_ascending names ≡ true
   pub names_are : (name : List ℕ) → is_among names name ≡ is_found tree paths name
-  pub faults_ascend : ascend (left_paths faults) ≡ true
+  pub faults_ascend : are_ascending (left_paths faults) ≡ true
   pub faults_are : (path : List ℕ) → fault_among faults path ≡ fault_at tree paths path
 
 -- Where a tree tells nothing, nothing is asked.
@@ -89,10 +84,6 @@ FindsIn None paths names faults = Unit {0}
 FindsIn (Some tree) paths names faults = IsTree tree → Finds tree paths names faults
 
 -- ---- what is counted
-
--- some call has failed: the count of failures rose, or stands at its end
-abbrev pub HasFailed : ℕ → ℕ → Type 0
-HasFailed old new = (old < new) ⊎ (18446744073709551615 ≤ new)
 
 -- a fault of the tree was counted
 abbrev pub CountsFault : WalkFault → ℕ → ℕ → Type 0
@@ -108,8 +99,8 @@ CountsFaults faults old new = AllByRecursion (λ (left : Left). CountsFault left
 abbrev pub left_entry : String Global × WalkFault → Left
 left_entry entry = (string_bytes entry.0, entry.1)
 
-abbrev pub names_of : Walked → List (List ℕ)
-names_of walked = map string_bytes walked.names.items
+abbrev pub names_walked : Walked → List (List ℕ)
+names_walked walked = map string_bytes walked.names.items
 
-abbrev pub faults_of : Walked → List Left
-faults_of walked = map left_entry walked.faults.items
+abbrev pub faults_walked : Walked → List Left
+faults_walked walked = map left_entry walked.faults.items

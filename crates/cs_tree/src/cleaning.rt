@@ -1,8 +1,10 @@
 // Paths made absolute and clean.
 ghost use Rattle.std.specs.Prelude.{◌≡◌, ◌≤◌, ◌↔◌, ◌||◌, ◌∷◌, [], true, false, IsTrue, reverse, map, string_bytes, length, vec_len, OnOk, OnErr, IfOk};
-ghost use Rattle.cs_tree.specs.Cover.{begins, same, slash};
-ghost use Rattle.cs_tree.specs.Clean.{absolute, cleaned, elements, stepped, steps, path_of, longest_path, has_nul as has_nul', is_clean as is_clean'};
-ghost use Rattle.cs_tree.specs.Cleaning.{clean_fault, parts_fault, parts_path, CleanAnswers, IsSettled, texts};
+ghost use Rattle.cs_tree.specs.CleanAnswers.{CleanAnswers};
+ghost use Rattle.cs_tree.specs.Cover.{begins, slash};
+ghost use Rattle.cs_tree.specs.Clean.{absolute, clean_path, elements, with_element, steps, path_of, longest_path, has_nul as has_nul'};
+ghost use Rattle.cs_tree.specs.Cleaning.{clean_fault, is_settled as is_settled'};
+ghost use Rattle.cs_tree.specs.PathParts.{parts_fault, parts_path, texts};
 ghost use Rattle.cs_tree.specs.declared.cleaning.PathFault.TheVariants as path;
 
 use crate::paths::{has_nul, is_absolute, is_clean};
@@ -41,7 +43,7 @@ impl From<AllocError> for PathFault {
 /// without empty elements and `.`, and without `..` and the element before it.
 pub fn clean(alloc: Global, folder: &str, text: &str) -> Result<String, PathFault>
     requires { begins (slash ∷ []) folder.now ≡ true }
-    ensures ok { IfOk result (λ path. string_bytes path ≡ cleaned folder.now text.now) }
+    ensures ok { IfOk result (λ path. string_bytes path ≡ clean_path folder.now text.now) }
     ensures answer { CleanAnswers (clean_fault folder.now text.now) result }
 {
     if text.is_empty() {
@@ -75,12 +77,13 @@ fn clean_path(alloc: Global, folder: &str, text: &str) -> Result<String, AllocEr
     let mut above = Vec::new(alloc);
     step_all(&mut above, folder)?;
     step_all(&mut above, text)?;
-    joined(alloc, &above)
+    path_from(alloc, &above)
 }
 
 /// Goes on by each element of a text.
 fn step_all<'a>(above: &mut Vec<&'a str>, text: &'a str) -> Result<(), AllocError>
-    ensures { OnOk result (reverse (texts above.new.items) ≡ steps (reverse (texts above.old.items)) (elements text.now)) }
+    ensures { OnOk result (reverse (texts above.new.items)
+        ≡ steps (reverse (texts above.old.items)) (elements text.now)) }
 {
     let mut rest = text;
     'elements: while let Some((element, later)) = rest.split_once('/') {
@@ -92,7 +95,8 @@ fn step_all<'a>(above: &mut Vec<&'a str>, text: &'a str) -> Result<(), AllocErro
 
 /// Goes on by one element.
 fn step<'a>(above: &mut Vec<&'a str>, element: &'a str) -> Result<(), AllocError>
-    ensures { OnOk result (reverse (texts above.new.items) ≡ stepped (reverse (texts above.old.items)) element.now) }
+    ensures { OnOk result (reverse (texts above.new.items)
+        ≡ with_element (reverse (texts above.old.items)) element.now) }
 {
     if element == ".." {
         let _last = above.pop();
@@ -103,7 +107,7 @@ fn step<'a>(above: &mut Vec<&'a str>, element: &'a str) -> Result<(), AllocError
 }
 
 /// The path of elements.
-fn joined(alloc: Global, above: &[&str]) -> Result<String, AllocError>
+fn path_from(alloc: Global, above: &[&str]) -> Result<String, AllocError>
     ensures { IfOk result (λ path. string_bytes path ≡ path_of (reverse (texts above.now))) }
 {
     if above.is_empty() {
@@ -117,11 +121,11 @@ fn joined(alloc: Global, above: &[&str]) -> Result<String, AllocError>
     Ok(path)
 }
 
-/// Whether cleaning takes the path and leaves it as it is, whatever the folder is. Takes no memory.
+/// Whether cleaning takes the path and leaves it as it is, from whatever folder. Takes no memory.
 pub fn is_settled(path: &str) -> bool
-    ensures { IsTrue result ↔ IsSettled path.now }
+    ensures { result ≡ is_settled' path.now }
 {
-    is_whole(path) && is_root_or_clean(path)
+    is_whole(path) && is_clean(path)
 }
 
 /// Whether the path has no NUL, and is short enough.
@@ -129,10 +133,4 @@ fn is_whole(path: &str) -> bool
     ensures { IsTrue result ↔ ((has_nul' path.now ≡ false) × (length path.now ≤ longest_path)) }
 {
     !has_nul(path) && path.len() <= LONGEST_PATH
-}
-
-fn is_root_or_clean(path: &str) -> bool
-    ensures { result ≡ (same path.now (slash ∷ []) || is_clean' path.now) }
-{
-    path == "/" || is_clean(path)
 }

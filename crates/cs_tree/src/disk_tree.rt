@@ -1,8 +1,7 @@
 // The real disk as a tree.
 ghost use Rattle.std.specs.Prelude.{◌≡◌, ◌≤◌, ℕ, IfOk, length, map, string_bytes, None};
+ghost use Rattle.cs_tree.specs.NameOrder.{bytes_cmp};
 ghost use Rattle.std.specs.List.Sorted.{IsStrictlySortedBy};
-ghost use Rattle.cs_tree.specs.PathSet.{bytes_cmp};
-ghost use Rattle.cs_tree.specs.Trees.{tree_counted};
 
 use crate::fault::{TreeFault, counted_answer};
 use crate::tree::{Kind, Listing, Tree};

@@ -1,10 +1,13 @@
 // The items of a tree in memory.
 ghost use Rattle.std.specs.Prelude.{◌≡◌, ◌≢◌, ◌<◌, ◌∷◌, [], string_bytes, true, false, ◌&&◌, ◌||◌, not, ℕ, Option, Some, None, Ok, Err, MatchOption, MatchResult, OnOk, OnErr, map, filter, vec_len, vec_capacity, IfOk};
+ghost use Rattle.cs_tree.specs.TreeAnswers.{opening_of};
+ghost use Rattle.cs_tree.specs.Folders.{is_name};
 ghost use Rattle.std.specs.List.{list_any};
 ghost use Rattle.std.specs.FinMap as map';
-ghost use Rattle.cs_tree.specs.Snapshot.{item_at, is_name, is_folder as is_folder', has_entries as has_entries', unlisting, listing, goes_with as goes_with'};
-ghost use Rattle.cs_tree.specs.Trees.{kind_of, listing_of, listed, answered, OrMemory, opening_of, OpenedAs};
-ghost use Rattle.cs_tree.specs.Stored.{item_of, item_put, place_at, pair_of, snapshot_of, left_at, left_of, unlisted_pair};
+ghost use Rattle.cs_tree.specs.Snapshot.{item_at};
+ghost use Rattle.cs_tree.specs.Changes.{is_folder as is_folder', has_entries as has_entries', unlisting, with_name, goes_with as goes_with'};
+ghost use Rattle.cs_tree.specs.Trees.{listing_told, answered, OrMemory, kind_of, listing_of};
+ghost use Rattle.cs_tree.specs.Stored.{item_of, item_put, place_at, pair_of, snapshot_of, left_at, left_of, unlisted_pair, IsOpening};
 
 use crate::fault::TreeFault;
 use crate::mem_tree::Item;
@@ -15,7 +18,7 @@ use std::alloc::{AllocError, Global};
 
 impl StoredItem {
     /// What is stored of an item. A folder lists nothing.
-    pub fn new(alloc: Global, item: Item) -> StoredItem
+    pub(crate) fn new(alloc: Global, item: Item) -> StoredItem
         ensures { item_of result ≡ item_put item }
     {
         match item {
@@ -27,15 +30,15 @@ impl StoredItem {
         }
     }
 
-    pub fn is_folder(&self) -> bool
+    pub(crate) fn is_folder(&self) -> bool
         ensures { result ≡ is_folder' (item_of self.now) }
     {
         matches!(self, StoredItem::Folder(_))
     }
 
     /// Whether it opens as a file.
-    pub fn opened(&self) -> Result<(), TreeFault>
-        ensures { MatchResult result (λ _. OpenedAs (opening_of (item_of self.now)) (left_of 0 self.now)) (λ fault. (fault ≢ TreeFault.Memory) × (opening_of (item_of self.now) ≡ Err fault)) }
+    fn opened(&self) -> Result<(), TreeFault>
+        ensures { IsOpening (opening_of (item_of self.now)) (λ _. left_of 0 self.now) result }
     {
         match self {
             StoredItem::File(_) | StoredItem::Cut(_) => Ok(()),
@@ -44,7 +47,7 @@ impl StoredItem {
         }
     }
 
-    pub fn has_entries(&self) -> bool
+    fn has_entries(&self) -> bool
         ensures { result ≡ has_entries' (item_of self.now) }
     {
         match self {
@@ -56,9 +59,10 @@ impl StoredItem {
 
 impl Stored {
     /// Lists no longer what the path covers.
-    pub fn unlist(&mut self, path: &str)
+    fn unlist(&mut self, path: &str)
         ensures path { self.new.path ≡ self.old.path }
-        ensures item { item_of self.new.item ≡ unlisting path.now (string_bytes self.old.path) (item_of self.old.item) }
+        ensures item { item_of self.new.item
+            ≡ unlisting path.now (string_bytes self.old.path) (item_of self.old.item) }
     {
         if let StoredItem::Folder(names) = &mut self.item {
             names.remove(self.path.as_str(), path);
@@ -74,8 +78,10 @@ fn place_of(items: &[Stored], path: &str) -> Option<usize>
 }
 
 /// What stands at a path.
-pub(crate) fn find_item<'a>(items: &'a [Stored], path: &str) -> Option<&'a StoredItem>
-    ensures { MatchOption result (map'.get (snapshot_of items.now) path.now ≡ None) (λ item. map'.get (snapshot_of items.now) path.now ≡ Some (item_of item.now)) }
+fn find_item<'a>(items: &'a [Stored], path: &str) -> Option<&'a StoredItem>
+    ensures { MatchOption result
+        (map'.get (snapshot_of items.now) path.now ≡ None)
+        (λ item. map'.get (snapshot_of items.now) path.now ≡ Some (item_of item.now)) }
 {
     match place_of(items, path) {
         Some(at) => Some(&items[at].item),
@@ -109,7 +115,8 @@ pub(crate) fn kind_at(items: &[Stored], path: &str) -> Result<Kind, TreeFault>
 
 /// What `entries` answers.
 pub(crate) fn listing_at(alloc: Global, items: &[Stored], path: &str) -> Result<Listing, TreeFault>
-    ensures { OrMemory (answered listed result) (listing_of (item_at (snapshot_of items.now) path.now)) }
+    ensures { OrMemory (answered listing_told result)
+        (listing_of (item_at (snapshot_of items.now) path.now)) }
 {
     match find_item(items, path) {
         Some(StoredItem::Folder(names)) => Ok(Listing {
@@ -124,7 +131,8 @@ pub(crate) fn listing_at(alloc: Global, items: &[Stored], path: &str) -> Result<
 
 /// Which file `open` opens.
 pub(crate) fn opening_at(items: &[Stored], path: &str) -> Result<usize, TreeFault>
-    ensures { MatchResult result (λ at. OpenedAs (opening_of (item_at (snapshot_of items.now) path.now)) (left_at items.now 0 (Some at))) (λ fault. (fault ≢ TreeFault.Memory) × (opening_of (item_at (snapshot_of items.now) path.now) ≡ Err fault)) }
+    ensures { IsOpening (opening_of (item_at (snapshot_of items.now) path.now))
+        (λ at. left_at items.now 0 (Some at)) result }
 {
     let Some(at) = place_of(items, path) else {
         return Err(TreeFault::Missing);
@@ -144,9 +152,11 @@ pub(crate) fn list_in(
 ) -> Result<(), AllocError>
     requires name { is_name name.now ≡ true }
     requires folder { is_folder' (item_at (snapshot_of items.old.items) folder.now) ≡ true }
-    ensures ok { OnOk result (snapshot_of items.new.items ≡ map'.insert (snapshot_of items.old.items) folder.now (listing name.now (item_at (snapshot_of items.old.items) folder.now))) }
+    ensures ok { OnOk result (snapshot_of items.new.items
+        ≡ with_name (snapshot_of items.old.items) folder.now name.now) }
     ensures err { OnErr result (snapshot_of items.new.items ≡ snapshot_of items.old.items) }
-    ensures files { (taken : ℕ) (opened : Option ℕ) → left_at items.new.items taken opened ≡ left_at items.old.items taken opened }
+    ensures files { (taken : ℕ) (opened : Option ℕ)
+        → left_at items.new.items taken opened ≡ left_at items.old.items taken opened }
     ensures len { vec_len items.new ≡ vec_len items.old }
     ensures capacity { vec_capacity items.new ≡ vec_capacity items.old }
 {
@@ -163,7 +173,9 @@ pub(crate) fn list_in(
 /// Puts an item in the place of what stands at its path, or behind the others.
 pub(crate) fn place(items: &mut Vec<Stored>, stored: Stored)
     requires { vec_len items.old < vec_capacity items.old }
-    ensures { snapshot_of items.new.items ≡ map'.insert (snapshot_of items.old.items) (string_bytes stored.path) (item_of stored.item) }
+    ensures { snapshot_of items.new.items
+        ≡ map'.insert (snapshot_of items.old.items) (string_bytes stored.path)
+        (item_of stored.item) }
 {
     match place_of(items, stored.path.as_str()) {
         Some(at) => items[at] = stored,
@@ -180,7 +192,8 @@ fn goes_with(path: &str, at: &str) -> bool
 
 /// Whether something is taken away with the path.
 pub(crate) fn any_goes(items: &[Stored], path: &str) -> bool
-    ensures { result ≡ list_any (λ stored. goes_with' path.now (string_bytes stored.path)) items.now }
+    ensures { result
+        ≡ list_any (λ stored. goes_with' path.now (string_bytes stored.path)) items.now }
 {
     items
         .iter()
@@ -189,14 +202,16 @@ pub(crate) fn any_goes(items: &[Stored], path: &str) -> bool
 
 /// Takes away what goes with the path.
 pub(crate) fn drop_below(items: &mut Vec<Stored>, path: &str)
-    ensures { items.new.items ≡ filter (λ stored. not (goes_with' path.now (string_bytes stored.path))) items.old.items }
+    ensures { items.new.items
+        ≡ filter (λ stored. not (goes_with' path.now (string_bytes stored.path))) items.old.items }
 {
     items.retain(|stored| !goes_with(path, stored.path.as_str()));
 }
 
 /// Has no folder list what the path covers.
 pub(crate) fn unlist_all(items: &mut Vec<Stored>, path: &str)
-    ensures { map pair_of items.new.items ≡ map (unlisted_pair path.now) (map pair_of items.old.items) }
+    ensures { map pair_of items.new.items
+        ≡ map (unlisted_pair path.now) (map pair_of items.old.items) }
 {
     for i in 0..items.len() {
         items[i].unlist(path);

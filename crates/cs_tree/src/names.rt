@@ -1,8 +1,9 @@
 // The names that a folder in memory lists.
 ghost use Rattle.std.specs.Prelude.{◌≡◌, ◌++◌, [], ◌∷◌, true, not, map, filter, string_bytes, length, nat_eq, OnOk, OnErr, IfOk, if◌then◌else◌};
+ghost use Rattle.cs_tree.specs.Folders.{is_name};
 ghost use Rattle.std.specs.List.{list_any};
-ghost use Rattle.cs_tree.specs.Cover.{same, begins, slash, covers as covers'};
-ghost use Rattle.cs_tree.specs.Snapshot.{is_name, child};
+ghost use Rattle.cs_tree.specs.Cover.{same, begins, slash};
+ghost use Rattle.cs_tree.specs.Changes.{names_with, names_left};
 ghost use Rattle.cs_tree.specs.Stored.{listed_names};
 
 use crate::paths::{covers, is_child};
@@ -10,7 +11,7 @@ use crate::stored::Names;
 use std::alloc::{AllocError, Global};
 
 impl Names {
-    pub fn new(alloc: Global) -> Names
+    pub(crate) fn new(alloc: Global) -> Names
         ensures { listed_names result ≡ [] }
     {
         Names {
@@ -18,22 +19,24 @@ impl Names {
         }
     }
 
-    pub fn is_empty(&self) -> bool
+    pub(crate) fn is_empty(&self) -> bool
         ensures { result ≡ nat_eq (length (listed_names self.now)) 0 }
     {
         self.list.is_empty()
     }
 
     fn lists(&self, name: &str) -> bool
-        ensures { result ≡ list_any (λ listed. same (string_bytes listed) name.now) self.now.list.items }
+        ensures { result
+            ≡ list_any (λ listed. same (string_bytes listed) name.now) self.now.list.items }
     {
         self.list.iter().any(|listed| listed.as_str() == name)
     }
 
     /// Lists the name, unless it does already.
-    pub fn add(&mut self, alloc: Global, name: &str) -> Result<(), AllocError>
+    pub(crate) fn add(&mut self, alloc: Global, name: &str) -> Result<(), AllocError>
         requires { is_name name.now ≡ true }
-        ensures ok { OnOk result (listed_names self.new ≡ (if list_any (λ listed. same listed name.now) (listed_names self.old) then listed_names self.old else listed_names self.old ++ name.now ∷ [])) }
+        ensures ok { OnOk result (listed_names self.new
+            ≡ names_with name.now (listed_names self.old)) }
         ensures err { OnErr result (listed_names self.new ≡ listed_names self.old) }
     {
         if self.lists(name) {
@@ -45,9 +48,10 @@ impl Names {
     }
 
     /// Takes away each name under which the folder lists what the path covers.
-    pub fn remove(&mut self, folder: &str, path: &str)
+    pub(crate) fn remove(&mut self, folder: &str, path: &str)
         requires { begins (slash ∷ []) folder.now ≡ true }
-        ensures { listed_names self.new ≡ filter (λ name. not (covers' path.now (child folder.now name))) (listed_names self.old) }
+        ensures { listed_names self.new
+            ≡ names_left path.now folder.now (listed_names self.old) }
     {
         if covers(path, folder) {
             self.list.clear();
@@ -58,7 +62,7 @@ impl Names {
     }
 
     /// The names, in their order.
-    pub fn copied(&self, alloc: Global) -> Result<Vec<String>, AllocError>
+    pub(crate) fn copied(&self, alloc: Global) -> Result<Vec<String>, AllocError>
         ensures { IfOk result (λ names. map string_bytes names.items ≡ listed_names self.now) }
     {
         let mut names = Vec::new(alloc);

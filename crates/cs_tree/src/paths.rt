@@ -1,8 +1,11 @@
 // What a path covers, and the elements of a path.
 ghost use Rattle.std.specs.Prelude.{◌≡◌, ◌≢◌, ◌++◌, ◌∷◌, [], true, false, MatchOption, IsTrue, ◌↔◌, List, ℕ, length, ◌<◌, ◌&&◌, not};
-ghost use Rattle.cs_tree.specs.Cover.{covers as covers', ends_element as ends_element', same, begins, slash};
-ghost use Rattle.cs_tree.specs.Snapshot.{child, stem_of, name_of, parent_of};
-ghost use Rattle.cs_tree.specs.Clean.{is_clean as is_clean', is_proper as is_proper', has_nul as has_nul'};
+ghost use Rattle.cs_tree.specs.Covering.{ends_element as ends_element'};
+ghost use Rattle.cs_tree.specs.Folders.{stem_of, child, name_of};
+ghost use Rattle.cs_tree.specs.Cover.{covers as covers', same, begins, slash};
+ghost use Rattle.cs_tree.specs.Changes.{parent_of};
+ghost use Rattle.cs_tree.specs.Clean.{is_clean as is_clean', has_nul as has_nul'};
+ghost use Rattle.cs_tree.specs.Proper.{is_proper as is_proper', is_proper_path as is_proper_path'};
 
 /// Whether the path covers the name: it is the name, the name lies below it, or it is the root and
 /// the name begins with `/`. Both are compared by their bytes. Takes no memory.
@@ -40,7 +43,9 @@ pub(crate) fn is_child(path: &str, folder: &str, name: &str) -> bool
 
 /// The path without the folder's text at its front, where the root has none.
 fn after_folder<'a>(path: &'a str, folder: &str) -> Option<&'a [u8]>
-    ensures { MatchOption result ((rest : List ℕ) → path.now ≢ stem_of folder.now ++ rest) (λ rest. path.now ≡ stem_of folder.now ++ rest.now) }
+    ensures { MatchOption result
+        ((rest : List ℕ) → path.now ≢ stem_of folder.now ++ rest)
+        (λ rest. path.now ≡ stem_of folder.now ++ rest.now) }
 {
     if folder == "/" {
         return Some(path.as_bytes());
@@ -49,15 +54,23 @@ fn after_folder<'a>(path: &'a str, folder: &str) -> Option<&'a [u8]>
 }
 
 /// Whether the element is not empty, and neither `.` nor `..`.
-pub(crate) fn is_proper(element: &str) -> bool
+fn is_proper(element: &str) -> bool
     ensures { result ≡ is_proper' element.now }
 {
     !(element.is_empty() || element == ".") && element != ".."
 }
 
-/// Whether the path is absolute and below the root, and each of its elements is proper.
+/// Whether cleaning leaves the path as it is: it is the root, or its elements are proper. Takes no
+/// memory.
 pub(crate) fn is_clean(path: &str) -> bool
     ensures { result ≡ is_clean' path.now }
+{
+    path == "/" || is_proper_path(path)
+}
+
+/// Whether the path begins with a slash, and has proper elements alone after it.
+fn is_proper_path(path: &str) -> bool
+    ensures { result ≡ is_proper_path' path.now }
 {
     let Some(mut rest) = path.strip_prefix('/') else {
         return false;
@@ -89,7 +102,9 @@ pub(crate) fn has_nul(text: &str) -> bool
 
 /// The folder that a path stands in, and its name there.
 pub(crate) fn split_name(path: &str) -> Option<(&str, &str)>
-    ensures { MatchOption result (is_clean' path.now ≡ false) (λ parts. (parts.0.now ≡ parent_of path.now) × (parts.1.now ≡ name_of path.now)) }
+    ensures { MatchOption result
+        (is_clean' path.now ≡ false)
+        (λ parts. (parts.0.now ≡ parent_of path.now) × (parts.1.now ≡ name_of path.now)) }
 {
     let Some((front, name)) = path.rsplit_once('/') else {
         return None;

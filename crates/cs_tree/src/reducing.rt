@@ -1,11 +1,12 @@
 // Which of some paths are left when those that others cover are taken away.
 ghost use Rattle.std.specs.Prelude.{◌≡◌, ◌∷◌, [], ◌&&◌, not, map, filter, string_bytes, IfOk};
+ghost use Rattle.cs_tree.specs.NameOrder.{bytes_cmp};
 ghost use Rattle.std.specs.List.{list_any};
 ghost use Rattle.std.specs.List.Sorted.{IsStrictlySortedBy};
-ghost use Rattle.cs_tree.specs.Cover.{begins, bytes_cmp, least, same, slash};
-ghost use Rattle.cs_tree.specs.Cleaning.{texts};
+ghost use Rattle.cs_tree.specs.Cover.{begins, is_among, least_of, same, slash};
+ghost use Rattle.cs_tree.specs.PathParts.{texts};
 ghost use Rattle.cs_tree.specs.PathSet as set;
-ghost use Rattle.cs_tree.specs.Reducing.{other_covers, lies_below};
+ghost use Rattle.cs_tree.specs.Reducing.{other_covers, lies_below, paths_alone};
 
 use crate::paths::is_absolute;
 use std::alloc::{AllocError, Global};
@@ -13,7 +14,8 @@ use std::alloc::{AllocError, Global};
 /// The paths that no other one covers, ascending and each once. Any texts are taken, also such as are
 /// not clean.
 pub fn reduce(alloc: Global, paths: &[String]) -> Result<Vec<String>, AllocError>
-    ensures { IfOk result (λ kept. map string_bytes kept.items ≡ set.items (least (set.from_list (map string_bytes paths.now)))) }
+    ensures { IfOk result (λ kept. map string_bytes kept.items
+        ≡ least_of (map string_bytes paths.now)) }
 {
     let ordered = in_order(alloc, paths)?;
     uncovered(alloc, &ordered)
@@ -21,7 +23,8 @@ pub fn reduce(alloc: Global, paths: &[String]) -> Result<Vec<String>, AllocError
 
 /// The paths ascending, each once.
 fn in_order(alloc: Global, paths: &[String]) -> Result<Vec<&str>, AllocError>
-    ensures { IfOk result (λ ordered. texts ordered.items ≡ set.items (set.from_list (map string_bytes paths.now))) }
+    ensures { IfOk result (λ ordered. texts ordered.items
+        ≡ set.items (set.from_list (map string_bytes paths.now))) }
 {
     let mut ordered = lent(alloc, paths)?;
     ordered.sort_unstable();
@@ -43,7 +46,8 @@ fn lent(alloc: Global, paths: &[String]) -> Result<Vec<&str>, AllocError>
 /// Those of the paths that no other one covers.
 fn uncovered(alloc: Global, ordered: &[&str]) -> Result<Vec<String>, AllocError>
     requires { IsStrictlySortedBy bytes_cmp (texts ordered.now) }
-    ensures { IfOk result (λ kept. map string_bytes kept.items ≡ filter (λ path. not (list_any (other_covers path) (texts ordered.now))) (texts ordered.now)) }
+    ensures { IfOk result (λ kept. map string_bytes kept.items
+        ≡ paths_alone (texts ordered.now)) }
 {
     let mut kept = Vec::new(alloc);
     for path in ordered {
@@ -91,7 +95,7 @@ fn is_below_one(ordered: &[&str], path: &str) -> bool
 /// Whether the path is one of the paths.
 fn is_listed(ordered: &[&str], path: &str) -> bool
     requires { IsStrictlySortedBy bytes_cmp (texts ordered.now) }
-    ensures { result ≡ list_any (λ other. same other path.now) (texts ordered.now) }
+    ensures { result ≡ is_among (texts ordered.now) path.now }
 {
     ordered.binary_search(&path).is_ok()
 }

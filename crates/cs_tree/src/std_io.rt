@@ -1,6 +1,8 @@
 // The system's readers and writers, by std's `Read` and `Write`.
 ghost use Rattle.std.specs.Prelude.{◌≡◌, ◌≢◌, ◌≤◌, ◌<◌, ℕ, List, [], Option, None, Err, IfOk, length};
-ghost use Rattle.cs_tree.specs.Told.{Told, Reads, Writes, Grows, counted};
+ghost use Rattle.cs_tree.specs.Transfers.{ReadGives, Writes, is_io_failure};
+ghost use Rattle.cs_tree.specs.Failures.{count_after};
+ghost use Rattle.cs_tree.specs.Told.{Told, Grows};
 
 use crate::fault::{IoFault, io_failure};
 use crate::sink::Sink;
@@ -31,7 +33,8 @@ impl<R: Read + Drop> Source for StdSource<R> {
 
     fn read(&mut self, buf: &mut [u8]) -> Result<usize, IoFault>
         ensures within { IfOk result (λ n. n ≤ length buf.new) }
-        ensures failed { self.new.failed ≡ counted result self.old.failed }
+        ensures failed { ⟦<StdSource<R> as Source>⟧.failed self.new
+            ≡ count_after is_io_failure result (⟦<StdSource<R> as Source>⟧.failed self.old) }
         ensures no_memory { result ≢ Err IoFault.Memory }
     {
         match self.inner.read(buf) {
@@ -67,7 +70,8 @@ impl<W: Write + Drop> Sink for StdSink<W> {
     fn write(&mut self, buf: &[u8]) -> Result<usize, IoFault>
         ensures within { IfOk result (λ n. n ≤ length buf.now) }
         ensures some { IfOk result (λ n. 0 < length buf.now → 0 < n) }
-        ensures failed { self.new.failed ≡ counted result self.old.failed }
+        ensures failed { ⟦<StdSink<W> as Sink>⟧.failed self.new
+            ≡ count_after is_io_failure result (⟦<StdSink<W> as Sink>⟧.failed self.old) }
         ensures no_memory { result ≢ Err IoFault.Memory }
     {
         match self.inner.write(buf) {
@@ -77,7 +81,8 @@ impl<W: Write + Drop> Sink for StdSink<W> {
     }
 
     fn flush(&mut self) -> Result<(), IoFault>
-        ensures failed { self.new.failed ≡ counted result self.old.failed }
+        ensures failed { ⟦<StdSink<W> as Sink>⟧.failed self.new
+            ≡ count_after is_io_failure result (⟦<StdSink<W> as Sink>⟧.failed self.old) }
         ensures no_memory { result ≢ Err IoFault.Memory }
     {
         match self.inner.flush() {

@@ -1,9 +1,10 @@
 // What stands below paths.
 ghost use Rattle.std.specs.Prelude.{◌≡◌, ◌≢◌, ◌≤◌, ◌++◌, ℕ, List, true, map, string_bytes, OnOk, IfOk, MatchResult, Contains};
+ghost use Rattle.cs_tree.specs.Folders.{child, name_of};
+ghost use Rattle.cs_tree.specs.NameOrder.{are_ascending};
 ghost use Rattle.cs_tree.specs.PathSet as set;
-ghost use Rattle.cs_tree.specs.Snapshot.{child, name_of};
 ghost use Rattle.cs_tree.specs.Reached.{reaches, is_left_out as is_left_out', ends_in_tilde as ends_in_tilde'};
-ghost use Rattle.cs_tree.specs.Walks.{FindsIn, Left, CountsFaults, ascend, is_among, left_entry, left_paths, names_of, faults_of};
+ghost use Rattle.cs_tree.specs.Walks.{FindsIn, Left, CountsFaults, is_among, left_entry, left_paths, names_walked, faults_walked};
 ghost use Rattle.cs_tree.specs.Visits.{GathersIn, KeepsCounts, ShowsIn, CountsSight, IsEntered, comes, reaches_by, is_file_seen, fault_seen, names_seen, children, named_if, left_if, is_walked as is_walked'};
 
 use crate::cleaning::LONGEST_PATH;
@@ -48,10 +49,13 @@ enum Sight {
 /// asked once at each path that is come to, and each folder is listed once, for each path that covers
 /// it. Refused for want of memory alone, the tree's too.
 pub fn walk<T: Tree>(alloc: Global, tree: &mut T, paths: &[String]) -> Result<Walked, AllocError>
-    ensures finds { IfOk result (λ walked. FindsIn (T.snapshot tree.old) (set.from_list (map string_bytes paths.now)) (names_of walked) (faults_of walked)) }
-    ensures names_ascend { IfOk result (λ walked. ascend (names_of walked) ≡ true) }
-    ensures faults_ascend { IfOk result (λ walked. ascend (left_paths (faults_of walked)) ≡ true) }
-    ensures counted { IfOk result (λ walked. CountsFaults (faults_of walked) (T.failed tree.old) (T.failed tree.new)) }
+    ensures finds { IfOk result (λ walked. FindsIn (T.snapshot tree.old)
+        (set.from_list (map string_bytes paths.now)) (names_walked walked) (faults_walked walked)) }
+    ensures names_ascend { IfOk result (λ walked. are_ascending (names_walked walked) ≡ true) }
+    ensures faults_ascend { IfOk result
+        (λ walked. are_ascending (left_paths (faults_walked walked)) ≡ true) }
+    ensures counted { IfOk result
+        (λ walked. CountsFaults (faults_walked walked) (T.failed tree.old) (T.failed tree.new)) }
     ensures rises { T.failed tree.old ≤ T.failed tree.new }
     ensures keeps { T.snapshot tree.new ≡ T.snapshot tree.old }
 {
@@ -72,8 +76,10 @@ fn visit_all<T: Tree>(
     paths: &[String],
     walked: &mut Walked,
 ) -> Result<(), AllocError>
-    ensures gathers { OnOk result (GathersIn (T.snapshot tree.old) (λ told. reaches_by told (map string_bytes paths.now)) walked.old walked.new) }
-    ensures counted { OnOk result (KeepsCounts (T.failed tree.old) (T.failed tree.new) walked.old walked.new) }
+    ensures gathers { OnOk result (GathersIn (T.snapshot tree.old)
+        (λ told. reaches_by told (map string_bytes paths.now)) walked.old walked.new) }
+    ensures counted { OnOk result
+        (KeepsCounts (T.failed tree.old) (T.failed tree.new) walked.old walked.new) }
     ensures rises { T.failed tree.old ≤ T.failed tree.new }
     ensures keeps { T.snapshot tree.new ≡ T.snapshot tree.old }
 {
@@ -90,8 +96,10 @@ fn visit_named<T: Tree>(
     path: &str,
     walked: &mut Walked,
 ) -> Result<(), AllocError>
-    ensures gathers { OnOk result (GathersIn (T.snapshot tree.old) (λ told. reaches told path.now) walked.old walked.new) }
-    ensures counted { OnOk result (KeepsCounts (T.failed tree.old) (T.failed tree.new) walked.old walked.new) }
+    ensures gathers { OnOk result (GathersIn (T.snapshot tree.old)
+        (λ told. reaches told path.now) walked.old walked.new) }
+    ensures counted { OnOk result
+        (KeepsCounts (T.failed tree.old) (T.failed tree.new) walked.old walked.new) }
     ensures rises { T.failed tree.old ≤ T.failed tree.new }
     ensures keeps { T.snapshot tree.new ≡ T.snapshot tree.old }
 {
@@ -108,8 +116,10 @@ fn visit<T: Tree>(
     path: String,
     walked: &mut Walked,
 ) -> Result<(), AllocError>
-    ensures gathers { OnOk result (GathersIn (T.snapshot tree.old) (λ told. comes told (string_bytes path)) walked.old walked.new) }
-    ensures counted { OnOk result (KeepsCounts (T.failed tree.old) (T.failed tree.new) walked.old walked.new) }
+    ensures gathers { OnOk result (GathersIn (T.snapshot tree.old)
+        (λ told. comes told (string_bytes path)) walked.old walked.new) }
+    ensures counted { OnOk result
+        (KeepsCounts (T.failed tree.old) (T.failed tree.new) walked.old walked.new) }
     ensures rises { T.failed tree.old ≤ T.failed tree.new }
     ensures keeps { T.snapshot tree.new ≡ T.snapshot tree.old }
 {
@@ -125,7 +135,8 @@ fn visit<T: Tree>(
 fn look<T: Tree>(alloc: Global, tree: &mut T, path: &str) -> Result<Sight, AllocError>
     ensures shows { IfOk result (λ sight. ShowsIn (T.snapshot tree.old) path.now sight) }
     ensures entered { IfOk result (λ sight. IsEntered path.now sight) }
-    ensures counted { IfOk result (λ sight. CountsSight sight (T.failed tree.old) (T.failed tree.new)) }
+    ensures counted { IfOk result
+        (λ sight. CountsSight sight (T.failed tree.old) (T.failed tree.new)) }
     ensures rises { T.failed tree.old ≤ T.failed tree.new }
     ensures keeps { T.snapshot tree.new ≡ T.snapshot tree.old }
 {
@@ -145,7 +156,9 @@ fn look<T: Tree>(alloc: Global, tree: &mut T, path: &str) -> Result<Sight, Alloc
 
 /// A path is left for a tree's fault, but want of memory ends the walk.
 fn left_for(fault: TreeFault) -> Result<Sight, AllocError>
-    ensures { MatchResult result (λ sight. (fault ≢ TreeFault.Memory) × (sight ≡ Sight.Left (WalkFault.Tree fault))) (λ _. fault ≡ TreeFault.Memory) }
+    ensures { MatchResult result
+        (λ sight. (fault ≢ TreeFault.Memory) × (sight ≡ Sight.Left (WalkFault.Tree fault)))
+        (λ _. fault ≡ TreeFault.Memory) }
 {
     match fault {
         TreeFault::Memory => Err(AllocError),
@@ -156,9 +169,12 @@ fn left_for(fault: TreeFault) -> Result<Sight, AllocError>
 impl Walked {
     /// Takes down what was seen at a path, and gives the paths at which the walk goes on.
     fn note(&mut self, alloc: Global, path: String, sight: Sight) -> Result<Vec<String>, AllocError>
-        ensures names { OnOk result (names_of self.new ≡ names_of self.old ++ named_if (is_file_seen sight) (string_bytes path)) }
-        ensures faults { OnOk result (faults_of self.new ≡ faults_of self.old ++ left_if (fault_seen sight) (string_bytes path)) }
-        ensures children { IfOk result (λ deeper. map string_bytes deeper.items ≡ children (string_bytes path) (names_seen sight)) }
+        ensures names { OnOk result (names_walked self.new
+            ≡ names_walked self.old ++ named_if (is_file_seen sight) (string_bytes path)) }
+        ensures faults { OnOk result (faults_walked self.new
+            ≡ faults_walked self.old ++ left_if (fault_seen sight) (string_bytes path)) }
+        ensures children { IfOk result (λ deeper. map string_bytes deeper.items
+            ≡ children (string_bytes path) (names_seen sight)) }
     {
         let mut deeper = Vec::new(alloc);
         match sight {
@@ -178,7 +194,8 @@ impl Walked {
 
 /// The paths of what a folder lists, without what is left out.
 fn children_of(alloc: Global, folder: &str, names: &[String]) -> Result<Vec<String>, AllocError>
-    ensures { IfOk result (λ paths. map string_bytes paths.items ≡ children folder.now (map string_bytes names.now)) }
+    ensures { IfOk result (λ paths. map string_bytes paths.items
+        ≡ children folder.now (map string_bytes names.now)) }
 {
     let mut paths = Vec::new(alloc);
     'names: for name in names {
@@ -241,8 +258,9 @@ fn last_element(path: &str) -> &str
 
 /// Puts names in order, each once.
 fn order_names(names: &mut Vec<String>)
-    ensures ascend { ascend (map string_bytes names.new.items) ≡ true }
-    ensures same { (name : List ℕ) → is_among (map string_bytes names.new.items) name ≡ is_among (map string_bytes names.old.items) name }
+    ensures ascend { are_ascending (map string_bytes names.new.items) ≡ true }
+    ensures same { (name : List ℕ) → is_among (map string_bytes names.new.items) name
+        ≡ is_among (map string_bytes names.old.items) name }
 {
     names.sort_unstable();
     names.dedup();
@@ -250,9 +268,11 @@ fn order_names(names: &mut Vec<String>)
 
 /// Puts faults in the order of their paths, each path once.
 fn order_faults(faults: &mut Vec<(String, WalkFault)>)
-    ensures ascend { ascend (left_paths (map left_entry faults.new.items)) ≡ true }
-    ensures same { (path : List ℕ) → is_among (left_paths (map left_entry faults.new.items)) path ≡ is_among (left_paths (map left_entry faults.old.items)) path }
-    ensures kept { (left : Left) → Contains (map left_entry faults.new.items) left → Contains (map left_entry faults.old.items) left }
+    ensures ascend { are_ascending (left_paths (map left_entry faults.new.items)) ≡ true }
+    ensures same { (path : List ℕ) → is_among (left_paths (map left_entry faults.new.items)) path
+        ≡ is_among (left_paths (map left_entry faults.old.items)) path }
+    ensures kept { (left : Left) → Contains (map left_entry faults.new.items) left
+        → Contains (map left_entry faults.old.items) left }
 {
     faults.sort_unstable_by(|a, b| a.0.cmp(&b.0));
     faults.dedup_by(|a, b| a.0 == b.0);

@@ -1,15 +1,16 @@
 -- Worked rows of the definitions.
 use Rattle.std.proofs.Common.{◌≡◌, [], ◌∷◌, ◌++◌, Some, None, refl}
+use Rattle.cs_trigram.specs.Scans.{finding, text, left_out, unread}
 use Rattle.std.specs.Prelude.{codes}
 use Rattle.cs_tree.specs.Told.{ends, fails}
 use Rattle.cs_trigram.specs.declared.scan.Reason.TheVariants.{Nul, Utf8, TooLong, LongLine, ManyTrigrams}
-use Rattle.cs_trigram.specs.Trigram.{windows, tri}
-use Rattle.cs_trigram.specs.Text.{limits, skip, text_trigrams, finding, text, left_out, unread}
+use Rattle.cs_trigram.specs.Trigram.{trigram_sequence, tri}
+use Rattle.cs_trigram.specs.Text.{limits, skip, text_trigrams}
 
 -- ---- trigrams
 
-windows_of_four : windows (codes "abcd") ≡ 6382179 ∷ 6447972 ∷ []
-windows_of_four = refl
+trigrams_of_four : trigram_sequence (codes "abcd") ≡ 6382179 ∷ 6447972 ∷ []
+trigrams_of_four = refl
 
 tri_of_a_repeat : tri (codes "abababa") ≡ 6382177 ∷ 6447458 ∷ []
 tri_of_a_repeat = refl

@@ -1,42 +1,43 @@
 -- What follows from the definitions alone.
 use Rattle.std.proofs.Common.{◌≡◌, ℕ, true, eqb, List, [], ◌∷◌, ◌++◌, length, Option, Some, None, refl, sym, ap, ◌∙◌, inl, inr}
+use Rattle.cs_trigram.specs.Scans.{found_or, found_at, text, left_out}
 use Rattle.std.proofs.lemmas.Bool.{false≢true, or_cases, or_left, or_right, eq-eqb}
 use Rattle.cs_tree.specs.Told.{ends}
 use Rattle.cs_trigram.specs.declared.limits.Limits.{Limits}
 use Rattle.cs_trigram.specs.declared.scan.Reason.{Reason}
-use Rattle.cs_trigram.specs.Trigram.{trigram, windows, tri, has}
-use Rattle.cs_trigram.specs.Text.{skip, text_trigrams, none_skipped, found_at, found_or, text, left_out}
-use Rattle.cs_trigram.proofs.SetLemmas.{has-ascending}
+use Rattle.cs_trigram.specs.Trigram.{trigram, trigram_sequence, tri, has}
+use Rattle.cs_trigram.specs.Text.{skip, text_trigrams, none_skipped}
+use Rattle.cs_trigram.proofs.SetLemmas.{has-set_of_numbers}
 
-has-behind : (a n : ℕ) (bytes : List ℕ) → has (windows bytes) n ≡ true → has (windows (a ∷ bytes)) n ≡ true
+has-behind : (a n : ℕ) (bytes : List ℕ) → has (trigram_sequence bytes) n ≡ true → has (trigram_sequence (a ∷ bytes)) n ≡ true
 has-behind a n [] h = h
 has-behind a n (b ∷ []) h = h
-has-behind a n (b ∷ c ∷ rest) h = or_right (eqb (trigram a b c) n) (has (windows (b ∷ c ∷ rest)) n) h
+has-behind a n (b ∷ c ∷ rest) h = or_right (eqb (trigram a b c) n) (has (trigram_sequence (b ∷ c ∷ rest)) n) h
 
-has-before : (before bytes : List ℕ) (n : ℕ) → has (windows bytes) n ≡ true → has (windows (before ++ bytes)) n ≡ true
+has-before : (before bytes : List ℕ) (n : ℕ) → has (trigram_sequence bytes) n ≡ true → has (trigram_sequence (before ++ bytes)) n ≡ true
 has-before [] bytes n h = h
 has-before (a ∷ before) bytes n h = has-behind a n (before ++ bytes) (has-before before bytes n h)
 
-has-after : (bytes after : List ℕ) (n : ℕ) → has (windows bytes) n ≡ true → has (windows (bytes ++ after)) n ≡ true
+has-after : (bytes after : List ℕ) (n : ℕ) → has (trigram_sequence bytes) n ≡ true → has (trigram_sequence (bytes ++ after)) n ≡ true
 has-after [] after n h = absurd (false≢true h)
 has-after (a ∷ []) after n h = absurd (false≢true h)
 has-after (a ∷ b ∷ []) after n h = absurd (false≢true h)
 has-after (a ∷ b ∷ c ∷ rest) after n h =
-    elim (or_cases (eqb (trigram a b c) n) (has (windows (b ∷ c ∷ rest)) n) h) [
-      | inl here ↦ or_left (eqb (trigram a b c) n) (has (windows (b ∷ c ∷ (rest ++ after))) n) here
-      | inr later ↦ or_right (eqb (trigram a b c) n) (has (windows (b ∷ c ∷ (rest ++ after))) n) (has-after (b ∷ c ∷ rest) after n later)
+    elim (or_cases (eqb (trigram a b c) n) (has (trigram_sequence (b ∷ c ∷ rest)) n) h) [
+      | inl here ↦ or_left (eqb (trigram a b c) n) (has (trigram_sequence (b ∷ c ∷ (rest ++ after))) n) here
+      | inr later ↦ or_right (eqb (trigram a b c) n) (has (trigram_sequence (b ∷ c ∷ (rest ++ after))) n) (has-after (b ∷ c ∷ rest) after n later)
     ]
 
 pub has-part_of : (before part after : List ℕ) (n : ℕ) → has (tri part) n ≡ true → has (tri (before ++ (part ++ after))) n ≡ true
 has-part_of before part after n h =
-    has-ascending n (windows (before ++ (part ++ after)))
-    ∙ has-before before (part ++ after) n (has-after part after n (sym (has-ascending n (windows part)) ∙ h))
+    has-set_of_numbers n (trigram_sequence (before ++ (part ++ after)))
+    ∙ has-before before (part ++ after) n (has-after part after n (sym (has-set_of_numbers n (trigram_sequence part)) ∙ h))
 
 pub has-each : (before after : List ℕ) (a b c : ℕ) → has (tri (before ++ (a ∷ b ∷ c ∷ after))) (trigram a b c) ≡ true
 has-each before after a b c =
-    has-ascending (trigram a b c) (windows (before ++ (a ∷ b ∷ c ∷ after)))
+    has-set_of_numbers (trigram a b c) (trigram_sequence (before ++ (a ∷ b ∷ c ∷ after)))
     ∙ has-before before (a ∷ b ∷ c ∷ after) (trigram a b c)
-    (or_left (eqb (trigram a b c) (trigram a b c)) (has (windows (b ∷ c ∷ after)) (trigram a b c)) (eq-eqb (trigram a b c) (trigram a b c) refl))
+    (or_left (eqb (trigram a b c) (trigram a b c)) (has (trigram_sequence (b ∷ c ∷ after)) (trigram a b c)) (eq-eqb (trigram a b c) (trigram a b c) refl))
 
 found_text : (o : Option Reason) (set trigrams : List ℕ) (long count : ℕ) → text trigrams count ≡ found_or o (text set long) → (none_skipped o set ≡ Some trigrams) × (count ≡ long)
 found_text None set trigrams long count h =

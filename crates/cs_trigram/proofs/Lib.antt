@@ -1,12 +1,25 @@
 pub mod PlaceLemmas
 pub mod SetLemmas
-pub mod TrigramLemmas
+pub mod NextByteLemmas
 pub mod MarkLemmas
 pub mod SortLemmas
 pub mod TextLemmas
-pub mod ReadLemmas
+pub mod ScanLemmas
 mod Examples
-pub mod PlainLemmas
+pub mod QuickTestLemmas
 pub mod OrderLemmas
 pub mod SorterLemmas
 pub mod LawLemmas
+mod MemberLemmas
+mod NodeLemmas
+mod SampleLemmas
+mod RoundLemmas
+mod PlainTreeLemmas
+mod FewLemmas
+mod PartTrigramLemmas
+mod SpellingLemmas
+mod AffixLemmas
+mod CrossingLemmas
+mod AskedLemmas
+mod QueryLemmas
+mod RightLemmas

@@ -6,9 +6,9 @@ use Rattle.std.proofs.lemmas.List.{take-set-le, take_more_set, get_or-replicate,
 use Rattle.std.proofs.lemmas.List.Folds.{list_any_at}
 use Rattle.std.specs.Int.{bit_at}
 use Rattle.std.specs.List.{AllByRecursion}
-use Rattle.cs_trigram.specs.Trigram.{Ascends, placed, has}
+use Rattle.cs_trigram.specs.Trigram.{Ascends, with_number, has}
 use Rattle.cs_trigram.specs.Marks.{bit_of, as_bit, Marks, Holds, Gathers}
-use Rattle.cs_trigram.proofs.SetLemmas.{has-append, has-ascending, ascends_ascending, ascending-push, placed-member, length-placed, length-placed-ge}
+use Rattle.cs_trigram.proofs.SetLemmas.{has-append, has-set_of_numbers, ascends_set, set_of_numbers-push, with_number-member, length-with_number, length-with_number-ge}
 
 -- the cells with one more bit set
 abbrev pub marked : List ℕ → ℕ → List ℕ
@@ -68,12 +68,12 @@ has-no_bit cells numbers n marks none = at (has numbers n) (sym (marks n) ∙ no
     at false h = refl
 
 -- a member put in once more
-Holds-again : (cells numbers set : List ℕ) (w : ℕ) → w / 64 < length cells → Holds cells numbers set → bit_of cells w ≡ 1 → Holds (marked cells w) numbers (placed w set)
+Holds-again : (cells numbers set : List ℕ) (w : ℕ) → w / 64 < length cells → Holds cells numbers set → bit_of cells w ≡ 1 → Holds (marked cells w) numbers (with_number w set)
 Holds-again cells numbers set w within holds one =
     let member : has numbers w ≡ true = has-bit cells numbers w holds.marks one in
-    let in_set : has set w ≡ true = ap (λ s. has s w) (sym holds.same) ∙ has-ascending w numbers ∙ member in
-    let up : Ascends set = subst Ascends holds.same (ascends_ascending numbers) in
-    let stays : placed w set ≡ set = placed-member w set up in_set in
+    let in_set : has set w ≡ true = ap (λ s. has s w) (sym holds.same) ∙ has-set_of_numbers w numbers ∙ member in
+    let up : Ascends set = subst Ascends holds.same (ascends_set numbers) in
+    let stays : with_number w set ≡ set = with_number-member w set up in_set in
     record {
       same = holds.same ∙ sym stays;
       once = holds.once ∙ ap length (sym stays);
@@ -85,13 +85,13 @@ Holds-again cells numbers set w within holds one =
     at n (inr apart) member = ap (λ t. has numbers n || (t || false)) (ne_eqb w n apart) ∙ or_false (has numbers n)
 
 -- a number put in for the first time
-Holds-new : (cells numbers set : List ℕ) (w : ℕ) → w / 64 < length cells → Holds cells numbers set → bit_of cells w ≡ 0 → Holds (marked cells w) (numbers ++ w ∷ []) (placed w set) × (length (placed w set) ≡ length set + 1)
+Holds-new : (cells numbers set : List ℕ) (w : ℕ) → w / 64 < length cells → Holds cells numbers set → bit_of cells w ≡ 0 → Holds (marked cells w) (numbers ++ w ∷ []) (with_number w set) × (length (with_number w set) ≡ length set + 1)
 Holds-new cells numbers set w within holds none =
     let new : has numbers w ≡ false = has-no_bit cells numbers w holds.marks none in
-    let not_in_set : has set w ≡ false = ap (λ s. has s w) (sym holds.same) ∙ has-ascending w numbers ∙ new in
-    let more : length (placed w set) ≡ length set + 1 = length-placed w set not_in_set in (
+    let not_in_set : has set w ≡ false = ap (λ s. has s w) (sym holds.same) ∙ has-set_of_numbers w numbers ∙ new in
+    let more : length (with_number w set) ≡ length set + 1 = length-with_number w set not_in_set in (
       record {
-        same = ascending-push numbers w ∙ ap (placed w) holds.same;
+        same = set_of_numbers-push numbers w ∙ ap (with_number w) holds.same;
         once = omega (arith, length-append numbers (w ∷ []), more, holds.once);
         marks = Marks-push cells numbers w within holds.marks;
       },
@@ -99,9 +99,9 @@ Holds-new cells numbers set w within holds none =
     )
 
 -- A number put in: it is written behind the list, and the list grows where its bit was not set.
-pub Gathers-push : (most : ℕ) (cells list : List ℕ) (len : ℕ) (members : List ℕ) (w : ℕ) → w / 64 < length cells → len < length list → Gathers most cells list len members → Gathers most (marked cells w) (set list len w) (min (len + (1 - bit_of cells w)) (most + 1)) (placed w members)
+pub Gathers-push : (most : ℕ) (cells list : List ℕ) (len : ℕ) (members : List ℕ) (w : ℕ) → w / 64 < length cells → len < length list → Gathers most cells list len members → Gathers most (marked cells w) (set list len w) (min (len + (1 - bit_of cells w)) (most + 1)) (with_number w members)
 Gathers-push most cells list len members w within room gathers = record {
-  few = omega arith;
+  bound = omega arith;
   within = λ fits. at_within fits (cases_eq (bit_of cells w) 1);
   beyond = λ full. at_beyond full (cases_lt most len) (cases_eq (bit_of cells w) 1);
 }
@@ -112,7 +112,7 @@ Gathers-push most cells list len members w within room gathers = record {
     next : ℕ
     next = min (len + (1 - bit_of cells w)) (most + 1)
 
-    at_within : next ≤ most → ((bit_of cells w ≡ 1) ⊎ (bit_of cells w ≡ 1 → ⊥)) → Holds (marked cells w) (take next (set list len w)) (placed w members)
+    at_within : next ≤ most → ((bit_of cells w ≡ 1) ⊎ (bit_of cells w ≡ 1 → ⊥)) → Holds (marked cells w) (take next (set list len w)) (with_number w members)
     at_within fits (inl one) =
         let stays : next ≡ len = omega (arith, fits, one) in
         let numbers : take next (set list len w) ≡ take len list = ap (λ n. take n (set list len w)) stays ∙ take-set-le len list len w (omega arith) in
@@ -123,13 +123,13 @@ Gathers-push most cells list len members w within room gathers = record {
         let numbers : take next (set list len w) ≡ take len list ++ w ∷ [] = ap (λ n. take n (set list len w)) longer ∙ take_more_set list len w room in
         rw numbers (Holds-new cells (take len list) members w within (gathers.within (omega (arith, fits, longer))) none).0
 
-    at_beyond : most < next → ((most < len) ⊎ (len ≤ most)) → ((bit_of cells w ≡ 1) ⊎ (bit_of cells w ≡ 1 → ⊥)) → most < length (placed w members)
-    at_beyond full (inl over) bit = omega (arith, gathers.beyond over, length-placed-ge w members)
+    at_beyond : most < next → ((most < len) ⊎ (len ≤ most)) → ((bit_of cells w ≡ 1) ⊎ (bit_of cells w ≡ 1 → ⊥)) → most < length (with_number w members)
+    at_beyond full (inl over) bit = omega (arith, gathers.beyond over, length-with_number-ge w members)
     at_beyond full (inr under) (inl one) = absurd (omega (arith, full, under, one))
     at_beyond full (inr under) (inr not_one) =
         let none : bit_of cells w ≡ 0 = omega (arith, not_one, bit_small) in
         let holds : Holds cells (take len list) members = gathers.within under in
-        let more : length (placed w members) ≡ length members + 1 = (Holds-new cells (take len list) members w within holds none).1 in
+        let more : length (with_number w members) ≡ length members + 1 = (Holds-new cells (take len list) members w within holds none).1 in
         let count : length (take len list) ≡ len = length-take-le len list (omega (arith, room)) in
         omega (arith, more, holds.once, count, full, none)
 

@@ -7,7 +7,7 @@ use Rattle.std.proofs.Math.Seq.{take-add}
 use Rattle.std.proofs.lemmas.List.Sums.{suffix_len-le-length}
 use Rattle.cs_trigram.specs.declared.limits.Limits.{Limits}
 use Rattle.cs_trigram.specs.declared.scan.Reason.{Reason}
-use Rattle.cs_trigram.specs.Text.{last_byte, line_so_far, broken, first_broken, or_else}
+use Rattle.cs_trigram.specs.Text.{last_byte, line_so_far, rule_broken, first_broken, or_else}
 use Rattle.cs_trigram.specs.declared.place.Place.{Place}
 use Rattle.cs_trigram.specs.Place.{Stands, Passes}
 
@@ -37,8 +37,8 @@ length-line-push front b =
 pub first_broken-append : (most : Limits) (front xs ys : List ℕ) → first_broken most front (xs ++ ys) ≡ or_else (first_broken most front xs) (first_broken most (front ++ xs) ys)
 first_broken-append most front [] ys = ap (λ f. first_broken most f ys) (sym (append-nil front))
 first_broken-append most front (x ∷ xs) ys =
-    ap (or_else (broken most front x)) (first_broken-append most (front ++ x ∷ []) xs ys ∙ ap (λ f. or_else (first_broken most (front ++ x ∷ []) xs) (first_broken most f ys)) (append_assoc front (x ∷ []) xs))
-    ∙ or_else_assoc (broken most front x) (first_broken most (front ++ x ∷ []) xs) (first_broken most (front ++ (x ∷ xs)) ys)
+    ap (or_else (rule_broken most front x)) (first_broken-append most (front ++ x ∷ []) xs ys ∙ ap (λ f. or_else (first_broken most (front ++ x ∷ []) xs) (first_broken most f ys)) (append_assoc front (x ∷ []) xs))
+    ∙ or_else_assoc (rule_broken most front x) (first_broken most (front ++ x ∷ []) xs) (first_broken most (front ++ (x ∷ xs)) ys)
   where
     or_else_assoc : (a b c : Option Reason) → or_else a (or_else b c) ≡ or_else (or_else a b) c
     or_else_assoc None b c = refl

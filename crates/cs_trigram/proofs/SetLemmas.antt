@@ -1,8 +1,9 @@
 -- Ascending lists as sets of numbers.
-use Rattle.std.proofs.Common.{◌≡◌, ◌⊎◌, ℕ, ◌+◌, ◌<◌, ◌≤◌, Bool, true, false, cond, ◌||◌, ltb, eqb, List, [], ◌∷◌, ◌++◌, length, refl, sym, ap, ◌∙◌, inl, inr, arith}
-use Rattle.std.proofs.lemmas.Bool.{true≢false, cases_Bool, cond_both, cases_order, eqb-true, eqb-false, eq-eqb, ne_eqb, or_left, ltb-true, ltb-false}
+use Rattle.std.proofs.Common.{◌≡◌, ◌⊎◌, ℕ, ◌+◌, ◌<◌, ◌≤◌, Bool, true, false, cond, ◌&&◌, ◌||◌, ltb, eqb, List, [], ◌∷◌, ◌++◌, length, refl, sym, ap, subst, ◌∙◌, inl, inr, arith}
+use Rattle.std.proofs.lemmas.Bool.{true≢false, cases_Bool, cond_both, cases_order, eqb-true, eqb-false, eq-eqb, ne_eqb, or_left, or_right, ltb-true, ltb-false}
+use Rattle.std.specs.Prelude.{filter}
 use Rattle.std.specs.List.{AllByRecursion}
-use Rattle.cs_trigram.specs.Trigram.{Ascends, placed, ascending, has}
+use Rattle.cs_trigram.specs.Trigram.{Ascends, with_number, set_of_numbers, has}
 
 -- every number of the list is above n
 abbrev pub Above : ℕ → List ℕ → Type 0
@@ -21,41 +22,41 @@ pub ascends_head : (n : ℕ) (ms : List ℕ) → Ascends (n ∷ ms) → Above n 
 ascends_head n [] up = tt
 ascends_head n (m ∷ ms) up = up.0
 
-above_placed : (k n : ℕ) (ms : List ℕ) → k < n → Above k ms → Above k (placed n ms)
-above_placed k n [] h g = h
-above_placed k n (m ∷ ms) h g =
-    cond_both (ltb n m) (n ∷ m ∷ ms) (cond (eqb n m) (m ∷ ms) (m ∷ placed n ms)) (Above k) (λ _. h)
-    (λ _. cond_both (eqb n m) (m ∷ ms) (m ∷ placed n ms) (Above k) (λ _. g) (λ _. g))
+above_with_number : (k n : ℕ) (ms : List ℕ) → k < n → Above k ms → Above k (with_number n ms)
+above_with_number k n [] h g = h
+above_with_number k n (m ∷ ms) h g =
+    cond_both (ltb n m) (n ∷ m ∷ ms) (cond (eqb n m) (m ∷ ms) (m ∷ with_number n ms)) (Above k) (λ _. h)
+    (λ _. cond_both (eqb n m) (m ∷ ms) (m ∷ with_number n ms) (Above k) (λ _. g) (λ _. g))
 
-pub ascends_placed : (n : ℕ) (ms : List ℕ) → Ascends ms → Ascends (placed n ms)
-ascends_placed n [] up = tt
-ascends_placed n (m ∷ ms) up =
-    cond_both (ltb n m) (n ∷ m ∷ ms) (cond (eqb n m) (m ∷ ms) (m ∷ placed n ms)) Ascends
+pub ascends_with_number : (n : ℕ) (ms : List ℕ) → Ascends ms → Ascends (with_number n ms)
+ascends_with_number n [] up = tt
+ascends_with_number n (m ∷ ms) up =
+    cond_both (ltb n m) (n ∷ m ∷ ms) (cond (eqb n m) (m ∷ ms) (m ∷ with_number n ms)) Ascends
     (λ less. (ltb-true n m less, up))
-    (λ more. cond_both (eqb n m) (m ∷ ms) (m ∷ placed n ms) Ascends (λ _. up)
+    (λ more. cond_both (eqb n m) (m ∷ ms) (m ∷ with_number n ms) Ascends (λ _. up)
     (λ apart.
     let below : m < n = between n m (ltb-false n m more) (eqb-false n m apart) in
-    ascends_cons m (placed n ms) (above_placed m n ms below (ascends_head m ms up)) (ascends_placed n ms (ascends_tail m ms up))))
+    ascends_cons m (with_number n ms) (above_with_number m n ms below (ascends_head m ms up)) (ascends_with_number n ms (ascends_tail m ms up))))
   where
     between : (n m : ℕ) → m ≤ n → (n ≡ m → ⊥) → m < n
     between n m h g = omega (arith, h, g)
 
-pub ascends_ascending : (ns : List ℕ) → Ascends (ascending ns)
-ascends_ascending [] = tt
-ascends_ascending (n ∷ ns) = ascends_placed n (ascending ns) (ascends_ascending ns)
+pub ascends_set : (ns : List ℕ) → Ascends (set_of_numbers ns)
+ascends_set [] = tt
+ascends_set (n ∷ ns) = ascends_with_number n (set_of_numbers ns) (ascends_set ns)
 
 module _ (P : ℕ → Type 0) where
-  pub all_placed : (n : ℕ) (ms : List ℕ) → P n → AllByRecursion P ms → AllByRecursion P (placed n ms)
-  all_placed n [] h all = (h, tt)
-  all_placed n (m ∷ ms) h all =
-      cond_both (ltb n m) (n ∷ m ∷ ms) (cond (eqb n m) (m ∷ ms) (m ∷ placed n ms)) (AllByRecursion P) (λ _. (h, all))
-      (λ _. cond_both (eqb n m) (m ∷ ms) (m ∷ placed n ms) (AllByRecursion P) (λ _. all) (λ _. (all.0, all_placed n ms h all.1)))
+  pub all_with_number : (n : ℕ) (ms : List ℕ) → P n → AllByRecursion P ms → AllByRecursion P (with_number n ms)
+  all_with_number n [] h all = (h, tt)
+  all_with_number n (m ∷ ms) h all =
+      cond_both (ltb n m) (n ∷ m ∷ ms) (cond (eqb n m) (m ∷ ms) (m ∷ with_number n ms)) (AllByRecursion P) (λ _. (h, all))
+      (λ _. cond_both (eqb n m) (m ∷ ms) (m ∷ with_number n ms) (AllByRecursion P) (λ _. all) (λ _. (all.0, all_with_number n ms h all.1)))
 
-  pub all_ascending : (ns : List ℕ) → AllByRecursion P ns → AllByRecursion P (ascending ns)
-  all_ascending [] all = tt
-  all_ascending (n ∷ ns) all = all_placed n (ascending ns) all.0 (all_ascending ns all.1)
+  pub all_set : (ns : List ℕ) → AllByRecursion P ns → AllByRecursion P (set_of_numbers ns)
+  all_set [] all = tt
+  all_set (n ∷ ns) all = all_with_number n (set_of_numbers ns) all.0 (all_set ns all.1)
 
-  all_append : (xs ys : List ℕ) → AllByRecursion P xs → AllByRecursion P ys → AllByRecursion P (xs ++ ys)
+  pub all_append : (xs ys : List ℕ) → AllByRecursion P xs → AllByRecursion P ys → AllByRecursion P (xs ++ ys)
   all_append [] ys a b = b
   all_append (x ∷ xs) ys a b = (a.0, all_append xs ys a.1 b)
 
@@ -70,18 +71,18 @@ or_twice : (a c : Bool) → (a || c) ≡ (a || (a || c))
 or_twice true c = refl
 or_twice false c = refl
 
-pub has-placed : (n g : ℕ) (ms : List ℕ) → has (placed n ms) g ≡ (eqb n g || has ms g)
-has-placed n g [] = refl
-has-placed n g (m ∷ ms) =
-    cond_both (ltb n m) (n ∷ m ∷ ms) (cond (eqb n m) (m ∷ ms) (m ∷ placed n ms)) (λ ns. has ns g ≡ (eqb n g || (eqb m g || has ms g)))
+pub has-with_number : (n g : ℕ) (ms : List ℕ) → has (with_number n ms) g ≡ (eqb n g || has ms g)
+has-with_number n g [] = refl
+has-with_number n g (m ∷ ms) =
+    cond_both (ltb n m) (n ∷ m ∷ ms) (cond (eqb n m) (m ∷ ms) (m ∷ with_number n ms)) (λ ns. has ns g ≡ (eqb n g || (eqb m g || has ms g)))
     (λ _. refl)
-    (λ _. cond_both (eqb n m) (m ∷ ms) (m ∷ placed n ms) (λ ns. has ns g ≡ (eqb n g || (eqb m g || has ms g)))
+    (λ _. cond_both (eqb n m) (m ∷ ms) (m ∷ with_number n ms) (λ ns. has ns g ≡ (eqb n g || (eqb m g || has ms g)))
     (λ same. or_twice (eqb m g) (has ms g) ∙ ap (λ k. eqb k g || (eqb m g || has ms g)) (sym (eqb-true n m same)))
-    (λ _. ap (λ t. eqb m g || t) (has-placed n g ms) ∙ or_swap (eqb m g) (eqb n g) (has ms g)))
+    (λ _. ap (λ t. eqb m g || t) (has-with_number n g ms) ∙ or_swap (eqb m g) (eqb n g) (has ms g)))
 
-pub has-ascending : (g : ℕ) (ns : List ℕ) → has (ascending ns) g ≡ has ns g
-has-ascending g [] = refl
-has-ascending g (n ∷ ns) = has-placed n g (ascending ns) ∙ ap (λ t. eqb n g || t) (has-ascending g ns)
+pub has-set_of_numbers : (g : ℕ) (ns : List ℕ) → has (set_of_numbers ns) g ≡ has ns g
+has-set_of_numbers g [] = refl
+has-set_of_numbers g (n ∷ ns) = has-with_number n g (set_of_numbers ns) ∙ ap (λ t. eqb n g || t) (has-set_of_numbers g ns)
 
 pub has-append : (g : ℕ) (xs ys : List ℕ) → has (xs ++ ys) g ≡ (has xs g || has ys g)
 has-append g [] ys = refl
@@ -126,9 +127,9 @@ ascends_same (x ∷ xs) (y ∷ ys) a b h =
 -- ---- what a number more changes
 
 -- a number put at the end of a list is put into its set
-pub ascending-push : (xs : List ℕ) (n : ℕ) → ascending (xs ++ n ∷ []) ≡ placed n (ascending xs)
-ascending-push xs n = ascends_same (ascending (xs ++ n ∷ [])) (placed n (ascending xs)) (ascends_ascending (xs ++ n ∷ [])) (ascends_placed n (ascending xs) (ascends_ascending xs)) (λ g.
-    has-ascending g (xs ++ n ∷ []) ∙ has-append g xs (n ∷ []) ∙ or_flip (has xs g) (eqb n g) ∙ ap (λ t. eqb n g || t) (sym (has-ascending g xs)) ∙ sym (has-placed n g (ascending xs)))
+pub set_of_numbers-push : (xs : List ℕ) (n : ℕ) → set_of_numbers (xs ++ n ∷ []) ≡ with_number n (set_of_numbers xs)
+set_of_numbers-push xs n = ascends_same (set_of_numbers (xs ++ n ∷ [])) (with_number n (set_of_numbers xs)) (ascends_set (xs ++ n ∷ [])) (ascends_with_number n (set_of_numbers xs) (ascends_set xs)) (λ g.
+    has-set_of_numbers g (xs ++ n ∷ []) ∙ has-append g xs (n ∷ []) ∙ or_flip (has xs g) (eqb n g) ∙ ap (λ t. eqb n g || t) (sym (has-set_of_numbers g xs)) ∙ sym (has-with_number n g (set_of_numbers xs)))
   where
     or_flip : (a b : Bool) → (a || (b || false)) ≡ (b || a)
     or_flip true true = refl
@@ -137,44 +138,127 @@ ascending-push xs n = ascends_same (ascending (xs ++ n ∷ [])) (placed n (ascen
     or_flip false false = refl
 
 -- a member changes nothing
-pub placed-member : (n : ℕ) (set : List ℕ) → Ascends set → has set n ≡ true → placed n set ≡ set
-placed-member n set up member = ascends_same (placed n set) set (ascends_placed n set up) up (λ g. has-placed n g set ∙ same g (cases_Bool (eqb n g)))
+pub with_number-member : (n : ℕ) (set : List ℕ) → Ascends set → has set n ≡ true → with_number n set ≡ set
+with_number-member n set up member = ascends_same (with_number n set) set (ascends_with_number n set up) up (λ g. has-with_number n g set ∙ same g (cases_Bool (eqb n g)))
   where
     same : (g : ℕ) → ((eqb n g ≡ true) ⊎ (eqb n g ≡ false)) → (eqb n g || has set g) ≡ has set g
     same g (inl here) = or_left (eqb n g) (has set g) here ∙ sym member ∙ ap (has set) (eqb-true n g here)
     same g (inr apart) = ap (λ t. t || has set g) apart
 
-pub length-placed : (n : ℕ) (set : List ℕ) → has set n ≡ false → length (placed n set) ≡ length set + 1
-length-placed n [] new = refl
-length-placed n (m ∷ ms) new =
-    cond_both (ltb n m) (n ∷ m ∷ ms) (cond (eqb n m) (m ∷ ms) (m ∷ placed n ms)) (λ ns. length ns ≡ length (m ∷ ms) + 1)
+pub length-with_number : (n : ℕ) (set : List ℕ) → has set n ≡ false → length (with_number n set) ≡ length set + 1
+length-with_number n [] new = refl
+length-with_number n (m ∷ ms) new =
+    cond_both (ltb n m) (n ∷ m ∷ ms) (cond (eqb n m) (m ∷ ms) (m ∷ with_number n ms)) (λ ns. length ns ≡ length (m ∷ ms) + 1)
     (λ _. omega arith)
-    (λ _. cond_both (eqb n m) (m ∷ ms) (m ∷ placed n ms) (λ ns. length ns ≡ length (m ∷ ms) + 1)
+    (λ _. cond_both (eqb n m) (m ∷ ms) (m ∷ with_number n ms) (λ ns. length ns ≡ length (m ∷ ms) + 1)
     (λ same. absurd (true≢false (sym (or_left (eqb m n) (has ms n) (eq-eqb m n (sym (eqb-true n m same)))) ∙ new)))
-    (λ _. let rest = length-placed n ms (or_parts_right (eqb m n) (has ms n) new) in omega (arith, rest)))
+    (λ _. let rest = length-with_number n ms (or_parts_right (eqb m n) (has ms n) new) in omega (arith, rest)))
   where
     or_parts_right : (a b : Bool) → (a || b) ≡ false → b ≡ false
     or_parts_right true b h = absurd (true≢false h)
     or_parts_right false b h = h
 
-pub length-placed-ge : (n : ℕ) (set : List ℕ) → length set ≤ length (placed n set)
-length-placed-ge n [] = omega arith
-length-placed-ge n (m ∷ ms) =
-    cond_both (ltb n m) (n ∷ m ∷ ms) (cond (eqb n m) (m ∷ ms) (m ∷ placed n ms)) (λ ns. length (m ∷ ms) ≤ length ns)
+pub length-with_number-ge : (n : ℕ) (set : List ℕ) → length set ≤ length (with_number n set)
+length-with_number-ge n [] = omega arith
+length-with_number-ge n (m ∷ ms) =
+    cond_both (ltb n m) (n ∷ m ∷ ms) (cond (eqb n m) (m ∷ ms) (m ∷ with_number n ms)) (λ ns. length (m ∷ ms) ≤ length ns)
     (λ _. omega arith)
-    (λ _. cond_both (eqb n m) (m ∷ ms) (m ∷ placed n ms) (λ ns. length (m ∷ ms) ≤ length ns)
+    (λ _. cond_both (eqb n m) (m ∷ ms) (m ∷ with_number n ms) (λ ns. length (m ∷ ms) ≤ length ns)
     (λ _. omega arith)
-    (λ _. let rest = length-placed-ge n ms in omega (arith, rest)))
+    (λ _. let rest = length-with_number-ge n ms in omega (arith, rest)))
 
-pub length-placed-le : (n : ℕ) (set : List ℕ) → length (placed n set) ≤ length set + 1
-length-placed-le n [] = omega arith
-length-placed-le n (m ∷ ms) =
-    cond_both (ltb n m) (n ∷ m ∷ ms) (cond (eqb n m) (m ∷ ms) (m ∷ placed n ms)) (λ ns. length ns ≤ length (m ∷ ms) + 1)
+pub length-with_number-le : (n : ℕ) (set : List ℕ) → length (with_number n set) ≤ length set + 1
+length-with_number-le n [] = omega arith
+length-with_number-le n (m ∷ ms) =
+    cond_both (ltb n m) (n ∷ m ∷ ms) (cond (eqb n m) (m ∷ ms) (m ∷ with_number n ms)) (λ ns. length ns ≤ length (m ∷ ms) + 1)
     (λ _. omega arith)
-    (λ _. cond_both (eqb n m) (m ∷ ms) (m ∷ placed n ms) (λ ns. length ns ≤ length (m ∷ ms) + 1)
+    (λ _. cond_both (eqb n m) (m ∷ ms) (m ∷ with_number n ms) (λ ns. length ns ≤ length (m ∷ ms) + 1)
     (λ _. omega arith)
-    (λ _. let rest = length-placed-le n ms in omega (arith, rest)))
+    (λ _. let rest = length-with_number-le n ms in omega (arith, rest)))
 
-pub length-ascending-le : (xs : List ℕ) → length (ascending xs) ≤ length xs
-length-ascending-le [] = omega arith
-length-ascending-le (x ∷ xs) = omega (arith, length-placed-le x (ascending xs), length-ascending-le xs)
+pub length-set_of_numbers-le : (xs : List ℕ) → length (set_of_numbers xs) ≤ length xs
+length-set_of_numbers-le [] = omega arith
+length-set_of_numbers-le (x ∷ xs) = omega (arith, length-with_number-le x (set_of_numbers xs), length-set_of_numbers-le xs)
+
+-- numbers of which each is no member of those behind it
+abbrev pub AreDistinct : List ℕ → Type 0
+AreDistinct [] = Unit {0}
+AreDistinct (n ∷ ns) = (has ns n ≡ false) × AreDistinct ns
+
+pub length-set_of_numbers : (ns : List ℕ) → AreDistinct ns → length (set_of_numbers ns) ≡ length ns
+length-set_of_numbers [] apart = refl
+length-set_of_numbers (n ∷ ns) apart =
+    let front : length (with_number n (set_of_numbers ns)) ≡ length (set_of_numbers ns) + 1 = length-with_number n (set_of_numbers ns) (has-set_of_numbers n ns ∙ apart.0) in
+    let rest = length-set_of_numbers ns apart.1 in
+    omega (arith, front, rest)
+
+-- ---- what holds of each member
+
+-- a property of each member holds of all numbers of the list
+pub members_all : (P : ℕ → Type 0) (ns : List ℕ) → ((n : ℕ) → has ns n ≡ true → P n) → AllByRecursion P ns
+members_all P [] h = tt
+members_all P (n ∷ ns) h = (h n (or_left (eqb n n) _ (eq-eqb n n refl)), members_all P ns (λ m e. h m (or_right (eqb n m) _ e)))
+
+-- a property of all numbers of the list holds of a member
+pub all_member : (P : ℕ → Type 0) (ns : List ℕ) (n : ℕ) → AllByRecursion P ns → has ns n ≡ true → P n
+all_member P [] n all h = absurd (true≢false (sym h))
+all_member P (m ∷ ms) n all h = elim (cases_Bool (eqb m n)) [
+  | inl here ↦ subst P (eqb-true m n here) all.0
+  | inr apart ↦ all_member P ms n all.1 (sym (ap (λ b. b || has ms n) apart) ∙ h)
+]
+
+-- all numbers behind the first of an ascending list are above it
+pub all_above : (n : ℕ) (ms : List ℕ) → Ascends (n ∷ ms) → AllByRecursion (λ m. n < m) ms
+all_above n [] up = tt
+all_above n (m ∷ ms) up = (up.0, all_above n ms (skip ms up.0 up.1))
+  where
+    skip : (ks : List ℕ) → n < m → Ascends (m ∷ ks) → Ascends (n ∷ ks)
+    skip [] h up = tt
+    skip (k ∷ ks) h up = (let g = up.0 in omega (arith, h, g), up.1)
+
+-- ---- some of the numbers
+
+above_filter : (p : ℕ → Bool) (n : ℕ) (xs : List ℕ) → Above n xs → Ascends xs → Above n (filter p xs)
+above_filter p n [] h up = tt
+above_filter p n (x ∷ xs) h up =
+    cond_both (p x) (x ∷ filter p xs) (filter p xs) (Above n) (λ _. h) (λ _. above_filter p n xs (further xs (ascends_head x xs up)) (ascends_tail x xs up))
+  where
+    further : (ks : List ℕ) → Above x ks → Above n ks
+    further [] a = tt
+    further (k ∷ ks) a = omega (arith, h, a)
+
+pub ascends_filter : (p : ℕ → Bool) (xs : List ℕ) → Ascends xs → Ascends (filter p xs)
+ascends_filter p [] up = tt
+ascends_filter p (x ∷ xs) up =
+    let rest = ascends_filter p xs (ascends_tail x xs up) in
+    cond_both (p x) (x ∷ filter p xs) (filter p xs) Ascends (λ _. ascends_cons x (filter p xs) (above_filter p x xs (ascends_head x xs up) (ascends_tail x xs up)) rest) (λ _. rest)
+
+pub has-filter : (p : ℕ → Bool) (xs : List ℕ) (k : ℕ) → has (filter p xs) k ≡ (has xs k && p k)
+has-filter p [] k = refl
+has-filter p (x ∷ xs) k = elim (cases_Bool (eqb x k)) [
+  | inl here ↦
+      let is : x ≡ k = eqb-true x k here in
+      elim (cases_Bool (p k)) [
+        | inl passes ↦
+            ap (λ b. has (cond b (x ∷ filter p xs) (filter p xs)) k) (ap p is ∙ passes) ∙ or_left (eqb x k) (has (filter p xs) k) here
+            ∙ sym (λ i. (here i || has xs k) && passes i)
+        | inr fails ↦
+            ap (λ b. has (cond b (x ∷ filter p xs) (filter p xs)) k) (ap p is ∙ fails) ∙ has-filter p xs k ∙ ap (λ b. has xs k && b) fails ∙ and_false (has xs k)
+            ∙ sym (λ i. (here i || has xs k) && fails i)
+      ]
+  | inr apart ↦
+      cond_both (p x) (x ∷ filter p xs) (filter p xs) (λ ys. has ys k ≡ (has xs k && p k)) (λ _. ap (λ b. b || has (filter p xs) k) apart ∙ has-filter p xs k) (λ _. has-filter p xs k)
+      ∙ sym (ap (λ b. (b || has xs k) && p k) apart)
+]
+  where
+    and_false : (b : Bool) → (b && false) ≡ false
+    and_false true = refl
+    and_false false = refl
+
+-- tests that agree on the members pass the same numbers
+pub filter_within : (p q : ℕ → Bool) (xs : List ℕ) → ((x : ℕ) → has xs x ≡ true → p x ≡ q x) → filter p xs ≡ filter q xs
+filter_within p q [] h = refl
+filter_within p q (x ∷ xs) h =
+    let here : p x ≡ q x = h x (or_left (eqb x x) (has xs x) (eq-eqb x x refl)) in
+    let rest = filter_within p q xs (λ y e. h y (or_right (eqb x y) (has xs y) e)) in
+    λ i. cond (here i) (x ∷ rest i) (rest i)

@@ -1,6 +1,8 @@
--- When a query holds of a set of trigrams.
+-- When a query holds of a set of trigrams, and when it loses no line.
 -- docs/PATTERNS.md, "Queries"; the article "Regular Expression Matching with a Trigram Index".
-use Rattle.std.specs.Prelude.{ℕ, Bool, true, false, nat_lt}
+use Rattle.std.specs.Prelude.{ℕ, Bool, true, false, List, IsTrue}
+use Rattle.cs_syntax.specs.Matching.{Tree, Found}
+use Rattle.cs_trigram.specs.Trigram.{tri}
 use Rattle.std.specs.List.{list_all, list_any}
 use Rattle.cs_trigram.specs.declared.queries.Query.{Query}
 use Rattle.cs_trigram.specs.declared.queries.Query.TheOpen.{Query-F}
@@ -18,14 +20,10 @@ holds_step set (Query-F.Or members) = list_any (λ holds. holds) members.items
 abbrev pub holds : Query → (ℕ → Bool) → Bool
 holds query set = fold-Query Bool (holds_step set) query
 
--- one level: a number is that of three bytes
-abbrev pub numbers_step : Query-F Bool → Bool
-numbers_step Query-F.All = true
-numbers_step Query-F.Nothing = true
-numbers_step (Query-F.Tri number) = nat_lt number 16777216
-numbers_step (Query-F.And members) = list_all (λ small. small) members.items
-numbers_step (Query-F.Or members) = list_all (λ small. small) members.items
+-- the set has all trigrams of the text
+abbrev pub HasTrigrams : (ℕ → Bool) → List ℕ → Type 0
+HasTrigrams set text = IsTrue (list_all set (tri text))
 
--- whether each number in the query is that of three bytes, and so below 2^24
-abbrev pub are_trigrams : Query → Bool
-are_trigrams query = fold-Query Bool numbers_step query
+-- the query loses no line: it holds of each set that has the trigrams of a line in which the tree finds something
+abbrev pub LosesNoLine : Query → Tree → Type 0
+LosesNoLine query tree = (line : List ℕ) (set : ℕ → Bool) → Found tree line → HasTrigrams set line → IsTrue (holds query set)

@@ -1,18 +1,22 @@
 -- The trigrams of some bytes: the numbers of all their parts of three bytes.
 -- docs/FORMAT.md, "Which files are text"; the article "Regular Expression Matching with a Trigram Index".
 use Rattle.std.specs.Prelude.{ℕ, ◌+◌, ◌*◌, ◌<◌, Bool, nat_eq, nat_lt, if◌then◌else◌, List, [], ◌∷◌}
-use Rattle.std.specs.List.{list_any}
+use Rattle.std.specs.List.{list_any, AllByRecursion}
+
+-- how many numbers three bytes have: 2^24
+abbrev pub trigram_count : ℕ
+trigram_count = 16777216
 
 -- the number of three bytes
 abbrev pub trigram : ℕ → ℕ → ℕ → ℕ
 trigram a b c = 65536 * a + 256 * b + c
 
--- the numbers of all parts of three bytes, from the first to the last
-abbrev pub windows : List ℕ → List ℕ
-windows [] = []
-windows (a ∷ []) = []
-windows (a ∷ b ∷ []) = []
-windows (a ∷ b ∷ c ∷ rest) = trigram a b c ∷ windows (b ∷ c ∷ rest)
+-- the trigrams of a text from left to right: the numbers of all its parts of three bytes
+abbrev pub trigram_sequence : List ℕ → List ℕ
+trigram_sequence [] = []
+trigram_sequence (a ∷ []) = []
+trigram_sequence (a ∷ b ∷ []) = []
+trigram_sequence (a ∷ b ∷ c ∷ rest) = trigram a b c ∷ trigram_sequence (b ∷ c ∷ rest)
 
 -- A set of numbers is its ascending list.
 
@@ -23,14 +27,14 @@ Ascends (n ∷ []) = Unit {0}
 Ascends (n ∷ m ∷ ms) = (n < m) × Ascends (m ∷ ms)
 
 -- a number put into a set
-abbrev pub placed : ℕ → List ℕ → List ℕ
-placed n [] = n ∷ []
-placed n (m ∷ ms) = if nat_lt n m then n ∷ m ∷ ms else (if nat_eq n m then m ∷ ms else m ∷ placed n ms)
+abbrev pub with_number : ℕ → List ℕ → List ℕ
+with_number n [] = n ∷ []
+with_number n (m ∷ ms) = if nat_lt n m then n ∷ m ∷ ms else (if nat_eq n m then m ∷ ms else m ∷ with_number n ms)
 
 -- the set of the numbers of a list
-abbrev pub ascending : List ℕ → List ℕ
-ascending [] = []
-ascending (n ∷ ns) = placed n (ascending ns)
+abbrev pub set_of_numbers : List ℕ → List ℕ
+set_of_numbers [] = []
+set_of_numbers (n ∷ ns) = with_number n (set_of_numbers ns)
 
 -- whether a list has the number
 abbrev pub has : List ℕ → ℕ → Bool
@@ -38,4 +42,12 @@ has numbers n = list_any (λ m. nat_eq m n) numbers
 
 -- the set of the trigrams of some bytes
 abbrev pub tri : List ℕ → List ℕ
-tri bytes = ascending (windows bytes)
+tri bytes = set_of_numbers (trigram_sequence bytes)
+
+-- ff ff ff, which no file has: an index ends its lists with it
+abbrev pub closing_trigram : ℕ
+closing_trigram = 16777215
+
+-- the members of a set of trigrams of some file, ascending
+abbrev pub IsTrigramSet : List ℕ → Type 0
+IsTrigramSet trigrams = Ascends trigrams × AllByRecursion (λ n. n < closing_trigram) trigrams

@@ -1,14 +1,17 @@
 // A scanner with limits of its own.
 ghost use Rattle.std.specs.Prelude.{◌≡◌, ◌+◌, ◌<◌, ◌≤◌, ℕ, List, [], None, length, IfOk};
-ghost use Rattle.cs_tree.specs.Told.{LosesAtMost, ends};
-ghost use Rattle.cs_trigram.specs.Text.{found_at, first_broken, Says, IsRight, HasTrigrams, read_counted};
+ghost use Rattle.cs_tree.specs.Transfers.{LosesAtMost};
+ghost use Rattle.cs_trigram.specs.Scans.{found_at, Says, IsRight, HasTrigramSet, is_scan_failure};
+ghost use Rattle.cs_tree.specs.Failures.{count_after};
+ghost use Rattle.cs_tree.specs.Told.{ends};
+ghost use Rattle.cs_trigram.specs.Text.{first_broken};
 ghost use Rattle.cs_trigram.specs.Place.{IsSmall};
 ghost use Rattle.cs_trigram.specs.Found.{Knows, IsSound};
 
 use crate::found::Found;
 use crate::limits::Limits;
 use crate::place::Place;
-use crate::plain::pass;
+use crate::quick::pass;
 use crate::scan::{Reason, Scan, ScanFault};
 use crate::sorter::Sorter;
 use cs_tree::{IoFault, Source};
@@ -18,10 +21,11 @@ use std::marker::Model;
 /// What there is to say of a file that was read to its end.
 fn text(alloc: Global, sorter: &mut Sorter, found: &Found, bytes: u64) -> Result<Scan, ScanFault>
     requires { IsSound found.now }
-    ensures says { (most : Limits) (front : List ℕ) → Knows most.trigrams found.now front → first_broken most [] front ≡ None →
-        bytes ≡ length front → Says result (found_at most front ends) }
-    ensures trigrams { (most : Limits) (front : List ℕ) → Knows most.trigrams found.now front → first_broken most [] front ≡ None →
-        IfOk result HasTrigrams }
+    ensures says { (most : Limits) (front : List ℕ) → Knows most.trigrams found.now front →
+        first_broken most [] front ≡ None → bytes ≡ length front →
+        Says result (found_at most front ends) }
+    ensures trigrams { (most : Limits) (front : List ℕ) → Knows most.trigrams found.now front →
+        first_broken most [] front ≡ None → IfOk result HasTrigramSet }
 {
     if found.is_over() {
         return Ok(Scan::Skip(Reason::ManyTrigrams));
@@ -43,9 +47,10 @@ fn read_through<R: Source>(
     requires room { 0 < length buffer.old }
     requires empty { Knows limits.now.trigrams found.old [] }
     ensures told { IsRight limits.now (R.told source.old) result }
-    ensures trigrams { IfOk result HasTrigrams }
-    ensures failed { R.failed source.new ≡ read_counted result (R.failed source.old) }
-    ensures few { LosesAtMost (limits.now.bytes + 1) (R.told source.old) (R.told source.new) }
+    ensures trigrams { IfOk result HasTrigramSet }
+    ensures failed { R.failed source.new ≡
+        count_after is_scan_failure result (R.failed source.old) }
+    ensures bounded { LosesAtMost (limits.now.bytes + 1) (R.told source.old) (R.told source.new) }
     ensures keeps { R.Keeps source.old source.new }
     ensures sound { IsSound found.new }
     ensures list { length found.new.list.items ≡ limits.now.trigrams + 2 }
@@ -75,7 +80,7 @@ fn read_through<R: Source>(
 
 /// A scanner with limits of its own, which are all that a contract sees of it.
 #[derive(Drop)]
-pub struct BoundedScanner {
+pub(crate) struct BoundedScanner {
     alloc: Global,
     limits: Limits,
     sorter: Sorter,
@@ -97,7 +102,7 @@ impl Model for BoundedScanner {
 
 impl BoundedScanner {
     /// A scanner that has its buffer and its table, about 2.2 MB.
-    pub fn new(alloc: Global, limits: Limits) -> Result<BoundedScanner, AllocError>
+    pub(crate) fn new(alloc: Global, limits: Limits) -> Result<BoundedScanner, AllocError>
         requires { IsSmall limits }
         ensures { IfOk result (λ scanner. scanner ≡ limits) }
     {
@@ -111,11 +116,12 @@ impl BoundedScanner {
     }
 
     /// What the file is that the source gives.
-    pub fn scan<R: Source>(&mut self, source: &mut R) -> Result<Scan, ScanFault>
+    pub(crate) fn scan<R: Source>(&mut self, source: &mut R) -> Result<Scan, ScanFault>
         ensures told { IsRight self.old (R.told source.old) result }
-        ensures trigrams { IfOk result HasTrigrams }
-        ensures failed { R.failed source.new ≡ read_counted result (R.failed source.old) }
-        ensures few { LosesAtMost (self.old.bytes + 1) (R.told source.old) (R.told source.new) }
+        ensures trigrams { IfOk result HasTrigramSet }
+        ensures failed { R.failed source.new ≡
+            count_after is_scan_failure result (R.failed source.old) }
+        ensures bounded { LosesAtMost (self.old.bytes + 1) (R.told source.old) (R.told source.new) }
         ensures keeps { R.Keeps source.old source.new }
         ensures same { self.new ≡ self.old }
     {

@@ -2,14 +2,14 @@
 
 /// The most bytes of a file, the most bytes of a line with its newline, and the most trigrams.
 #[derive(Clone, Copy, Debug, PartialEq, Eq)]
-pub struct Limits {
-    pub bytes: u64,
-    pub line: usize,
-    pub trigrams: usize,
+pub(crate) struct Limits {
+    pub(crate) bytes: u64,
+    pub(crate) line: usize,
+    pub(crate) trigrams: usize,
 }
 
 /// The limits of a file that is indexed.
-pub const LIMITS: Limits = Limits {
+pub(crate) const LIMITS: Limits = Limits {
     bytes: 1 << 30,
     line: 2000,
     trigrams: 20_000,

@@ -1,7 +1,7 @@
 // The rules that each byte is tested by.
 ghost use Rattle.std.specs.Prelude.{◌≡◌, ◌+◌, ◌<◌, ◌≤◌, ◌^◌, ℕ, List, [], ◌∷◌, ◌++◌, None, length, IfOk};
-ghost use Rattle.cs_trigram.specs.Text.{is_lead, may_follow, broken};
-ghost use Rattle.cs_trigram.specs.Place.{IsSmall, IsWithin, Stands, Passes};
+ghost use Rattle.cs_trigram.specs.Text.{is_lead, may_follow, rule_broken};
+ghost use Rattle.cs_trigram.specs.Place.{IsSmall, IsWithin, Stands, IsBehind, PassesFrom};
 
 use crate::limits::Limits;
 use crate::scan::Reason;
@@ -9,15 +9,15 @@ use crate::scan::Reason;
 /// Where a byte stands: how many bytes stand before it, in the file and in its line, and the last
 /// of them, a zero where there is none.
 #[derive(Clone, Copy, Debug, PartialEq, Eq)]
-pub struct Place {
-    pub count: u64,
-    pub column: usize,
-    pub before: u8,
+pub(crate) struct Place {
+    pub(crate) count: u64,
+    pub(crate) column: usize,
+    pub(crate) before: u8,
 }
 
 impl Place {
     /// Before the first byte.
-    pub const START: Place = Place {
+    pub(crate) const START: Place = Place {
         count: 0,
         column: 0,
         before: 0,
@@ -32,7 +32,7 @@ fn is_lead(byte: u8) -> bool
 }
 
 /// Which byte may stand after which.
-pub fn may_follow(before: u8, byte: u8) -> bool
+pub(crate) fn may_follow(before: u8, byte: u8) -> bool
     ensures { result ≡ may_follow before byte }
 {
     if before < 0x80 {
@@ -48,7 +48,8 @@ pub fn may_follow(before: u8, byte: u8) -> bool
 
 /// The rule that a byte breaks at its place.
 fn rule_broken(limits: &Limits, place: Place, byte: u8) -> Option<Reason>
-    ensures rule { (front : List ℕ) → Stands place front → result ≡ broken limits.now front byte }
+    ensures rule { (front : List ℕ) → Stands place front →
+        result ≡ rule_broken limits.now front byte }
     ensures within { result ≡ None → IsWithin limits.now place }
 {
     if byte == 0 {
@@ -82,8 +83,8 @@ fn behind(place: Place, byte: u8) -> Place
 /// The place behind one more byte, or the rule that the byte breaks.
 fn step(limits: &Limits, place: Place, byte: u8) -> Result<Place, Reason>
     requires { IsSmall limits.now }
-    ensures rule { (front : List ℕ) → Stands place front → Passes limits.now front (byte ∷ []) result }
-    ensures count { IfOk result (λ next. (next.count ≡ place.count + 1) × (next.count ≤ limits.now.bytes)) }
+    ensures rule { PassesFrom limits.now place (byte ∷ []) result }
+    ensures count { IfOk result (IsBehind limits.now place 1) }
     ensures column { IfOk result (λ next. next.column ≤ limits.now.line) }
 {
     match rule_broken(limits, place, byte) {
@@ -93,12 +94,12 @@ fn step(limits: &Limits, place: Place, byte: u8) -> Result<Place, Reason>
 }
 
 /// The place behind some more bytes, or the rule that is broken first, byte by byte.
-pub fn pass_each(limits: &Limits, place: Place, bytes: &[u8]) -> Result<Place, Reason>
+pub(crate) fn pass_each(limits: &Limits, place: Place, bytes: &[u8]) -> Result<Place, Reason>
     requires small { IsSmall limits.now }
     requires count { place.count ≤ limits.now.bytes }
     requires column { place.column ≤ limits.now.line }
-    ensures rule { (front : List ℕ) → Stands place front → Passes limits.now front bytes.now result }
-    ensures count { IfOk result (λ next. (next.count ≡ place.count + length bytes.now) × (next.count ≤ limits.now.bytes)) }
+    ensures rule { PassesFrom limits.now place bytes.now result }
+    ensures count { IfOk result (IsBehind limits.now place (length bytes.now)) }
     ensures column { IfOk result (λ next. next.column ≤ limits.now.line) }
 {
     let mut place = place;

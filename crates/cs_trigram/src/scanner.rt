@@ -1,7 +1,9 @@
 // The scanner of files that are indexed.
 ghost use Rattle.std.specs.Prelude.{◌≡◌, ◌+◌, IfOk};
-ghost use Rattle.cs_tree.specs.Told.{LosesAtMost};
-ghost use Rattle.cs_trigram.specs.Text.{limits, IsRight, HasTrigrams, read_counted};
+ghost use Rattle.cs_tree.specs.Transfers.{LosesAtMost};
+ghost use Rattle.cs_trigram.specs.Scans.{IsRight, HasTrigramSet, is_scan_failure};
+ghost use Rattle.cs_tree.specs.Failures.{count_after};
+ghost use Rattle.cs_trigram.specs.Text.{limits};
 
 use crate::bounded::BoundedScanner;
 use crate::limits::LIMITS;
@@ -38,8 +40,8 @@ impl Scanner {
         })
     }
 
-    /// Reads a file, and answers whether it is text, and its trigrams. A byte that breaks a rule is
-    /// the last thing that is read.
+    /// Reads a file, and answers whether it is text, and its trigrams. No read follows the one
+    /// that gave a byte that breaks a rule.
     ///
     /// # Errors
     ///
@@ -47,9 +49,10 @@ impl Scanner {
     /// refused.
     pub fn scan<R: Source>(&mut self, source: &mut R) -> Result<Scan, ScanFault>
         ensures told { IsRight limits (R.told source.old) result }
-        ensures trigrams { IfOk result HasTrigrams }
-        ensures failed { R.failed source.new ≡ read_counted result (R.failed source.old) }
-        ensures few { LosesAtMost (limits.bytes + 1) (R.told source.old) (R.told source.new) }
+        ensures trigrams { IfOk result HasTrigramSet }
+        ensures failed { R.failed source.new ≡
+            count_after is_scan_failure result (R.failed source.old) }
+        ensures bounded { LosesAtMost (limits.bytes + 1) (R.told source.old) (R.told source.new) }
         ensures keeps { R.Keeps source.old source.new }
         ensures same { self.new ≡ self.old }
     {

@@ -1,15 +1,17 @@
 -- Words and what they mean, worked by hand.
 use Rattle.std.proofs.Common.{◌≡◌, ℕ, List, [], ◌∷◌, Some, None, Result, Ok, Err, refl, true, false}
+use Rattle.cs_words.specs.SkipLines.{skip_line_of}
+use Rattle.cs_words.specs.FileFaults.{fault_line_of}
 use Rattle.std.specs.Prelude.{codes}
 use Rattle.cs_words.specs.Words.{name_of, value_of, is_option, items_from, meaning}
-use Rattle.cs_words.specs.Jobs.{Wanted, index, search, grep}
+use Rattle.cs_words.specs.Wanted.{Wanted, index, search, grep}
 use Rattle.cs_words.specs.declared.jobs.Tool.TheVariants.{Cindex, Csearch, Cgrep}
 use Rattle.cs_words.specs.declared.jobs.Style.{Style}
 use Rattle.cs_words.specs.declared.fault.WordFault.{WordFault}
 use Rattle.cs_words.specs.declared.fault.WordFault.TheVariants.{UnknownOption, NoValue, BadTruth, NoPattern, ExtraWord}
 use Rattle.std.specs.Fmt.{digits}
 use Rattle.cs_syntax.specs.declared.fault.PatternFault.TheVariants.{TooDeep, Memory as PatternMemory}
-use Rattle.cs_words.specs.Messages.{line_of, fault_line_of, skip_line_of}
+use Rattle.cs_words.specs.Messages.{line_of}
 use Rattle.cs_words.specs.declared.fault.Refusal.TheVariants.{Word as A_word, Tool as A_tool, Index as An_index}
 use Rattle.cs_words.specs.declared.fault.ToolFault.TheVariants.{Pattern, FilePattern, BadIndex as ToolBadIndex}
 use Rattle.cs_words.specs.declared.fault.CindexFault.TheVariants.{NoIndex, BadPath}

@@ -7,18 +7,18 @@ use Rattle.std.proofs.Math.Seq.{take-length}
 use Rattle.std.proofs.lemmas.List.{reverse-append, map-append, take-map, take_more, drop-drop}
 use Rattle.std.proofs.lemmas.List.Sums.{sum_by-cons}
 use Rattle.std.proofs.lemmas.List.Folds.{find-append}
-use Rattle.cs_words.specs.Words.{Item, item, is_option, name_of, takes_next, items_from, items, words_in, without_end, rest, says, value_in, fault_in, first_fault, last_of, is_on, value_for, style_of, switches_of, valued_of, is_among, job_by, unless, meaning}
-use Rattle.cs_words.specs.Settings.{switch_name, item_of, Sets, IsNext, BreaksRule, Answers, is_set, turned, with_setting, AreOf}
-use Rattle.cs_words.specs.Jobs.{Wanted, index, search, grep, wanted}
+use Rattle.cs_words.specs.Words.{Item, item, is_option, name_of, takes_next, items_from, items, words_in, without_end, rest, truth_in, value_in, fault_in, first_fault, last_of, is_on, value_for, style_of, switches_of, valued_of, is_among, job_by, fault_or, meaning}
+use Rattle.cs_words.specs.Settings.{switch_name, item_of, Sets, IsNext, BreaksRule, Answers, is_set, with_switch, with_setting, AreOf}
+use Rattle.cs_words.specs.Wanted.{Wanted, index, search, grep, job_wanted}
 use Rattle.cs_words.specs.declared.jobs.Job.{Job}
 use Rattle.cs_words.specs.declared.jobs.Tool.{Tool}
 use Rattle.cs_words.specs.declared.jobs.Tool.TheVariants.{Cindex, Csearch, Cgrep}
 use Rattle.cs_words.specs.declared.fault.WordFault.{WordFault}
 use Rattle.cs_words.specs.declared.fault.WordFault.TheVariants.{UnknownOption, NoValue, BadTruth, Memory}
 use Rattle.cs_words.specs.declared.options.Switch.{Switch}
-use Rattle.cs_words.specs.declared.options.Switch.TheVariants.{List as Listed, Reset, LogSkip, Count, Bare, Fold, Names, Number, Brute}
+use Rattle.cs_words.specs.declared.options.Switch.TheVariants.{List as Listed, Reset, LogSkip, Count, Bare, Fold, ListFiles, Number, Brute}
 use Rattle.cs_words.specs.declared.settings.Setting.{Setting}
-use Rattle.cs_words.specs.declared.settings.Setting.TheVariants.{Turns, Names as Names_files}
+use Rattle.cs_words.specs.declared.settings.Setting.TheVariants.{Turns, File as A_pattern}
 use Rattle.cs_words.specs.declared.settings.Settings.{Settings}
 use Rattle.cs_words.specs.declared.words.ReadItem.{ReadItem}
 
@@ -66,9 +66,9 @@ said_after-cons say before name first items =
 
 -- what an item says of a switch
 abbrev pub turns_on : Item → Bool
-turns_on item = unwrap_or (says item) false
+turns_on item = unwrap_or (truth_in item) false
 
-is_on-after : (last : Option Item) → unwrap_or (option_and_then says last) false ≡ unwrap_or (option_map turns_on last) false
+is_on-after : (last : Option Item) → unwrap_or (option_and_then truth_in last) false ≡ unwrap_or (option_map turns_on last) false
 is_on-after None = refl
 is_on-after (Some last) = refl
 
@@ -104,26 +104,26 @@ items_from-other tool at word (next ∷ behind) option =
     ap (λ first. cond (not first) [] (cond (takes_next tool word) (item word at (Some next) ∷ items_from tool (at + 2) behind) (item word at None ∷ items_from tool (at + 1) (next ∷ behind)))) option
 
 -- one switch is as it was turned, the others are as before
-is_set-turned : (other switch : Switch) (on : Bool) (settings : Settings)
-    → is_set other (turned switch on settings) ≡ cond (bytes_eq (switch_name other) (switch_name switch)) on (is_set other settings)
-is_set-turned Listed Listed on settings = refl
-is_set-turned _ Listed on settings = refl
-is_set-turned Reset Reset on settings = refl
-is_set-turned _ Reset on settings = refl
-is_set-turned LogSkip LogSkip on settings = refl
-is_set-turned _ LogSkip on settings = refl
-is_set-turned Count Count on settings = refl
-is_set-turned _ Count on settings = refl
-is_set-turned Bare Bare on settings = refl
-is_set-turned _ Bare on settings = refl
-is_set-turned Fold Fold on settings = refl
-is_set-turned _ Fold on settings = refl
-is_set-turned Names Names on settings = refl
-is_set-turned _ Names on settings = refl
-is_set-turned Number Number on settings = refl
-is_set-turned _ Number on settings = refl
-is_set-turned Brute Brute on settings = refl
-is_set-turned _ Brute on settings = refl
+is_set-with_switch : (other switch : Switch) (on : Bool) (settings : Settings)
+    → is_set other (with_switch switch on settings) ≡ cond (bytes_eq (switch_name other) (switch_name switch)) on (is_set other settings)
+is_set-with_switch Listed Listed on settings = refl
+is_set-with_switch _ Listed on settings = refl
+is_set-with_switch Reset Reset on settings = refl
+is_set-with_switch _ Reset on settings = refl
+is_set-with_switch LogSkip LogSkip on settings = refl
+is_set-with_switch _ LogSkip on settings = refl
+is_set-with_switch Count Count on settings = refl
+is_set-with_switch _ Count on settings = refl
+is_set-with_switch Bare Bare on settings = refl
+is_set-with_switch _ Bare on settings = refl
+is_set-with_switch Fold Fold on settings = refl
+is_set-with_switch _ Fold on settings = refl
+is_set-with_switch ListFiles ListFiles on settings = refl
+is_set-with_switch _ ListFiles on settings = refl
+is_set-with_switch Number Number on settings = refl
+is_set-with_switch _ Number on settings = refl
+is_set-with_switch Brute Brute on settings = refl
+is_set-with_switch _ Brute on settings = refl
 
 -- The words before a place are read into settings: what all items say is what the settings and the items from there on say.
 pub record IsReadTo (tool : Tool) (words : List (List ℕ)) (at : ℕ) (settings : Settings) : Type 0 where
@@ -156,8 +156,8 @@ set_switch : (switch : Switch) (first : Item) (setting : Setting) (settings : Se
 set_switch switch first (Turns other on) settings sets =
     ap (λ name. cond (bytes_eq (switch_name switch) name) (turns_on first) (is_set switch settings)) sets.0
     ∙ ap (λ said. cond (bytes_eq (switch_name switch) (switch_name other)) (unwrap_or said false) (is_set switch settings)) sets.1
-    ∙ sym (is_set-turned switch other on settings)
-set_switch switch first (Names_files pattern) settings sets =
+    ∙ sym (is_set-with_switch switch other on settings)
+set_switch switch first (A_pattern pattern) settings sets =
     ap (λ name. cond (bytes_eq (switch_name switch) name) (turns_on first) (is_set switch settings)) sets.0
     ∙ no_switch_is_f switch (turns_on first) settings pattern
   where
@@ -168,14 +168,14 @@ set_switch switch first (Names_files pattern) settings sets =
 
 set_file : (first : Item) (setting : Setting) (settings : Settings) → Sets first setting
     → cond (bytes_eq (codes "f") (name_of first.word)) (value_in first) (option_copied settings.file) ≡ option_copied (with_setting setting settings).file
-set_file first (Names_files pattern) settings sets =
+set_file first (A_pattern pattern) settings sets =
     ap (λ name. cond (bytes_eq (codes "f") name) (value_in first) (option_copied settings.file)) sets.0 ∙ sets.1
 set_file first (Turns switch on) settings sets =
     ap (λ name. cond (bytes_eq (codes "f") name) (value_in first) (option_copied settings.file)) sets.0
     ∙ f_is_no_switch switch on (value_in first) settings
   where
     f_is_no_switch : (switch : Switch) (on : Bool) (value : Option (List ℕ)) (settings : Settings)
-        → cond (bytes_eq (codes "f") (switch_name switch)) value (option_copied settings.file) ≡ option_copied (turned switch on settings).file
+        → cond (bytes_eq (codes "f") (switch_name switch)) value (option_copied settings.file) ≡ option_copied (with_switch switch on settings).file
     f_is_no_switch Listed on value settings = refl
     f_is_no_switch _ on value settings = refl
 
@@ -259,7 +259,7 @@ fault_next tool (word ∷ behind) at fault breaks =
 style_is : (settings : Settings) (items : List Item) → AreOf settings items → settings.style ≡ style_of items
 style_is settings items are = λ i. record {
   count = are.switches Count i;
-  list = are.switches Names i;
+  list = are.switches ListFiles i;
   number = are.switches Number i;
   bare = are.switches Bare i;
 }
@@ -283,7 +283,7 @@ index_answer settings items cwd paths are =
 
 -- Memory is no meaning of words
 fault_in-memory : (tool : Tool) (item : Item) → fault_in tool item ≡ Some Memory → ⊥
-fault_in-memory tool item is = by_cases (is_among (switches_of tool) (name_of item.word)) (is_among (valued_of tool) (name_of item.word)) (is_none (says item)) (is_none (value_in item)) is
+fault_in-memory tool item is = by_cases (is_among (switches_of tool) (name_of item.word)) (is_among (valued_of tool) (name_of item.word)) (is_none (truth_in item)) (is_none (value_in item)) is
   where
     by_cases : (switch valued silent without : Bool)
         → cond switch (cond silent (Some (BadTruth item.at)) None) (cond valued (cond without (Some (NoValue item.at)) None) (Some (UnknownOption item.at))) ≡ Some Memory → ⊥
@@ -315,13 +315,13 @@ pub meaning-faulty : (tool : Tool) (cwd : List ℕ) (words : List (List ℕ)) (f
     → meaning tool cwd words ≡ Err fault
 unfolding meaning
 meaning-faulty tool cwd words fault is =
-    ap (λ found. unless found (job_by tool cwd (length words) (items tool words) (rest tool words))) is
+    ap (λ found. fault_or found (job_by tool cwd (length words) (items tool words) (rest tool words))) is
 
 pub meaning-sound : (tool : Tool) (cwd : List ℕ) (words : List (List ℕ)) → first_fault tool (items tool words) ≡ None
     → meaning tool cwd words ≡ job_by tool cwd (length words) (items tool words) (rest tool words)
 unfolding meaning
 meaning-sound tool cwd words is =
-    ap (λ found. unless found (job_by tool cwd (length words) (items tool words) (rest tool words))) is
+    ap (λ found. fault_or found (job_by tool cwd (length words) (items tool words) (rest tool words))) is
 
 pub meaning-memory : (tool : Tool) (cwd : List ℕ) (words : List (List ℕ)) → meaning tool cwd words ≡ Err Memory → ⊥
 unfolding meaning
@@ -330,12 +330,12 @@ meaning-memory tool cwd words is =
     (first_fault-memory tool (items tool words)) (job_by-memory tool cwd (length words) (items tool words) (rest tool words)) is
   where
     by_fault : (found : Option WordFault) (job : Result Wanted WordFault) → (found ≡ Some Memory → ⊥) → (job ≡ Err Memory → ⊥)
-        → unless found job ≡ Err Memory → ⊥
+        → fault_or found job ≡ Err Memory → ⊥
     by_fault None job no_fault no_job is = no_job is
     by_fault (Some fault) job no_fault no_job is = no_fault (let same : fault ≡ Memory = cc in ap (λ fault. Some fault) same)
 
 -- what is answered where the words mean something
-pub answer_job : (meant : Result Wanted WordFault) (answer : Result Job WordFault) → Answers meant answer → IfOk answer (λ job. meant ≡ Ok (wanted job))
+pub answer_job : (meant : Result Wanted WordFault) (answer : Result Job WordFault) → Answers meant answer → IfOk answer (λ job. meant ≡ Ok (job_wanted job))
 answer_job (Ok job) (Ok found) answers = ap (λ job. Ok job) (sym answers)
 answer_job (Ok job) (Err fault) answers = tt
 answer_job (Err fault) (Ok found) answers = cc

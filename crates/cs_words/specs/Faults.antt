@@ -13,28 +13,28 @@ use Rattle.cs_words.specs.declared.fault.CindexFault.TheVariants as cindex
 
 -- ---- of csearch and cgrep
 
-abbrev pub written_fault : IoFault → ToolFault
-written_fault io.Failed = Write
-written_fault io.Memory = Memory
+abbrev pub tool_write_fault : IoFault → ToolFault
+tool_write_fault io.Failed = Write
+tool_write_fault io.Memory = Memory
 
-abbrev pub refused_at : PatternFault → PatternError → ToolFault
-refused_at pattern.Memory error = Memory
-refused_at fault error = Pattern error
+abbrev pub pattern_fault_at : PatternFault → PatternError → ToolFault
+pattern_fault_at pattern.Memory error = Memory
+pattern_fault_at fault error = Pattern error
 
 -- want of memory is a fault of its own
 abbrev pub pattern_fault : PatternError → ToolFault
-pattern_fault error = refused_at error.fault error
+pattern_fault error = pattern_fault_at error.fault error
 
-abbrev pub opened_fault : IndexFault → ToolFault
-opened_fault index.Memory = Memory
-opened_fault fault = BadIndex fault
+abbrev pub index_fault : IndexFault → ToolFault
+index_fault index.Memory = Memory
+index_fault fault = BadIndex fault
 
 -- ---- of cindex
 
-abbrev pub unwritten : IoFault → CindexFault
-unwritten io.Failed = cindex.Write
-unwritten io.Memory = cindex.Memory
+abbrev pub write_refusal : IoFault → CindexFault
+write_refusal io.Failed = cindex.Write
+write_refusal io.Memory = cindex.Memory
 
-abbrev pub unopened : IndexFault → CindexFault
-unopened index.Memory = cindex.Memory
-unopened fault = cindex.BadIndex fault
+abbrev pub index_refusal : IndexFault → CindexFault
+index_refusal index.Memory = cindex.Memory
+index_refusal fault = cindex.BadIndex fault

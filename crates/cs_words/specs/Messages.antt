@@ -1,10 +1,10 @@
 -- The lines that the tools print where they refuse, and where a file or a path is left out.
 use Rattle.std.specs.Prelude.{ℕ, List, ◌++◌, codes, decimal}
+use Rattle.cs_words.specs.FileFaults.{tool_name}
 use Rattle.cs_syntax.specs.declared.fault.PatternFault.{PatternFault}
 use Rattle.cs_syntax.specs.declared.fault.PatternFault.TheVariants.{NoOperand, StackedRepeat, BadRepeat, OpenGroup, StrayClose, BadGroup, OpenClass, BadRange, BadEscape, LoneBackslash, NotInProfile, TooDeep, TooLarge as PatternTooLarge, Memory as PatternMemory}
 use Rattle.cs_syntax.specs.declared.fault.PatternError.{PatternError}
 use Rattle.cs_words.specs.declared.jobs.Tool.{Tool}
-use Rattle.cs_words.specs.declared.jobs.Tool.TheVariants.{Cindex, Csearch, Cgrep}
 use Rattle.cs_index.specs.declared.fault.IndexFault.{IndexFault}
 use Rattle.cs_index.specs.declared.fault.IndexFault.TheVariants.{BadMagic, BadTrailer, BadOffsets, BadPaths, BadNames, BadNameIndex, BadListIndex, BadList, Memory as IndexMemory}
 use Rattle.cs_words.specs.declared.fault.WordFault.{WordFault}
@@ -15,15 +15,6 @@ use Rattle.cs_words.specs.declared.fault.CindexFault.{CindexFault}
 use Rattle.cs_words.specs.declared.fault.CindexFault.TheVariants.{NoIndex, BadIndex, Unsorted, TooLarge, BadPath, Write, Memory}
 use Rattle.cs_words.specs.declared.fault.Refusal.{Refusal}
 use Rattle.cs_words.specs.declared.fault.Refusal.TheVariants.{Word as A_word, Tool as A_tool, Index as An_index}
-use Rattle.cs_words.specs.declared.fault.FileFault.{FileFault}
-use Rattle.cs_words.specs.declared.fault.FileFault.TheVariants.{Missing, Denied, Failed, Unnamed, PathTooLong, InputTooLong}
-use Rattle.cs_trigram.specs.declared.scan.Reason.{Reason}
-use Rattle.cs_trigram.specs.declared.scan.Reason.TheVariants.{Nul, Utf8, TooLong, LongLine, ManyTrigrams}
-
-abbrev pub tool_name : Tool → List ℕ
-tool_name Cindex = codes "cindex"
-tool_name Csearch = codes "csearch"
-tool_name Cgrep = codes "cgrep"
 
 abbrev pub out_of_memory : List ℕ
 out_of_memory = codes "out of memory"
@@ -97,26 +88,3 @@ refusal_words (An_index fault) word = cindex_fault_words fault word
 
 abbrev pub line_of : Tool → Refusal → List ℕ → List ℕ
 line_of tool refusal word = tool_name tool ++ codes ": " ++ refusal_words refusal word ++ codes "\n"
-
--- why a file or a path is left out
-abbrev pub file_fault_words : FileFault → List ℕ
-file_fault_words Missing = codes "no such file"
-file_fault_words Denied = codes "permission denied"
-file_fault_words Failed = codes "cannot be read"
-file_fault_words Unnamed = codes "name is not text"
-file_fault_words PathTooLong = codes "path too long"
-file_fault_words InputTooLong = codes "input too long"
-
-abbrev pub fault_line_of : Tool → List ℕ → FileFault → List ℕ
-fault_line_of tool name fault = tool_name tool ++ codes ": " ++ name ++ codes ": " ++ file_fault_words fault ++ codes "\n"
-
--- why a file is no text that is indexed
-abbrev pub reason_words : Reason → List ℕ
-reason_words Nul = codes "NUL byte"
-reason_words Utf8 = codes "bad UTF-8"
-reason_words TooLong = codes "file too long"
-reason_words LongLine = codes "line too long"
-reason_words ManyTrigrams = codes "too many trigrams"
-
-abbrev pub skip_line_of : List ℕ → Reason → List ℕ
-skip_line_of name reason = tool_name Cindex ++ codes ": " ++ name ++ codes ": not indexed: " ++ reason_words reason ++ codes "\n"

@@ -1,17 +1,17 @@
 -- What an item sets, and what the settings that are read say.
 use Rattle.std.specs.Prelude.{◌≡◌, ℕ, Bool, true, false, List, [], ◌∷◌, Option, Some, None, Result, Ok, Err, codes, slice_get, if◌then◌else◌, option_copied, MatchResult}
-use Rattle.cs_words.specs.Words.{Item, item, is_among, is_option, words_in, fault_in, switches_of, valued_of, name_of, takes_next, says, value_in, is_on, value_for}
-use Rattle.cs_words.specs.Jobs.{Wanted, wanted}
+use Rattle.cs_words.specs.Words.{Item, item, is_among, is_option, words_in, fault_in, switches_of, valued_of, name_of, takes_next, truth_in, value_in, is_on, value_for}
+use Rattle.cs_words.specs.Wanted.{Wanted, job_wanted}
 use Rattle.cs_words.specs.declared.jobs.Job.{Job}
 use Rattle.cs_words.specs.declared.fault.WordFault.{WordFault}
 use Rattle.cs_words.specs.declared.fault.WordFault.TheVariants.{Memory}
 use Rattle.cs_words.specs.declared.settings.Setting.{Setting}
-use Rattle.cs_words.specs.declared.settings.Setting.TheVariants.{Turns, Names as Names_files}
+use Rattle.cs_words.specs.declared.settings.Setting.TheVariants.{Turns, File as A_pattern}
 use Rattle.cs_words.specs.declared.settings.Settings.{Settings}
 use Rattle.cs_words.specs.declared.words.ReadItem.{ReadItem}
 use Rattle.cs_words.specs.declared.jobs.Tool.{Tool}
 use Rattle.cs_words.specs.declared.options.Switch.{Switch}
-use Rattle.cs_words.specs.declared.options.Switch.TheVariants.{List as Listed, Reset, LogSkip, Count, Bare, Fold, Names, Number, Brute}
+use Rattle.cs_words.specs.declared.options.Switch.TheVariants.{List as Listed, Reset, LogSkip, Count, Bare, Fold, ListFiles, Number, Brute}
 use Rattle.cs_words.specs.declared.options.Flag.{Flag}
 use Rattle.cs_words.specs.declared.options.Flag.TheVariants.{Switch as A_switch, File}
 
@@ -22,7 +22,7 @@ switch_name LogSkip = codes "logskip"
 switch_name Count = codes "c"
 switch_name Bare = codes "h"
 switch_name Fold = codes "i"
-switch_name Names = codes "l"
+switch_name ListFiles = codes "l"
 switch_name Number = codes "n"
 switch_name Brute = codes "brute"
 
@@ -39,8 +39,8 @@ item_of tool at word behind = item word at (if takes_next tool word then slice_g
 
 -- what an item sets that breaks no rule
 abbrev pub Sets : Item → Setting → Type 0
-Sets item (Turns switch on) = (name_of item.word ≡ switch_name switch) × (says item ≡ Some on)
-Sets item (Names_files pattern) = (name_of item.word ≡ codes "f") × (value_in item ≡ Some pattern.now)
+Sets item (Turns switch on) = (name_of item.word ≡ switch_name switch) × (truth_in item ≡ Some on)
+Sets item (A_pattern pattern) = (name_of item.word ≡ codes "f") × (value_in item ≡ Some pattern.now)
 
 -- what is read of the item at the front of the words, the first of which stands at a place
 abbrev pub IsNext : Tool → ℕ → List (List ℕ) → Option ReadItem → Type 0
@@ -63,25 +63,25 @@ is_set LogSkip settings = settings.log_skip
 is_set Count settings = settings.style.count
 is_set Bare settings = settings.style.bare
 is_set Fold settings = settings.fold
-is_set Names settings = settings.style.list
+is_set ListFiles settings = settings.style.list
 is_set Number settings = settings.style.number
 is_set Brute settings = settings.brute
 
 -- the settings with one switch as it is now
-abbrev pub turned : Switch → Bool → Settings → Settings
-turned Listed on settings = record settings { list = on }
-turned Reset on settings = record settings { reset = on }
-turned LogSkip on settings = record settings { log_skip = on }
-turned Count on settings = record settings { style = record settings.style { count = on } }
-turned Bare on settings = record settings { style = record settings.style { bare = on } }
-turned Fold on settings = record settings { fold = on }
-turned Names on settings = record settings { style = record settings.style { list = on } }
-turned Number on settings = record settings { style = record settings.style { number = on } }
-turned Brute on settings = record settings { brute = on }
+abbrev pub with_switch : Switch → Bool → Settings → Settings
+with_switch Listed on settings = record settings { list = on }
+with_switch Reset on settings = record settings { reset = on }
+with_switch LogSkip on settings = record settings { log_skip = on }
+with_switch Count on settings = record settings { style = record settings.style { count = on } }
+with_switch Bare on settings = record settings { style = record settings.style { bare = on } }
+with_switch Fold on settings = record settings { fold = on }
+with_switch ListFiles on settings = record settings { style = record settings.style { list = on } }
+with_switch Number on settings = record settings { style = record settings.style { number = on } }
+with_switch Brute on settings = record settings { brute = on }
 
 abbrev pub with_setting : Setting → Settings → Settings
-with_setting (Turns switch on) settings = turned switch on settings
-with_setting (Names_files pattern) settings = record settings { file = Some pattern }
+with_setting (Turns switch on) settings = with_switch switch on settings
+with_setting (A_pattern pattern) settings = record settings { file = Some pattern }
 
 -- the settings are those of the items
 pub record AreOf (settings : Settings) (items : List Item) : Type 0 where
@@ -90,5 +90,5 @@ pub record AreOf (settings : Settings) (items : List Item) : Type 0 where
 
 -- Where the words mean a job, the answer is that job or Memory; where they mean a fault, it is that fault.
 abbrev pub Answers : Result Wanted WordFault → Result Job WordFault → Type 0
-Answers (Ok job) answer = MatchResult answer (λ found. wanted found ≡ job) (λ fault. fault ≡ Memory)
+Answers (Ok job) answer = MatchResult answer (λ found. job_wanted found ≡ job) (λ fault. fault ≡ Memory)
 Answers (Err fault) answer = answer ≡ Err fault

@@ -3,7 +3,7 @@
 use Rattle.std.specs.Prelude.{ℕ, ◌+◌, ◌-◌, ◌==◌, nat_eq, Bool, true, false, ◌&&◌, not, if◌then◌else◌, List, [], ◌∷◌, length, drop, reverse, sum_by, find, position, Option, Some, None, is_some, is_none, unwrap_or, option_map, option_and_then, Result, Ok, Err, codes, bytes_eq}
 use Rattle.std.specs.List.{list_any, starts_with, before_first}
 use Rattle.std.specs.Option.{option_or}
-use Rattle.cs_words.specs.Jobs.{Wanted, index, search, grep}
+use Rattle.cs_words.specs.Wanted.{Wanted, index, search, grep}
 use Rattle.cs_words.specs.declared.jobs.Tool.{Tool}
 use Rattle.cs_words.specs.declared.jobs.Tool.TheVariants.{Cindex, Csearch, Cgrep}
 use Rattle.cs_words.specs.declared.jobs.Style.{Style}
@@ -19,19 +19,19 @@ abbrev pub is_option : List ℕ → Bool
 is_option word = starts_with nat_eq word (codes "-") && not (is_among (codes "-" ∷ codes "--" ∷ []) word)
 
 -- what stands behind the one or two dashes
-abbrev pub undashed : List ℕ → List ℕ
-undashed word = drop (if starts_with nat_eq word (codes "--") then 2 else 1) word
+abbrev pub option_text : List ℕ → List ℕ
+option_text word = drop (if starts_with nat_eq word (codes "--") then 2 else 1) word
 
 abbrev pub is_equals : ℕ → Bool
 is_equals byte = byte == 61
 
 -- the name of an option ends at the first `=`
 abbrev pub name_of : List ℕ → List ℕ
-name_of word = before_first is_equals (undashed word)
+name_of word = before_first is_equals (option_text word)
 
 -- its own value is what stands behind that `=`
 abbrev pub value_of : List ℕ → Option (List ℕ)
-value_of word = option_map (λ at. drop (at + 1) (undashed word)) (position is_equals (undashed word))
+value_of word = option_map (λ at. drop (at + 1) (option_text word)) (position is_equals (option_text word))
 
 -- the options that are on or off, tool by tool
 abbrev pub switches_of : Tool → List (List ℕ)
@@ -95,8 +95,8 @@ abbrev pub truth : List ℕ → Option Bool
 truth value = if is_among yes value then Some true else if is_among no value then Some false else None
 
 -- what an item says of a switch, which without a value is on
-abbrev pub says : Item → Option Bool
-says item = unwrap_or (option_map truth (value_of item.word)) (Some true)
+abbrev pub truth_in : Item → Option Bool
+truth_in item = unwrap_or (option_map truth (value_of item.word)) (Some true)
 
 -- the value of an option that has one: its own, or else the next word
 abbrev pub value_in : Item → Option (List ℕ)
@@ -105,7 +105,7 @@ value_in item = option_or (value_of item.word) item.next
 -- the rule that an item breaks
 abbrev pub fault_in : Tool → Item → Option WordFault
 fault_in tool item =
-    if is_among (switches_of tool) (name_of item.word) then (if is_none (says item) then Some (BadTruth item.at) else None)
+    if is_among (switches_of tool) (name_of item.word) then (if is_none (truth_in item) then Some (BadTruth item.at) else None)
     else if is_among (valued_of tool) (name_of item.word) then (if is_none (value_in item) then Some (NoValue item.at) else None)
     else Some (UnknownOption item.at)
 
@@ -120,7 +120,7 @@ last_of name items = find (λ item. bytes_eq name (name_of item.word)) (reverse 
 
 -- a switch is as its last item says, and off where it has none
 abbrev pub is_on : List ℕ → List Item → Bool
-is_on name items = unwrap_or (option_and_then says (last_of name items)) false
+is_on name items = unwrap_or (option_and_then truth_in (last_of name items)) false
 
 -- an option that has a value has that of its last item
 abbrev pub value_for : List ℕ → List Item → Option (List ℕ)
@@ -159,12 +159,12 @@ job_by Csearch cwd all items rest = search_job all items rest
 job_by Cgrep cwd all items rest = grep_job items rest
 
 -- the fault where there is one, and else the job
-abbrev pub unless : Option WordFault → Result Wanted WordFault → Result Wanted WordFault
-unless (Some fault) job = Err fault
-unless None job = job
+abbrev pub fault_or : Option WordFault → Result Wanted WordFault → Result Wanted WordFault
+fault_or (Some fault) job = Err fault
+fault_or None job = job
 
 -- What the words mean: the fault of the first item that breaks a rule, or else the job by the last
 -- item of each option and by the rest.
 unfoldable pub meaning : Tool → List ℕ → List (List ℕ) → Result Wanted WordFault
 meaning tool cwd words =
-    unless (first_fault tool (items tool words)) (job_by tool cwd (length words) (items tool words) (rest tool words))
+    fault_or (first_fault tool (items tool words)) (job_by tool cwd (length words) (items tool words) (rest tool words))

@@ -1,7 +1,7 @@
 // Why a tool refuses.
 use cs_index::IndexFault;
 use cs_syntax::{PatternError, PatternFault};
-use cs_tree::IoFault;
+use cs_tree::{IoFault, TreeFault};
 use std::alloc::{AllocError, AllocFailed};
 use thiserror::Error;
 
@@ -78,9 +78,9 @@ pub enum ToolFault {
 /// A refused write, and want of memory in one.
 impl From<IoFault> for ToolFault {
     ghost use Rattle.std.specs.Prelude.{◌≡◌};
-    ghost use Rattle.cs_words.specs.Faults.{written_fault};
+    ghost use Rattle.cs_words.specs.Faults.{tool_write_fault};
 
-    ghost from_gives = { λ io fault. fault ≡ written_fault io };
+    ghost from_gives = { λ io fault. fault ≡ tool_write_fault io };
 
     fn from(io: IoFault) -> ToolFault {
         match io {
@@ -119,9 +119,9 @@ impl From<PatternError> for ToolFault {
 /// Bytes that do not open as an index. Want of memory is its own fault.
 impl From<IndexFault> for ToolFault {
     ghost use Rattle.std.specs.Prelude.{◌≡◌};
-    ghost use Rattle.cs_words.specs.Faults.{opened_fault};
+    ghost use Rattle.cs_words.specs.Faults.{index_fault};
 
-    ghost from_gives = { λ index fault. fault ≡ opened_fault index };
+    ghost from_gives = { λ index fault. fault ≡ index_fault index };
 
     fn from(index: IndexFault) -> ToolFault {
         match index {
@@ -161,9 +161,9 @@ pub enum CindexFault {
 /// A refused write, and want of memory in one.
 impl From<IoFault> for CindexFault {
     ghost use Rattle.std.specs.Prelude.{◌≡◌};
-    ghost use Rattle.cs_words.specs.Faults.{unwritten};
+    ghost use Rattle.cs_words.specs.Faults.{write_refusal};
 
-    ghost from_gives = { λ io fault. fault ≡ unwritten io };
+    ghost from_gives = { λ io fault. fault ≡ write_refusal io };
 
     fn from(io: IoFault) -> CindexFault {
         match io {
@@ -187,9 +187,9 @@ impl From<AllocError> for CindexFault {
 /// Bytes that do not open as an index. Want of memory is its own fault.
 impl From<IndexFault> for CindexFault {
     ghost use Rattle.std.specs.Prelude.{◌≡◌};
-    ghost use Rattle.cs_words.specs.Faults.{unopened};
+    ghost use Rattle.cs_words.specs.Faults.{index_refusal};
 
-    ghost from_gives = { λ index fault. fault ≡ unopened index };
+    ghost from_gives = { λ index fault. fault ≡ index_refusal index };
 
     fn from(index: IndexFault) -> CindexFault {
         match index {
@@ -225,4 +225,24 @@ pub enum FileFault {
     PathTooLong,
     /// An input that is searched has more than 2^30 bytes.
     InputTooLong,
+}
+
+impl FileFault {
+    ghost use Rattle.std.specs.Prelude.{◌≡◌, ◌≢◌, IfOk, IfErr};
+    ghost use Rattle.cs_words.specs.FileFaults.{file_fault_of};
+
+    /// The fault of a file that a tree refuses to look at, to open or to read. Want of memory is
+    /// none of the file's, and the only refusal.
+    pub fn of_tree(fault: TreeFault) -> Result<FileFault, AllocError>
+        ensures file { IfOk result
+            (λ file. (file ≡ file_fault_of fault) × (fault ≢ TreeFault.Memory)) }
+        ensures memory { IfErr result (λ _. fault ≡ TreeFault.Memory) }
+    {
+        match fault {
+            TreeFault::Missing => Ok(FileFault::Missing),
+            TreeFault::Denied => Ok(FileFault::Denied),
+            TreeFault::Failed => Ok(FileFault::Failed),
+            TreeFault::Memory => Err(AllocError),
+        }
+    }
 }

@@ -1,6 +1,9 @@
 // The lines that the tools print where they refuse, and where a file or a path is left out.
-ghost use Rattle.std.specs.Prelude.{◌≡◌, ◌++◌, codes, string_bytes, OnOk, IfOk};
-ghost use Rattle.cs_words.specs.Messages.{tool_name, pattern_words, pattern_error_words, index_fault_words, word_fault_words, tool_fault_words, cindex_fault_words, refusal_words, line_of, file_fault_words, fault_line_of, reason_words, skip_line_of};
+ghost use Rattle.std.specs.Prelude.{◌≡◌, ◌++◌, codes, string_bytes, IfOk};
+ghost use Rattle.cs_words.specs.SkipLines.{reason_words, skip_line_of};
+ghost use Rattle.cs_words.specs.FileFaults.{tool_name, file_fault_words, fault_line_of};
+ghost use Rattle.cs_words.specs.Pushing.{Appends};
+ghost use Rattle.cs_words.specs.Messages.{pattern_words, pattern_error_words, index_fault_words, word_fault_words, tool_fault_words, cindex_fault_words, refusal_words, line_of};
 
 use crate::fault::{CindexFault, FileFault, Refusal, ToolFault, WordFault};
 use crate::jobs::Tool;
@@ -20,7 +23,7 @@ pub fn message(
 ) -> Result<String, AllocError>
     ensures { IfOk result (λ line. string_bytes line ≡ line_of tool refusal.now word.now) }
 {
-    let mut line = begun(alloc, tool)?;
+    let mut line = line_start(alloc, tool)?;
     push_refusal(&mut line, refusal, word)?;
     line.push_str("\n")?;
     Ok(line)
@@ -35,7 +38,7 @@ pub fn fault_line(
 ) -> Result<String, AllocError>
     ensures { IfOk result (λ line. string_bytes line ≡ fault_line_of tool name.now fault) }
 {
-    let mut line = begun(alloc, tool)?;
+    let mut line = line_start(alloc, tool)?;
     push_both(&mut line, name, ": ")?;
     push_both(&mut line, file_fault_words(fault), "\n")?;
     Ok(line)
@@ -45,14 +48,14 @@ pub fn fault_line(
 pub fn skip_line(alloc: Global, name: &str, reason: Reason) -> Result<String, AllocError>
     ensures { IfOk result (λ line. string_bytes line ≡ skip_line_of name.now reason) }
 {
-    let mut line = begun(alloc, Tool::Cindex)?;
+    let mut line = line_start(alloc, Tool::Cindex)?;
     push_both(&mut line, name, ": not indexed: ")?;
     push_both(&mut line, reason_words(reason), "\n")?;
     Ok(line)
 }
 
-// A line up to its words.
-fn begun(alloc: Global, tool: Tool) -> Result<String, AllocError>
+/// A line up to its words.
+fn line_start(alloc: Global, tool: Tool) -> Result<String, AllocError>
     ensures { IfOk result (λ line. string_bytes line ≡ tool_name tool ++ codes ": ") }
 {
     let mut line = String::from_str(alloc, name_of(tool))?;
@@ -71,7 +74,7 @@ fn name_of(tool: Tool) -> &'static str
 }
 
 fn push_refusal(line: &mut String, refusal: &Refusal, word: &str) -> Result<(), AllocError>
-    ensures { OnOk result (string_bytes line.new ≡ string_bytes line.old ++ refusal_words refusal.now word.now) }
+    ensures { Appends line.old line.new (refusal_words refusal.now word.now) result }
 {
     match refusal {
         Refusal::Word(fault) => push_word_fault(line, *fault, word),
@@ -81,7 +84,7 @@ fn push_refusal(line: &mut String, refusal: &Refusal, word: &str) -> Result<(), 
 }
 
 fn push_word_fault(line: &mut String, fault: WordFault, word: &str) -> Result<(), AllocError>
-    ensures { OnOk result (string_bytes line.new ≡ string_bytes line.old ++ word_fault_words fault word.now) }
+    ensures { Appends line.old line.new (word_fault_words fault word.now) result }
 {
     match fault {
         WordFault::UnknownOption(_) => push_both(line, "unknown option ", word),
@@ -97,7 +100,7 @@ fn push_word_fault(line: &mut String, fault: WordFault, word: &str) -> Result<()
 }
 
 fn push_tool_fault(line: &mut String, fault: ToolFault) -> Result<(), AllocError>
-    ensures { OnOk result (string_bytes line.new ≡ string_bytes line.old ++ tool_fault_words fault) }
+    ensures { Appends line.old line.new (tool_fault_words fault) result }
 {
     match fault {
         ToolFault::Pattern(error) => push_pattern_error(line, "pattern at ", error),
@@ -110,7 +113,7 @@ fn push_tool_fault(line: &mut String, fault: ToolFault) -> Result<(), AllocError
 }
 
 fn push_cindex_fault(line: &mut String, fault: CindexFault, word: &str) -> Result<(), AllocError>
-    ensures { OnOk result (string_bytes line.new ≡ string_bytes line.old ++ cindex_fault_words fault word.now) }
+    ensures { Appends line.old line.new (cindex_fault_words fault word.now) result }
 {
     match fault {
         CindexFault::NoIndex => line.push_str("no index"),
@@ -123,9 +126,9 @@ fn push_cindex_fault(line: &mut String, fault: CindexFault, word: &str) -> Resul
     }
 }
 
-// Want of memory has no place in the pattern.
+/// Puts what is wrong with a pattern behind a line. Want of memory has no place in the pattern.
 fn push_pattern_error(line: &mut String, what: &str, error: PatternError) -> Result<(), AllocError>
-    ensures { OnOk result (string_bytes line.new ≡ string_bytes line.old ++ pattern_error_words what.now error) }
+    ensures { Appends line.old line.new (pattern_error_words what.now error) result }
 {
     if error.fault != PatternFault::Memory {
         push_both(line, what, Buffer::new().format(error.at))?;
@@ -135,7 +138,7 @@ fn push_pattern_error(line: &mut String, what: &str, error: PatternError) -> Res
 }
 
 fn push_both(line: &mut String, first: &str, second: &str) -> Result<(), AllocError>
-    ensures { OnOk result (string_bytes line.new ≡ string_bytes line.old ++ (first.now ++ second.now)) }
+    ensures { Appends line.old line.new (first.now ++ second.now) result }
 {
     line.push_str(first)?;
     line.push_str(second)

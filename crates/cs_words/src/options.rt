@@ -1,6 +1,6 @@
 // Options: how they are spelled, and what they set.
 ghost use Rattle.std.specs.Prelude.{◌≡◌, true, option_copied, option_map};
-ghost use Rattle.cs_words.specs.Words.{is_option, undashed, name_of, value_of, truth};
+ghost use Rattle.cs_words.specs.Words.{is_option, option_text, name_of, value_of, truth};
 ghost use Rattle.cs_words.specs.Settings.{IsFlag};
 ghost use Rattle.cs_words.specs.declared.jobs.Tool.TheVariants.{Cindex, Cgrep};
 ghost use Rattle.cs_words.specs.declared.options.Flag.TheVariants.{Switch as A_switch};
@@ -9,42 +9,43 @@ use crate::jobs::Tool;
 
 /// An option that is on or off.
 #[derive(Clone, Copy, Debug, PartialEq, Eq, Drop)]
-pub enum Switch {
+pub(crate) enum Switch {
     List,
     Reset,
     LogSkip,
     Count,
     Bare,
     Fold,
-    Names,
+    ListFiles,
     Number,
     Brute,
 }
 
 /// An option, by what it sets.
 #[derive(Clone, Copy, Debug, PartialEq, Eq, Drop)]
-pub enum Flag {
+pub(crate) enum Flag {
     Switch(Switch),
     File,
 }
 
 /// An option word taken apart at its first `=`.
 #[derive(Clone, Copy, Drop)]
-pub struct OptionWord<'a> {
-    pub name: &'a str,
-    pub value: Option<&'a str>,
+pub(crate) struct OptionWord<'a> {
+    pub(crate) name: &'a str,
+    pub(crate) value: Option<&'a str>,
 }
 
 /// Whether a word is an option: `-`, `--` and the empty word are none.
-pub fn is_option(word: &str) -> bool
+pub(crate) fn is_option(word: &str) -> bool
     ensures { result ≡ is_option word.now }
 {
     word.starts_with("-") && word != "-" && word != "--"
 }
 
-fn undashed(word: &str) -> &str
+/// What stands behind the one or two dashes of an option word.
+fn option_text(word: &str) -> &str
     requires { is_option word.now ≡ true }
-    ensures { result.now ≡ undashed word.now }
+    ensures { result.now ≡ option_text word.now }
 {
     match word.strip_prefix("--") {
         Some(text) => text,
@@ -53,12 +54,12 @@ fn undashed(word: &str) -> &str
 }
 
 /// The name and the value of an option word.
-pub fn option_word(word: &str) -> OptionWord<'_>
+pub(crate) fn option_word(word: &str) -> OptionWord<'_>
     requires { is_option word.now ≡ true }
     ensures name { result.name.now ≡ name_of word.now }
     ensures value { option_copied result.value ≡ value_of word.now }
 {
-    let text = undashed(word);
+    let text = option_text(word);
     match text.split_once('=') {
         Some((name, value)) => OptionWord {
             name,
@@ -72,7 +73,7 @@ pub fn option_word(word: &str) -> OptionWord<'_>
 }
 
 /// What the value of a switch says, by the spellings that Go takes.
-pub fn truth(value: &str) -> Option<bool>
+pub(crate) fn truth(value: &str) -> Option<bool>
     ensures { result ≡ truth value.now }
 {
     match value {
@@ -83,7 +84,7 @@ pub fn truth(value: &str) -> Option<bool>
 }
 
 /// The tool's option of that name.
-pub fn flag_named(tool: Tool, name: &str) -> Option<Flag>
+pub(crate) fn flag_named(tool: Tool, name: &str) -> Option<Flag>
     ensures { IsFlag tool name.now result }
 {
     match (tool, name) {
@@ -94,6 +95,7 @@ pub fn flag_named(tool: Tool, name: &str) -> Option<Flag>
     }
 }
 
+/// The options of cindex.
 fn index_switch(name: &str) -> Option<Switch>
     ensures { IsFlag Cindex name.now (option_map (λ switch. A_switch switch) result) }
 {
@@ -105,7 +107,7 @@ fn index_switch(name: &str) -> Option<Switch>
     }
 }
 
-// The options of the two tools that search.
+/// The options of the two tools that search.
 fn line_switch(name: &str) -> Option<Switch>
     ensures { IsFlag Cgrep name.now (option_map (λ switch. A_switch switch) result) }
 {
@@ -113,7 +115,7 @@ fn line_switch(name: &str) -> Option<Switch>
         "c" => Some(Switch::Count),
         "h" => Some(Switch::Bare),
         "i" => Some(Switch::Fold),
-        "l" => Some(Switch::Names),
+        "l" => Some(Switch::ListFiles),
         "n" => Some(Switch::Number),
         _ => None,
     }

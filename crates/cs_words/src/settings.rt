@@ -4,25 +4,25 @@ use crate::options::Switch;
 
 /// What one option asks for.
 #[derive(Clone, Copy, Drop)]
-pub enum Setting<'a> {
+pub(crate) enum Setting<'a> {
     Turns(Switch, bool),
-    Names(&'a str),
+    File(&'a str),
 }
 
 /// What the options that are read ask for.
 #[derive(Clone, Copy, Drop)]
-pub struct Settings<'a> {
-    pub list: bool,
-    pub reset: bool,
-    pub log_skip: bool,
-    pub style: Style,
-    pub fold: bool,
-    pub brute: bool,
-    pub file: Option<&'a str>,
+pub(crate) struct Settings<'a> {
+    pub(crate) list: bool,
+    pub(crate) reset: bool,
+    pub(crate) log_skip: bool,
+    pub(crate) style: Style,
+    pub(crate) fold: bool,
+    pub(crate) brute: bool,
+    pub(crate) file: Option<&'a str>,
 }
 
 /// What no option asks for.
-pub const NOTHING: Settings<'static> = Settings {
+pub(crate) const NOTHING: Settings<'static> = Settings {
     list: false,
     reset: false,
     log_skip: false,
@@ -39,20 +39,21 @@ pub const NOTHING: Settings<'static> = Settings {
 
 impl<'a> Settings<'a> {
     ghost use Rattle.std.specs.Prelude.{◌≡◌};
-    ghost use Rattle.cs_words.specs.Settings.{turned, with_setting};
+    ghost use Rattle.cs_words.specs.Settings.{with_switch, with_setting};
 
     /// Takes in one more option, in place of what it was set to before.
-    pub fn set(&mut self, setting: Setting<'a>)
+    pub(crate) fn set(&mut self, setting: Setting<'a>)
         ensures { self.new ≡ with_setting setting.entry self.old }
     {
         match setting {
             Setting::Turns(switch, on) => self.turn(switch, on),
-            Setting::Names(pattern) => self.file = Some(pattern),
+            Setting::File(pattern) => self.file = Some(pattern),
         }
     }
 
+    /// Takes in what one more option says of a switch.
     fn turn(&mut self, switch: Switch, on: bool)
-        ensures { self.new ≡ turned switch on self.old }
+        ensures { self.new ≡ with_switch switch on self.old }
     {
         match switch {
             Switch::List => self.list = on,
@@ -61,7 +62,7 @@ impl<'a> Settings<'a> {
             Switch::Count => self.style.count = on,
             Switch::Bare => self.style.bare = on,
             Switch::Fold => self.fold = on,
-            Switch::Names => self.style.list = on,
+            Switch::ListFiles => self.style.list = on,
             Switch::Number => self.style.number = on,
             Switch::Brute => self.brute = on,
         }

@@ -1,8 +1,8 @@
 // The words of a command read as a job.
-ghost use Rattle.std.specs.Prelude.{◌≡◌, ◌≤◌, ◌↔◌, ◌≢◌, List, None, Some, Ok, Err, true, length, map, string_bytes, option_map, option_copied, IfOk, IfErr, IsOk};
-ghost use Rattle.cs_words.specs.Jobs.{wanted};
-ghost use Rattle.cs_words.specs.Words.{Item, is_option, items, rest, without_end, fault_in, first_fault, words_in, index_job as index_by, search_job as search_by, grep_job as grep_by, job_by, meaning};
-ghost use Rattle.cs_words.specs.Settings.{item_of, Sets, IsNext, BreaksRule, AreOf, Answers};
+ghost use Rattle.std.specs.Prelude.{◌≡◌, ◌∷◌, ◌≤◌, ◌↔◌, ◌≢◌, List, None, Some, Ok, Err, true, length, map, string_bytes, option_map, option_copied, IfOk, IfErr, IsOk};
+ghost use Rattle.cs_words.specs.Wanted.{job_wanted};
+ghost use Rattle.cs_words.specs.Words.{Item, is_option, items, rest, without_end, first_fault, index_job as index_by, search_job as search_by, grep_job as grep_by, job_by, meaning};
+ghost use Rattle.cs_words.specs.Settings.{IsNext, BreaksRule, AreOf, Answers};
 ghost use Rattle.cs_words.specs.declared.fault.WordFault.{WordFault as A_fault};
 ghost use Rattle.cs_words.specs.declared.fault.WordFault.TheVariants.{Memory};
 
@@ -31,7 +31,7 @@ struct ReadOptions<'a> {
 /// grows.
 pub fn read_words(alloc: Global, tool: Tool, cwd: &str, words: &[String]) -> Result<Job, WordFault>
     ensures job { IfOk result
-        (λ job. meaning tool cwd.now (map string_bytes words.now) ≡ Ok (wanted job)) }
+        (λ job. meaning tool cwd.now (map string_bytes words.now) ≡ Ok (job_wanted job)) }
     ensures fault { (fault : A_fault) → fault ≢ Memory →
         (result ≡ Err fault) ↔ (meaning tool cwd.now (map string_bytes words.now) ≡ Err fault) }
     ensures memory { result ≡ Err Memory →
@@ -41,6 +41,7 @@ pub fn read_words(alloc: Global, tool: Tool, cwd: &str, words: &[String]) -> Res
     make_job(alloc, tool, cwd, &options, words.len())
 }
 
+/// The job by the settings and the words behind the options, of all words.
 fn make_job(
     alloc: Global,
     tool: Tool,
@@ -59,6 +60,7 @@ fn make_job(
     }
 }
 
+/// All options, up to a word that is none or behind `--`.
 fn read_options<'a>(tool: Tool, words: &'a [String]) -> Result<ReadOptions<'a>, WordFault>
     ensures settings { IfOk result
         (λ options. AreOf options.settings (items tool (map string_bytes words.now))) }
@@ -82,6 +84,7 @@ fn read_options<'a>(tool: Tool, words: &'a [String]) -> Result<ReadOptions<'a>, 
     })
 }
 
+/// The words without a `--` in front.
 fn without_end(words: &[String]) -> &[String]
     ensures rest { map string_bytes result.now ≡ without_end (map string_bytes words.now) }
     ensures within { length result.now ≤ length words.now }
@@ -92,7 +95,7 @@ fn without_end(words: &[String]) -> &[String]
     }
 }
 
-// The item at the front of the words, the first of which stands at a place.
+/// The item at the front of the words, the first of which stands at a place.
 fn next_item<'a>(
     tool: Tool,
     words: &'a [String],
@@ -109,7 +112,7 @@ fn next_item<'a>(
     }
 }
 
-// The item that begins with an option word at a place, before the words behind it.
+/// The item that begins with an option word at a place, before the words behind it.
 fn read_item<'a>(
     tool: Tool,
     word: &'a str,
@@ -117,14 +120,10 @@ fn read_item<'a>(
     at: usize,
 ) -> Result<ReadItem<'a>, WordFault>
     requires { is_option word.now ≡ true }
-    ensures words { IfOk result
-        (λ item. item.words ≡ words_in (item_of tool at word.now (map string_bytes behind.now))) }
-    ensures sound { IfOk result
-        (λ _. fault_in tool (item_of tool at word.now (map string_bytes behind.now)) ≡ None) }
-    ensures setting { IfOk result
-        (λ item. Sets (item_of tool at word.now (map string_bytes behind.now)) item.setting) }
+    ensures item { IfOk result
+        (λ item. IsNext tool at (word.now ∷ map string_bytes behind.now) (Some item)) }
     ensures fault { IfErr result
-        (λ fault. fault_in tool (item_of tool at word.now (map string_bytes behind.now)) ≡ Some fault) }
+        (λ fault. BreaksRule tool at (word.now ∷ map string_bytes behind.now) fault) }
 {
     let option = option_word(word);
     match flag_named(tool, option.name) {
@@ -141,11 +140,11 @@ fn read_item<'a>(
         }
         Some(Flag::File) => match option.value {
             Some(pattern) => Ok(ReadItem {
-                setting: Setting::Names(pattern),
+                setting: Setting::File(pattern),
                 words: 1,
             }),
             None => Ok(ReadItem {
-                setting: Setting::Names(behind.first().ok_or(WordFault::NoValue(at))?.as_str()),
+                setting: Setting::File(behind.first().ok_or(WordFault::NoValue(at))?.as_str()),
                 words: 2,
             }),
         },

@@ -2,8 +2,8 @@ use Rattle.std.proofs.Common.{◌≡◌, ◌<◌, ◌∙◌, length, map, get_or
 use Rattle.std.specs.Prelude.{string_bytes, is_some}
 use Rattle.std.proofs.lemmas.Result.{err_from_is_err_and}
 use Rattle.std.proofs.lemmas.List.{length-map}
-use Rattle.cs_tree.specs.Clean.{cleaned}
-use Rattle.cs_cindex.specs.Walked.{IsCleanFault}
+use Rattle.cs_tree.specs.Clean.{clean_path}
+use Rattle.cs_cindex.specs.JobPaths.{IsCleanFault}
 use Rattle.cs_tree.specs.Cleaning.{clean_fault}
 use Rattle.cs_cindex.proofs.PathLemmas.{refusal_at, none_bad, cleaned_more, text_at}
 use Rattle.cs_cindex.proofs.cleaning.clean_all.Goals as goal
@@ -21,7 +21,7 @@ paths-preserved c =
     let within : c.paths.place < length c.args.paths.now = omega arith in
     let text : c.deref.result.now ≡ get_or (map string_bytes c.args.paths.now) c.paths.place [] = c.deref.ensures ∙ text_at c.args.paths.now c.paths.place c.index-paths-place.result within c.index-paths-place.is in
     record {
-      cleaned_are = cleaned_more c.args.folder.now c.args.paths.now c.paths.place c.index-paths-place.result (map string_bytes c.paths.given.items) _ (string_bytes c.in_ok-cleaned.cleaned) within c.index-paths-place.is c.paths.invariant.cleaned_are (c.in_ok-cleaned.ensures.cleaned ∙ ap (λ t. cleaned c.args.folder.now t) c.deref.ensures) c.in_ok-hold.ensures;
+      cleaned_are = cleaned_more c.args.folder.now c.args.paths.now c.paths.place c.index-paths-place.result (map string_bytes c.paths.given.items) _ (string_bytes c.in_ok-cleaned.cleaned) within c.index-paths-place.is c.paths.invariant.cleaned_are (c.in_ok-cleaned.ensures.cleaned ∙ ap (λ t. clean_path c.args.folder.now t) c.deref.ensures) c.in_ok-hold.ensures;
       good = below_more _ _ c.paths.invariant.good (ap is_some (ap (clean_fault c.args.folder.now) (sym text) ∙ c.in_ok-cleaned.ensures.fault));
     }
 

@@ -2,7 +2,8 @@ use Rattle.std.proofs.Common.{subst, take}
 use Rattle.std.specs.Prelude.{codes}
 use Rattle.std.proofs.lemmas.Result.{err_from_is_err_and}
 use Rattle.cs_tree.specs.Told.{Grows}
-use Rattle.cs_cindex.proofs.ToldLemmas.{grows_both, front_left, front_right}
+use Rattle.cs_cindex.proofs.FrontLemmas.{front_left, front_right}
+use Rattle.cs_tree.proofs.Growing.{Grows-chain}
 use Rattle.cs_cindex.proofs.job.print_line.Goals as goal
 
 pub returns-in_err-write_all-clause-out : goal.returns-in_err-write_all-clause-out
@@ -21,4 +22,4 @@ returns-in_err-write_all-2-clause-out g c =
 
 pub returns-clause-out : goal.returns-clause-out
 returns-clause-out g c =
-    grows_both (g.O.Sink.taken c.args.out.now) (g.O.Sink.taken c.write_all.new.out) (g.O.Sink.taken c.write_all-2.new.out) c.args.path.now (codes "\n") (subst (λ bytes. Grows (g.O.Sink.taken c.args.out.now) (g.O.Sink.taken c.write_all.new.out) bytes) c.as_bytes.ensures.value c.in_ok-write_all.ensures.told) c.in_ok-write_all-2.ensures.told
+    Grows-chain (g.O.Sink.taken c.args.out.now) (g.O.Sink.taken c.write_all.new.out) (g.O.Sink.taken c.write_all-2.new.out) c.args.path.now (codes "\n") (subst (λ bytes. Grows (g.O.Sink.taken c.args.out.now) (g.O.Sink.taken c.write_all.new.out) bytes) c.as_bytes.ensures.value c.in_ok-write_all.ensures.told) c.in_ok-write_all-2.ensures.told

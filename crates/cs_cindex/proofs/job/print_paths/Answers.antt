@@ -1,8 +1,10 @@
 use Rattle.std.proofs.Common.{◌≡◌, ◌∙◌, ◌++◌, refl, ap, rules, []}
 use Rattle.std.specs.Prelude.{codes}
 use Rattle.std.proofs.lemmas.Result.{err_from_is_err_and}
-use Rattle.cs_cindex.specs.Told.{path_lines}
-use Rattle.cs_cindex.proofs.ToldLemmas.{grows_none, grows_both, lines_more, lines_cut, lines_end}
+use Rattle.cs_cindex.specs.Output.{path_lines}
+use Rattle.cs_cindex.proofs.ToldLemmas.{lines_more, lines_cut, lines_end}
+use Rattle.cs_cindex.proofs.FrontLemmas.{grows_none}
+use Rattle.cs_tree.proofs.Growing.{Grows-chain}
 use Rattle.cs_cindex.proofs.job.print_paths.Goals as goal
 
 pub paths-init : goal.paths-init
@@ -13,7 +15,7 @@ paths-init g c =
 pub paths-preserved : goal.paths-preserved
 paths-preserved g c = record {
   done = c.paths.invariant.done ++ (c.in-Some.path.now ++ codes "\n");
-  grows = grows_both _ _ _ c.paths.invariant.done (c.in-Some.path.now ++ codes "\n") c.paths.invariant.grows c.in_ok-print_line.ensures.out;
+  grows = Grows-chain _ _ _ c.paths.invariant.done (c.in-Some.path.now ++ codes "\n") c.paths.invariant.grows c.in_ok-print_line.ensures.out;
   whole = lines_more c.paths.invariant.done c.in-Some.path.now (path_lines c.args.index.now.paths) c.paths.path-iterator c.next.new.self c.in-Some.ensures.steps c.paths.invariant.whole;
   failures = c.in_ok-print_line.ensures.writes ∙ c.paths.invariant.failures;
 }

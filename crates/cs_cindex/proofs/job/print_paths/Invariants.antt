@@ -1,6 +1,6 @@
 use Rattle.std.proofs.Common.{◌≡◌, ℕ, List, ◌++◌}
 use Rattle.cs_tree.specs.Told.{Grows}
-use Rattle.cs_cindex.specs.Told.{path_lines}
+use Rattle.cs_cindex.specs.Output.{path_lines}
 use Rattle.cs_cindex.proofs.job.print_paths.Given as goal
 
 -- the lines so far were taken, and with those to come they are all

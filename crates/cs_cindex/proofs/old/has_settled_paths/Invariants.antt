@@ -1,6 +1,6 @@
 use Rattle.std.proofs.Common.{◌≡◌}
 use Rattle.std.specs.List.{list_all}
-use Rattle.cs_cindex.specs.Settled.{is_settled}
+use Rattle.cs_tree.specs.Cleaning.{is_settled}
 use Rattle.cs_cindex.proofs.old.has_settled_paths.Given as goal
 
 -- the paths so far are settled

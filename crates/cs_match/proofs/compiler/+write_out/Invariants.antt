@@ -1,17 +1,18 @@
 use Rattle.std.proofs.Common.{◌≡◌, drop}
+use Rattle.cs_syntax.specs.TreeList.{append}
 use Rattle.cs_syntax.specs.Matching.{none}
 use Rattle.cs_syntax.specs.Node.{tree_of, trees_of}
-use Rattle.cs_match.specs.WrittenOut.{joined, written_out, all_written_out, copies, optional}
+use Rattle.cs_match.specs.Expansion.{expansion, expansions, copies, optional}
 use Rattle.cs_match.proofs.compiler.+write_out.Given as goal
 
 abbrev pub invariant-write_out_all-loop-part : goal.invariant-write_out_all-loop-part
 invariant-write_out_all-loop-part l =
-    joined (trees_of l.all.items) (all_written_out (trees_of (drop l.part-index l.parts))) ≡ all_written_out (trees_of l.parts)
+    append (trees_of l.all.items) (expansions (trees_of (drop l.part-index l.parts))) ≡ expansions (trees_of l.parts)
 
 abbrev pub invariant-add_copies-loop-k : goal.invariant-add_copies-loop-k
 invariant-add_copies-loop-k l =
-    trees_of l.parts.items ≡ joined (trees_of l.fn.parts.items) (copies l.k (written_out (tree_of l.node)) none)
+    trees_of l.parts.items ≡ append (trees_of l.fn.parts.items) (copies l.k (expansion (tree_of l.node)) none)
 
 abbrev pub invariant-add_optional-loop-k : goal.invariant-add_optional-loop-k
 invariant-add_optional-loop-k l =
-    trees_of l.parts.items ≡ joined (trees_of l.fn.parts.items) (copies l.k (optional (written_out (tree_of l.node))) none)
+    trees_of l.parts.items ≡ append (trees_of l.fn.parts.items) (copies l.k (optional (expansion (tree_of l.node))) none)

@@ -1,7 +1,7 @@
 use Rattle.std.proofs.Common.{◌+◌, drop, arith}
 use Rattle.cs_syntax.specs.Node.{tree_of, trees_of}
 use Rattle.cs_match.proofs.PassingLemmas.{all_more, some_more}
-use Rattle.cs_match.proofs.TreesLemmas.{trees_from}
+use Rattle.cs_syntax.proofs.TreeLemmas.{trees_from}
 use Rattle.cs_match.proofs.walk.+pass.Goals as goal
 
 pub pass_all-loop-part-preserved : goal.pass_all-loop-part-preserved

@@ -1,8 +1,8 @@
 use Rattle.std.proofs.Common.{◌≡◌}
 use Rattle.std.specs.List.{list_all}
-use Rattle.cs_tree.specs.Cover.{covered}
+use Rattle.cs_tree.specs.Cover.{is_covered}
 use Rattle.cs_merge.specs.Content.{paths_in}
 use Rattle.cs_merge.proofs.covering.is_under.Given as goal
 
 abbrev pub invariant-names : goal.invariant-names
-invariant-names l = list_all (λ name. covered (paths_in l.index) name) l.name-iterator ≡ list_all (λ name. covered (paths_in l.index) name) l.index.names
+invariant-names l = list_all (λ name. is_covered (paths_in l.index) name) l.name-iterator ≡ list_all (λ name. is_covered (paths_in l.index) name) l.index.names

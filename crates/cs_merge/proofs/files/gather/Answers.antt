@@ -3,7 +3,7 @@ use Rattle.std.proofs.lemmas.Result.{err_from_is_err_and}
 use Rattle.std.specs.List.{AllByRecursion}
 use Rattle.cs_index.specs.Image.{Entry}
 use Rattle.cs_index.specs.Opening.{lists_in}
-use Rattle.cs_merge.specs.Gathering.{given}
+use Rattle.cs_merge.specs.Regrouping.{with_trigram}
 use Rattle.cs_merge.proofs.GatheringLemmas.{no_lists, found_within, found_given, found_whole, found_fault, not_found, length-entries_of}
 use Rattle.cs_merge.proofs.files.gather.Goals as goal
 use Rattle.cs_merge.proofs.files.gather.Goals.{in-Some+in_ok-give_all, in_default}
@@ -26,7 +26,7 @@ pub lists-preserved : goal.lists-preserved
 lists-preserved c =
     elim c.match-list_at.branch [
       | in-Some+in_ok-give_all w ↦ record {
-        files = w.files-is ∙ w.in_ok-give_all.ensures.given ∙ ap (λ (fs : List Entry). given fs w.in-Some.trigram w.in-Some.ids.ids) c.lists.invariant.files ∙ found_given c.args.index.now c.lists.place w.in-Some.trigram w.in-Some.ids w.in-Some.ensures w.in_ok-give_all.ensures.fault;
+        files = w.files-is ∙ w.in_ok-give_all.ensures.given ∙ ap (λ (fs : List Entry). with_trigram fs w.in-Some.trigram w.in-Some.ids.ids) c.lists.invariant.files ∙ found_given c.args.index.now c.lists.place w.in-Some.trigram w.in-Some.ids w.in-Some.ensures w.in_ok-give_all.ensures.fault;
         whole = found_whole c.args.index.now c.lists.place w.in-Some.trigram w.in-Some.ids w.in-Some.ensures c.lists.invariant.whole w.in_ok-give_all.ensures.fault;
       }
       | in_default w ↦ absurd (not_found c.args.index.now c.lists.place (let n = c.lists-place-end.ensures in let t = c.lists-test.true in omega (arith, n, t)) (sym c.list_at.ensures ∙ w.in_default.is))

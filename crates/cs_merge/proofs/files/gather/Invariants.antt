@@ -1,7 +1,7 @@
 use Rattle.std.proofs.Common.{◌≡◌, true, take}
+use Rattle.cs_index.specs.PostingLists.{entries_of}
 use Rattle.std.specs.List.{list_all}
 use Rattle.cs_index.specs.Opening.{ids_read, lists_in}
-use Rattle.cs_index.specs.Spelling.{entries_of}
 use Rattle.cs_merge.proofs.files.gather.Given as goal
 
 abbrev pub invariant-lists : goal.invariant-lists

@@ -1,5 +1,5 @@
 use Rattle.std.proofs.Common.{◌≡◌, ◌++◌}
-use Rattle.cs_merge.specs.Gathering.{without_trigrams}
+use Rattle.cs_merge.specs.Regrouping.{without_trigrams}
 use Rattle.cs_merge.proofs.files.named.Given as goal
 
 abbrev pub invariant-names : goal.invariant-names

@@ -1,7 +1,7 @@
 use Rattle.std.proofs.Common.{◌≡◌, ℕ, Bool, false, List, ◌∷◌, refl, sym, ◌∙◌, ap}
 use Rattle.std.specs.Prelude.{None}
 use Rattle.std.specs.Option.{option_map}
-use Rattle.cs_syntax.specs.Seen.{unit_tree}
+use Rattle.cs_syntax.specs.ItemViews.{unit_tree}
 use Rattle.cs_syntax.specs.Escapes.{escape, char_front, escaped_tree, is_left_out}
 use Rattle.cs_syntax.proofs.escapes.escape.Goals as goal
 

@@ -2,9 +2,8 @@ use Rattle.std.proofs.Common.{◌+◌, List, ℕ, drop, sym, ◌∙◌, ap, drop
 use Rattle.cs_syntax.specs.Matching.{Tree, Trees, one_of, more}
 use Rattle.cs_syntax.specs.Fronts.{byte_sets, sequence}
 use Rattle.cs_syntax.specs.Node.{trees_of}
-use Rattle.cs_syntax.specs.TreeCode.{joined-none}
-use Rattle.cs_syntax.specs.TreeList.{joined}
-use Rattle.cs_syntax.proofs.BegunLemmas.{joined_last}
+use Rattle.cs_syntax.specs.TreeList.{append}
+use Rattle.cs_syntax.proofs.TreeListLemmas.{append_none, append_last}
 use Rattle.cs_syntax.proofs.ListLemmas.{here_is}
 use Rattle.cs_syntax.proofs.NodeLemmas.{tree_of-Set}
 use Rattle.cs_syntax.proofs.TreeLemmas.{trees_last}
@@ -16,10 +15,10 @@ loop-byte-preserved c =
     let bs = c.args.bytes.now in
     let old = trees_of c.loop-byte.sets.items in
     let rest = byte_sets (drop (i + 1) bs) in
-    ap (λ (ts : Trees). joined ts rest) (ap trees_of c.in_ok-push.ensures.items ∙ trees_last c.loop-byte.sets.items _)
-    ∙ joined_last old rest _
-    ∙ ap (λ (t : Tree). joined old (more t rest)) (tree_of-Set _ ∙ ap one_of c.of_char.ensures)
-    ∙ sym (ap (λ (xs : List ℕ). joined old (byte_sets xs)) (here_is bs i c.loop-byte-test.true))
+    ap (λ (ts : Trees). append ts rest) (ap trees_of c.in_ok-push.ensures.items ∙ trees_last c.loop-byte.sets.items _)
+    ∙ append_last old rest _
+    ∙ ap (λ (t : Tree). append old (more t rest)) (tree_of-Set _ ∙ ap one_of c.of_char.ensures)
+    ∙ sym (ap (λ (xs : List ℕ). append old (byte_sets xs)) (here_is bs i c.loop-byte-test.true))
     ∙ c.loop-byte.invariant
 
 pub returns : goal.returns
@@ -27,4 +26,4 @@ returns c =
     let old = trees_of c.loop-byte.sets.items in
     let none = drop_of_length-le c.args.bytes.now {i = c.loop-byte.byte-index} c.loop-byte-test.false in
     c.in_order.ensures
-    ∙ ap sequence (sym (joined-none old) ∙ sym (ap (λ (xs : List ℕ). joined old (byte_sets xs)) none) ∙ c.loop-byte.invariant)
+    ∙ ap sequence (sym (append_none old) ∙ sym (ap (λ (xs : List ℕ). append old (byte_sets xs)) none) ∙ c.loop-byte.invariant)

@@ -1,7 +1,7 @@
 use Rattle.std.proofs.Common.{◌≡◌, sym, subst, ◌∙◌}
+use Rattle.cs_tree.specs.CleanAnswers.{CleanAnswers}
 use Rattle.std.proofs.lemmas.Bool.{true≢false, eq-eqb}
 use Rattle.std.specs.Prelude.{string_bytes, IfOk}
-use Rattle.cs_tree.specs.Cleaning.{CleanAnswers}
 use Rattle.cs_tree.proofs.CleanLemmas.{cleaned_absolute, cleaned_relative, fault_absolute, fault_relative, some_text}
 use Rattle.cs_tree.proofs.cleaning.clean.Goals as goal
 

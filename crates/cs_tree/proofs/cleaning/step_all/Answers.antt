@@ -1,7 +1,7 @@
 use Rattle.std.proofs.Common.{rules, sym, ap, ◌∙◌}
 use Rattle.std.specs.Prelude.{reverse}
 use Rattle.cs_tree.specs.Clean.{elements, steps}
-use Rattle.cs_tree.specs.Cleaning.{texts}
+use Rattle.cs_tree.specs.PathParts.{texts}
 use Rattle.cs_tree.proofs.Splitting.{split_says}
 use Rattle.cs_tree.proofs.CleanLemmas.{on_ok, steps-one}
 use Rattle.cs_tree.proofs.cleaning.step_all.Goals as goal

@@ -3,7 +3,7 @@ use Rattle.std.specs.Prelude.{reverse}
 use denote.Text.{Utf8}
 use denote.Shadow.{shadow}
 use Rattle.cs_tree.specs.Clean.{elements, steps}
-use Rattle.cs_tree.specs.Cleaning.{texts}
+use Rattle.cs_tree.specs.PathParts.{texts}
 use Rattle.cs_tree.proofs.cleaning.step_all.Given as goal
 
 -- the elements that are left lead to where all of them do

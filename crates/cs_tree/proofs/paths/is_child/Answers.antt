@@ -1,7 +1,7 @@
 use Rattle.std.proofs.Common.{◌∷◌, ◌++◌, sym, ◌∙◌, ap}
+use Rattle.cs_tree.specs.Folders.{stem_of}
 use Rattle.std.proofs.lemmas.Bool.{ne_eqb}
 use Rattle.cs_tree.specs.Cover.{same}
-use Rattle.cs_tree.specs.Snapshot.{stem_of}
 use Rattle.cs_tree.proofs.Splitting.{child_same, child_apart}
 use Rattle.cs_tree.proofs.paths.is_child.Goals as goal
 

@@ -1,10 +1,11 @@
 use Rattle.std.proofs.Common.{sym, ◌∙◌}
 use Rattle.std.proofs.lemmas.Bool.{eqb-true, eq-eqb, true≢false}
 use Rattle.cs_tree.proofs.Splitting.{rsplit_says, name_of-last, parent_root, parent_front}
+use Rattle.cs_tree.proofs.SettledLemmas.{clean_by_elements}
 use Rattle.cs_tree.proofs.paths.split_name.Goals as goal
 
 pub returns-in_default : goal.returns-in_default
-returns-in_default c = rw c.in_default.is at (rsplit_says c.args.path.now c.rsplit_once.result c.rsplit_once.ensures.cases)
+returns-in_default c = sym (clean_by_elements c.args.path.now) ∙ rw c.in_default.is at (rsplit_says c.args.path.now c.rsplit_once.result c.rsplit_once.ensures.cases)
 
 pub returns-then-is_empty : goal.returns-then-is_empty
 returns-then-is_empty c =

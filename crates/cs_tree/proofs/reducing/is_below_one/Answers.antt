@@ -1,6 +1,6 @@
 use Rattle.std.proofs.Common.{rules, ◌||◌, ap, sym, ◌∙◌}
 use Rattle.std.specs.List.{list_any}
-use Rattle.cs_tree.specs.Cleaning.{texts}
+use Rattle.cs_tree.specs.PathParts.{texts}
 use Rattle.cs_tree.specs.Reducing.{lies_below}
 use Rattle.cs_tree.proofs.ReduceLemmas.{front_says}
 use Rattle.cs_tree.proofs.reducing.is_below_one.Goals as goal

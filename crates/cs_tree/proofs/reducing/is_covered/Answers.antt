@@ -1,7 +1,7 @@
 use Rattle.std.proofs.Common.{◌≡◌, ℕ, List, Bool, false, not, ◌||◌, ◌&&◌, ◌∷◌, [], ap, sym, ◌∙◌}
 use Rattle.std.specs.List.{list_any}
 use Rattle.cs_tree.specs.Cover.{slash, begins, same}
-use Rattle.cs_tree.specs.Cleaning.{texts}
+use Rattle.cs_tree.specs.PathParts.{texts}
 use Rattle.cs_tree.specs.Reducing.{lies_below, other_covers}
 use Rattle.cs_tree.proofs.ReduceLemmas.{any_other_covers}
 use Rattle.cs_tree.proofs.reducing.is_covered.Goals as goal

@@ -1,8 +1,8 @@
 use Rattle.std.proofs.Common.{◌≡◌, List, ℕ, map, ap, sym, subst, ◌∙◌}
+use Rattle.cs_tree.specs.NameOrder.{bytes_cmp}
 use Rattle.std.specs.Prelude.{string_bytes, IfOk}
 use Rattle.std.specs.List.Sorted.{IsStrictlySortedBy}
-use Rattle.cs_tree.specs.Cover.{bytes_cmp}
-use Rattle.cs_tree.specs.Cleaning.{texts}
+use Rattle.cs_tree.specs.PathParts.{texts}
 use Rattle.cs_tree.specs.PathSet as set
 use Rattle.cs_tree.proofs.ReduceLemmas.{sorted-items, filter-least}
 use Rattle.cs_tree.proofs.reducing.reduce.Goals as goal

@@ -1,7 +1,7 @@
 use Rattle.std.proofs.Common.{◌≡◌, map, take, not}
 use Rattle.std.specs.Prelude.{string_bytes, filter}
 use Rattle.std.specs.List.{list_any}
-use Rattle.cs_tree.specs.Cleaning.{texts}
+use Rattle.cs_tree.specs.PathParts.{texts}
 use Rattle.cs_tree.specs.Reducing.{other_covers}
 use Rattle.cs_tree.proofs.reducing.uncovered.Given as goal
 

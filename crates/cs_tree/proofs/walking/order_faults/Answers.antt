@@ -1,4 +1,5 @@
 use Rattle.std.proofs.Common.{rules, ◌≡◌, List, [], ◌∷◌, ℕ, map, refl, sym, ap, subst, ◌∙◌}
+use Rattle.cs_tree.specs.NameOrder.{are_ascending}
 use Rattle.std.proofs.lemmas.Fn.{dedup_same}
 use Rattle.std.proofs.lemmas.List.MinMax.{ranks_by}
 use Rattle.std.proofs.lemmas.List.Sorted.{list_any-IsPermutation, answers_always}
@@ -8,7 +9,7 @@ use Rattle.std.specs.List.{list_any, dedup}
 use Rattle.std.specs.Ordering.{is_lt}
 use Rattle.std.specs.declared.alloc.Global.{Global}
 use Rattle.cs_tree.specs.Cover.{same}
-use Rattle.cs_tree.specs.Walks.{Left, ascend, is_among, left_paths, left_entry}
+use Rattle.cs_tree.specs.Walks.{Left, is_among, left_paths, left_entry}
 use Rattle.cs_tree.specs.declared.walking.WalkFault.{WalkFault}
 use Rattle.cs_tree.proofs.InOrder.{sorted_once, once_same, same_key, by_key, among-map, kept_once}
 use Rattle.cs_tree.proofs.walking.order_faults.Goals as goal
@@ -28,7 +29,7 @@ returns-clause-ascend c =
     let sorted = c.sort_unstable_by.new.self.items in
     let once : c.dedup_by.new.self.items ≡ dedup (same_key path_of) sorted = dedup_same _ (same_key path_of) _ (λ x y b f' x' y' h. search rules) sorted _ c.dedup_by.ensures.filtered in
     let up = c.sort_unstable_by.ensures.sorted (λ x y. is_lt (by_key path_of x y)) (ranks_by nat_list_cmp_total path_of) (answers_always _ _ _ (λ f a r g h. search rules)) in
-    ap ascend (paths_seen c.dedup_by.new.self.items) ∙ ap (λ entries. ascend (map path_of entries)) once ∙ sorted_once path_of sorted up
+    ap are_ascending (paths_seen c.dedup_by.new.self.items) ∙ ap (λ entries. are_ascending (map path_of entries)) once ∙ sorted_once path_of sorted up
 
 pub returns-clause-same : goal.returns-clause-same
 returns-clause-same c =

@@ -1,16 +1,16 @@
 use Rattle.std.proofs.Common.{map, sym, ap, ◌∙◌}
+use Rattle.cs_tree.specs.NameOrder.{are_ascending}
 use Rattle.std.proofs.lemmas.List.Filters.{dedup_is}
 use Rattle.std.proofs.lemmas.List.Sorted.{list_any-IsPermutation}
 use Rattle.std.specs.Prelude.{string_bytes}
 use Rattle.std.specs.List.{list_any}
 use Rattle.cs_tree.specs.Cover.{same}
-use Rattle.cs_tree.specs.Walks.{ascend}
 use Rattle.cs_tree.proofs.InOrder.{sorted_once, once_same, same_key, among-map}
 use Rattle.cs_tree.proofs.walking.order_names.Goals as goal
 
 pub returns-clause-ascend : goal.returns-clause-ascend
 returns-clause-ascend c =
-    ap (λ names. ascend (map string_bytes names)) (dedup_is (same_key string_bytes) c.sort_unstable.new.self.items c.dedup.new.self.items c.dedup.ensures.filtered)
+    ap (λ names. are_ascending (map string_bytes names)) (dedup_is (same_key string_bytes) c.sort_unstable.new.self.items c.dedup.new.self.items c.dedup.ensures.filtered)
     ∙ sorted_once string_bytes c.sort_unstable.new.self.items c.sort_unstable.ensures.sorted
 
 pub returns-clause-same : goal.returns-clause-same

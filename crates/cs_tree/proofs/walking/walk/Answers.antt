@@ -1,6 +1,6 @@
 use Rattle.std.proofs.Common.{map, ap}
 use Rattle.std.specs.Prelude.{string_bytes}
-use Rattle.cs_tree.specs.Walks.{names_of, faults_of, left_entry}
+use Rattle.cs_tree.specs.Walks.{names_walked, faults_walked, left_entry}
 use Rattle.cs_tree.specs.declared.walking.Walked.{Walked}
 use Rattle.cs_tree.proofs.Finding.{finds_in, counts_in_order}
 use Rattle.cs_tree.proofs.walking.walk.Goals as goal
@@ -9,7 +9,7 @@ pub returns-clause-finds : goal.returns-clause-finds
 returns-clause-finds g c =
     let nothing : Walked = record { names = c.new.result; faults = c.new-2.result } in
     let found : Walked = record { names = c.order_names.new.names; faults = c.order_faults.new.faults } in
-    finds_in (g.T.Tree.snapshot c.args.tree.now) (map string_bytes c.args.paths.now) nothing c.visit_all.new.walked (names_of found) (faults_of found)
+    finds_in (g.T.Tree.snapshot c.args.tree.now) (map string_bytes c.args.paths.now) nothing c.visit_all.new.walked (names_walked found) (faults_walked found)
     (ap (map string_bytes) c.new.ensures.items) (ap (map left_entry) c.new-2.ensures.items) c.in_ok-visit_all.ensures.gathers
     (record {
       names_ascend = c.order_names.ensures.ascend;
@@ -23,7 +23,7 @@ pub returns-clause-counted : goal.returns-clause-counted
 returns-clause-counted g c =
     let nothing : Walked = record { names = c.new.result; faults = c.new-2.result } in
     let found : Walked = record { names = c.order_names.new.names; faults = c.order_faults.new.faults } in
-    counts_in_order (g.T.Tree.failed c.args.tree.now) (g.T.Tree.failed c.visit_all.new.tree) nothing c.visit_all.new.walked (names_of found) (faults_of found)
+    counts_in_order (g.T.Tree.failed c.args.tree.now) (g.T.Tree.failed c.visit_all.new.tree) nothing c.visit_all.new.walked (names_walked found) (faults_walked found)
     (ap (map left_entry) c.new-2.ensures.items) c.in_ok-visit_all.ensures.counted
     (record {
       names_ascend = c.order_names.ensures.ascend;

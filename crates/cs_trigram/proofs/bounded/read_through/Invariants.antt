@@ -1,10 +1,10 @@
 use Rattle.std.proofs.Common.{◌≡◌, ◌≤◌, ◌-◌}
-use Rattle.cs_trigram.specs.Scanning.{Reads}
+use Rattle.cs_trigram.proofs.ScanLemmas.{HasScanned}
 use Rattle.cs_trigram.proofs.bounded.read_through.Given as goal
 
 abbrev pub invariant-pieces : goal.invariant-pieces
 invariant-pieces g l = record {
-  reads : Reads l.limits (g.R.Source.told l.initial.source) (g.R.Source.told l.source) l.place l.found;
+  reads : HasScanned l.limits (g.R.Source.told l.initial.source) (g.R.Source.told l.source) l.place l.found;
   count : l.place.count ≤ l.limits.bytes;
   column : l.place.column ≤ l.limits.line;
   failed : g.R.Source.failed l.source ≡ g.R.Source.failed l.initial.source;

@@ -1,7 +1,7 @@
 use Rattle.std.proofs.Common.{◌∙◌, sym, subst, ap}
 use Rattle.std.proofs.lemmas.List.{length-map}
 use Rattle.std.specs.Prelude.{map, string_bytes, Ok, ◌==◌}
-use Rattle.cs_words.specs.Jobs.{grep}
+use Rattle.cs_words.specs.Wanted.{grep}
 use Rattle.cs_words.specs.Words.{grep_job as grep_by}
 use Rattle.cs_words.specs.Settings.{Answers}
 use Rattle.cs_words.specs.declared.jobs.Job.TheVariants.{Grep}

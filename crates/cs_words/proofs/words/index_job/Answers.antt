@@ -1,6 +1,6 @@
 use Rattle.std.proofs.Common.{◌∙◌}
 use Rattle.std.specs.Prelude.{map, string_bytes}
-use Rattle.cs_words.specs.Jobs.{index}
+use Rattle.cs_words.specs.Wanted.{index}
 use Rattle.cs_words.proofs.WordsLemmas.{index_answer}
 use Rattle.cs_words.proofs.words.index_job.Goals as goal
 

@@ -1,6 +1,6 @@
 use Rattle.std.proofs.Common.{◌∙◌, sym, subst, arith}
 use Rattle.std.specs.Prelude.{map, string_bytes, Ok}
-use Rattle.cs_words.specs.Jobs.{search}
+use Rattle.cs_words.specs.Wanted.{search}
 use Rattle.cs_words.specs.Words.{search_job as search_by}
 use Rattle.cs_words.specs.Settings.{Answers}
 use Rattle.cs_words.specs.declared.jobs.Job.TheVariants.{Search}

@@ -2,9 +2,9 @@ use Rattle.std.proofs.Common.{◌≡◌, ◌↔◌, sym, ◌∙◌, ap, subst, a
 use Rattle.cs_syntax.specs.Matching.{Tree, Found}
 use Rattle.cs_syntax.specs.Node.{tree_of}
 use Rattle.cs_match.specs.Places.{IsLooped}
-use Rattle.cs_match.specs.WrittenOut.{written_out}
+use Rattle.cs_match.specs.Expansion.{expansion}
 use Rattle.cs_match.proofs.WeightLemmas.{places_light}
-use Rattle.cs_match.proofs.WrittenOutLemmas.{written_out_found, is_looped}
+use Rattle.cs_match.proofs.ExpansionLemmas.{expansion_found, is_looped}
 use Rattle.cs_match.proofs.program.Program.compile.Goals as goal
 
 pub invariant_of-result : goal.invariant_of-result
@@ -13,8 +13,8 @@ invariant_of-result c =
 
 pub returns : goal.returns
 returns c = λ line.
-    let same : tree_of c.in_ok-root.root ≡ written_out c.args.pattern.now = c.in_ok-root.ensures ∙ ap written_out c.tree.ensures.tree in
-    subst (λ (t : Tree). Found t line ↔ Found c.args.pattern.now line) (sym same) (written_out_found c.args.pattern.now line)
+    let same : tree_of c.in_ok-root.root ≡ expansion c.args.pattern.now = c.in_ok-root.ensures ∙ ap expansion c.tree.ensures.tree in
+    subst (λ (t : Tree). Found t line ↔ Found c.args.pattern.now line) (sym same) (expansion_found c.args.pattern.now line)
 
 pub count-count-requires : goal.count-count-requires
 count-count-requires c = rw c.in_ok-root.ensures (omega (arith, places_light (tree_of c.tree.result.now)))

@@ -1,7 +1,7 @@
 use Rattle.std.proofs.Common.{◌≡◌, ℕ, ◌<◌, false}
 use Rattle.std.specs.Prelude.{MatchOption}
 use Rattle.cs_syntax.specs.Matching.{member}
-use Rattle.cs_syntax.specs.ByteSet.{IsOnlyBelow}
+use Rattle.cs_syntax.proofs.SetLemmas.{IsOnlyBelow}
 use Rattle.cs_syntax.proofs.byte_set.ByteSet.single.Given as goal
 
 abbrev pub invariant-loop-b : goal.invariant-loop-b

@@ -1,7 +1,7 @@
 use Rattle.std.proofs.Common.{◌≡◌, inr, ◌+◌, ◌-◌, ◌∷◌, suc, take, drop, get_or, sym, ◌∙◌, ap, rules}
 use Rattle.cs_syntax.specs.Fronts.{item, fault}
 use Rattle.cs_syntax.specs.Items.{front}
-use Rattle.cs_syntax.specs.Seen.{item_seen}
+use Rattle.cs_syntax.specs.ItemViews.{item_view}
 use Rattle.cs_syntax.specs.ParserState.{state_of, reading_on, IsRefusal}
 use Rattle.cs_syntax.proofs.ListLemmas.{here_is, tail_is, own_text, behind_item}
 use Rattle.cs_syntax.proofs.ItemLemmas.{reading_on-skip, goes_on-reads, fault-reads, still-operand, stop_is_refusal}
@@ -18,18 +18,18 @@ returns-in_ok-take-in-Ok-clause-same c =
     let new = state_of c.take.new.self in
     let tail = tail_is text (at + 1) in
     let own = take (at + 1 + len - at) (drop at text) in
-    let found : front s.flags b (drop (at + 1) text) ≡ item (item_seen own c.in-Ok.item) len =
+    let found : front s.flags b (drop (at + 1) text) ≡ item (item_view own c.in-Ok.item) len =
     ap (front s.flags b) (sym tail) ∙ sym c.in-Ok.ensures.value
-    ∙ ap (λ t. item (item_seen (take (suc len) (b ∷ t)) c.in-Ok.item) len) tail
-    ∙ ap (λ o. item (item_seen o c.in-Ok.item) len) (sym (own_text text at len c.requires.inside)) in
+    ∙ ap (λ t. item (item_view (take (suc len) (b ∷ t)) c.in-Ok.item) len) tail
+    ∙ ap (λ o. item (item_view o c.in-Ok.item) len) (sym (own_text text at len c.requires.inside)) in
     ap (reading_on new 0 (at + 1 + len)) (sym (behind_item text at len))
     ∙ sym (reading_on-skip new len (at + 1) (drop (at + 1) text))
-    ∙ goes_on-reads len at b (drop (at + 1) text) (item_seen own c.in-Ok.item) s new c.requires.kept found c.in_ok-take-in-Ok.ensures.goes_on
+    ∙ goes_on-reads len at b (drop (at + 1) text) (item_view own c.in-Ok.item) s new c.requires.kept found c.in_ok-take-in-Ok.ensures.goes_on
     ∙ ap (reading_on s 0 at) (sym (here_is text at c.requires.inside))
 
 pub returns-in_ok-take-in-Ok-clause-still : goal.returns-in_ok-take-in-Ok-clause-still
 returns-in_ok-take-in-Ok-clause-still c =
-    still-operand (item_seen _ c.in-Ok.item) c.args.at (state_of c.args.self.now) (state_of c.take.new.self) c.in_ok-take-in-Ok.ensures.goes_on
+    still-operand (item_view _ c.in-Ok.item) c.args.at (state_of c.args.self.now) (state_of c.take.new.self) c.in_ok-take-in-Ok.ensures.goes_on
 
 pub returns-in_err-take-in-Ok-clause-refused : goal.returns-in_err-take-in-Ok-clause-refused
 unfolding state_of
@@ -41,12 +41,12 @@ returns-in_err-take-in-Ok-clause-refused c =
     let s = state_of c.args.self.now in
     let tail = tail_is text (at + 1) in
     let own = take (at + 1 + len - at) (drop at text) in
-    let found : front s.flags b (drop (at + 1) text) ≡ item (item_seen own c.in-Ok.item) len =
+    let found : front s.flags b (drop (at + 1) text) ≡ item (item_view own c.in-Ok.item) len =
     ap (front s.flags b) (sym tail) ∙ sym c.in-Ok.ensures.value
-    ∙ ap (λ t. item (item_seen (take (suc len) (b ∷ t)) c.in-Ok.item) len) tail
-    ∙ ap (λ o. item (item_seen o c.in-Ok.item) len) (sym (own_text text at len c.requires.inside)) in
+    ∙ ap (λ t. item (item_view (take (suc len) (b ∷ t)) c.in-Ok.item) len) tail
+    ∙ ap (λ o. item (item_view o c.in-Ok.item) len) (sym (own_text text at len c.requires.inside)) in
     let is : IsRefusal (reading_on s 0 at (drop at text)) c.in_err-take-in-Ok.field-0.0 =
-    stop_is_refusal (item_seen own c.in-Ok.item) s at b len text (drop (at + 1) text) c.in_err-take-in-Ok.field-0.0 (here_is text at c.requires.inside) found c.in_err-take-in-Ok.ensures.refused in
+    stop_is_refusal (item_view own c.in-Ok.item) s at b len text (drop (at + 1) text) c.in_err-take-in-Ok.field-0.0 (here_is text at c.requires.inside) found c.in_err-take-in-Ok.ensures.refused in
     search rules
 
 pub returns-in-Err-clause-refused : goal.returns-in-Err-clause-refused

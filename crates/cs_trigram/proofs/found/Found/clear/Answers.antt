@@ -4,5 +4,5 @@ use Rattle.cs_trigram.proofs.found.Found.clear.Goals as goal
 pub unmark-requires : goal.unmark-requires
 unmark-requires c =
     let self = c.args.self.now in
-    let few : self.tail.len + 1 < length self.list.items = omega (arith, self.list.ok.0, c.len.ensures) in
-    rw (c.deref_mut.ensures.value, c.deref.ensures.value) (c.requires few).marks
+    let short : self.tail.len + 1 < length self.list.items = omega (arith, self.list.ok.0, c.len.ensures) in
+    rw (c.deref_mut.ensures.value, c.deref.ensures.value) (c.requires short).marks

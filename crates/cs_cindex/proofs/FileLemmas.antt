@@ -1,0 +1,256 @@
+-- Files, one after another: what was added and printed so far.
+use Rattle.std.proofs.Common.{◌≡◌, ℕ, suc, ◌+◌, ◌-◌, ◌^◌, ◌<◌, ◌≤◌, Bool, true, false, cond, ◌&&◌, List, [], ◌∷◌, ◌++◌, map, take, drop, get_or, length, refl, sym, ap, subst, ◌∙◌, arith, Option, Some, None, append-nil, append_assoc, length-append, add-one, drop-cons}
+use Rattle.cs_tree.specs.NameOrder.{bytes_cmp, are_ascending}
+use Rattle.std.specs.Prelude.{option_map, filter_map, slice_get}
+use Rattle.std.specs.List.{AllByRecursion, cons_option}
+use Rattle.std.specs.Option.{option_map_or}
+use Rattle.std.specs.Ordering.{is_lt}
+use Rattle.std.specs.declared.cmp.Ordering.{Ordering}
+use Rattle.std.specs.declared.cmp.Ordering.TheVariants.{Less, Equal, Greater}
+use Rattle.std.specs.Cmp.Lexicographic.{nat_list_cmp_total}
+use Rattle.std.proofs.lemmas.Bool.{and_parts}
+use Rattle.std.proofs.lemmas.List.{take_at, take_more, take-append-drop, map-append}
+use Rattle.std.proofs.lemmas.List.Elements.{filter_map-append}
+use Rattle.cs_tree.specs.Snapshot.{Snapshot}
+use Rattle.cs_tree.specs.Told.{Grows}
+use Rattle.cs_index.specs.Image.{Entry, names_of}
+use Rattle.cs_index.specs.Built.{is_storable, is_above}
+use Rattle.cs_words.specs.declared.fault.FileFault.TheVariants.{Unnamed}
+use Rattle.cs_cindex.specs.declared.reading.Verdict.{Verdict}
+use Rattle.cs_cindex.specs.declared.reading.Verdict.TheVariants.{Text, Skipped, Left}
+use Rattle.cs_cindex.specs.Notices.{TakesFront, Line, faulted, file_line, text_of, AreCounted, Prints, PrintsFront}
+use Rattle.cs_cindex.specs.Verdicts.{trigrams_told, line_told, file_trigrams, IsVerdict, IsVerdictIn, IsVerdictCounted, one_line, noted_line, noted_entries}
+use Rattle.cs_cindex.specs.Files.{texts_at, are_storable, AreTextsIn, AreTooManyIn, AreFileLinesIn, BeginFileLinesIn, AreAbove}
+use Rattle.cs_cindex.proofs.FrontLemmas.{grows_none, front_all}
+use Rattle.cs_cindex.proofs.LineLemmas.{front_after, text-append, AreCounted-wider, AreCounted-append}
+use Rattle.cs_tree.proofs.Growing.{Grows-chain}
+
+-- ---- lists of names
+
+pub names_at : {X : Type 0} (f : X → List ℕ) (xs : List X) (i : ℕ) → map f xs ≡ map f (take i xs) ++ map f (drop i xs)
+names_at f xs i = ap (map f) (sym (take-append-drop i xs)) ∙ map-append f (take i xs) (drop i xs)
+
+pub names_more : {X : Type 0} (f : X → List ℕ) (xs : List X) (i : ℕ) (x : X) → i < length xs → x ≡ get_or xs i x → map f (take (i + 1) xs) ≡ map f (take i xs) ++ f x ∷ []
+names_more f xs i x low is = ap (map f) (take_more xs i x low ∙ ap (λ y. take i xs ++ y ∷ []) (sym is)) ∙ map-append f (take i xs) (x ∷ [])
+
+pub names_rest : {X : Type 0} (f : X → List ℕ) (xs : List X) (i : ℕ) (x : X) → i < length xs → x ≡ get_or xs i x → map f (drop i xs) ≡ f x ∷ map f (drop (i + 1) xs)
+names_rest f xs i x low is =
+    let next : drop (suc i) xs ≡ drop (i + 1) xs = ap (λ n. drop n xs) (sym (add-one i)) in
+    ap (map f) (drop-cons xs i x low ∙ ap (λ y. y ∷ drop (suc i) xs) (sym is)) ∙ ap (λ (rest : List _). f x ∷ map f rest) next
+
+storable_parts : (a b : List (List ℕ)) → are_storable (a ++ b) ≡ true → (are_storable a ≡ true) × (are_storable b ≡ true)
+storable_parts [] b h = (refl, h)
+storable_parts (name ∷ a) b h =
+    let both = and_parts (is_storable name) (are_storable (a ++ b)) h in
+    let rest = storable_parts a b both.1 in
+    (ap (λ t. t && are_storable a) both.0 ∙ rest.0, rest.1)
+
+storable_last : (names : List (List ℕ)) (name : List ℕ) → are_storable (names ++ name ∷ []) ≡ true → (are_storable names ≡ true) × (is_storable name ≡ true)
+storable_last names name h =
+    let parts = storable_parts names (name ∷ []) h in
+    (parts.0, (and_parts (is_storable name) true parts.1).0)
+
+-- ---- one file
+
+noted_told : (log_skip : Bool) (name : List ℕ) (verdict : Verdict) → is_storable name ≡ true → noted_line log_skip name verdict ≡ line_told log_skip name verdict
+noted_told log_skip name (Text trigrams) h = ap (λ b. cond b None (Some (faulted name Unnamed))) h
+noted_told log_skip name (Skipped reason) h = refl
+noted_told log_skip name (Left why) h = refl
+
+one_cons : (line : Option Line) → one_line line ≡ cons_option line []
+one_cons None = refl
+one_cons (Some line) = refl
+
+lines_one : (log_skip : Bool) (tree : Snapshot) (name : List ℕ) (verdict : Verdict) → is_storable name ≡ true → IsVerdict tree name verdict → one_line (noted_line log_skip name verdict) ≡ filter_map (file_line log_skip tree) (name ∷ [])
+lines_one log_skip tree name verdict h is = ap one_line (noted_told log_skip name verdict h ∙ is.line log_skip) ∙ one_cons (file_line log_skip tree name)
+
+abbrev pub with_name : List ℕ → Option (List ℕ) → Option Entry
+with_name name trigrams = option_map (λ (trigrams : List ℕ). (name, trigrams)) trigrams
+
+entries_told : (name : List ℕ) (verdict : Verdict) → is_storable name ≡ true → noted_entries name verdict ≡ cons_option (with_name name (trigrams_told verdict)) []
+entries_told name (Text trigrams) h = ap (λ b. cond b ((name, trigrams.items) ∷ []) []) h
+entries_told name (Skipped reason) h = refl
+entries_told name (Left why) h = refl
+
+entries_one : (tree : Snapshot) (name : List ℕ) (verdict : Verdict) → is_storable name ≡ true → IsVerdict tree name verdict → noted_entries name verdict ≡ texts_at tree (name ∷ [])
+entries_one tree name verdict h is = entries_told name verdict h ∙ ap (λ o. cons_option (with_name name o) []) is.trigrams
+
+-- ---- one file more
+
+pub texts_step : (told : Option Snapshot) (names : List (List ℕ)) (entries : List Entry) (name : List ℕ) (verdict : Verdict) → AreTextsIn told names entries → IsVerdictIn told name verdict → AreTextsIn told (names ++ name ∷ []) (entries ++ noted_entries name verdict)
+texts_step None names entries name verdict are is = tt
+texts_step (Some tree) names entries name verdict are is = λ storable.
+    let parts = storable_last names name storable in
+    ap (λ (es : List Entry). es ++ noted_entries name verdict) (are parts.0)
+    ∙ ap (λ (es : List Entry). texts_at tree names ++ es) (entries_one tree name verdict parts.1 is)
+    ∙ sym (filter_map-append (λ name. with_name name (file_trigrams tree name)) names (name ∷ []))
+
+lines_step : (log_skip : Bool) (told : Option Snapshot) (names : List (List ℕ)) (lines : List Line) (name : List ℕ) (verdict : Verdict) → AreFileLinesIn log_skip told names lines → IsVerdictIn told name verdict → AreFileLinesIn log_skip told (names ++ name ∷ []) (lines ++ one_line (noted_line log_skip name verdict))
+lines_step log_skip None names lines name verdict are is = tt
+lines_step log_skip (Some tree) names lines name verdict are is = λ storable.
+    let parts = storable_last names name storable in
+    ap (λ (ls : List Line). ls ++ one_line (noted_line log_skip name verdict)) (are parts.0)
+    ∙ ap (λ (ls : List Line). filter_map (file_line log_skip tree) names ++ ls) (lines_one log_skip tree name verdict parts.1 is)
+    ∙ sym (filter_map-append (file_line log_skip tree) names (name ∷ []))
+
+noted_counted : (log_skip : Bool) (name : List ℕ) (verdict : Verdict) (old new : ℕ) → IsVerdictCounted verdict old new → AreCounted (one_line (noted_line log_skip name verdict)) old new
+noted_counted log_skip name (Text trigrams) old new h = elim (is_storable name) as (λ b. AreCounted (one_line (cond b None (Some (faulted name Unnamed)))) old new) [ true ↦ tt | false ↦ (tt, tt) ]
+noted_counted true name (Skipped reason) old new h = (tt, tt)
+noted_counted false name (Skipped reason) old new h = tt
+noted_counted log_skip name (Left why) old new h = (h, tt)
+
+module _ (log_skip : Bool) (told : Option Snapshot) (names : List (List ℕ)) (before failed failed' : ℕ) (rises : before ≤ failed) (more : failed ≤ failed') (taken now : Option (List ℕ)) (p : Prints (AreFileLinesIn log_skip told names) before failed taken now) where
+  pub prints_step : (later : Option (List ℕ)) (name : List ℕ) (verdict : Verdict) → IsVerdictIn told name verdict → IsVerdictCounted verdict failed failed' → Grows now later (text_of (one_line (noted_line log_skip name verdict))) → Prints (AreFileLinesIn log_skip told (names ++ name ∷ [])) before failed' taken later
+  prints_step later name verdict is counted grows = record {
+    lines = p.lines ++ one_line (noted_line log_skip name verdict);
+    due = lines_step log_skip told names p.lines name verdict p.due is;
+    counted = AreCounted-append p.lines (one_line (noted_line log_skip name verdict)) before failed'
+        (AreCounted-wider before before failed failed' (omega arith) more p.lines p.counted)
+        (AreCounted-wider before failed failed' failed' rises (omega arith) (one_line (noted_line log_skip name verdict)) (noted_counted log_skip name verdict failed failed' counted));
+    grows = subst (Grows taken later) (sym (text-append p.lines (one_line (noted_line log_skip name verdict)))) (Grows-chain taken now later (text_of p.lines) (text_of (one_line (noted_line log_skip name verdict))) p.grows grows);
+  }
+
+  -- ---- a call that is refused
+
+  begin_lines : (told : Option Snapshot) (all names rest : List (List ℕ)) (lines : List Line) → all ≡ names ++ rest → AreFileLinesIn log_skip told names lines → BeginFileLinesIn log_skip told all lines
+  begin_lines None all names rest lines is are = tt
+  begin_lines (Some tree) all names rest lines is are = λ storable.
+      let parts = storable_parts names rest (ap are_storable (sym is) ∙ storable) in
+      let give = file_line log_skip tree in
+      are parts.0
+      ∙ sym (ap (λ ns. take (length lines) (filter_map give ns)) is
+      ∙ ap (take (length lines)) (filter_map-append give names rest)
+      ∙ take_at (filter_map give names) (filter_map give rest) (length lines) (sym (ap (λ (ls : List Line). length ls) (are parts.0))))
+
+  -- before the next file is read
+  pub front_read : (all rest : List (List ℕ)) → all ≡ names ++ rest → PrintsFront (BeginFileLinesIn log_skip told all) before failed' taken now
+  front_read all rest is =
+      let front = front_all (text_of p.lines) taken now p.grows in
+      record {
+        lines = p.lines;
+        due = begin_lines told all names rest p.lines is p.due;
+        counted = AreCounted-wider before before failed failed' (omega arith) more p.lines p.counted;
+        front = front;
+      }
+
+  -- while its line is printed
+  pub front_noted : (later : Option (List ℕ)) (all rest : List (List ℕ)) (name : List ℕ) (verdict : Verdict) → all ≡ names ++ name ∷ rest → IsVerdictIn told name verdict → IsVerdictCounted verdict failed failed' → TakesFront (text_of (one_line (noted_line log_skip name verdict))) now later → PrintsFront (BeginFileLinesIn log_skip told all) before failed' taken later
+  front_noted later all rest name verdict is verdict_is counted front =
+      let line = one_line (noted_line log_skip name verdict) in
+      let whole = front_after p.lines line [] taken now later p.grows front in
+      record {
+        lines = p.lines ++ line;
+        due = begin_lines told all (names ++ name ∷ []) rest (p.lines ++ line) (is ∙ sym (append_assoc names (name ∷ []) rest)) (lines_step log_skip told names p.lines name verdict p.due verdict_is);
+        counted = AreCounted-append p.lines line before failed'
+            (AreCounted-wider before before failed failed' (omega arith) more p.lines p.counted)
+            (AreCounted-wider before failed failed' failed' rises (omega arith) line (noted_counted log_skip name verdict failed failed' counted));
+        front = subst (λ (ls : List Line). TakesFront (text_of (p.lines ++ ls)) taken later) (append-nil line) whole;
+      }
+
+-- too many names
+pub too_many : (told : Option Snapshot) (all names rest : List (List ℕ)) (entries : List Entry) → all ≡ names ++ rest → AreTextsIn told names entries → 2 ^ 30 ≤ length entries → AreTooManyIn told all
+too_many None all names rest entries is are many = tt
+too_many (Some tree) all names rest entries is are many = λ storable.
+    let parts = storable_parts names rest (ap are_storable (sym is) ∙ storable) in
+    let same : length (texts_at tree all) ≡ length entries + length (texts_at tree rest) =
+    ap (λ ns. length (texts_at tree ns)) is
+    ∙ ap (λ (es : List Entry). length es) (filter_map-append (λ name. with_name name (file_trigrams tree name)) names rest)
+    ∙ length-append (texts_at tree names) (texts_at tree rest)
+    ∙ ap (λ (es : List Entry). length es + length (texts_at tree rest)) (sym (are parts.0)) in
+    larger (2 ^ 30) (length entries) (length (texts_at tree rest)) (length (texts_at tree all)) many same
+  where
+    larger : (most n m l : ℕ) → most ≤ n → l ≡ n + m → most ≤ l
+    larger most n m l h e = omega (arith, h, e)
+
+-- ---- names in order
+
+less : (r : Ordering) → is_lt r ≡ true → r ≡ Less
+less Less h = refl
+less Equal h = cc
+less Greater h = cc
+
+chain : (a b c : List ℕ) → is_lt (bytes_cmp a b) ≡ true → is_lt (bytes_cmp b c) ≡ true → is_lt (bytes_cmp a c) ≡ true
+chain a b c h g = ap is_lt (nat_list_cmp_total.trans a b c (less _ h) (less _ g))
+
+pub ascend_rest : (name : List ℕ) (rest : List (List ℕ)) → are_ascending (name ∷ rest) ≡ true → are_ascending rest ≡ true
+ascend_rest name [] h = refl
+ascend_rest name (next ∷ rest) h = (and_parts (is_lt (bytes_cmp name next)) (are_ascending (next ∷ rest)) h).1
+
+abbrev pub AreAfter : List ℕ → List (List ℕ) → Type 0
+AreAfter name rest = AllByRecursion (λ next. is_lt (bytes_cmp name next) ≡ true) rest
+
+after_lower : (low name : List ℕ) (rest : List (List ℕ)) → is_lt (bytes_cmp low name) ≡ true → AreAfter name rest → AreAfter low rest
+after_lower low name [] h all = tt
+after_lower low name (next ∷ rest) h all = (chain low name next h all.0, after_lower low name rest h all.1)
+
+pub ascend_after : (name : List ℕ) (rest : List (List ℕ)) → are_ascending (name ∷ rest) ≡ true → AreAfter name rest
+ascend_after name [] h = tt
+ascend_after name (next ∷ rest) h =
+    let parts = and_parts (is_lt (bytes_cmp name next)) (are_ascending (next ∷ rest)) h in
+    (parts.0, after_lower name next rest parts.0 (ascend_after next rest parts.1))
+
+pub above_none : (names : List (List ℕ)) → AreAbove [] names
+above_none [] = tt
+above_none (name ∷ names) = (refl, above_none names)
+
+last_pushed : (names : List (List ℕ)) (name : List ℕ) → slice_get (names ++ name ∷ []) (length names) ≡ Some name
+last_pushed [] name = refl
+last_pushed (first ∷ names) name = last_pushed names name
+
+names_push : (entries : List Entry) (entry : Entry) → names_of (entries ++ entry ∷ []) ≡ names_of entries ++ entry.0 ∷ []
+names_push [] entry = refl
+names_push (e ∷ entries) entry = ap (λ rest. e.0 ∷ rest) (names_push entries entry)
+
+above_pushed : (entries : List Entry) (name : List ℕ) (trigrams : List ℕ) (next : List ℕ) → is_above (names_of (entries ++ (name, trigrams) ∷ [])) next ≡ is_lt (bytes_cmp name next)
+above_pushed entries name trigrams next =
+    let names = names_of entries in
+    let size : length (names ++ name ∷ []) - 1 ≡ length names = omega (arith, length-append names (name ∷ [])) in
+    ap (λ ns. is_above ns next) (names_push entries (name, trigrams))
+    ∙ ap (λ i. option_map_or (λ last. is_lt (bytes_cmp last next)) (slice_get (names ++ name ∷ []) i) true) size
+    ∙ ap (λ o. option_map_or (λ last. is_lt (bytes_cmp last next)) o true) (last_pushed names name)
+
+above_new : (entries : List Entry) (name trigrams : List ℕ) (rest : List (List ℕ)) → AreAfter name rest → AreAbove (entries ++ (name, trigrams) ∷ []) rest
+above_new entries name trigrams [] all = tt
+above_new entries name trigrams (next ∷ rest) all = (above_pushed entries name trigrams next ∙ all.0, above_new entries name trigrams rest all.1)
+
+above_same : (entries : List Entry) (rest : List (List ℕ)) → AreAbove entries rest → AreAbove (entries ++ []) rest
+above_same entries rest all = subst (λ es. AreAbove es rest) (sym (append-nil entries)) all
+
+pub above_step : (entries : List Entry) (name : List ℕ) (verdict : Verdict) (rest : List (List ℕ)) → are_ascending (name ∷ rest) ≡ true → AreAbove entries (name ∷ rest) → AreAbove (entries ++ noted_entries name verdict) rest
+above_step entries name (Text trigrams) rest up all =
+    elim (is_storable name) as (λ b. AreAbove (entries ++ cond b ((name, trigrams.items) ∷ []) []) rest) [ true ↦ above_new entries name trigrams.items rest (ascend_after name rest up) | false ↦ above_same entries rest all.1 ]
+above_step entries name (Skipped reason) rest up all = above_same entries rest all.1
+above_step entries name (Left why) rest up all = above_same entries rest all.1
+
+-- ---- the steps, where what the code has is known by equations
+
+pub told_at : (told told' : Option Snapshot) (name name' : List ℕ) (verdict : Verdict) → told ≡ told' → name ≡ name' → IsVerdictIn told name verdict → IsVerdictIn told' name' verdict
+told_at told told' name name' verdict e f is = rw (← e, ← f) is
+
+pub noted_at : (log_skip log_skip' : Bool) (name name' : List ℕ) (verdict : Verdict) → log_skip ≡ log_skip' → name ≡ name' → one_line (noted_line log_skip name verdict) ≡ one_line (noted_line log_skip' name' verdict)
+noted_at log_skip log_skip' name name' verdict e f = ap (λ b. one_line (noted_line b name verdict)) e ∙ ap (λ n. one_line (noted_line log_skip' n verdict)) f
+
+pub texts_next : (told : Option Snapshot) (names names' : List (List ℕ)) (entries entries' : List Entry) (name : List ℕ) (verdict : Verdict) → names' ≡ names ++ name ∷ [] → entries' ≡ entries ++ noted_entries name verdict → AreTextsIn told names entries → IsVerdictIn told name verdict → AreTextsIn told names' entries'
+texts_next told names names' entries entries' name verdict e f are is = rw (e, f) (texts_step told names entries name verdict are is)
+
+pub above_next : (entries entries' : List Entry) (names rest : List (List ℕ)) (name : List ℕ) (verdict : Verdict) → names ≡ name ∷ rest → entries' ≡ entries ++ noted_entries name verdict → are_ascending names ≡ true → AreAbove entries names → AreAbove entries' rest
+above_next entries entries' names rest name verdict e f up all = rw f (above_step entries name verdict rest (rw e at up) (rw e at all))
+
+pub above_first : (entries : List Entry) (names rest : List (List ℕ)) (name : List ℕ) → names ≡ name ∷ rest → AreAbove entries names → is_above (names_of entries) name ≡ true
+above_first entries names rest name e all = (subst (AreAbove entries) e all).0
+
+pub ascend_next : (names rest : List (List ℕ)) (name : List ℕ) → names ≡ name ∷ rest → are_ascending names ≡ true → are_ascending rest ≡ true
+ascend_next names rest name e up = ascend_rest name rest (sym (ap are_ascending e) ∙ up)
+
+-- ---- at the start
+
+pub texts_none : (told : Option Snapshot) (entries : List Entry) → entries ≡ [] → AreTextsIn told [] entries
+texts_none None entries e = tt
+texts_none (Some tree) entries e = λ storable. e
+
+lines_none : (log_skip : Bool) (told : Option Snapshot) → AreFileLinesIn log_skip told [] []
+lines_none log_skip None = tt
+lines_none log_skip (Some tree) = λ storable. refl
+
+pub prints_none : (log_skip : Bool) (told : Option Snapshot) (failed : ℕ) (taken : Option (List ℕ)) → Prints (AreFileLinesIn log_skip told []) failed failed taken taken
+prints_none log_skip told failed taken = record { lines = []; due = lines_none log_skip told; counted = tt; grows = grows_none taken }

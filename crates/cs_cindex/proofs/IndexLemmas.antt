@@ -1,0 +1,197 @@
+-- The index of the files that a walk finds.
+use Rattle.std.proofs.Common.{◌≡◌, ℕ, suc, ◌+◌, ◌*◌, ◌^◌, ◌≤◌, Bool, true, false, cond, not, ◌&&◌, ◌||◌, List, [], ◌∷◌, ◌++◌, map, length, refl, sym, ap, subst, ◌∙◌, arith, Option, Some, None, length-append}
+use Rattle.cs_history.specs.JobIndex.{tree_index}
+use Rattle.cs_tree.specs.Folders.{IsTree}
+use Rattle.cs_tree.specs.PathSet.{Paths}
+use Rattle.cs_tree.specs.NameOrder.{bytes_cmp, are_ascending}
+use Rattle.std.proofs.lemmas.List.{length-map}
+use Rattle.std.proofs.lemmas.Bool.{and_parts, and_from}
+use Rattle.std.specs.Prelude.{flat_map, nat_le}
+use Rattle.std.specs.List.{list_any, list_all, cons_option}
+use Rattle.std.specs.Ordering.{is_lt, eq_by_cmp}
+use Rattle.std.specs.Cmp.Lexicographic.{nat_list_cmp_total}
+use Rattle.std.specs.FinMap as map'
+use Rattle.cs_tree.specs.PathSet as set
+use Rattle.cs_tree.specs.Clean.{longest_path}
+use Rattle.cs_tree.specs.Cover.{covers, same}
+use Rattle.cs_tree.specs.Snapshot.{Snapshot, Item, folder, file, cut, other, bad, item_at}
+use Rattle.cs_tree.specs.Reached.{files_reached, read_item, is_reached}
+use Rattle.cs_tree.specs.Walks.{Left, Finds, FindsIn, is_among, is_file}
+use Rattle.cs_tree.proofs.Sets.{alike, entries_in_order, items_in_order}
+use Rattle.cs_tree.proofs.Collect.{get-collected}
+use Rattle.cs_tree.proofs.Found.{get-found}
+use Rattle.cs_trigram.specs.Text.{limits, text_trigrams}
+use Rattle.cs_index.specs.Image.{Entry, image, image_of, names_of, concat, with_nul, four_bytes, starts_from, name_offsets, magic, trailer, sections_of, postings_of}
+use Rattle.cs_index.specs.Built.{are_paths, are_reduced, is_before, is_storable}
+use Rattle.cs_index.specs.Spelling.{IsIndexable}
+use Rattle.cs_index.proofs.StringLemmas.{length-starts_from}
+use Rattle.cs_cindex.specs.Indexed.{AreTooMany, IsIndexOf, IsTreeTooLarge, IsIndex}
+use Rattle.cs_cindex.specs.Verdicts.{file_trigrams}
+use Rattle.cs_cindex.specs.Files.{texts_at, are_storable, AreTextsIn, AreTooManyIn}
+use Rattle.cs_cindex.proofs.FileLemmas.{AreAfter, ascend_rest, ascend_after, with_name}
+use Rattle.cs_cindex.proofs.NameLemmas.{found_storable}
+use Rattle.cs_cindex.proofs.OrderLemmas.{same_tied, true_T, below_all}
+
+-- ---- paths in order
+
+marked_below : (path : List ℕ) (paths : List (List ℕ)) → list_all (is_before path) paths ≡ true → below_all path (set.with_units paths) ≡ true
+marked_below path [] h = refl
+marked_below path (q ∷ paths) h =
+    let both = and_parts (is_before path q) (list_all (is_before path) paths) h in
+    let less = and_parts (is_lt (bytes_cmp path q)) (not (covers path q)) both.0 in
+    and_from (is_lt (bytes_cmp path q)) (below_all path (set.with_units paths)) less.0 (marked_below path paths both.1)
+
+reduced_sorted : (paths : List (List ℕ)) → are_reduced paths ≡ true → map'.is_sorted bytes_cmp (set.with_units paths) ≡ true
+reduced_sorted [] h = refl
+reduced_sorted (p ∷ paths) h =
+    let both = and_parts (list_all (is_before p) paths) (are_reduced paths) h in
+    and_from (below_all p (set.with_units paths)) (map'.is_sorted bytes_cmp (set.with_units paths)) (marked_below p paths both.0) (reduced_sorted paths both.1)
+
+image_is : (paths : List (List ℕ)) (entries : List Entry) → are_paths paths ≡ true → map'.is_sorted bytes_cmp entries ≡ true → image_of paths entries ≡ image (set.from_list paths) (map'.from_entries entries)
+unfolding image
+image_is paths entries h up =
+    let sorted = reduced_sorted paths (and_parts (list_all is_storable paths) (are_reduced paths) h).1 in
+    ap (λ ps. image_of ps entries) (sym (items_in_order paths (true_T _ sorted)))
+    ∙ ap (image_of (set.items (set.from_list paths))) (sym (entries_in_order entries (true_T _ up)))
+
+-- ---- texts in order
+
+below_texts : (tree : Snapshot) (name : List ℕ) (rest : List (List ℕ)) → AreAfter name rest → below_all name (texts_at tree rest) ≡ true
+below_texts tree name [] h = refl
+below_texts tree name (next ∷ rest) h =
+    let later = below_texts tree name rest h.1 in
+    elim (file_trigrams tree next) as (λ o. below_all name (cons_option (with_name next o) (texts_at tree rest)) ≡ true) [
+      | None ↦ later
+      | Some trigrams ↦ and_from (is_lt (bytes_cmp name next)) (below_all name (texts_at tree rest)) h.0 later
+    ]
+
+texts_sorted : (tree : Snapshot) (names : List (List ℕ)) → are_ascending names ≡ true → map'.is_sorted bytes_cmp (texts_at tree names) ≡ true
+texts_sorted tree [] h = refl
+texts_sorted tree (name ∷ rest) h =
+    let later = texts_sorted tree rest (ascend_rest name rest h) in
+    elim (file_trigrams tree name) as (λ o. map'.is_sorted bytes_cmp (cons_option (with_name name o) (texts_at tree rest)) ≡ true) [
+      | None ↦ later
+      | Some trigrams ↦ and_from (below_all name (texts_at tree rest)) (map'.is_sorted bytes_cmp (texts_at tree rest)) (below_texts tree name rest (ascend_after name rest h)) later
+    ]
+
+-- ---- the texts that a walk finds
+
+tied_among : (names : List (List ℕ)) (q : List ℕ) → list_any (eq_by_cmp bytes_cmp q) names ≡ is_among names q
+tied_among [] q = refl
+tied_among (name ∷ names) q = ap (λ b. b || list_any (eq_by_cmp bytes_cmp q) names) (same_tied name q) ∙ ap (λ b. same name q || b) (tied_among names q)
+
+file_or_none : {X : Type 0} (read : List ℕ → Option X) (item : Item) → cond (is_file item) (read_item read item) None ≡ read_item read item
+file_or_none read (folder names unnamed) = refl
+file_or_none read (file bytes) = refl
+file_or_none read (cut bytes) = refl
+file_or_none read other = refl
+file_or_none read (bad fault) = refl
+
+by_tests : {X : Type 0} (a b c : Bool) (x : Option X) → cond c x None ≡ x → cond (a && (b && c)) x None ≡ cond (a && b) x None
+by_tests true true c x h = h
+by_tests true false c x h = refl
+by_tests false b c x h = refl
+
+texts_found : (tree : Snapshot) (paths : Paths) (names : List (List ℕ)) (faults : List Left) → Finds tree paths names faults → map'.from_entries (texts_at tree names) ≡ files_reached (text_trigrams limits) tree paths
+unfolding file_trigrams
+texts_found tree paths names faults finds = map'.same_map nat_list_cmp_total alike (map'.from_entries (texts_at tree names)) (files_reached (text_trigrams limits) tree paths) (λ q.
+    get-collected (file_trigrams tree) names q
+    ∙ ap (λ b. cond b (file_trigrams tree q) None) (tied_among names q ∙ finds.names_are q)
+    ∙ by_tests (is_reached tree paths q) (nat_le (length q) longest_path) (is_file (item_at tree q)) (read_item (text_trigrams limits) (item_at tree q)) (file_or_none (text_trigrams limits) (item_at tree q))
+    ∙ sym (get-found (text_trigrams limits) tree paths q))
+
+module _ (tree : Snapshot) (paths names : List (List ℕ)) (faults : List Left) (ok : are_paths paths ≡ true) (finds : Finds tree (set.from_list paths) names faults) where
+  image_found : image_of paths (texts_at tree names) ≡ tree_index tree (set.from_list paths)
+  image_found =
+      image_is paths (texts_at tree names) ok (texts_sorted tree names finds.names_ascend)
+      ∙ ap (image (set.from_list paths)) (texts_found tree (set.from_list paths) names faults finds)
+
+  pub names_stored : IsTree tree → are_storable names ≡ true
+  names_stored is = found_storable tree paths names faults is (and_parts (list_all is_storable paths) (are_reduced paths) ok).0 finds
+
+-- ---- the size of an index
+
+length-offsets : (ns : List ℕ) → length (flat_map four_bytes ns) ≡ 4 * length ns
+length-offsets [] = refl
+length-offsets (n ∷ ns) =
+    let rest = length-offsets ns in
+    let both : length (four_bytes n ++ flat_map four_bytes ns) ≡ length (four_bytes n) + length (flat_map four_bytes ns) = length-append (four_bytes n) (flat_map four_bytes ns) in
+    four_more (length (four_bytes n ++ flat_map four_bytes ns)) (length (flat_map four_bytes ns)) (length ns) both rest
+  where
+    four_more : (n m k : ℕ) → n ≡ 4 + m → m ≡ 4 * k → n ≡ 4 * suc k
+    four_more n m k e f = omega (arith, e, f)
+
+within : (a b c d e f g : List ℕ) → length d ≤ length (a ++ ((b ++ (c ++ (e ++ (d ++ (f ++ []))))) ++ g))
+within a b c d e f g =
+    omega (arith, length-append a ((b ++ (c ++ (e ++ (d ++ (f ++ []))))) ++ g), length-append (b ++ (c ++ (e ++ (d ++ (f ++ []))))) g, length-append b (c ++ (e ++ (d ++ (f ++ [])))), length-append c (e ++ (d ++ (f ++ []))), length-append e (d ++ (f ++ [])), length-append d (f ++ []))
+
+offsets_within : (paths : List (List ℕ)) (entries : List Entry) → length (name_offsets (names_of entries)) ≤ length (image_of paths entries)
+offsets_within paths entries =
+    let s = sections_of paths (names_of entries) (postings_of entries) in
+    let name_index : length (name_offsets (names_of entries)) ≤ length s.name_index = prefix (name_offsets (names_of entries)) (four_bytes (length (concat (map with_nul (names_of entries))))) in
+    let whole : length s.name_index ≤ length (image_of paths entries) = within magic s.paths s.names s.name_index s.postings s.list_index (trailer s) in
+    chained (length (name_offsets (names_of entries))) (length s.name_index) (length (image_of paths entries)) name_index whole
+  where
+    prefix : (a b : List ℕ) → length a ≤ length (a ++ b)
+    prefix a b = omega (arith, length-append a b)
+
+    chained : (a b c : ℕ) → a ≤ b → b ≤ c → a ≤ c
+    chained a b c h g = omega (arith, h, g)
+
+length-image : (paths : List (List ℕ)) (entries : List Entry) → 4 * length entries ≤ length (image_of paths entries)
+length-image paths entries =
+    let size : length (name_offsets (names_of entries)) ≡ 4 * length entries =
+    length-offsets (starts_from 0 (map with_nul (names_of entries)))
+    ∙ ap (λ n. 4 * n) (length-starts_from 0 (map with_nul (names_of entries)) ∙ length-map (names_of entries) with_nul ∙ length-map entries (λ (e : Entry). e.0)) in
+    subst (λ n. n ≤ length (image_of paths entries)) size (offsets_within paths entries)
+
+-- ---- what is built
+
+module _ (told : Option Snapshot) (paths names : List (List ℕ)) (faults : List Left) (ok : are_paths paths ≡ true) (finds : FindsIn told (set.from_list paths) names faults) where
+  pub index_is : (built : List (List ℕ)) (entries : List Entry) (bytes : List ℕ) → built ≡ paths → AreTextsIn told names entries → bytes ≡ image_of built entries → IsIndexOf told (set.from_list paths) bytes
+  index_is built entries bytes same are is = by_tree told finds are
+    where
+      by_tree : (told : Option Snapshot) → FindsIn told (set.from_list paths) names faults → AreTextsIn told names entries → IsIndexOf told (set.from_list paths) bytes
+      by_tree None finds are = tt
+      by_tree (Some tree) finds are = λ tree_is.
+          is ∙ ap (λ ps. image_of ps entries) same ∙ ap (image_of paths) (are (names_stored tree paths names faults ok (finds tree_is) tree_is)) ∙ image_found tree paths names faults ok (finds tree_is)
+
+  pub too_large : (built : List (List ℕ)) (entries : List Entry) → built ≡ paths → AreTextsIn told names entries → 2 ^ 32 ≤ length (image_of built entries) → IsTreeTooLarge told (set.from_list paths)
+  too_large built entries same are large = by_tree told finds are
+    where
+      by_tree : (told : Option Snapshot) → FindsIn told (set.from_list paths) names faults → AreTextsIn told names entries → IsTreeTooLarge told (set.from_list paths)
+      by_tree None finds are = tt
+      by_tree (Some tree) finds are = λ tree_is.
+          subst (λ bytes. 2 ^ 32 ≤ length bytes) (ap (λ ps. image_of ps entries) same ∙ ap (image_of paths) (are (names_stored tree paths names faults ok (finds tree_is) tree_is)) ∙ image_found tree paths names faults ok (finds tree_is)) large
+
+  -- 2^30 names need four bytes each in the name index alone
+  pub too_many : AreTooManyIn told names → IsTreeTooLarge told (set.from_list paths)
+  too_many many = by_tree told finds many
+    where
+      larger : (n m : ℕ) → 2 ^ 30 ≤ n → 4 * n ≤ m → 2 ^ 32 ≤ m
+      larger n m h g = omega (arith, h, g)
+
+      by_tree : (told : Option Snapshot) → FindsIn told (set.from_list paths) names faults → AreTooManyIn told names → IsTreeTooLarge told (set.from_list paths)
+      by_tree None finds many = tt
+      by_tree (Some tree) finds many = λ tree_is.
+          subst (λ bytes. 2 ^ 32 ≤ length bytes) (image_found tree paths names faults ok (finds tree_is))
+          (larger (length (texts_at tree names)) (length (image_of paths (texts_at tree names))) (many (names_stored tree paths names faults ok (finds tree_is) tree_is)) (length-image paths (texts_at tree names)))
+
+  -- and they are more texts than an index may name
+  pub many_found : AreTooManyIn told names → AreTooMany told (set.from_list paths)
+  many_found many = by_tree told finds many
+    where
+      by_tree : (told : Option Snapshot) → FindsIn told (set.from_list paths) names faults → AreTooManyIn told names → AreTooMany told (set.from_list paths)
+      by_tree None finds many = tt
+      by_tree (Some tree) finds many = λ tree_is.
+          let found_here = finds tree_is in
+          subst (λ (entries : List Entry). 2 ^ 30 ≤ length entries)
+          (sym (ap map'.entries (sym (texts_found tree (set.from_list paths) names faults found_here)) ∙ entries_in_order (texts_at tree names) (true_T _ (texts_sorted tree names found_here.names_ascend))))
+          (many (names_stored tree paths names faults ok found_here tree_is))
+
+pub index_built : (paths built : List (List ℕ)) (entries : List Entry) (bytes : List ℕ) → built ≡ paths → IsIndexable built entries → bytes ≡ image_of built entries → IsIndex paths bytes
+index_built paths built entries bytes same indexable is = record {
+  entries = entries;
+  is = is ∙ ap (λ ps. image_of ps entries) same;
+  indexable = subst (λ ps. IsIndexable ps entries) same indexable;
+}

@@ -1,0 +1,203 @@
+-- What one job does: its step, from what its parts give.
+use Rattle.std.proofs.Common.{◌≡◌, ℕ, ◌&&◌, Bool, true, false, cond, List, [], ◌∷◌, length, refl, sym, ap, subst, ◌∙◌, inl, inr, arith, Option, Some, None, Result, Vec, Bor}
+use Rattle.cs_tree.specs.Transfers.{is_io_failure}
+use Rattle.std.specs.Prelude.{string_bytes}
+use Rattle.std.specs.declared.alloc.Global.{Global}
+use Rattle.std.specs.List.{AllByRecursion}
+use Rattle.std.proofs.lemmas.Bool.{true≢false, eqb-true}
+use Rattle.std.proofs.lemmas.List.{length-map}
+use Rattle.cs_tree.specs.Failures.{count_if, CountsOne}
+use Rattle.cs_tree.specs.Snapshot.{Snapshot}
+use Rattle.cs_tree.specs.Told.{Grows}
+use Rattle.cs_tree.specs.declared.fault.IoFault.{IoFault}
+use Rattle.cs_tree.specs.declared.fault.IoFault.TheVariants as io
+use Rattle.cs_words.specs.Faults.{write_refusal}
+use Rattle.cs_words.specs.declared.jobs.IndexJob.{IndexJob}
+use Rattle.cs_words.specs.declared.jobs.Reply.{Reply}
+use Rattle.cs_words.specs.declared.jobs.Reply.TheVariants.{Done, Refused}
+use Rattle.cs_words.specs.declared.fault.CindexFault.{CindexFault}
+use Rattle.cs_history.specs.History.{index_of}
+use Rattle.cs_history.specs.Jobs.{given_texts, has_no_path, IsTaken, visit_of, snapshot_told}
+use Rattle.cs_history.specs.Headline.{Indexes}
+use Rattle.cs_history.specs.Replies.{Walks}
+use Rattle.cs_cindex.specs.Bytes.{index_bytes, lent_bytes}
+use Rattle.cs_cindex.specs.Notices.{TakesFront}
+use Rattle.cs_cindex.specs.Next.{IsNext}
+use Rattle.cs_cindex.specs.Output.{TellsBy, WalkPrints, WalkPrintsSome, index_lines, list_lines, is_failed_write}
+use Rattle.cs_cindex.specs.Refusals.{JobKind, lists, clears, walks, job_kind, base, list_fault, early_walk_fault, early_fault_of, IsOutputFault, IsWalkFault, IsLateFault, EarlyOr}
+use Rattle.cs_cindex.specs.Steps.{JobTree, Outputs, Standing, IsStep}
+use Rattle.cs_cindex.specs.declared.outcome.Outcome.{Outcome}
+use Rattle.cs_cindex.specs.Outcomes.{IsStepTo, index_from, reply_of}
+use Rattle.cs_cindex.proofs.FrontLemmas.{grows_then, front_all, front_then}
+use Rattle.cs_cindex.proofs.ToldLemmas.{tells_then, tells_refused}
+use Rattle.cs_cindex.proofs.OutcomeLemmas.{walks_kind, walk_indexes}
+
+-- ---- the index after a job that does not walk
+
+refused_indexes : (job : IndexJob) (tree : Option Snapshot) (fault : CindexFault) (old : Option (List ℕ)) → Indexes (job ∷ []) (tree ∷ []) (Refused fault ∷ []) old old
+refused_indexes job tree fault old = record { index = λ earlier p. sym p.they_left; fitting = (tt, tt); short = λ h. h }
+
+list_indexes : (job : IndexJob) (tree : Option Snapshot) (old : Option (List ℕ)) → job.list ≡ true → Indexes (job ∷ []) (tree ∷ []) (Done ∷ []) old old
+list_indexes job tree old l = record {
+  index = λ earlier p.
+      let visit = visit_of job (snapshot_told tree) in
+      sym p.they_left ∙ ap (λ b. index_of (cond b earlier (cond job.reset (cond (has_no_path job) [] (visit ∷ [])) (visit ∷ earlier)))) (sym l);
+  fitting = ((λ f. absurd (true≢false (sym l ∙ f))), tt);
+  short = λ h. h;
+}
+
+none_taken : (folder : List ℕ) (texts : List (List ℕ)) → length texts ≡ 0 → AllByRecursion (IsTaken folder) texts
+none_taken folder [] e = tt
+none_taken folder (t ∷ ts) e = absurd (omega (arith, e))
+
+clear_indexes : (job : IndexJob) (tree : Option Snapshot) (old : Option (List ℕ)) → job.list ≡ false → job.reset ≡ true → has_no_path job ≡ true → Indexes (job ∷ []) (tree ∷ []) (Done ∷ []) old None
+clear_indexes job tree old l r n = record {
+  index = λ earlier p.
+      let visit = visit_of job (snapshot_told tree) in
+      sym (ap (λ b. index_of (cond b earlier (cond job.reset (cond (has_no_path job) [] (visit ∷ [])) (visit ∷ earlier)))) l
+      ∙ ap (λ b. index_of (cond b (cond (has_no_path job) [] (visit ∷ [])) (visit ∷ earlier))) r
+      ∙ ap (λ b. index_of (cond b [] (visit ∷ []))) n);
+  fitting = ((λ _. none_taken (string_bytes job.cwd) (given_texts job) (length-map job.paths.items string_bytes ∙ eqb-true (length job.paths.items) 0 n)), tt);
+  short = λ _. tt;
+}
+
+-- ---- failures that were counted
+
+counts_out : (b : Bool) (o o' e e' : ℕ) → o' ≡ count_if b o → e' ≡ e → CountsOne b o o' e e'
+counts_out true o o' e e' h k = inl (h, k)
+counts_out false o o' e e' h k = (h, k)
+
+counts_err : (b : Bool) (o o' e e' : ℕ) → o' ≡ o → e' ≡ count_if b e → CountsOne b o o' e e'
+counts_err true o o' e e' h k = inr (h, k)
+counts_err false o o' e e' h k = (h, k)
+
+never_done : (fault : CindexFault) → Refused fault ≡ Done → ⊥
+never_done fault e = cc
+
+-- ---- a job, before the outputs are flushed
+
+module _ (job : IndexJob) (tree : JobTree) (old : Standing) (later : Outputs) where
+  pub list_done : job.list ≡ true → list_fault old.index ≡ None → Grows old.outputs.out later.out (index_lines old.index) → Grows old.outputs.err later.err [] → later.out_failed ≡ old.outputs.out_failed → later.err_failed ≡ old.outputs.err_failed → IsStep job tree Done old (record { index = old.index; outputs = later })
+  list_done l none out err o e =
+      let kind = ap (λ b. cond b lists (cond (job.reset && has_no_path job) clears walks)) l in
+      record {
+        index = list_indexes job tree.snapshot old.index l;
+        cause = ap (λ k. early_fault_of k job old.index) kind ∙ none;
+        keeps = ((λ _. refl), (λ f r n. absurd (true≢false (sym l ∙ f))));
+        walked = λ _ w. absurd (true≢false (sym l ∙ w.0));
+        out = subst (λ k. Grows old.outputs.out later.out (list_lines k old.index)) (sym kind) out;
+        err = subst (λ k. TellsBy k Done job tree.snapshot old.index tree.failed tree.failed_then old.outputs.err later.err) (sym kind) err;
+        writes = (o, e);
+      }
+
+  pub list_refused : (fault : CindexFault) → job.list ≡ true → EarlyOr (list_fault old.index) (IsOutputFault fault) fault → TakesFront (index_lines old.index) old.outputs.out later.out → Grows old.outputs.err later.err [] → later.out_failed ≡ count_if (is_failed_write fault) old.outputs.out_failed → later.err_failed ≡ old.outputs.err_failed → IsStep job tree (Refused fault) old (record { index = old.index; outputs = later })
+  list_refused fault l cause out err o e =
+      let kind = ap (λ b. cond b lists (cond (job.reset && has_no_path job) clears walks)) l in
+      record {
+        index = refused_indexes job tree.snapshot fault old.index;
+        cause = subst (λ k. EarlyOr (early_fault_of k job old.index) (IsLateFault k job tree.snapshot old.index fault) fault) (sym kind) cause;
+        keeps = refl;
+        walked = λ h. absurd (never_done fault h);
+        out = subst (λ k. TakesFront (list_lines k old.index) old.outputs.out later.out) (sym kind) out;
+        err = subst (λ k. TellsBy k (Refused fault) job tree.snapshot old.index tree.failed tree.failed_then old.outputs.err later.err) (sym kind) err;
+        writes = counts_out (is_failed_write fault) old.outputs.out_failed later.out_failed old.outputs.err_failed later.err_failed o e;
+      }
+
+  pub clear_done : job.list ≡ false → job.reset ≡ true → has_no_path job ≡ true → Grows old.outputs.out later.out [] → Grows old.outputs.err later.err [] → later.out_failed ≡ old.outputs.out_failed → later.err_failed ≡ old.outputs.err_failed → IsStep job tree Done old (record { index = None; outputs = later })
+  clear_done l r n out err o e =
+      let alone = ap (λ b. b && has_no_path job) r ∙ n in
+      let kind = ap (λ b. cond b lists (cond (job.reset && has_no_path job) clears walks)) l ∙ ap (λ b. cond b clears walks) alone in
+      record {
+        index = clear_indexes job tree.snapshot old.index l r n;
+        cause = ap (λ k. early_fault_of k job old.index) kind;
+        keeps = ((λ f. absurd (true≢false (sym f ∙ l))), (λ _ _ _. refl));
+        walked = λ _ w. absurd (true≢false (sym alone ∙ w.1));
+        out = subst (λ k. Grows old.outputs.out later.out (list_lines k old.index)) (sym kind) out;
+        err = subst (λ k. TellsBy k Done job tree.snapshot old.index tree.failed tree.failed_then old.outputs.err later.err) (sym kind) err;
+        writes = (o, e);
+      }
+
+  module _ (w : Walks job) (from : Option (List ℕ)) (is : base job old.index ≡ from) (out : Grows old.outputs.out later.out []) (o : later.out_failed ≡ old.outputs.out_failed) where
+    pub walk_done : (bytes : List ℕ) → early_walk_fault job from ≡ None → IsNext job tree.snapshot from (Some bytes) → WalkPrints job tree.snapshot from tree.failed tree.failed_then old.outputs.err later.err → later.err_failed ≡ old.outputs.err_failed → IsStep job tree Done old (record { index = Some bytes; outputs = later })
+    walk_done bytes none next err e =
+        let kind = walks_kind job w in
+        let early = ap (early_walk_fault job) is ∙ none in
+        let next' = subst (λ b. IsNext job tree.snapshot b (Some bytes)) (sym is) next in
+        record {
+          index = walk_indexes job tree.snapshot old.index bytes w early next';
+          cause = ap (λ k. early_fault_of k job old.index) kind ∙ early;
+          keeps = ((λ f. absurd (true≢false (sym f ∙ w.0))), (λ f r n. absurd (true≢false (sym (ap (λ b. b && has_no_path job) r ∙ n) ∙ w.1))));
+          walked = λ _ _. next';
+          out = subst (λ k. Grows old.outputs.out later.out (list_lines k old.index)) (sym kind) out;
+          err = subst (λ k. TellsBy k Done job tree.snapshot old.index tree.failed tree.failed_then old.outputs.err later.err) (sym kind)
+              (subst (λ b. WalkPrints job tree.snapshot b tree.failed tree.failed_then old.outputs.err later.err) (sym is) err);
+          writes = (o, e);
+        }
+
+    pub walk_refused : (fault : CindexFault) → EarlyOr (early_walk_fault job from) (IsWalkFault job tree.snapshot from fault) fault → WalkPrintsSome (early_walk_fault job from) job tree.snapshot from tree.failed tree.failed_then old.outputs.err later.err → later.err_failed ≡ count_if (is_failed_write fault) old.outputs.err_failed → IsStep job tree (Refused fault) old (record { index = old.index; outputs = later })
+    walk_refused fault cause err e =
+        let kind = walks_kind job w in
+        record {
+          index = refused_indexes job tree.snapshot fault old.index;
+          cause = subst (λ k. EarlyOr (early_fault_of k job old.index) (IsLateFault k job tree.snapshot old.index fault) fault) (sym kind)
+              (subst (λ b. EarlyOr (early_walk_fault job b) (IsWalkFault job tree.snapshot b fault) fault) (sym is) cause);
+          keeps = refl;
+          walked = λ h. absurd (never_done fault h);
+          out = subst (λ k. TakesFront (list_lines k old.index) old.outputs.out later.out) (sym kind) (front_all [] old.outputs.out later.out out);
+          err = subst (λ k. TellsBy k (Refused fault) job tree.snapshot old.index tree.failed tree.failed_then old.outputs.err later.err) (sym kind)
+              (subst (λ b. WalkPrintsSome (early_walk_fault job b) job tree.snapshot b tree.failed tree.failed_then old.outputs.err later.err) (sym is) err);
+          writes = counts_err (is_failed_write fault) old.outputs.out_failed later.out_failed old.outputs.err_failed later.err_failed o e;
+        }
+
+-- ---- and then the outputs are flushed
+
+late_output : (kind : JobKind) (job : IndexJob) (tree : Option Snapshot) (old : Option (List ℕ)) (fault : IoFault) → IsLateFault kind job tree old (write_refusal fault)
+late_output lists job tree old io.Failed = tt
+late_output lists job tree old io.Memory = tt
+late_output clears job tree old io.Failed = tt
+late_output clears job tree old io.Memory = tt
+late_output walks job tree old io.Failed = tt
+late_output walks job tree old io.Memory = tt
+
+is_write : (fault : IoFault) → is_io_failure fault ≡ is_failed_write (write_refusal fault)
+is_write io.Failed = refl
+is_write io.Memory = refl
+
+module _ (job : IndexJob) (tree : JobTree) (old : Standing) (index : Option (List ℕ)) (mid later : Outputs) (done : IsStep job tree Done old (record { index = index; outputs = mid })) (out : Grows mid.out later.out []) (err : Grows mid.err later.err []) where
+  pub step_flushed : later.out_failed ≡ mid.out_failed → later.err_failed ≡ mid.err_failed → IsStep job tree Done old (record { index = index; outputs = later })
+  step_flushed o e = record {
+    index = done.index;
+    cause = done.cause;
+    keeps = done.keeps;
+    walked = done.walked;
+    out = grows_then old.outputs.out mid.out later.out (list_lines (job_kind job) old.index) done.out out;
+    err = tells_then (job_kind job) job tree.snapshot old.index tree.failed tree.failed_then old.outputs.err mid.err later.err done.err err;
+    writes = (o ∙ done.writes.0, e ∙ done.writes.1);
+  }
+
+  module _ (fault : CindexFault) (why : IoFault) (is : fault ≡ write_refusal why) where
+    unflushed : CountsOne (is_failed_write (write_refusal why)) old.outputs.out_failed later.out_failed old.outputs.err_failed later.err_failed → IsStep job tree (Refused fault) old (record { index = old.index; outputs = later })
+    unflushed counts = rw is (record {
+      index = refused_indexes job tree.snapshot (write_refusal why) old.index;
+      cause = subst (λ early. EarlyOr early (IsLateFault (job_kind job) job tree.snapshot old.index (write_refusal why)) (write_refusal why)) (sym done.cause) (late_output (job_kind job) job tree.snapshot old.index why);
+      keeps = refl;
+      walked = λ h. absurd (never_done (write_refusal why) h);
+      out = front_then (list_lines (job_kind job) old.index) old.outputs.out mid.out later.out (front_all (list_lines (job_kind job) old.index) old.outputs.out mid.out done.out) out;
+      err = tells_refused (job_kind job) job tree.snapshot old.index tree.failed tree.failed_then old.outputs.err later.err (write_refusal why) done.cause
+          (tells_then (job_kind job) job tree.snapshot old.index tree.failed tree.failed_then old.outputs.err mid.err later.err done.err err);
+      writes = counts;
+    })
+
+    pub out_unflushed : later.out_failed ≡ count_if (is_io_failure why) mid.out_failed → later.err_failed ≡ mid.err_failed → IsStep job tree (Refused fault) old (record { index = old.index; outputs = later })
+    out_unflushed o e = unflushed (counts_out (is_failed_write (write_refusal why)) old.outputs.out_failed later.out_failed old.outputs.err_failed later.err_failed
+        (o ∙ ap (λ b. count_if b mid.out_failed) (is_write why) ∙ ap (count_if (is_failed_write (write_refusal why))) done.writes.0) (e ∙ done.writes.1))
+
+    pub err_unflushed : later.out_failed ≡ mid.out_failed → later.err_failed ≡ count_if (is_io_failure why) mid.err_failed → IsStep job tree (Refused fault) old (record { index = old.index; outputs = later })
+    err_unflushed o e = unflushed (counts_err (is_failed_write (write_refusal why)) old.outputs.out_failed later.out_failed old.outputs.err_failed later.err_failed
+        (o ∙ done.writes.0) (e ∙ ap (λ b. count_if b mid.err_failed) (is_write why) ∙ ap (count_if (is_failed_write (write_refusal why))) done.writes.1))
+
+-- ---- and then the new index is taken
+
+pub step_taken : (job : IndexJob) (tree : JobTree) (old : Option (Vec ℕ Global)) (lent : Option (Bor (List ℕ))) (before later : Outputs) (outcome : Result Outcome CindexFault) (index : Option (List ℕ)) (reply : Reply) → lent_bytes lent ≡ index_bytes old → IsStepTo job tree outcome (record { index = lent_bytes lent; outputs = before }) later → index ≡ index_from (index_bytes old) outcome → reply ≡ reply_of outcome → IsStep job tree reply (record { index = index_bytes old; outputs = before }) (record { index = index; outputs = later })
+step_taken job tree old lent before later outcome index reply same step e f =
+    rw (e, f) (subst (λ bytes. IsStepTo job tree outcome (record { index = bytes; outputs = before }) later) same step)

@@ -1,0 +1,106 @@
+use Rattle.std.proofs.Common.{◌≡◌, ◌∙◌, ◌+◌, ◌++◌, refl, sym, ap, subst, arith, map, string_bytes, take, drop, true, List}
+use Rattle.std.proofs.lemmas.List.{take_all}
+use Rattle.std.proofs.lemmas.Result.{err_from_is_err_and}
+use Rattle.cs_tree.specs.Told.{Grows}
+use Rattle.cs_index.specs.Image.{names_of}
+use Rattle.cs_index.specs.Built.{is_above}
+use Rattle.cs_cindex.specs.Notices.{TakesFront, Line, Prints, text_of}
+use Rattle.cs_cindex.specs.Verdicts.{noted_entries}
+use Rattle.cs_cindex.specs.Files.{AreTextsIn, AreFileLinesIn, AreAbove}
+use Rattle.cs_cindex.proofs.LineLemmas.{any_err}
+use Rattle.cs_cindex.proofs.FileLemmas.{names_at, names_more, names_rest, told_at, noted_at, texts_none, prints_none, above_none, texts_next, prints_step, above_next, above_first, ascend_next, front_read, front_noted, too_many}
+use Rattle.cs_cindex.proofs.indexer.Indexer.index_files.Goals as goal
+
+pub loop-name-init : goal.loop-name-init
+loop-name-init g c = record {
+  texts = texts_none (g.T.Tree.snapshot c.args.tree.now) c.args.self.now.builder.entries c.requires.empty;
+  prints = prints_none c.args.self.now.log_skip (g.T.Tree.snapshot c.args.tree.now) (g.T.Tree.failed c.args.tree.now) (g.E.Sink.taken c.args.err.now);
+  ascend = c.requires.ascend;
+  above = subst (λ entries. AreAbove entries (map string_bytes c.args.names.now)) (sym c.requires.empty) (above_none (map string_bytes c.args.names.now));
+  paths = refl;
+  log_skip = refl;
+  writes = refl;
+  rises = omega arith;
+  keeps = refl;
+}
+
+pub returns-in_err-verdict-clause-front : goal.returns-in_err-verdict-clause-front
+returns-in_err-verdict-clause-front g c =
+    let i = c.loop-name.invariant in
+    let at = c.loop-name.name-index in
+    let names = c.args.names.now in
+    any_err c.from_residual.result
+    (front_read c.args.self.now.log_skip (g.T.Tree.snapshot c.args.tree.now) (map string_bytes (take at names)) (g.T.Tree.failed c.args.tree.now) (g.T.Tree.failed c.loop-name.tree) (g.T.Tree.failed c.read_file.new.tree) i.rises c.read_file.ensures.rises
+    (g.E.Sink.taken c.args.err.now) (g.E.Sink.taken c.loop-name.err) i.prints (map string_bytes names) (map string_bytes (drop at names)) (names_at string_bytes names at))
+
+pub note-requires-clause-above : goal.note-requires-clause-above
+note-requires-clause-above g c =
+    let at = c.loop-name.name-index in
+    let names = c.args.names.now in
+    let entries = c.loop-name.self.builder.entries in
+    let item = c.name-item.result in
+    subst (λ name. is_above (names_of entries) name ≡ true) (sym c.as_str-in-loop-name.ensures.value)
+    (above_first entries (map string_bytes (drop at names)) (map string_bytes (drop (at + 1) names)) (string_bytes item) (names_rest string_bytes names at item c.loop-name-test.true c.name-item.is) c.loop-name.invariant.above)
+
+pub returns-in_err-note-clause-front : goal.returns-in_err-note-clause-front
+returns-in_err-note-clause-front g c =
+    let i = c.loop-name.invariant in
+    let at = c.loop-name.name-index in
+    let names = c.args.names.now in
+    let item = c.name-item.result in
+    let rest = map string_bytes (drop (at + 1) names) in
+    let verdict = c.in_ok-verdict.verdict in
+    let told = g.T.Tree.snapshot c.args.tree.now in
+    let now = g.E.Sink.taken c.loop-name.err in
+    let later = g.E.Sink.taken c.note.new.err in
+    any_err c.from_residual-in_err-note.result
+    (front_noted c.args.self.now.log_skip told (map string_bytes (take at names)) (g.T.Tree.failed c.args.tree.now) (g.T.Tree.failed c.loop-name.tree) (g.T.Tree.failed c.read_file.new.tree) i.rises c.read_file.ensures.rises
+    (g.E.Sink.taken c.args.err.now) now i.prints later (map string_bytes names) rest (string_bytes item) verdict
+    (names_at string_bytes names at ∙ ap (λ l. map string_bytes (take at names) ++ l) (names_rest string_bytes names at item c.loop-name-test.true c.name-item.is))
+    (told_at (g.T.Tree.snapshot c.loop-name.tree) told c.as_str.result.now (string_bytes item) verdict i.keeps c.as_str.ensures.value c.in_ok-verdict.ensures.told)
+    c.in_ok-verdict.ensures.counted
+    (subst (λ (lines : List Line). TakesFront (text_of lines) now later) (noted_at c.loop-name.self.log_skip c.args.self.now.log_skip c.as_str-in-loop-name.result.now (string_bytes item) verdict i.log_skip c.as_str-in-loop-name.ensures.value) c.in_err-note.ensures.prints))
+
+pub returns-in_err-note-clause-too_large : goal.returns-in_err-note-clause-too_large
+returns-in_err-note-clause-too_large g c = λ is.
+    let p = err_from_is_err_and c.from_residual-in_err-note.result c.from_residual-in_err-note.ensures.1 in
+    let at = c.loop-name.name-index in
+    let names = c.args.names.now in
+    too_many (g.T.Tree.snapshot c.args.tree.now) (map string_bytes names) (map string_bytes (take at names)) (map string_bytes (drop at names)) c.loop-name.self.builder.entries (names_at string_bytes names at) c.loop-name.invariant.texts (c.in_err-note.ensures.too_large (cc (is, p.1, p.2)))
+
+pub loop-name-preserved : goal.loop-name-preserved
+loop-name-preserved g c =
+    let i = c.loop-name.invariant in
+    let at = c.loop-name.name-index in
+    let names = c.args.names.now in
+    let item = c.name-item.result in
+    let name = string_bytes item in
+    let verdict = c.in_ok-verdict.verdict in
+    let told = g.T.Tree.snapshot c.args.tree.now in
+    let entries = c.loop-name.self.builder.entries in
+    let more = names_more string_bytes names at item c.loop-name-test.true c.name-item.is in
+    let rest = names_rest string_bytes names at item c.loop-name-test.true c.name-item.is in
+    let added = c.in_ok-note.ensures.entries ∙ ap (λ n. entries ++ noted_entries n verdict) c.as_str-in-loop-name.ensures.value in
+    let is = told_at (g.T.Tree.snapshot c.loop-name.tree) told c.as_str.result.now name verdict i.keeps c.as_str.ensures.value c.in_ok-verdict.ensures.told in
+    let printed = subst (λ (lines : List Line). Grows (g.E.Sink.taken c.loop-name.err) (g.E.Sink.taken c.note.new.err) (text_of lines)) (noted_at c.loop-name.self.log_skip c.args.self.now.log_skip c.as_str-in-loop-name.result.now name verdict i.log_skip c.as_str-in-loop-name.ensures.value) c.in_ok-note.ensures.prints in
+    record {
+      texts = texts_next told (map string_bytes (take at names)) (map string_bytes (take (at + 1) names)) entries c.note.new.self.builder.entries name verdict more added i.texts is;
+      prints = subst (λ ns. Prints (AreFileLinesIn c.args.self.now.log_skip told ns) (g.T.Tree.failed c.args.tree.now) (g.T.Tree.failed c.read_file.new.tree) (g.E.Sink.taken c.args.err.now) (g.E.Sink.taken c.note.new.err)) (sym more)
+          (prints_step c.args.self.now.log_skip told (map string_bytes (take at names)) (g.T.Tree.failed c.args.tree.now) (g.T.Tree.failed c.loop-name.tree) (g.T.Tree.failed c.read_file.new.tree) i.rises c.read_file.ensures.rises
+          (g.E.Sink.taken c.args.err.now) (g.E.Sink.taken c.loop-name.err) i.prints (g.E.Sink.taken c.note.new.err) name verdict is c.in_ok-verdict.ensures.counted printed);
+      ascend = ascend_next (map string_bytes (drop at names)) (map string_bytes (drop (at + 1) names)) name rest i.ascend;
+      above = above_next entries c.note.new.self.builder.entries (map string_bytes (drop at names)) (map string_bytes (drop (at + 1) names)) name verdict rest added i.ascend i.above;
+      paths = c.note.ensures.paths ∙ i.paths;
+      log_skip = c.note.ensures.log_skip ∙ i.log_skip;
+      writes = c.in_ok-note.ensures.writes ∙ i.writes;
+      rises = omega (arith, i.rises, c.read_file.ensures.rises);
+      keeps = c.read_file.ensures.keeps ∙ i.keeps;
+    }
+
+pub returns-clause-texts : goal.returns-clause-texts
+returns-clause-texts g c =
+    subst (λ names. AreTextsIn (g.T.Tree.snapshot c.args.tree.now) (map string_bytes names) c.loop-name.self.builder.entries) (take_all c.loop-name.name-index c.args.names.now c.loop-name-test.false) c.loop-name.invariant.texts
+
+pub returns-clause-prints : goal.returns-clause-prints
+returns-clause-prints g c =
+    subst (λ names. Prints (AreFileLinesIn c.args.self.now.log_skip (g.T.Tree.snapshot c.args.tree.now) (map string_bytes names)) (g.T.Tree.failed c.args.tree.now) (g.T.Tree.failed c.loop-name.tree) (g.E.Sink.taken c.args.err.now) (g.E.Sink.taken c.loop-name.err)) (take_all c.loop-name.name-index c.args.names.now c.loop-name-test.false) c.loop-name.invariant.prints

@@ -1,0 +1,74 @@
+use Rattle.std.proofs.Common.{◌∙◌, ap, subst, map, string_bytes, inl, inr}
+use Rattle.std.proofs.lemmas.Result.{err_from_is_err_and}
+use Rattle.cs_tree.specs.PathSet as set
+use Rattle.cs_tree.specs.Told.{Grows}
+use Rattle.cs_tree.specs.Walks.{left_entry, names_walked, faults_walked}
+use Rattle.cs_cindex.specs.Notices.{TakesFront, left_line, text_of}
+use Rattle.cs_cindex.proofs.LineLemmas.{any_err, Front-none}
+use Rattle.cs_cindex.proofs.IndexLemmas.{index_is, index_built, too_large, too_many, many_found}
+use Rattle.cs_cindex.proofs.IndexingLemmas.{files_printed, files_front, texts_walked, many_walked, front_left, front_files, front_whole, prints_all}
+use Rattle.cs_cindex.proofs.indexing.index_paths.Goals as goal
+
+pub returns-in_err-indexer-clause-front : goal.returns-in_err-indexer-clause-front
+returns-in_err-indexer-clause-front g c =
+    any_err c.from_residual.result (Front-none c.args.log_skip (set.from_list (map string_bytes c.args.paths.now)) (g.T.Tree.snapshot c.args.tree.now) (g.T.Tree.failed c.args.tree.now) (g.T.Tree.failed c.args.tree.now) (g.E.Sink.taken c.args.err.now))
+
+pub returns-in_err-walked-clause-front : goal.returns-in_err-walked-clause-front
+returns-in_err-walked-clause-front g c =
+    any_err c.from_residual-in_err-walked.result (Front-none c.args.log_skip (set.from_list (map string_bytes c.args.paths.now)) (g.T.Tree.snapshot c.args.tree.now) (g.T.Tree.failed c.args.tree.now) (g.T.Tree.failed c.walk.new.tree) (g.E.Sink.taken c.args.err.now))
+
+pub returns-in_err-print_left-clause-front : goal.returns-in_err-print_left-clause-front
+returns-in_err-print_left-clause-front g c =
+    let front = subst (λ fs. TakesFront (text_of (map left_line (map left_entry fs))) (g.E.Sink.taken c.args.err.now) (g.E.Sink.taken c.print_left.new.err)) c.deref.ensures.value c.in_err-print_left.ensures.prints in
+    any_err c.from_residual-in_err-print_left.result (front_left _ _ _ (names_walked c.in_ok-walked.walked) _ c.requires c.in_ok-walked.ensures.finds _ _ _ _ c.in_ok-walked.ensures.counted front)
+
+pub returns-in_err-index_files-clause-too_large : goal.returns-in_err-index_files-clause-too_large
+returns-in_err-index_files-clause-too_large g c = λ is.
+    let p = err_from_is_err_and c.from_residual-in_err-index_files.result c.from_residual-in_err-index_files.ensures.1 in
+    let many = many_walked _ _ _ _ c.walk.ensures.keeps (ap (map string_bytes) c.deref-2.ensures.value) (c.in_err-index_files.ensures.too_large (cc (is, p.1, p.2))) in
+    too_many _ _ _ (faults_walked c.in_ok-walked.walked) c.requires c.in_ok-walked.ensures.finds many
+
+pub returns-in_err-index_files-clause-front : goal.returns-in_err-index_files-clause-front
+returns-in_err-index_files-clause-front g c =
+    let printed = subst (λ fs. Grows (g.E.Sink.taken c.args.err.now) (g.E.Sink.taken c.print_left.new.err) (text_of (map left_line (map left_entry fs)))) c.deref.ensures.value c.in_ok-print_left.ensures.prints in
+    let files = files_front _ _ _ _ _ _ _ _ _ _ c.in_ok-indexer.ensures.log_skip c.walk.ensures.keeps (ap (map string_bytes) c.deref-2.ensures.value) c.in_err-index_files.ensures.front in
+    any_err c.from_residual-in_err-index_files.result (front_files _ _ _ _ _ c.requires c.in_ok-walked.ensures.finds _ _ _ _ c.in_ok-walked.ensures.counted _ _ c.in_ok-walked.ensures.rises c.index_files.ensures.rises printed files)
+
+pub returns-in_err-index-clause-too_large : goal.returns-in_err-index-clause-too_large
+returns-in_err-index-clause-too_large g c = λ is.
+    let texts = texts_walked _ _ _ _ _ c.walk.ensures.keeps (ap (map string_bytes) c.deref-2.ensures.value) c.in_ok-index_files.ensures.texts in
+    let p = err_from_is_err_and c.from_residual-in_err-index.result c.from_residual-in_err-index.ensures.1 in
+    too_large _ _ _ (faults_walked c.in_ok-walked.walked) c.requires c.in_ok-walked.ensures.finds _ _ (c.in_ok-index_files.ensures.paths ∙ c.in_ok-indexer.ensures.paths) texts (c.in_err-index.ensures.too_large (cc (is, p.1, p.2)))
+
+pub returns-in_err-index-clause-front : goal.returns-in_err-index-clause-front
+returns-in_err-index-clause-front g c =
+    let printed = subst (λ fs. Grows (g.E.Sink.taken c.args.err.now) (g.E.Sink.taken c.print_left.new.err) (text_of (map left_line (map left_entry fs)))) c.deref.ensures.value c.in_ok-print_left.ensures.prints in
+    let files = files_printed _ _ _ _ _ _ _ _ _ _ c.in_ok-indexer.ensures.log_skip c.walk.ensures.keeps (ap (map string_bytes) c.deref-2.ensures.value) c.in_ok-index_files.ensures.prints in
+    any_err c.from_residual-in_err-index.result (front_whole _ _ _ _ _ _ _ (prints_all _ _ _ _ _ c.requires c.in_ok-walked.ensures.finds _ _ _ _ c.in_ok-walked.ensures.counted _ _ c.in_ok-walked.ensures.rises c.index_files.ensures.rises printed files))
+
+pub returns-clause-image : goal.returns-clause-image
+returns-clause-image g c =
+    let texts = texts_walked _ _ _ _ _ c.walk.ensures.keeps (ap (map string_bytes) c.deref-2.ensures.value) c.in_ok-index_files.ensures.texts in
+    index_is _ _ _ (faults_walked c.in_ok-walked.walked) c.requires c.in_ok-walked.ensures.finds _ _ _ (c.in_ok-index_files.ensures.paths ∙ c.in_ok-indexer.ensures.paths) texts c.in_ok-index.ensures.is
+
+pub returns-clause-well_formed : goal.returns-clause-well_formed
+returns-clause-well_formed g c =
+    index_built _ _ _ _ (c.in_ok-index_files.ensures.paths ∙ c.in_ok-indexer.ensures.paths) c.in_ok-index.ensures.indexable c.in_ok-index.ensures.is
+
+pub returns-clause-prints : goal.returns-clause-prints
+returns-clause-prints g c =
+    let printed = subst (λ fs. Grows (g.E.Sink.taken c.args.err.now) (g.E.Sink.taken c.print_left.new.err) (text_of (map left_line (map left_entry fs)))) c.deref.ensures.value c.in_ok-print_left.ensures.prints in
+    let files = files_printed _ _ _ _ _ _ _ _ _ _ c.in_ok-indexer.ensures.log_skip c.walk.ensures.keeps (ap (map string_bytes) c.deref-2.ensures.value) c.in_ok-index_files.ensures.prints in
+    prints_all _ _ _ _ _ c.requires c.in_ok-walked.ensures.finds _ _ _ _ c.in_ok-walked.ensures.counted _ _ c.in_ok-walked.ensures.rises c.index_files.ensures.rises printed files
+
+pub returns-in_err-index_files-clause-whole : goal.returns-in_err-index_files-clause-whole
+returns-in_err-index_files-clause-whole g c = λ is.
+    let p = err_from_is_err_and c.from_residual-in_err-index_files.result c.from_residual-in_err-index_files.ensures.1 in
+    let many = many_walked _ _ _ _ c.walk.ensures.keeps (ap (map string_bytes) c.deref-2.ensures.value) (c.in_err-index_files.ensures.too_large (cc (is, p.1, p.2))) in
+    inl (many_found _ _ _ (faults_walked c.in_ok-walked.walked) c.requires c.in_ok-walked.ensures.finds many)
+
+pub returns-in_err-index-clause-whole : goal.returns-in_err-index-clause-whole
+returns-in_err-index-clause-whole g c = λ is.
+    let printed = subst (λ fs. Grows (g.E.Sink.taken c.args.err.now) (g.E.Sink.taken c.print_left.new.err) (text_of (map left_line (map left_entry fs)))) c.deref.ensures.value c.in_ok-print_left.ensures.prints in
+    let files = files_printed _ _ _ _ _ _ _ _ _ _ c.in_ok-indexer.ensures.log_skip c.walk.ensures.keeps (ap (map string_bytes) c.deref-2.ensures.value) c.in_ok-index_files.ensures.prints in
+    inr (prints_all _ _ _ _ _ c.requires c.in_ok-walked.ensures.finds _ _ _ _ c.in_ok-walked.ensures.counted _ _ c.in_ok-walked.ensures.rises c.index_files.ensures.rises printed files)

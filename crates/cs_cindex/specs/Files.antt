@@ -1,0 +1,39 @@
+-- How far the files of a tree are indexed.
+use Rattle.std.specs.Prelude.{◌≡◌, ℕ, ◌≤◌, ◌^◌, Bool, true, List, length, take, Option, Some, None, option_map, filter_map}
+use Rattle.std.specs.List.{list_all, AllByRecursion}
+use Rattle.cs_tree.specs.Snapshot.{Snapshot}
+use Rattle.cs_index.specs.Image.{Entry, names_of}
+use Rattle.cs_index.specs.Built.{is_storable, is_above}
+use Rattle.cs_cindex.specs.Notices.{Line, file_line}
+use Rattle.cs_cindex.specs.Verdicts.{file_trigrams}
+
+-- the files at these names that are text, each with its trigrams
+abbrev pub texts_at : Snapshot → List (List ℕ) → List Entry
+texts_at tree names = filter_map (λ name. option_map (λ (trigrams : List ℕ). (name, trigrams)) (file_trigrams tree name)) names
+
+abbrev pub are_storable : List (List ℕ) → Bool
+are_storable names = list_all is_storable names
+
+-- The entries are those of the files at these names, where an index can hold the names.
+abbrev pub AreTextsIn : Option Snapshot → List (List ℕ) → List Entry → Type 0
+AreTextsIn None names entries = Unit {0}
+AreTextsIn (Some tree) names entries = are_storable names ≡ true → entries ≡ texts_at tree names
+
+-- More of them than an index can have.
+abbrev pub AreTooManyIn : Option Snapshot → List (List ℕ) → Type 0
+AreTooManyIn None names = Unit {0}
+AreTooManyIn (Some tree) names = are_storable names ≡ true → 2 ^ 30 ≤ length (texts_at tree names)
+
+-- The lines are those of the files at these names.
+abbrev pub AreFileLinesIn : Bool → Option Snapshot → List (List ℕ) → List Line → Type 0
+AreFileLinesIn log_skip None names lines = Unit {0}
+AreFileLinesIn log_skip (Some tree) names lines = are_storable names ≡ true → lines ≡ filter_map (file_line log_skip tree) names
+
+abbrev pub BeginFileLinesIn : Bool → Option Snapshot → List (List ℕ) → List Line → Type 0
+BeginFileLinesIn log_skip None names lines = Unit {0}
+BeginFileLinesIn log_skip (Some tree) names lines =
+    are_storable names ≡ true → lines ≡ take (length lines) (filter_map (file_line log_skip tree) names)
+
+-- Each of these names is above the names of the entries.
+abbrev pub AreAbove : List Entry → List (List ℕ) → Type 0
+AreAbove entries names = AllByRecursion (λ name. is_above (names_of entries) name ≡ true) names

@@ -1,0 +1,83 @@
+-- What a job prints. docs/PROMISES.md, "What is printed".
+use Rattle.std.specs.Prelude.{◌⊎◌, ℕ, List, [], ◌++◌, codes, Option, Some, None, Result, Ok, Err, MatchResult, Bool, true, false}
+use Rattle.std.specs.List.{flat_map}
+use Rattle.cs_tree.specs.Snapshot.{Snapshot}
+use Rattle.cs_tree.specs.Told.{Grows}
+use Rattle.cs_index.specs.Opening.{Parts, opening}
+use Rattle.cs_index.specs.declared.fault.IndexFault.{IndexFault}
+use Rattle.cs_words.specs.declared.jobs.IndexJob.{IndexJob}
+use Rattle.cs_words.specs.declared.jobs.Reply.{Reply}
+use Rattle.cs_words.specs.declared.jobs.Reply.TheVariants.{Done, Refused}
+use Rattle.cs_words.specs.declared.fault.CindexFault.{CindexFault}
+use Rattle.cs_words.specs.declared.fault.CindexFault.TheVariants.{Write}
+use Rattle.cs_cindex.specs.Notices.{TakesFront, AreLinesIn, BeginLinesIn, Prints, PrintsFront}
+use Rattle.cs_cindex.specs.Next.{paths_walked}
+use Rattle.cs_cindex.specs.Refusals.{JobKind, lists, clears, walks, base, early_walk_fault}
+
+-- ---- standard output
+
+-- each path on a line
+abbrev pub path_lines : List (List ℕ) → List ℕ
+path_lines paths = flat_map (λ path. path ++ codes "\n") paths
+
+abbrev pub paths_lines : Result Parts IndexFault → List ℕ
+paths_lines (Ok parts) = path_lines parts.paths
+paths_lines (Err fault) = []
+
+abbrev pub index_lines : Option (List ℕ) → List ℕ
+index_lines None = []
+index_lines (Some bytes) = paths_lines (opening bytes)
+
+-- `-list` prints the paths of the index, in its order
+abbrev pub list_lines : JobKind → Option (List ℕ) → List ℕ
+list_lines lists old = index_lines old
+list_lines clears old = []
+list_lines walks old = []
+
+-- An output has taken these bytes, and where the job is refused, a front of them.
+abbrev pub TakesBy : Reply → List ℕ → Option (List ℕ) → Option (List ℕ) → Type 0
+TakesBy Done bytes taken later = Grows taken later bytes
+TakesBy (Refused fault) bytes taken later = TakesFront bytes taken later
+
+-- ---- standard error
+
+-- a job that walks has printed the lines that are due, of what its walk leaves and of its files
+abbrev pub WalkPrints : IndexJob → Option Snapshot → Option (List ℕ) → ℕ → ℕ → Option (List ℕ) → Option (List ℕ) → Type 0
+WalkPrints job tree old failed failed_then err later = Prints (AreLinesIn job.log_skip tree (paths_walked job old)) failed failed_then err later
+
+-- a front of them
+abbrev pub WalkPrintsFront : IndexJob → Option Snapshot → Option (List ℕ) → ℕ → ℕ → Option (List ℕ) → Option (List ℕ) → Type 0
+WalkPrintsFront job tree old failed failed_then err later = PrintsFront (BeginLinesIn job.log_skip tree (paths_walked job old)) failed failed_then err later
+
+-- A refused one has printed nothing where it was refused early, and else all of them or a front.
+abbrev pub WalkPrintsSome : Option CindexFault → IndexJob → Option Snapshot → Option (List ℕ) → ℕ → ℕ → Option (List ℕ) → Option (List ℕ) → Type 0
+WalkPrintsSome None job tree old failed failed_then err later =
+    WalkPrints job tree old failed failed_then err later ⊎ WalkPrintsFront job tree old failed failed_then err later
+WalkPrintsSome (Some early) job tree old failed failed_then err later = Grows err later []
+
+-- what one has printed, by its answer
+abbrev pub WalkPrintsFor : {A : Type 0} → Result A CindexFault → Option CindexFault → IndexJob → Option Snapshot → Option (List ℕ) → ℕ → ℕ → Option (List ℕ) → Option (List ℕ) → Type 0
+WalkPrintsFor result early job tree old failed failed_then err later =
+    MatchResult result (λ _. WalkPrints job tree old failed failed_then err later) (λ _. WalkPrintsSome early job tree old failed failed_then err later)
+
+abbrev pub WalkPrintsBy : Reply → IndexJob → Option Snapshot → Option (List ℕ) → ℕ → ℕ → Option (List ℕ) → Option (List ℕ) → Type 0
+WalkPrintsBy Done job tree old failed failed_then err later = WalkPrints job tree old failed failed_then err later
+WalkPrintsBy (Refused fault) job tree old failed failed_then err later = WalkPrintsSome (early_walk_fault job old) job tree old failed failed_then err later
+
+-- No other job prints there.
+abbrev pub TellsBy : JobKind → Reply → IndexJob → Option Snapshot → Option (List ℕ) → ℕ → ℕ → Option (List ℕ) → Option (List ℕ) → Type 0
+TellsBy lists reply job tree old failed failed_then err later = Grows err later []
+TellsBy clears reply job tree old failed failed_then err later = Grows err later []
+TellsBy walks reply job tree old failed failed_then err later = WalkPrintsBy reply job tree (base job old) failed failed_then err later
+
+-- ---- outputs that fail
+
+-- whether a job is refused for a write that has failed
+abbrev pub is_failed_write : CindexFault → Bool
+is_failed_write Write = true
+is_failed_write fault = false
+
+-- a job is refused for an output exactly where a call of one of them has failed
+abbrev pub has_failed_write : Reply → Bool
+has_failed_write Done = false
+has_failed_write (Refused fault) = is_failed_write fault

@@ -1,0 +1,76 @@
+-- What becomes of a file that a walk finds, once it was read.
+use Rattle.std.specs.Prelude.{◌≡◌, ℕ, Bool, if◌then◌else◌, List, [], ◌∷◌, Option, Some, None, Result}
+use Rattle.cs_trigram.specs.Trigram.{IsTrigramSet}
+use Rattle.cs_tree.specs.Snapshot.{Snapshot, item_at}
+use Rattle.cs_tree.specs.Reached.{read_item}
+use Rattle.cs_trigram.specs.Text.{limits, text_trigrams}
+use Rattle.cs_index.specs.Image.{Entry}
+use Rattle.cs_index.specs.Built.{is_storable}
+use Rattle.cs_words.specs.declared.fault.FileFault.TheVariants.{Unnamed}
+use Rattle.cs_cindex.specs.declared.reading.Verdict.{Verdict}
+use Rattle.cs_cindex.specs.declared.reading.Verdict.TheVariants.{Text, Skipped, Left}
+use Rattle.cs_cindex.specs.Notices.{Line, faulted, skipped, file_line, text_of, TakesAll, IsCounted}
+
+-- ---- what it says
+
+abbrev pub trigrams_told : Verdict → Option (List ℕ)
+trigrams_told (Text trigrams) = Some trigrams.items
+trigrams_told (Skipped reason) = None
+trigrams_told (Left why) = None
+
+abbrev pub line_told : Bool → List ℕ → Verdict → Option Line
+line_told log_skip name (Text trigrams) = None
+line_told log_skip name (Skipped reason) = if log_skip then Some (skipped name reason) else None
+line_told log_skip name (Left why) = Some (faulted name why)
+
+-- the trigrams of what stands at a name, if it is a file that is text
+unfoldable pub file_trigrams : Snapshot → List ℕ → Option (List ℕ)
+file_trigrams tree name = read_item (text_trigrams limits) (item_at tree name)
+
+-- It says what stands at the name.
+pub record IsVerdict (tree : Snapshot) (name : List ℕ) (verdict : Verdict) : Type 0 where
+  pub trigrams : trigrams_told verdict ≡ file_trigrams tree name
+  pub line : (log_skip : Bool) → line_told log_skip name verdict ≡ file_line log_skip tree name
+
+abbrev pub IsVerdictIn : Option Snapshot → List ℕ → Verdict → Type 0
+IsVerdictIn None name verdict = Unit {0}
+IsVerdictIn (Some tree) name verdict = IsVerdict tree name verdict
+
+abbrev pub HasSet : Verdict → Type 0
+HasSet (Text trigrams) = IsTrigramSet trigrams.items
+HasSet (Skipped reason) = Unit {0}
+HasSet (Left why) = Unit {0}
+
+-- a call that has failed was counted
+abbrev pub IsVerdictCounted : Verdict → ℕ → ℕ → Type 0
+IsVerdictCounted (Text trigrams) old new = Unit {0}
+IsVerdictCounted (Skipped reason) old new = Unit {0}
+IsVerdictCounted (Left why) old new = IsCounted why old new
+
+-- ---- what is done of it; a text is left out where no index can hold its name
+
+abbrev pub one_line : Option Line → List Line
+one_line None = []
+one_line (Some line) = line ∷ []
+
+abbrev pub added_line : List ℕ → Option Line
+added_line name = if is_storable name then None else Some (faulted name Unnamed)
+
+abbrev pub added_entries : List ℕ → List ℕ → List Entry
+added_entries name trigrams = if is_storable name then (name, trigrams) ∷ [] else []
+
+abbrev pub noted_line : Bool → List ℕ → Verdict → Option Line
+noted_line log_skip name (Text trigrams) = added_line name
+noted_line log_skip name (Skipped reason) = if log_skip then Some (skipped name reason) else None
+noted_line log_skip name (Left why) = Some (faulted name why)
+
+abbrev pub noted_entries : List ℕ → Verdict → List Entry
+noted_entries name (Text trigrams) = added_entries name trigrams.items
+noted_entries name (Skipped reason) = []
+noted_entries name (Left why) = []
+
+-- ---- what was printed
+
+-- The lines were printed, and where the call was refused, a front of their bytes.
+abbrev pub PrintsAll : {A E : Type 0} → List Line → Option (List ℕ) → Option (List ℕ) → Result A E → Type 0
+PrintsAll lines taken later result = TakesAll (text_of lines) taken later result

@@ -1,0 +1,178 @@
+// The files of a tree, one after the other, put into an index.
+ghost use Rattle.std.specs.Prelude.{◌≡◌, ◌≤◌, ◌^◌, ◌⊎◌, ◌++◌, true, [], map, string_bytes, length, Some, IfOk, IfErr, OnOk, OnErr};
+ghost use Rattle.cs_tree.specs.NameOrder.{are_ascending};
+ghost use Rattle.cs_tree.specs.Failures.{count_after};
+ghost use Rattle.cs_trigram.specs.Trigram.{IsTrigramSet};
+ghost use Rattle.cs_index.specs.Built.{are_paths, is_above};
+ghost use Rattle.cs_index.specs.Image.{image_of, names_of};
+ghost use Rattle.cs_index.specs.Spelling.{IsIndexable};
+ghost use Rattle.cs_history.specs.Replies.{IsLong};
+ghost use Rattle.cs_cindex.specs.Output.{is_failed_write};
+ghost use Rattle.cs_cindex.specs.Indexed.{IsIndexingFault};
+ghost use Rattle.cs_cindex.specs.Notices.{Prints, PrintsFront};
+ghost use Rattle.cs_cindex.specs.Refusals.{IsOutputFault};
+ghost use Rattle.cs_cindex.specs.Verdicts.{HasSet, added_entries, added_line, noted_entries, noted_line, one_line, PrintsAll};
+ghost use Rattle.cs_cindex.specs.Files.{AreTextsIn, AreTooManyIn, AreFileLinesIn, BeginFileLinesIn};
+
+use crate::printing::{print_fault, print_skipped};
+use crate::reading::{Verdict, read_file};
+use cs_index::{BuildFault, Builder};
+use cs_tree::{Sink, Tree};
+use cs_trigram::{Reason, Scanner};
+use cs_words::{CindexFault, FileFault};
+use std::alloc::Global;
+
+/// What files are indexed with.
+#[derive(Drop)]
+pub(crate) struct Indexer {
+    alloc: Global,
+    log_skip: bool,
+    scanner: Scanner,
+    builder: Builder,
+}
+
+impl Indexer {
+    pub(crate) fn new(
+        alloc: Global,
+        paths: &[String],
+        log_skip: bool,
+    ) -> Result<Indexer, CindexFault>
+        requires { are_paths (map string_bytes paths.now) ≡ true }
+        ensures paths { IfOk result
+            (λ indexer. indexer.builder.paths ≡ map string_bytes paths.now) }
+        ensures empty { IfOk result (λ indexer. indexer.builder.entries ≡ []) }
+        ensures log_skip { IfOk result (λ indexer. indexer.log_skip ≡ log_skip) }
+        ensures refused { IfErr result (λ fault. fault ≡ CindexFault.Memory) }
+    {
+        let scanner = Scanner::new(alloc)?;
+        // The paths can be those of an index, so that at most memory is wanting.
+        let Ok(builder) = Builder::new(alloc, paths) else {
+            return Err(CindexFault::Memory);
+        };
+        Ok(Indexer {
+            alloc,
+            log_skip,
+            scanner,
+            builder,
+        })
+    }
+
+    /// Reads the files at the names, adds those that are text, and prints the lines for the others.
+    pub(crate) fn index_files<T: Tree, E: Sink>(
+        &mut self,
+        tree: &mut T,
+        names: &[String],
+        err: &mut E,
+    ) -> Result<(), CindexFault>
+        requires ascend { are_ascending (map string_bytes names.now) ≡ true }
+        requires empty { self.old.builder.entries ≡ [] }
+        ensures texts { OnOk result (AreTextsIn
+            (T.snapshot tree.old) (map string_bytes names.now) self.new.builder.entries) }
+        ensures prints { OnOk result (Prints
+            (AreFileLinesIn self.old.log_skip (T.snapshot tree.old) (map string_bytes names.now))
+            (T.failed tree.old) (T.failed tree.new) (E.taken err.old) (E.taken err.new)) }
+        ensures front { OnErr result (PrintsFront
+            (BeginFileLinesIn self.old.log_skip (T.snapshot tree.old) (map string_bytes names.now))
+            (T.failed tree.old) (T.failed tree.new) (E.taken err.old) (E.taken err.new)) }
+        ensures too_large { result ≡ Err CindexFault.TooLarge →
+            AreTooManyIn (T.snapshot tree.old) (map string_bytes names.now) }
+        ensures paths { self.new.builder.paths ≡ self.old.builder.paths }
+        ensures writes { E.failed err.new ≡ count_after is_failed_write result (E.failed err.old) }
+        ensures only { IfErr result IsIndexingFault }
+        ensures rises { T.failed tree.old ≤ T.failed tree.new }
+        ensures keeps { T.snapshot tree.new ≡ T.snapshot tree.old }
+    {
+        for name in names {
+            let verdict = read_file(&mut self.scanner, tree, name.as_str())?;
+            self.note(name.as_str(), verdict, err)?;
+        }
+        Ok(())
+    }
+
+    /// Adds a text, or prints the line for a file that is left out.
+    fn note<E: Sink>(
+        &mut self,
+        name: &str,
+        verdict: Verdict,
+        err: &mut E,
+    ) -> Result<(), CindexFault>
+        requires set { HasSet verdict }
+        requires above { is_above (names_of self.old.builder.entries) name.now ≡ true }
+        ensures entries { OnOk result (self.new.builder.entries ≡
+            self.old.builder.entries ++ noted_entries name.now verdict) }
+        ensures prints { PrintsAll (one_line (noted_line self.old.log_skip name.now verdict))
+            (E.taken err.old) (E.taken err.new) result }
+        ensures too_large { result ≡ Err CindexFault.TooLarge →
+            2 ^ 30 ≤ length self.old.builder.entries }
+        ensures paths { self.new.builder.paths ≡ self.old.builder.paths }
+        ensures log_skip { self.new.log_skip ≡ self.old.log_skip }
+        ensures writes { E.failed err.new ≡ count_after is_failed_write result (E.failed err.old) }
+        ensures only { IfErr result IsIndexingFault }
+    {
+        match verdict {
+            Verdict::Text(trigrams) => self.add(name, &trigrams, err),
+            Verdict::Skipped(reason) => self.note_skipped(name, reason, err),
+            Verdict::Left(fault) => print_fault(self.alloc, name, fault, err),
+        }
+    }
+
+    /// Prints the line of a file that is no text, where it is asked for.
+    fn note_skipped<E: Sink>(
+        &self,
+        name: &str,
+        reason: Reason,
+        err: &mut E,
+    ) -> Result<(), CindexFault>
+        ensures prints { PrintsAll
+            (one_line (noted_line self.now.log_skip name.now (Verdict.Skipped reason)))
+            (E.taken err.old) (E.taken err.new) result }
+        ensures writes { E.failed err.new ≡ count_after is_failed_write result (E.failed err.old) }
+        ensures only { IfErr result IsOutputFault }
+    {
+        if self.log_skip {
+            print_skipped(self.alloc, name, reason, err)?;
+        }
+        Ok(())
+    }
+
+    /// Adds a text, or prints a line where no index can hold its name.
+    fn add<E: Sink>(&mut self, name: &str, trigrams: &[u32], err: &mut E) -> Result<(), CindexFault>
+        requires set { IsTrigramSet trigrams.now }
+        requires above { is_above (names_of self.old.builder.entries) name.now ≡ true }
+        ensures entries { OnOk result (self.new.builder.entries ≡
+            self.old.builder.entries ++ added_entries name.now trigrams.now) }
+        ensures prints { PrintsAll (one_line (added_line name.now))
+            (E.taken err.old) (E.taken err.new) result }
+        ensures too_large { result ≡ Err CindexFault.TooLarge →
+            2 ^ 30 ≤ length self.old.builder.entries }
+        ensures paths { self.new.builder.paths ≡ self.old.builder.paths }
+        ensures log_skip { self.new.log_skip ≡ self.old.log_skip }
+        ensures writes { E.failed err.new ≡ count_after is_failed_write result (E.failed err.old) }
+        ensures only { IfErr result IsIndexingFault }
+    {
+        match self.builder.add(name, trigrams) {
+            Ok(_) => Ok(()),
+            Err(BuildFault::BadName) => print_fault(self.alloc, name, FileFault::Unnamed, err),
+            Err(BuildFault::TooLarge) => Err(CindexFault::TooLarge),
+            Err(BuildFault::Memory) => Err(CindexFault::Memory),
+            Err(BuildFault::OutOfOrder | BuildFault::BadPaths) => unreachable!(),
+        }
+    }
+
+    /// The index of what was added.
+    pub(crate) fn finish(self) -> Result<Vec<u8>, CindexFault>
+        ensures is { IfOk result
+            (λ index. index.items ≡ image_of self.builder.paths self.builder.entries) }
+        ensures indexable { IfOk result (λ _. IsIndexable self.builder.paths self.builder.entries) }
+        ensures too_large { result ≡ Err CindexFault.TooLarge →
+            IsLong (Some (image_of self.builder.paths self.builder.entries)) }
+        ensures only { IfErr result
+            (λ fault. (fault ≡ CindexFault.TooLarge) ⊎ (fault ≡ CindexFault.Memory)) }
+    {
+        match self.builder.finish() {
+            Ok(index) => Ok(index),
+            Err(BuildFault::TooLarge) => Err(CindexFault::TooLarge),
+            Err(_) => Err(CindexFault::Memory),
+        }
+    }
+}

@@ -1,0 +1,63 @@
+// The index of the files below some paths.
+ghost use Rattle.std.specs.Prelude.{◌≡◌, ◌<◌, ◌^◌, ◌⊎◌, true, map, string_bytes, length, IfOk, IfErr};
+ghost use Rattle.cs_tree.specs.Failures.{count_after};
+ghost use Rattle.cs_tree.specs.PathSet as set;
+ghost use Rattle.cs_index.specs.Built.{are_paths};
+ghost use Rattle.cs_cindex.specs.Output.{is_failed_write};
+ghost use Rattle.cs_cindex.specs.Indexed.{AreTooMany, IsIndex, IsIndexOf, IsTreeTooLarge, IsIndexingFault};
+ghost use Rattle.cs_cindex.specs.Notices.{AreLinesIn, BeginLinesIn, Prints, PrintsFront};
+
+use crate::indexer::Indexer;
+use crate::printing::print_left;
+use cs_tree::{Sink, Tree, walk};
+use cs_words::CindexFault;
+use std::alloc::Global;
+
+/// Makes an index of the paths and of the files that a walk from them finds. A file that is no text is
+/// left out.
+///
+/// The lines go to `err`: one for each path that the walk leaves, ascending; then, in the order of their
+/// names, one for each file that cannot be read to its end, and with `log_skip` one for each other file
+/// that is left out. A name that no index can hold, as one with a NUL, which only a tree that is no tree
+/// of files lists, has the line `name is not text`.
+///
+/// # Errors
+///
+/// `Write` where a line was not taken, `TooLarge` where the index would have more than 2^32 - 1 bytes,
+/// `Memory` where a growth was refused.
+pub(crate) fn index_paths<T: Tree, E: Sink>(
+    alloc: Global,
+    tree: &mut T,
+    paths: &[String],
+    log_skip: bool,
+    err: &mut E,
+) -> Result<Vec<u8>, CindexFault>
+    requires { are_paths (map string_bytes paths.now) ≡ true }
+    ensures image { IfOk result (λ index.
+        IsIndexOf (T.snapshot tree.old) (set.from_list (map string_bytes paths.now)) index.items) }
+    ensures short { IfOk result (λ index. length index.items < 2 ^ 32) }
+    ensures well_formed { IfOk result (λ index. IsIndex (map string_bytes paths.now) index.items) }
+    ensures prints { IfOk result (λ _. Prints
+        (AreLinesIn log_skip (T.snapshot tree.old) (set.from_list (map string_bytes paths.now)))
+        (T.failed tree.old) (T.failed tree.new) (E.taken err.old) (E.taken err.new)) }
+    ensures too_large { result ≡ Err CindexFault.TooLarge →
+        IsTreeTooLarge (T.snapshot tree.old) (set.from_list (map string_bytes paths.now)) }
+    ensures whole { result ≡ Err CindexFault.TooLarge →
+        AreTooMany (T.snapshot tree.old) (set.from_list (map string_bytes paths.now)) ⊎
+        Prints
+        (AreLinesIn log_skip (T.snapshot tree.old) (set.from_list (map string_bytes paths.now)))
+        (T.failed tree.old) (T.failed tree.new) (E.taken err.old) (E.taken err.new) }
+    ensures only { IfErr result IsIndexingFault }
+    ensures front { IfErr result (λ _. PrintsFront
+        (BeginLinesIn log_skip (T.snapshot tree.old) (set.from_list (map string_bytes paths.now)))
+        (T.failed tree.old) (T.failed tree.new) (E.taken err.old) (E.taken err.new)) }
+    ensures writes { E.failed err.new ≡ count_after is_failed_write result (E.failed err.old) }
+    ensures keeps { T.snapshot tree.new ≡ T.snapshot tree.old }
+{
+    let mut indexer = Indexer::new(alloc, paths, log_skip)?;
+    let walked = walk(alloc, tree, paths)?;
+    print_left(alloc, &walked.faults, err)?;
+    indexer.index_files(tree, &walked.names, err)?;
+    let index = indexer.finish()?;
+    Ok(index)
+}

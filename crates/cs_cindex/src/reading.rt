@@ -1,0 +1,45 @@
+// The reading of a file that a walk finds.
+ghost use Rattle.std.specs.Prelude.{◌≡◌, ◌≤◌, IfOk};
+ghost use Rattle.cs_cindex.specs.Verdicts.{IsVerdictIn, HasSet, IsVerdictCounted};
+
+use cs_tree::{Tree, TreeReader};
+use cs_trigram::{Reason, Scan, ScanFault, Scanner};
+use cs_words::FileFault;
+use std::alloc::AllocError;
+
+/// What becomes of a file.
+#[derive(Drop)]
+pub(crate) enum Verdict {
+    /// It is indexed, with these trigrams.
+    Text(Vec<u32>),
+    /// It is no text that is indexed.
+    Skipped(Reason),
+    /// It cannot be read to its end.
+    Left(FileFault),
+}
+
+/// Reads the file at a name. A byte that breaks a rule is the last thing that is read.
+pub(crate) fn read_file<T: Tree>(
+    scanner: &mut Scanner,
+    tree: &mut T,
+    name: &str,
+) -> Result<Verdict, AllocError>
+    ensures told { IfOk result (λ verdict. IsVerdictIn (T.snapshot tree.old) name.now verdict) }
+    ensures set { IfOk result HasSet }
+    ensures counted { IfOk result
+        (λ verdict. IsVerdictCounted verdict (T.failed tree.old) (T.failed tree.new)) }
+    ensures rises { T.failed tree.old ≤ T.failed tree.new }
+    ensures keeps { T.snapshot tree.new ≡ T.snapshot tree.old }
+{
+    if let Err(fault) = tree.open(name) {
+        let fault = FileFault::of_tree(fault)?;
+        return Ok(Verdict::Left(fault));
+    }
+    let mut reader = TreeReader::new(tree);
+    match scanner.scan(&mut reader) {
+        Ok(Scan::Text { trigrams, .. }) => Ok(Verdict::Text(trigrams)),
+        Ok(Scan::Skip(reason)) => Ok(Verdict::Skipped(reason)),
+        Err(ScanFault::Read) => Ok(Verdict::Left(FileFault::Failed)),
+        Err(ScanFault::Memory) => Err(AllocError),
+    }
+}

@@ -1,0 +1,134 @@
+-- What a builder holds, and one name more.
+use Rattle.std.proofs.Common.{◌≡◌, ℕ, ◌+◌, ◌-◌, ◌<◌, ◌≤◌, Bool, true, ◌&&◌, List, [], ◌∷◌, ◌++◌, length, drop, Option, refl, sym, ap, subst, ◌∙◌, arith}
+use Rattle.cs_tree.specs.NameOrder.{bytes_cmp}
+use Rattle.cs_index.specs.Rising.{RiseWithin, IsPosting}
+use Rattle.cs_index.specs.PostingLists.{entries_of}
+use Rattle.cs_trigram.specs.Trigram.{Ascends}
+use Rattle.std.proofs.lemmas.Bool.{and_parts, and_from}
+use Rattle.std.proofs.lemmas.List.{length_push}
+use Rattle.std.proofs.Math.Seq.{drop-length}
+use Rattle.std.specs.List.{AllByRecursion}
+use Rattle.std.specs.Option.{option_map_or}
+use Rattle.std.specs.Ordering.{is_lt}
+use Rattle.std.specs.Cmp.Lexicographic.{nat_list_cmp_total}
+use Rattle.std.specs.declared.cmp.Ordering.{Ordering}
+use Rattle.std.specs.declared.cmp.Ordering.TheVariants.{Less, Equal, Greater}
+use Rattle.std.specs.FinMap as map'
+use Rattle.cs_index.specs.Image.{Entry, Posting, names_of, IsString}
+use Rattle.cs_index.specs.IdStream.{next_after}
+use Rattle.cs_index.specs.Gathering.{ids_of, with_id_at_each, ordered_lists, AreWaiting}
+use Rattle.cs_index.proofs.BuiltLemmas.{entries_added, ids_rise_within}
+use Rattle.cs_index.specs.Built.{Built, IsBuilt, with_name, is_above}
+use Rattle.cs_index.proofs.StringLemmas.{last_of, last_is}
+
+pub names_entries : (first : ℕ) (names : List (List ℕ)) (ps : List Posting) → names_of (entries_of first names ps) ≡ names
+names_entries first [] ps = refl
+names_entries first (n ∷ names) ps = ap (λ rest. n ∷ rest) (names_entries (first + 1) names ps)
+
+-- ---- names in order
+
+less : (r : Ordering) → is_lt r ≡ true → r ≡ Less
+less Less h = refl
+less Equal h = cc
+less Greater h = cc
+
+chain : (a b c : List ℕ) → is_lt (bytes_cmp a b) ≡ true → is_lt (bytes_cmp b c) ≡ true → is_lt (bytes_cmp a c) ≡ true
+chain a b c h g = ap is_lt (nat_list_cmp_total.trans a b c (less _ h) (less _ g))
+
+abbrev below_all : List ℕ → List Entry → Bool
+below_all name [] = true
+below_all name (e ∷ es) = is_lt (bytes_cmp name e.0) && below_all name es
+
+record Sorted (entry first : Entry) (es : List Entry) : Type 0 where
+  sorted : map'.is_sorted bytes_cmp ((first ∷ es) ++ entry ∷ []) ≡ true
+  above : is_lt (bytes_cmp first.0 entry.0) ≡ true
+
+below_push : (name : List ℕ) (es : List Entry) (entry : Entry) → below_all name es ≡ true → is_lt (bytes_cmp name entry.0) ≡ true → below_all name (es ++ entry ∷ []) ≡ true
+below_push name [] entry h g = ap (λ b. b && true) g
+below_push name (e ∷ es) entry h g =
+    let both = and_parts (is_lt (bytes_cmp name e.0)) (below_all name es) h in
+    and_from (is_lt (bytes_cmp name e.0)) (below_all name (es ++ entry ∷ [])) both.0 (below_push name es entry both.1 g)
+
+sorted_push : (entry first : Entry) (es : List Entry) → map'.is_sorted bytes_cmp (first ∷ es) ≡ true → option_map_or (λ last. is_lt (bytes_cmp last entry.0)) (last_of (names_of (first ∷ es))) true ≡ true → Sorted entry first es
+sorted_push entry first [] up h = record { sorted = ap (λ b. (b && true) && true) h; above = h }
+sorted_push entry first (e ∷ es) up h =
+    let parts = and_parts (below_all first.0 (e ∷ es)) (map'.is_sorted bytes_cmp (e ∷ es)) up in
+    let rest = sorted_push entry e es parts.1 h in
+    let before = and_parts (is_lt (bytes_cmp first.0 e.0)) (below_all first.0 es) parts.0 in
+    let above = chain first.0 e.0 entry.0 before.0 rest.above in
+    record {
+      sorted = and_from (below_all first.0 ((e ∷ es) ++ entry ∷ [])) (map'.is_sorted bytes_cmp ((e ∷ es) ++ entry ∷ [])) (below_push first.0 (e ∷ es) entry parts.0 above) rest.sorted;
+      above = above;
+    }
+
+ascend_push : (es : List Entry) (entry : Entry) → map'.is_sorted bytes_cmp es ≡ true → is_above (names_of es) entry.0 ≡ true → map'.is_sorted bytes_cmp (es ++ entry ∷ []) ≡ true
+ascend_push [] entry up h = refl
+ascend_push (e ∷ es) entry up h = (sorted_push entry e es up (ap (λ (o : Option (List ℕ)). option_map_or (λ last. is_lt (bytes_cmp last entry.0)) o true) (sym (last_is (names_of (e ∷ es)))) ∙ h)).sorted
+
+-- ---- one name more
+
+all_push : {X : Type 0} (P : X → Type 0) (xs : List X) (x : X) → AllByRecursion P xs → P x → AllByRecursion P (xs ++ x ∷ [])
+all_push P [] x all h = (h, tt)
+all_push P (y ∷ xs) x all h = (all.0, all_push P xs x all.1 h)
+
+names_push : (es : List Entry) (entry : Entry) → names_of (es ++ entry ∷ []) ≡ names_of es ++ entry.0 ∷ []
+names_push [] entry = refl
+names_push (e ∷ es) entry = ap (λ rest. e.0 ∷ rest) (names_push es entry)
+
+pub built_added : (built : Built) (name trigrams : List ℕ) → IsBuilt built → IsString name → is_above (names_of built.entries) name ≡ true → AllByRecursion (λ g. g < 16777215) trigrams → Ascends trigrams → length built.entries < 1073741824 → IsBuilt (with_name built name trigrams)
+built_added built name trigrams is text above below up few =
+    let more : length (built.entries ++ (name, trigrams) ∷ []) ≡ length built.entries + 1 = length_push built.entries (name, trigrams) in
+    record {
+      paths = is.paths;
+      each_path = is.each_path;
+      each_name = subst (AllByRecursion IsString) (sym (names_push built.entries (name, trigrams))) (all_push IsString (names_of built.entries) name is.each_name text);
+      ascend = ascend_push built.entries (name, trigrams) is.ascend above;
+      trigrams = all_push (λ (entry : Entry). AllByRecursion (λ g. g < 16777215) entry.1) built.entries (name, trigrams) is.trigrams below;
+      sets = all_push (λ (entry : Entry). Ascends entry.1) built.entries (name, trigrams) is.sets up;
+      few = omega (arith, more, few);
+    }
+
+-- ---- the lists when a name is added
+
+rise_further : (names next : ℕ) (ids : List ℕ) → RiseWithin names next ids → RiseWithin (names + 1) next ids
+rise_further names next [] up = tt
+rise_further names next (id ∷ ids) up = (up.0, omega (arith, up.1), rise_further names (id + 1) ids up.2)
+
+rise_next : (names next : ℕ) (ids : List ℕ) → RiseWithin names next ids → next ≤ names → next_after next ids ≤ names
+rise_next names next [] up h = h
+rise_next names next (id ∷ ids) up h = rise_next names (id + 1) ids up.2 (omega (arith, up.1))
+
+each_further : (names : ℕ) (lists : List Posting) → AllByRecursion (IsPosting names) lists → AllByRecursion (IsPosting (names + 1)) lists
+each_further names [] all = tt
+each_further names (p ∷ lists) all = ((all.0.0, rise_further names 0 p.1 all.0.1), each_further names lists all.1)
+
+all_of : (P : ℕ → Type 0) (ns : List ℕ) → ((n : ℕ) → P n) → AllByRecursion P ns
+all_of P [] h = tt
+all_of P (n ∷ ns) h = (h n, all_of P ns h)
+
+pub record Later (names : List (List ℕ)) (name : List ℕ) (lists later : List Posting) (rest trigrams : List ℕ) : Type 0 where
+  pub waits : AreWaiting (length (names ++ name ∷ [])) later trigrams
+  pub entries : entries_of 0 (names ++ name ∷ []) (ordered_lists (with_id_at_each later (length (names ++ name ∷ []) - 1) trigrams)) ≡ entries_of 0 names (ordered_lists (with_id_at_each lists (length names - 1) rest)) ++ (name, trigrams) ∷ []
+
+pub added_later : (names : List (List ℕ)) (name : List ℕ) (lists later : List Posting) (rest trigrams : List ℕ) → AllByRecursion (IsPosting (length names)) later → later ≡ with_id_at_each lists (length names - 1) rest → Ascends trigrams → AllByRecursion (λ g. g < 16777215) trigrams → Later names name lists later rest trigrams
+added_later names name lists later rest trigrams each is up below =
+    let n : ℕ = length names in
+    let more : length (names ++ name ∷ []) ≡ n + 1 = length_push names name in
+    let id : length (names ++ name ∷ []) - 1 ≡ n = omega (arith, more) in
+    record {
+      waits = subst (λ m. AreWaiting m later trigrams) (sym more) (record {
+        each = each_further n later each;
+        ready = all_of (λ g. next_after 0 (ids_of later g) < n + 1) trigrams (λ g. let most = rise_next n 0 (ids_of later g) (ids_rise_within n later g each) (omega arith) in omega (arith, most));
+        ascend = up;
+        below = below;
+      });
+      entries = ap (λ k. entries_of 0 (names ++ name ∷ []) (ordered_lists (with_id_at_each later k trigrams))) id ∙ entries_added names name later trigrams each up ∙ ap (λ ps. entries_of 0 names (ordered_lists ps) ++ (name, trigrams) ∷ []) is;
+    }
+
+-- when nothing waits any more
+pub settled_is : (lists later : List Posting) (waiting lent : List ℕ) (from to id names : ℕ) → to ≡ length lent → lent ≡ waiting → id ≡ names → with_id_at_each later (id - 1) (drop to lent) ≡ with_id_at_each lists (id - 1) (drop from lent) → later ≡ with_id_at_each lists (names - 1) (drop from waiting)
+settled_is lists later waiting lent from to id names done is at kept =
+    sym (ap (with_id_at_each later (id - 1)) (ap (λ k. drop k lent) done ∙ drop-length lent)) ∙ kept ∙ (λ i. with_id_at_each lists (at i - 1) (drop from (is i)))
+
+pub each_later : (id names : ℕ) (later : List Posting) (rest : List ℕ) → id ≡ names → AreWaiting id later rest → AllByRecursion (IsPosting names) later
+each_later id names later rest at await = subst (λ n. AllByRecursion (IsPosting n) later) at await.each

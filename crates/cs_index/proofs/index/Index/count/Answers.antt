@@ -1,6 +1,0 @@
-use Rattle.std.proofs.Common.{length}
-use Rattle.cs_index.proofs.OpenLemmas.{entries_rise}
-use Rattle.cs_index.proofs.index.Index.count.Goals as goal
-
-pub place_of-requires : goal.place_of-requires
-place_of-requires c = entries_rise (length c.self.inside.cut.postings.now) c.self.inside.cut.list_index.now c.self.invariant.list_index

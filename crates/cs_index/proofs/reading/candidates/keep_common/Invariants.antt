@@ -1,0 +1,11 @@
+use Rattle.std.proofs.Common.{◌≡◌, ◌++◌, drop}
+use Rattle.cs_trigram.specs.Trigram.{has, Ascends}
+use Rattle.std.specs.Prelude.{filter}
+use Rattle.cs_index.proofs.reading.candidates.keep_common.Given as goal
+
+abbrev pub invariant-loop-id : goal.invariant-loop-id
+invariant-loop-id l = record {
+  ids : filter (has l.others) l.fn.ids.items ≡ l.sieve.kept ++ filter (has (drop l.id-index l.others)) l.sieve.left;
+  others : Ascends (drop l.id-index l.others);
+  left : Ascends l.sieve.left;
+}

@@ -1,0 +1,32 @@
+use Rattle.std.proofs.Common.{◌≡◌, ◌<◌, ◌/◌, ◌∙◌, ap, sym, length, Some, ℕ, List, arith}
+use Rattle.cs_index.specs.Opening.{Parts, texts_of, entries_in}
+use Rattle.cs_index.specs.Cut.{lent_sections}
+use Rattle.cs_index.proofs.EntryLemmas.{length-in}
+use Rattle.cs_index.proofs.OpenLemmas.{few_read, list_given}
+use Rattle.cs_index.proofs.reading.index.Index.list_at.Goals as goal
+
+-- the place is one of an entry
+placed : (bytes : List ℕ) (now : Parts) (place lists : ℕ) → entries_in bytes ≡ now.entries → lists ≡ length now.entries → place < lists → place < length bytes / 11
+placed bytes now place lists is count h = let long = length-in bytes in let same = ap length is in omega (arith, long, same, count, h)
+
+pub read_trigram-requires : goal.read_trigram-requires
+read_trigram-requires c =
+    let within = placed c.self.inside.cut.list_index.now c.args.self.now c.args.place c.lists.result (ap (λ (p : Parts). p.entries) c.self.view_is) c.lists.ensures c.if-place-lists.false in
+    omega (arith, within)
+
+pub list_of-requires-clause-within : goal.list_of-requires-clause-within
+list_of-requires-clause-within c =
+    let within = placed c.self.inside.cut.list_index.now c.args.self.now c.args.place c.lists.result (ap (λ (p : Parts). p.entries) c.self.view_is) c.lists.ensures c.if-place-lists.false in
+    omega (arith, within)
+
+pub list_of-requires-clause-few : goal.list_of-requires-clause-few
+list_of-requires-clause-few c =
+    let few = few_read (lent_sections c.self.inside.cut) c.self.invariant in
+    let same : c.len.result ≡ length (texts_of c.self.inside.cut.names.now) = c.len.ensures ∙ sym (ap (λ (p : Parts). length p.names) c.self.view_is) in
+    omega (arith, few, same)
+
+pub returns : goal.returns
+returns c =
+    let within = placed c.self.inside.cut.list_index.now c.args.self.now c.args.place c.lists.result (ap (λ (p : Parts). p.entries) c.self.view_is) c.lists.ensures c.if-place-lists.false in
+    ap (λ r. Some (c.read_trigram.result, r)) c.list_of.ensures
+    ∙ list_given (lent_sections c.self.inside.cut) c.args.self.now c.args.place c.len.result c.read_trigram.result c.self.view_is within c.len.ensures c.read_trigram.ensures

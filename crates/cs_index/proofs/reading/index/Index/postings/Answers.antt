@@ -1,0 +1,14 @@
+use Rattle.std.proofs.Common.{◌≡◌, ◌∙◌, ap, sym, length, arith}
+use Rattle.cs_index.specs.Opening.{Parts, texts_of}
+use Rattle.cs_index.specs.Cut.{lent_sections}
+use Rattle.cs_index.proofs.OpenLemmas.{entries_rise, few_read}
+use Rattle.cs_index.proofs.reading.index.Index.postings.Goals as goal
+
+pub place_of-requires : goal.place_of-requires
+place_of-requires c = entries_rise (length c.self.inside.cut.postings.now) c.self.inside.cut.list_index.now c.self.invariant.list_index
+
+pub list_of-requires-clause-few : goal.list_of-requires-clause-few
+list_of-requires-clause-few c =
+    let few = few_read (lent_sections c.self.inside.cut) c.self.invariant in
+    let same : c.len.result ≡ length (texts_of c.self.inside.cut.names.now) = c.len.ensures ∙ sym (ap (λ (p : Parts). length p.names) c.self.view_is) in
+    omega (arith, few, same)

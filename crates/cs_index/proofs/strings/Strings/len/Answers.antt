@@ -1,8 +1,0 @@
-use Rattle.std.proofs.Common.{◌∙◌, ap, length, List, ℕ}
-use Rattle.cs_index.proofs.StringLemmas.{count_texts}
-use Rattle.cs_index.proofs.strings.Strings.len.Goals as goal
-
-pub returns : goal.returns
-returns c =
-    let count = count_texts c.self.inside.bytes.items c.self.inside.starts.items c.self.invariant in
-    c.len.ensures ∙ c.self.inside.starts.ok.0 ∙ count ∙ ap (λ (ts : List (List ℕ)). length ts) c.self.view_is

@@ -1,0 +1,34 @@
+-- What is written is read back.
+-- docs/FORMAT.md, "The index as it is written" and "The index as it is read".
+use Rattle.std.specs.Prelude.{◌≡◌, ℕ, true, List, slice_index, ◌<◌}
+use Rattle.cs_trigram.specs.Trigram.{Ascends}
+use Rattle.std.specs.List.{AllByRecursion}
+use Rattle.cs_index.specs.Image.{sections_of, Entry, names_of, list_entries, postings_of}
+use Rattle.cs_index.specs.Spelling.{Spells}
+use Rattle.cs_index.specs.Opening.{Parts, lists_in, are_whole, files_read}
+
+-- each is a byte
+abbrev pub AreBytes : List ℕ → Type 0
+AreBytes bytes = (at : ℕ) → slice_index bytes at < 256
+
+-- The bytes spell these parts.
+pub record SpellsParts (bytes : List ℕ) (parts : Parts) : Type 0 where
+  pub spelled : Spells bytes parts.paths parts.names parts.entries
+  pub postings : spelled.sections.postings ≡ parts.postings
+
+-- what an index has that is written of paths and entries
+unfoldable pub parts_written : List (List ℕ) → List Entry → Parts
+parts_written paths entries = record {
+  paths = paths;
+  names = names_of entries;
+  entries = list_entries 0 (postings_of entries);
+  postings = (sections_of paths (names_of entries) (postings_of entries)).postings;
+}
+
+-- An index has these paths and entries, and each of its lists is whole.
+pub record Has (parts : Parts) (paths : List (List ℕ)) (entries : List Entry) : Type 0 where
+  pub has_paths : parts.paths ≡ paths
+  pub has_names : parts.names ≡ names_of entries
+  pub has_lists : lists_in parts ≡ postings_of entries
+  pub whole : are_whole parts ≡ true
+  pub has_files : AllByRecursion (λ (entry : Entry). Ascends entry.1) entries → files_read parts ≡ entries

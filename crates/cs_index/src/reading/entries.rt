@@ -1,0 +1,151 @@
+// The name index, and the entries of the list index.
+ghost use Rattle.std.specs.Prelude.{◌≡◌, ◌≤◌, ◌<◌, ◌+◌, ◌*◌, ◌/◌, ◌^◌, ◌∷◌, [], ◌||◌, ℕ, None, true, length, Some, IfSome, IfNone};
+ghost use Rattle.cs_index.specs.Postings.{entry_of};
+ghost use Rattle.cs_index.specs.PostingLists.{read_list};
+ghost use Rattle.std.specs.List.{list_all};
+ghost use Rattle.cs_index.specs.Image.{ListEntry};
+ghost use Rattle.cs_index.specs.Opening.{entries_in, entry_at, trigram_at, is_entry, is_list_index, is_name_index, is_names_section, rises, texts_of};
+
+use crate::reading::bytes::{first_text, read_number, read_trigram};
+use crate::reading::postings::Postings;
+
+const ENTRY_LEN: usize = 11;
+
+/// Whether the name index has the offset of each name, and one number more.
+pub(crate) fn has_offsets(name_index: &[u8], names: &[u8]) -> bool
+    requires { is_names_section names.now ≡ true }
+    ensures { result ≡ is_name_index name_index.now (texts_of names.now) }
+{
+    let mut rest = names;
+    let mut offset = 0;
+    let mut at = 0;
+    'names: while let Some((name, next)) = first_text(rest) {
+        if name_index.len() - at < 8 {
+            return false;
+        }
+        if read_number(name_index, at) as usize != offset {
+            return false;
+        }
+        offset += name.len() + 1;
+        at += 4;
+        rest = next;
+    }
+    name_index.len() - at == 4
+}
+
+/// Whether a list index is entries of ascending trigrams that have room in a section of some bytes.
+#[tactic(auto, unfolding(crate::specs::Opening::is_list_index))]
+pub(crate) fn has_entries(list_index: &[u8], room: usize) -> bool
+    ensures { result ≡ is_list_index room list_index.now }
+{
+    if list_index.len() % ENTRY_LEN != 0 {
+        return false;
+    }
+    if !trigrams_rise(list_index) {
+        return false;
+    }
+    entries_fit(list_index, room)
+}
+
+/// Whether each trigram is below the next.
+fn trigrams_rise(list_index: &[u8]) -> bool
+    ensures { result ≡ rises (entries_in list_index.now) }
+{
+    let mut at = 0;
+    'entries: while list_index.len() - at >= 2 * ENTRY_LEN {
+        if read_trigram(list_index, at) >= read_trigram(list_index, at + ENTRY_LEN) {
+            return false;
+        }
+        at += ENTRY_LEN;
+    }
+    true
+}
+
+/// Whether each entry has room for its list.
+fn entries_fit(list_index: &[u8], room: usize) -> bool
+    ensures { result ≡ list_all (is_entry room) (entries_in list_index.now) }
+{
+    let mut at = 0;
+    'entries: while list_index.len() - at >= ENTRY_LEN {
+        if !entry_fits(list_index, at, room) {
+            return false;
+        }
+        at += ENTRY_LEN;
+    }
+    true
+}
+
+/// Whether the entry has room for its list.
+fn entry_fits(list_index: &[u8], at: usize, room: usize) -> bool
+    requires { at + 11 ≤ length list_index.now }
+    ensures { result ≡ is_entry room (entry_at list_index.now at) }
+{
+    let trigram = read_trigram(list_index, at);
+    let count = read_number(list_index, at + 3);
+    let offset = read_number(list_index, at + 7) as usize;
+    offset + 4 <= room && (trigram < 0xffffff || count == 0)
+}
+
+/// Where the entry of a trigram begins.
+pub(crate) fn place_of(list_index: &[u8], trigram: u32) -> Option<usize>
+    requires { rises (entries_in list_index.now) ≡ true }
+    ensures some { IfSome result
+        (λ at. entry_of (entries_in list_index.now) trigram ≡ Some (entry_at list_index.now at)) }
+    ensures within { IfSome result (λ at. at + 11 ≤ length list_index.now) }
+    ensures none { IfNone result (entry_of (entries_in list_index.now) trigram ≡ None) }
+{
+    let count = list_index.len() / ENTRY_LEN;
+    let place = first_from(list_index, trigram, count);
+    let at = ENTRY_LEN * place;
+    if place >= count {
+        return None;
+    }
+    if read_trigram(list_index, at) != trigram {
+        return None;
+    }
+    Some(at)
+}
+
+/// The first place whose trigram is not below one, among some entries.
+fn first_from(list_index: &[u8], trigram: u32, count: usize) -> usize
+    requires count { count ≡ length list_index.now / 11 }
+    requires rise { rises (entries_in list_index.now) ≡ true }
+    ensures within { result ≤ count }
+    ensures below { (k : ℕ) → k < result → trigram_at list_index.now (11 * k) < trigram }
+    ensures above { (k : ℕ) → result ≤ k → k < count →
+        trigram ≤ trigram_at list_index.now (11 * k) }
+{
+    let mut low = 0;
+    let mut high = count;
+    'halves: while low < high {
+        let middle = low + (high - low) / 2;
+        if read_trigram(list_index, ENTRY_LEN * middle) < trigram {
+            low = middle + 1;
+        } else {
+            high = middle;
+        }
+    }
+    low
+}
+
+/// The ids of the entry that begins at a place.
+pub(crate) fn list_of<'a>(
+    postings: &'a [u8],
+    list_index: &[u8],
+    at: usize,
+    names: u32,
+) -> Postings<'a>
+    requires within { at + 11 ≤ length list_index.now }
+    requires few { names < 2 ^ 31 }
+    ensures { result ≡ read_list postings.now names (entry_at list_index.now at) }
+{
+    let count = read_number(list_index, at + 3);
+    let offset = read_number(list_index, at + 7) as usize;
+    if postings.len() < offset + 3 {
+        return Postings::damaged();
+    }
+    if read_trigram(postings, offset) != read_trigram(list_index, at) {
+        return Postings::damaged();
+    }
+    Postings::new(&postings[offset + 3..], count, names)
+}

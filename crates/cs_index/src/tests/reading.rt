@@ -1,0 +1,242 @@
+// The reader over worked rows.
+use crate::{Index, IndexFault, Postings, Texts};
+use std::test::Fail;
+
+/// The path `/a` and no name.
+pub const EMPTY: &[u8; 65] =
+    b"csearch index 1\n/a\0\0\0\xff\xff\xff\0\0\0\0\0\0\0\0\x10\0\0\0\x14\0\0\0\x15\0\0\0\x19\0\0\0\x1d\ncsearch trailr\n";
+
+pub const ROW: &[u8; 122] =
+    b"csearch index 1\n/a\0\0/a/x\0\0abc\x01\0bcd\x01\0cd\n\x01\0\xff\xff\xff\0\0\0\0\0\0\0\0\x05abc\0\0\0\x01\0\0\0\0bcd\0\0\0\x01\0\0\0\x05cd\n\0\0\0\x01\0\0\0\x0a\0\0\0\x10\0\0\0\x14\0\0\0\x1a\0\0\0\x2d\0\0\0\x35\ncsearch trailr\n";
+
+const UNSORTED: &[u8; 115] =
+    b"csearch index 1\n/a\0\0/a/b/z\0/a/b-x\0\0abc\x01\x01\0\xff\xff\xff\0\0\0\0\0\0\0\0\x07\0\0\0\x0eabc\0\0\0\x02\0\0\0\0\xff\xff\xff\0\0\0\0\0\0\0\x06\0\0\0\x10\0\0\0\x14\0\0\0\x23\0\0\0\x2d\0\0\0\x39\ncsearch trailr\n";
+
+/// The same without the last NUL of its names, and with other bytes last in its name index.
+const UNCLOSED: &[u8; 114] =
+    b"csearch index 1\n/a\0\0/a/b/z\0/a/b-x\0abc\x01\x01\0\xff\xff\xff\0\0\0\0\0\0\0\0\x07wxyzabc\0\0\0\x02\0\0\0\0\xff\xff\xff\0\0\0\0\0\0\0\x06\0\0\0\x10\0\0\0\x14\0\0\0\x22\0\0\0\x2c\0\0\0\x38\ncsearch trailr\n";
+
+/// What an index answers: each list is a trigram and its ids.
+#[derive(Drop)]
+struct Wanted<'a> {
+    paths: &'a [&'a str],
+    names: &'a [&'a str],
+    in_order: bool,
+    lists: &'a [(u32, &'a [u32])],
+}
+
+/// Whether these ids are given, and then the end.
+fn are_ids(ids: Postings, want: &[u32]) -> bool {
+    let mut ids = ids;
+    for at in 0..4 {
+        if ids.next() != want.get(at).map(|id| Ok(*id)) {
+            return false;
+        }
+    }
+    true
+}
+
+/// Whether these texts are given, one by one, and then the end.
+fn are_texts(texts: Texts, want: &[&str]) -> bool {
+    let mut texts = texts;
+    for at in 0..4 {
+        if texts.next() != want.get(at).copied() {
+            return false;
+        }
+    }
+    true
+}
+
+/// Whether the calls by place answer so, up to a place that has nothing.
+fn are_by_place(index: &Index, want: &Wanted) -> bool {
+    for place in 0..4 {
+        if index.path(place) != want.paths.get(place as usize).copied() {
+            return false;
+        }
+        if index.name(place) != want.names.get(place as usize).copied() {
+            return false;
+        }
+        let is_list = match (index.list_at(place), want.lists.get(place as usize)) {
+            (Some((trigram, ids)), Some(list)) => trigram == list.0 && are_ids(ids, list.1),
+            (None, None) => true,
+            _ => false,
+        };
+        if !is_list {
+            return false;
+        }
+    }
+    true
+}
+
+/// Whether the trigram has the list that is wanted, or none.
+fn is_list_of(index: &Index, want: &Wanted, trigram: u32) -> bool {
+    for list in want.lists {
+        if list.0 == trigram {
+            return match index.postings(trigram) {
+                Some(ids) => are_ids(ids, list.1) && index.count(trigram) as usize == list.1.len(),
+                None => false,
+            };
+        }
+    }
+    index.postings(trigram).is_none() && index.count(trigram) == 0
+}
+
+/// Whether the index answers so to each call.
+fn answers(index: &Index, want: &Wanted) -> bool {
+    index.len() as usize == want.names.len()
+        && index.is_empty() == want.names.is_empty()
+        && index.lists() as usize == want.lists.len()
+        && index.in_order() == want.in_order
+        && are_texts(index.paths(), want.paths)
+        && are_texts(index.names(), want.names)
+        && are_by_place(index, want)
+        && is_list_of(index, want, 0x616263)
+        && is_list_of(index, want, 0x626364)
+        && is_list_of(index, want, 0x63640a)
+        && is_list_of(index, want, 0xffffff)
+        && is_list_of(index, want, 0x78797a)
+}
+
+#[test]
+fn changed_bytes_are_refused(rt: HostRuntime) {
+    for (place, byte, want) in [
+        (0, 0x00, Some(IndexFault::BadMagic)),
+        (121, 0x00, Some(IndexFault::BadTrailer)),
+        (89, 0x11, Some(IndexFault::BadOffsets)),
+        (16, 0x00, Some(IndexFault::BadPaths)),
+        (20, 0xff, Some(IndexFault::BadNames)),
+        (48, 0x01, Some(IndexFault::BadNameIndex)),
+        (53, 0xff, Some(IndexFault::BadListIndex)),
+        (63, 0x10, Some(IndexFault::BadListIndex)),
+        (63, 0x0f, None),
+        (59, 0x02, None),
+    ] {
+        let mut bytes = *ROW;
+        if let Some(changed) = bytes.get_mut(place) {
+            *changed = byte;
+        }
+        assert_eq!(rt; Index::open(&bytes).err(), want, "at {place}");
+    }
+}
+
+#[test]
+fn paths_come_before_names(rt: HostRuntime) {
+    let mut bytes = *ROW;
+    bytes[16] = 0x00;
+    bytes[20] = 0xff;
+    assert_eq!(rt; Index::open(&bytes).err(), Some(IndexFault::BadPaths));
+}
+
+/// The first byte of the closing list, and the last byte of the name index.
+#[test]
+fn some_bytes_may_be_anything(rt: HostRuntime) -> Result<(), Fail> {
+    let want = Wanted {
+        paths: &["/a"],
+        names: &["/a/x"],
+        in_order: true,
+        lists: &[(0x616263, &[0]), (0x626364, &[0]), (0x63640a, &[0])],
+    };
+    for place in [41, 52] {
+        for byte in 0..=255 {
+            let mut bytes = *ROW;
+            if let Some(changed) = bytes.get_mut(place) {
+                *changed = byte;
+            }
+            assert!(rt; answers(&Index::open(&bytes)?, &want), "{byte} at {place}");
+        }
+    }
+    Ok(())
+}
+
+/// The last offset may be any four bytes, and the NUL behind the names may be missing.
+#[test]
+fn other_writers_are_read(rt: HostRuntime) -> Result<(), Fail> {
+    let want = Wanted {
+        paths: &["/a"],
+        names: &["/a/b/z", "/a/b-x"],
+        in_order: false,
+        lists: &[(0x616263, &[0, 1]), (0xffffff, &[])],
+    };
+    for last in [*b"\0\0\0\x0e", *b"wxyz"] {
+        let mut closed = *UNSORTED;
+        closed[53..57].copy_from_slice(&last);
+        assert!(rt; answers(&Index::open(&closed)?, &want), "with {last:?}");
+        let mut unclosed = *UNCLOSED;
+        unclosed[52..56].copy_from_slice(&last);
+        assert!(rt;
+            answers(&Index::open(&unclosed)?, &want),
+            "with {last:?} and no NUL"
+        );
+    }
+    Ok(())
+}
+
+#[test]
+fn no_name_is_read(rt: HostRuntime) -> Result<(), Fail> {
+    let want = Wanted {
+        paths: &["/a"],
+        names: &[],
+        in_order: true,
+        lists: &[],
+    };
+    assert!(rt; answers(&Index::open(EMPTY)?, &want));
+    Ok(())
+}
+
+#[test]
+fn damage_is_told(rt: HostRuntime) -> Result<(), Fail> {
+    let mut late = *ROW;
+    late[63] = 0x0f;
+    let mut ids = Index::open(&late)?.postings(0x616263).ok_or("no list")?;
+    assert_eq!(rt; ids.next(), Some(Err(IndexFault::BadList)));
+    assert_eq!(rt; ids.next(), None);
+    let mut more = *ROW;
+    more[59] = 0x02;
+    let mut ids = Index::open(&more)?.postings(0x616263).ok_or("no list")?;
+    assert_eq!(rt; ids.next(), Some(Ok(0)));
+    assert_eq!(rt; ids.next(), Some(Err(IndexFault::BadList)));
+    assert_eq!(rt; ids.next(), None);
+    Ok(())
+}
+
+#[test]
+fn prefixes_are_refused(rt: HostRuntime) {
+    for bytes in [ROW.as_slice(), UNSORTED, EMPTY] {
+        for end in 0..bytes.len() {
+            assert!(rt;
+                Index::open(&bytes[..end]).is_err(),
+                "at {end} of {}",
+                bytes.len()
+            );
+        }
+    }
+}
+
+#[test]
+fn varints_are_read(rt: HostRuntime) {
+    for (bytes, first, second) in [
+        ([0x81, 0x00, 0x00].as_slice(), Ok(0), None),
+        (&[0x01, 0x80, 0x80, 0x80, 0x80, 0x00], Ok(0), None),
+        (
+            &[0x01, 0x80, 0x80, 0x80, 0x80, 0x10],
+            Ok(0),
+            Some(Err(IndexFault::BadList)),
+        ),
+        (
+            &[0x01, 0x80, 0x80, 0x80, 0x80, 0x80, 0x00],
+            Ok(0),
+            Some(Err(IndexFault::BadList)),
+        ),
+        (
+            &[0x80, 0x80, 0x80, 0x80, 0x10, 0x00],
+            Err(IndexFault::BadList),
+            None,
+        ),
+        (&[0x02, 0x00], Err(IndexFault::BadList), None),
+    ] {
+        let mut ids = Postings::new(bytes, 1, 1);
+        assert_eq!(rt; ids.next(), Some(first), "of {bytes:?}");
+        assert_eq!(rt; ids.next(), second, "of {bytes:?}");
+        assert_eq!(rt; ids.next(), None, "of {bytes:?}");
+    }
+}

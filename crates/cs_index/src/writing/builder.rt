@@ -1,0 +1,202 @@
+// The writer of an index.
+ghost use Rattle.std.specs.Prelude.{◌≡◌, ◌≢◌, ◌<◌, ◌≤◌, ◌^◌, ◌⊎◌, ◌↔◌, ◌-◌, [], List, ℕ, true, false, length, drop, map, string_bytes, Ok, Err, IfOk, IfErr, OnOk, OnErr};
+ghost use Rattle.cs_trigram.specs.Trigram.{Ascends, closing_trigram};
+ghost use Rattle.std.specs.List.{AllByRecursion};
+ghost use Rattle.cs_index.specs.Image.{image, image_of, names_of, IsString};
+ghost use Rattle.cs_index.specs.Spelling.{IsIndexable};
+ghost use Rattle.cs_index.specs.Built.{with_name, are_paths, files_of, is_above, is_storable, IsBuilt, IsOneTooMany, IsOutOfOrder, most_names, paths_of};
+
+use crate::fault::BuildFault;
+use crate::writing::laying::lay;
+use crate::writing::lists::Lists;
+use crate::writing::paths::{are_listed, is_text};
+use crate::writing::strings::Strings;
+use crate::writing::waiting::move_waiting;
+use std::alloc::{AllocError, Global};
+use std::marker::Model;
+
+/// More names than these are not added.
+const MOST_NAMES: u32 = 1 << 30;
+
+/// The paths and the names of an index that is being built, and for each trigram the ids of the
+/// names that have it. The trigrams of the last name wait until the next call: so a refused one
+/// changes nothing.
+#[derive(Drop)]
+pub struct Builder {
+    alloc: Global,
+    paths: Strings,
+    names: Strings,
+    lists: Lists,
+    waiting: Vec<u32>,
+    moved: usize,
+}
+
+impl Model for Builder {
+    ghost use Rattle.cs_index.specs.Built.{Built};
+
+    ghost Value = { Built };
+
+    ghost use Rattle.cs_index.specs.Building.{built_of, IsBuilder};
+
+    ghost view = { built_of };
+
+    ghost invariant = { IsBuilder };
+}
+
+impl Builder {
+    /// A builder of an index of these paths, without a name.
+    pub fn new(alloc: Global, paths: &[String]) -> Result<Builder, BuildFault>
+        ensures ok { IfOk result
+            (λ builder. (builder.paths ≡ map string_bytes paths.now) × (builder.entries ≡ [])) }
+        ensures bad_paths { (result ≡ Err BuildFault.BadPaths) ↔
+            (are_paths (map string_bytes paths.now) ≡ false) }
+        ensures other { IfErr result
+            (λ fault. (fault ≡ BuildFault.BadPaths) ⊎ (fault ≡ BuildFault.Memory)) }
+    {
+        if !are_listed(paths) {
+            return Err(BuildFault::BadPaths);
+        }
+        let paths = strings_of(alloc, paths)?;
+        Ok(Builder {
+            alloc,
+            paths,
+            names: Strings::new(alloc),
+            lists: Lists::new(alloc),
+            waiting: Vec::new(alloc),
+            moved: 0,
+        })
+    }
+
+    /// Adds a name with the trigrams of its text, and answers its id. A refused call changes
+    /// nothing.
+    pub fn add(&mut self, name: &str, trigrams: &[u32]) -> Result<u32, BuildFault>
+        requires ascending { Ascends trigrams.now }
+        requires below { AllByRecursion (λ g. g < closing_trigram) trigrams.now }
+        ensures ok { OnOk result (self.new ≡ with_name self.old name.now trigrams.now) }
+        ensures id { IfOk result (λ id. id ≡ length self.old.entries) }
+        ensures bad_name { (result ≡ Err BuildFault.BadName) ↔ (is_storable name.now ≡ false) }
+        ensures out_of_order { (result ≡ Err BuildFault.OutOfOrder) ↔
+            IsOutOfOrder self.old name.now }
+        ensures too_large { (result ≡ Err BuildFault.TooLarge) ↔
+            IsOneTooMany most_names self.old name.now }
+        ensures other { IfErr result (λ fault. fault ≢ BuildFault.BadPaths) }
+        ensures err { OnErr result (self.new ≡ self.old) }
+    {
+        self.add_within(MOST_NAMES, name, trigrams)
+    }
+
+    /// The index of the paths and the names.
+    pub fn finish(self) -> Result<Vec<u8>, BuildFault>
+        ensures ok { IfOk result (λ index. index.items ≡ image_of self.paths self.entries) }
+        ensures image { IfOk result (λ index. index.items ≡ image (paths_of self) (files_of self)) }
+        ensures indexable { IfOk result (λ _. IsIndexable self.paths self.entries) }
+        ensures too_large { result ≡ Err BuildFault.TooLarge →
+            2 ^ 32 ≤ length (image_of self.paths self.entries) }
+        ensures other { IfErr result
+            (λ fault. (fault ≡ BuildFault.TooLarge) ⊎ (fault ≡ BuildFault.Memory)) }
+    {
+        self.finish_within(u32::MAX)
+    }
+
+    /// The index, unless it has more than a number of bytes.
+    pub(crate) fn finish_within(mut self, most: u32) -> Result<Vec<u8>, BuildFault>
+        ensures ok { IfOk result (λ index. index.items ≡ image_of self.paths self.entries) }
+        ensures within { IfOk result (λ index. length index.items ≤ most) }
+        ensures built { IsBuilt self }
+        ensures too_large { result ≡ Err BuildFault.TooLarge →
+            most < length (image_of self.paths self.entries) }
+        ensures other { IfErr result
+            (λ fault. (fault ≡ BuildFault.TooLarge) ⊎ (fault ≡ BuildFault.Memory)) }
+    {
+        let names = self.names.len() as u32;
+        move_waiting(&mut self.lists, &self.waiting, &mut self.moved, names)?;
+        let trigrams = self.lists.trigrams()?;
+        lay(
+            self.alloc,
+            &self.paths,
+            &self.names,
+            &self.lists,
+            &trigrams,
+            most,
+        )
+    }
+
+    /// Adds a name where there are fewer than a number of them.
+    pub(crate) fn add_within(
+        &mut self,
+        most: u32,
+        name: &str,
+        trigrams: &[u32],
+    ) -> Result<u32, BuildFault>
+        requires ascending { Ascends trigrams.now }
+        requires below { AllByRecursion (λ g. g < closing_trigram) trigrams.now }
+        requires few { most ≤ most_names }
+        ensures ok { OnOk result (self.new ≡ with_name self.old name.now trigrams.now) }
+        ensures id { IfOk result (λ id. id ≡ length self.old.entries) }
+        ensures bad_name { (result ≡ Err BuildFault.BadName) ↔ (is_storable name.now ≡ false) }
+        ensures out_of_order { (result ≡ Err BuildFault.OutOfOrder) ↔
+            IsOutOfOrder self.old name.now }
+        ensures too_large { (result ≡ Err BuildFault.TooLarge) ↔
+            IsOneTooMany most self.old name.now }
+        ensures other { IfErr result (λ fault. fault ≢ BuildFault.BadPaths) }
+        ensures err { OnErr result (self.new ≡ self.old) }
+    {
+        if !is_text(name) {
+            return Err(BuildFault::BadName);
+        }
+        if !self.names_are_below(name) {
+            return Err(BuildFault::OutOfOrder);
+        }
+        if self.len() >= most {
+            return Err(BuildFault::TooLarge);
+        }
+        Ok(self.add_above(name, trigrams)?)
+    }
+
+    /// How many names there are.
+    fn len(&self) -> u32
+        ensures { result ≡ length self.now.entries }
+    {
+        self.names.len() as u32
+    }
+
+    /// Whether a name is above the last one.
+    fn names_are_below(&self, name: &str) -> bool
+        ensures { result ≡ is_above (names_of self.now.entries) name.now }
+    {
+        self.names.is_below(name)
+    }
+
+    /// Adds a name that may stand in an index and is above the last one.
+    fn add_above(&mut self, name: &str, trigrams: &[u32]) -> Result<u32, AllocError>
+        requires ascending { Ascends trigrams.now }
+        requires below { AllByRecursion (λ g. g < closing_trigram) trigrams.now }
+        requires storable { is_storable name.now ≡ true }
+        requires above { is_above (names_of self.old.entries) name.now ≡ true }
+        requires few { length self.old.entries < most_names }
+        ensures ok { OnOk result (self.new ≡ with_name self.old name.now trigrams.now) }
+        ensures id { IfOk result (λ id. id ≡ length self.old.entries) }
+        ensures err { OnErr result (self.new ≡ self.old) }
+    {
+        let waiting = Vec::from_slice(self.alloc, trigrams)?;
+        let id = self.names.len() as u32;
+        move_waiting(&mut self.lists, &self.waiting, &mut self.moved, id)?;
+        self.names.push(name)?;
+        self.waiting = waiting;
+        self.moved = 0;
+        Ok(id)
+    }
+}
+
+/// The paths as strings in a row.
+fn strings_of(alloc: Global, paths: &[String]) -> Result<Strings, AllocError>
+    requires { are_paths (map string_bytes paths.now) ≡ true }
+    ensures texts { IfOk result (λ texts. texts ≡ map string_bytes paths.now) }
+    ensures each { IfOk result (AllByRecursion IsString) }
+{
+    let mut texts = Strings::new(alloc);
+    'paths: for path in paths {
+        texts.push(path.as_str())?;
+    }
+    Ok(texts)
+}

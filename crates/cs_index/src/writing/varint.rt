@@ -1,0 +1,23 @@
+// Varints.
+ghost use Rattle.std.specs.Prelude.{◌≡◌, ◌<◌, ◌^◌, ◌++◌, OnOk, OnErr, suc, ◌+◌};
+ghost use Rattle.cs_index.specs.Image.{varint, varint_within};
+
+use std::alloc::AllocError;
+
+/// Appends a number, in as few bytes as possible. A refusal leaves the bytes.
+pub(crate) fn push_varint(out: &mut Vec<u8>, n: u32) -> Result<(), AllocError>
+    ensures ok { OnOk result (out.new.items ≡ out.old.items ++ varint n) }
+    ensures err { OnErr result (out.new.items ≡ out.old.items) }
+{
+    let mut bytes = [0u8; 5];
+    let mut len = 0;
+    let mut rest = n;
+    'groups: while rest >= 128 && len < 4 {
+        bytes[len] = (rest % 128) as u8 + 128;
+        rest /= 128;
+        len += 1;
+    }
+    bytes[len] = rest as u8;
+    out.extend_from_slice(&bytes[..len + 1])?;
+    Ok(())
+}

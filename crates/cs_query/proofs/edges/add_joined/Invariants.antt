@@ -1,8 +1,0 @@
-use Rattle.std.proofs.Common.{◌⊎◌, ℕ, List, drop}
-use Rattle.cs_query.specs.Edges.{laid, Fits, FitsSome}
-use Rattle.cs_query.proofs.edges.add_joined.Given as goal
-
-abbrev pub invariant-loop-far : goal.invariant-loop-far
-invariant-loop-far l =
-    ((text : List ℕ) → FitsSome l.side l.fn.edges.items text → FitsSome l.side l.edges.items text)
-    × ((u v : List ℕ) → Fits l.side l.near u → FitsSome l.side l.fars v → FitsSome l.side l.edges.items (laid l.side u v) ⊎ FitsSome l.side (drop l.far-index l.fars) v)

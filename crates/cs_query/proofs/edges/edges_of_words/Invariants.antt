@@ -1,7 +1,0 @@
-use Rattle.std.proofs.Common.{◌⊎◌, ℕ, List, drop}
-use Rattle.cs_query.specs.Windows.{IsMember}
-use Rattle.cs_query.specs.Edges.{FitsSome}
-use Rattle.cs_query.proofs.edges.edges_of_words.Given as goal
-
-abbrev pub invariant-loop-word : goal.invariant-loop-word
-invariant-loop-word l = (text : List ℕ) → IsMember text l.words → FitsSome l.side l.edges.items text ⊎ IsMember text (drop l.word-index l.words)

@@ -1,7 +1,0 @@
-use Rattle.std.proofs.Common.{◌⊎◌, ℕ, List, drop}
-use Rattle.cs_query.specs.Edges.{laid, FitsSome}
-use Rattle.cs_query.proofs.edges.joined_edges.Given as goal
-
-abbrev pub invariant-loop-near : goal.invariant-loop-near
-invariant-loop-near l =
-    (u v : List ℕ) → FitsSome l.side l.nears u → FitsSome l.side l.fars v → FitsSome l.side l.edges.items (laid l.side u v) ⊎ FitsSome l.side (drop l.near-index l.nears) u

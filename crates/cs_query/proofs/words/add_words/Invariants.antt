@@ -1,6 +1,0 @@
-use Rattle.std.proofs.Common.{◌≡◌}
-use Rattle.cs_query.specs.Sample.{with_words}
-use Rattle.cs_query.proofs.words.add_words.Given as goal
-
-abbrev pub invariant-loop-word : goal.invariant-loop-word
-invariant-loop-word l = l.words.items ≡ with_words l.fn.words.items l.yielded

@@ -1,0 +1,97 @@
+-- Parts of a list, before and after a write behind them.
+use Rattle.std.proofs.Common.{◌≡◌, ℕ, ◌+◌, ◌-◌, ◌<◌, ◌≤◌, List, [], ◌++◌, length, take, drop, refl, sym, ap, subst, ◌∙◌, arith, length-take, length-drop, length-append, Result, Ok, Err, OnErr, IfOk, Option}
+use Rattle.cs_tree.specs.Transfers.{Loses, ReadGives}
+use Rattle.std.proofs.lemmas.List.{take_at, drop_at, take-append-drop, drop-drop, drop-take, take-append-le, drop-append-le}
+use Rattle.cs_tree.specs.declared.fault.IoFault.{IoFault}
+use Rattle.cs_tree.specs.Told.{Told}
+use Rattle.cs_tree.proofs.Growing.{take_on}
+use Rattle.cs_search.specs.Buffer.{Gains, pending}
+use Rattle.cs_search.specs.declared.buffer.LineBuffer.{LineBuffer}
+
+pub slice_skip : (bytes : List ℕ) (start end n : ℕ) → start + n ≤ end → take (end - (start + n)) (drop (start + n) bytes) ≡ drop n (take (end - start) (drop start bytes))
+slice_skip bytes start end n h =
+    ap (λ r. take (end - (start + n)) r) (sym (drop-drop n start bytes))
+    ∙ sym (drop-take n (end - (start + n)) (drop start bytes))
+    ∙ ap (λ i. drop n (take i (drop start bytes))) (omega arith)
+
+-- `more` was written behind `end`
+module _ (bytes more : List ℕ) (start end : ℕ) (rising : start ≤ end) (within : end ≤ length bytes) where
+  front_length : length (drop start (take end bytes)) ≡ end - start
+  front_length = omega (arith, length-drop start (take end bytes), length-take end bytes)
+
+  front_is : drop start (take end bytes) ≡ take (end - start) (drop start bytes)
+  front_is = ap (λ i. drop start (take i bytes)) (omega arith) ∙ drop-take start (end - start) bytes
+
+  pub slice_front : drop start (take end bytes ++ more) ≡ take (end - start) (drop start bytes) ++ more
+  slice_front = drop-append-le start (take end bytes) more (omega (arith, length-take end bytes)) ∙ ap (λ f. f ++ more) front_is
+
+  pub slice_size : length (take (end - start) (drop start bytes)) ≡ end - start
+  slice_size = ap length (sym front_is) ∙ front_length
+
+  pub slice_same : take (end - start) (drop start (take end bytes ++ more)) ≡ take (end - start) (drop start bytes)
+  slice_same = ap (λ r. take (end - start) r) slice_front ∙ take_at (take (end - start) (drop start bytes)) more (end - start) slice_size
+
+  pub slice_more : (n : ℕ) → take (end + n - start) (drop start (take end bytes ++ more)) ≡ take (end - start) (drop start bytes) ++ take n more
+  slice_more n =
+      ap (λ i. take i (drop start (take end bytes ++ more))) (omega arith)
+      ∙ take_on (end - start) n (drop start (take end bytes ++ more))
+      ∙ ap (λ f. f ++ take n (drop (end - start) (drop start (take end bytes ++ more)))) slice_same
+      ∙ ap (λ r. take (end - start) (drop start bytes) ++ take n r) (ap (λ r. drop (end - start) r) slice_front ∙ drop_at (take (end - start) (drop start bytes)) more (end - start) slice_size)
+
+-- what some bytes gain
+pub Gains-append : (old new more : List ℕ) (n : ℕ) → new ≡ old ++ more → length more ≡ n → Gains old new n
+Gains-append old new more n e size =
+    record {
+      front = ap (λ l. take (length old) l) e ∙ take_at old more (length old) refl;
+      size = ap length e ∙ length-append old more ∙ ap (λ k. length old + k) size;
+    }
+
+pub gained : (old new more : List ℕ) → new ≡ old ++ more → drop (length old) new ≡ more
+gained old new more e = ap (λ l. drop (length old) l) e ∙ drop_at old more (length old) refl
+
+-- what a `Vec` holds after a call that was lent it as a slice
+pub refilled : (n : ℕ) (items bytes : List ℕ) → length bytes ≡ n → take n (bytes ++ drop (length bytes) items) ≡ bytes
+refilled n items bytes e = take_at bytes (drop (length bytes) items) n e
+
+module _ (buffer : LineBuffer) (bytes : List ℕ) (before : take buffer.end bytes ≡ take buffer.end buffer.bytes.items) where
+  inside : buffer.end ≤ length buffer.bytes.items
+  inside = omega (arith, buffer.within, buffer.bytes.ok.0)
+
+  bytes_are : bytes ≡ take buffer.end buffer.bytes.items ++ drop buffer.end bytes
+  bytes_are = sym (take-append-drop buffer.end bytes) ∙ ap (λ f. f ++ drop buffer.end bytes) before
+
+  -- what is in a buffer after a write behind it
+  pub pending_more : (n : ℕ) → take (buffer.end + n - buffer.start) (drop buffer.start bytes) ≡ pending buffer ++ take n (drop buffer.end bytes)
+  unfolding pending
+  pending_more n =
+      ap (λ l. take (buffer.end + n - buffer.start) (drop buffer.start l)) bytes_are
+      ∙ slice_more buffer.bytes.items (drop buffer.end bytes) buffer.start buffer.end buffer.ordered inside n
+
+  pub pending_same : take (buffer.end - buffer.start) (drop buffer.start bytes) ≡ pending buffer
+  unfolding pending
+  pending_same =
+      ap (λ l. take (buffer.end - buffer.start) (drop buffer.start l)) bytes_are
+      ∙ slice_same buffer.bytes.items (drop buffer.end bytes) buffer.start buffer.end buffer.ordered inside
+
+pub pending_size : (buffer : LineBuffer) → length (pending buffer) + buffer.start ≡ buffer.end
+unfolding pending
+pending_size buffer =
+    let within : buffer.end ≤ length buffer.bytes.items = omega (arith, buffer.within, buffer.bytes.ok.0) in
+    let rising : buffer.start ≤ buffer.end = buffer.ordered in
+    omega (arith, slice_size buffer.bytes.items [] buffer.start buffer.end rising within)
+
+pub on_err_of : {A E P : Type 0} (answer : Result A E) → P → OnErr answer P
+on_err_of (Ok x) p = tt
+on_err_of (Err e) p = p
+
+-- a read into the front of some bytes
+pub Reads_front : (told later : Option Told) (answer : Result ℕ IoFault) (buf rest : List ℕ) → IfOk answer (λ n. n ≤ length buf) → 0 < length buf → ReadGives told later answer buf → ReadGives told later answer (buf ++ rest)
+Reads_front told later (Ok n) buf rest within some r =
+    (subst (Loses told later) (sym (take-append-le n buf rest within)) r.0, λ none room. r.1 none some)
+Reads_front told later (Err fault) buf rest within some r = r
+
+pub Gains-split : (old new : List ℕ) (n : ℕ) → Gains old new n → new ≡ old ++ drop (length old) new
+Gains-split old new n gains = sym (take-append-drop (length old) new) ∙ ap (λ f. f ++ drop (length old) new) gains.front
+
+pub Gains-size : (old new : List ℕ) (n : ℕ) → Gains old new n → length (drop (length old) new) ≡ n
+Gains-size old new n gains = omega (arith, length-drop (length old) new, gains.size)

@@ -1,0 +1,55 @@
+-- The parts of cgrep put together.
+use Rattle.std.proofs.Common.{◌≡◌, ℕ, Bool, true, false, List, [], refl, sym, ap, subst, ◌∙◌, append-nil, Option, Some, None, Err, ◌↔◌}
+use Rattle.std.specs.Prelude.{option_map, map, string_bytes}
+use Rattle.cs_syntax.specs.Matching.{Tree, Found}
+use Rattle.cs_syntax.specs.Reading.{Reads}
+use Rattle.cs_syntax.specs.Refusal.{IsRefused}
+use Rattle.cs_syntax.specs.declared.fault.PatternFault.{PatternFault}
+use Rattle.cs_syntax.specs.declared.fault.PatternFault.TheVariants as pattern
+use Rattle.cs_syntax.specs.declared.fault.PatternError.{PatternError}
+use Rattle.cs_match.specs.Finding.{Decides}
+use Rattle.cs_tree.specs.Told.{Told, Grows}
+use Rattle.cs_tree.specs.Snapshot.{Snapshot}
+use Rattle.cs_tree.proofs.Growing.{Grows-chain}
+use Rattle.cs_words.specs.declared.jobs.Tool.TheVariants.{Cgrep}
+use Rattle.cs_words.specs.declared.jobs.GrepJob.{GrepJob}
+use Rattle.cs_search.specs.declared.status.Status.{Status}
+use Rattle.cs_search.specs.Printed.{Printed, PrintsStatus, status_of, input_printed, file_printed, all_printed}
+use Rattle.cs_search.specs.Searcher.{Prints}
+use Rattle.cs_search.specs.Cgrep.{cgrep_printed, searched_by_cgrep, standard_name, PatternFirst}
+use Rattle.cs_words.specs.Faults.{pattern_fault, pattern_fault_at}
+
+module _ (most : ℕ) (job : GrepJob) (finds : List ℕ → Bool) (snapshot : Option Snapshot) (input : Option Told) where
+  pub cgrep_standard : job.standard ≡ true → cgrep_printed most job finds snapshot input ≡ option_map (input_printed most Cgrep job.style finds standard_name) input
+  unfolding cgrep_printed
+  cgrep_standard e = rw e refl
+
+  pub cgrep_files : job.standard ≡ false → cgrep_printed most job finds snapshot input ≡ option_map (λ (s : Snapshot). all_printed (file_printed most Cgrep job.style finds s) (map string_bytes job.files.items)) snapshot
+  unfolding cgrep_printed searched_by_cgrep
+  cgrep_files e = rw e refl
+
+-- a pattern that is refused
+pattern_refused_at : (text : List ℕ) (fold : Bool) (error : PatternError) (fault : PatternFault) → error.fault ≡ fault → IsRefused text fold error → PatternFirst {A = Status} text fold (Err (pattern_fault_at fault error))
+pattern_refused_at text fold error pattern.Memory is refused = tt
+pattern_refused_at text fold error fault is refused = (refused, λ memory. cc)
+
+pub pattern_refused : (text : List ℕ) (fold : Bool) (error : PatternError) → IsRefused text fold error → PatternFirst {A = Status} text fold (Err (pattern_fault error))
+pattern_refused text fold error refused = pattern_refused_at text fold error error.fault refl refused
+
+-- both outputs are flushed
+pub PrintsStatus-flushed : (printed : Option Printed) (out now later err err-now err-later : Option (List ℕ)) (matched : Bool) (status : Status) → Prints printed out now err err-now matched → Grows now later [] → Grows err-now err-later [] → status ≡ status_of matched → PrintsStatus printed out later err err-later status
+PrintsStatus-flushed None out now later err err-now err-later matched status p flushed flushed-err is = tt
+PrintsStatus-flushed (Some printed) out now later err err-now err-later matched status p flushed flushed-err is = (
+  subst (Grows out later) (append-nil printed.output) (Grows-chain out now later printed.output [] p.0 flushed),
+  subst (Grows err err-later) (append-nil printed.errors) (Grows-chain err err-now err-later printed.errors [] p.1 flushed-err),
+  is ∙ ap status_of p.2,
+)
+
+-- the tree that a text reads as
+pub read_once : (text : List ℕ) (fold : Bool) (t u : Tree) → Reads text fold t → Reads text fold u → t ≡ u
+read_once text fold t u r s = cc
+
+-- a test that decides what a pattern finds decides it of a program
+pub Decides-program : (finds : List ℕ → Bool) (read compiled wanted : Tree) → ((line : List ℕ) → Found compiled line ↔ Found read line) → read ≡ wanted → Decides finds wanted → Decides finds compiled
+Decides-program finds read compiled wanted same is decides =
+    λ line. let d = subst (λ (t : Tree). Decides finds t) (sym is) decides line in (λ h. (same line).1 (d.0 h), λ f. d.1 ((same line).0 f))

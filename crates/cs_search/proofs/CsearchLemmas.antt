@@ -1,0 +1,204 @@
+-- The parts of csearch put together.
+use Rattle.std.proofs.Common.{◌≡◌, ℕ, ◌+◌, ◌<◌, ◌≤◌, Bool, true, false, cond, List, [], ◌∷◌, ◌++◌, length, map, take, get_or, refl, sym, ap, subst, ◌∙◌, append_assoc, length-append, Option, Some, None, Err, inl, inr}
+use Rattle.cs_index.specs.Postings.{IsListFault}
+use Rattle.cs_index.specs.PostingLists.{set_at, entries_of}
+use Rattle.cs_trigram.specs.Trigram.{has}
+use Rattle.std.specs.Prelude.{filter, slice_get, option_map, string_bytes}
+use Rattle.std.specs.List.{filter_map, range_with_len, cons_option}
+use Rattle.std.proofs.lemmas.List.{take_more}
+use Rattle.std.proofs.lemmas.List.Elements.{filter-append, filter_map-append}
+use Rattle.cs_syntax.specs.Matching.{Tree}
+use Rattle.cs_syntax.specs.Reading.{Reads}
+use Rattle.cs_syntax.specs.Refusal.{IsRefused}
+use Rattle.cs_syntax.specs.Weight.{weight}
+use Rattle.cs_syntax.specs.declared.fault.PatternFault.{PatternFault}
+use Rattle.cs_syntax.specs.declared.fault.PatternFault.TheVariants as pattern
+use Rattle.cs_syntax.specs.declared.fault.PatternError.{PatternError}
+use Rattle.cs_tree.specs.Snapshot.{Snapshot}
+use Rattle.cs_index.specs.declared.fault.IndexFault.{IndexFault}
+use Rattle.cs_index.specs.declared.fault.IndexFault.TheVariants.{BadList}
+use Rattle.cs_words.specs.declared.jobs.Tool.TheVariants.{Csearch}
+use Rattle.cs_words.specs.declared.jobs.SearchJob.{SearchJob}
+use Rattle.cs_words.specs.declared.jobs.Style.{Style}
+use Rattle.cs_words.specs.declared.fault.ToolFault.{ToolFault}
+use Rattle.cs_words.specs.declared.fault.ToolFault.TheVariants.{FilePattern, NoIndex, BadIndex, Write, Memory}
+use Rattle.cs_words.specs.Faults.{pattern_fault, pattern_fault_at, index_fault}
+use Rattle.cs_trigram.specs.Query.{holds}
+use Rattle.cs_trigram.specs.declared.queries.Query.{Query}
+use Rattle.cs_index.specs.Image.{Entry, Posting}
+use Rattle.cs_index.specs.Opening.{Parts, lists_in, files_read}
+use Rattle.cs_index.specs.Candidates.{candidates_of, is_answerable}
+use Rattle.cs_search.specs.Refusals.{IsAccepted}
+use Rattle.cs_search.specs.Searcher.{IsSearchFault, Prints, IsPrinted}
+use Rattle.cs_search.specs.Csearch.{names_meeting, OpensWith, IsQueryOf, Asks, file_text, Keeps, csearch_printed, IsFileAccepted, AreAccepted, IsReady, RefusedInOrder}
+use Rattle.cs_search.specs.declared.status.Status.{Status}
+use Rattle.cs_search.proofs.CgrepLemmas.{read_once, Decides-program}
+use Rattle.cs_search.specs.IndexSearch.{FileRefused, OpenRefused, file_fault_at, file_pattern_fault, names_at, IsCompiled, DecidesNames}
+use Rattle.cs_search.specs.Printed.{Printed, file_printed, all_printed, then, nothing}
+use Rattle.cs_search.proofs.Printing.{Grows-same}
+use Rattle.cs_search.proofs.PrintedLemmas.{then_then, then_nothing}
+
+-- ---- the pattern of `-f` that is refused
+
+file_refused_at : (text : List ℕ) (error : PatternError) (fault : PatternFault) → error.fault ≡ fault → IsRefused text false error → FileRefused (Some text) (file_fault_at fault error)
+file_refused_at text error pattern.Memory is refused = tt
+file_refused_at text error fault is refused = (refused, λ memory. cc)
+
+pub file_refused : (text : List ℕ) (error : PatternError) → IsRefused text false error → FileRefused (Some text) (file_pattern_fault error)
+file_refused text error refused = file_refused_at text error error.fault refl refused
+
+-- ---- names, one after another
+
+pub all_append : (printed : List ℕ → Printed) (xs ys : List (List ℕ)) → all_printed printed (xs ++ ys) ≡ then (all_printed printed xs) (all_printed printed ys)
+unfolding all_printed
+all_append printed [] ys = refl
+all_append printed (name ∷ xs) ys =
+    ap (λ (rest : Printed). then (printed name) rest) (all_append printed xs ys)
+    ∙ then_then (printed name) (all_printed printed xs) (all_printed printed ys)
+
+module _ (printed : List ℕ → Printed) (keeps : List ℕ → Bool) (names : List (List ℕ)) where
+  pub chosen_more : (ids : List ℕ) (at : ℕ) → at < length ids →
+      all_printed printed (filter keeps (names_at names (take (at + 1) ids)))
+      ≡ then (all_printed printed (filter keeps (names_at names (take at ids)))) (all_printed printed (filter keeps (names_at names (get_or ids at 0 ∷ []))))
+  unfolding names_at
+  chosen_more ids at low =
+      ap (λ (l : List ℕ). all_printed printed (filter keeps (filter_map (slice_get names) l))) (take_more ids at 0 low)
+      ∙ ap (λ (l : List (List ℕ)). all_printed printed (filter keeps l)) (filter_map-append (slice_get names) (take at ids) (get_or ids at 0 ∷ []))
+      ∙ ap (all_printed printed) (filter-append keeps (filter_map (slice_get names) (take at ids)) (filter_map (slice_get names) (get_or ids at 0 ∷ [])))
+      ∙ all_append printed (filter keeps (filter_map (slice_get names) (take at ids))) (filter keeps (filter_map (slice_get names) (get_or ids at 0 ∷ [])))
+
+  pub none_at : (id : ℕ) → slice_get names id ≡ None → all_printed printed (filter keeps (names_at names (id ∷ []))) ≡ nothing
+  unfolding names_at all_printed
+  none_at id e = ap (λ (o : Option (List ℕ)). all_printed printed (filter keeps (cons_option o []))) e
+
+  module _ (id : ℕ) (name : List ℕ) (there : slice_get names id ≡ Some name) where
+    one_at : all_printed printed (filter keeps (names_at names (id ∷ []))) ≡ all_printed printed (filter keeps (name ∷ []))
+    unfolding names_at
+    one_at = ap (λ (o : Option (List ℕ)). all_printed printed (filter keeps (cons_option o []))) there
+
+    pub left_out_at : keeps name ≡ false → all_printed printed (filter keeps (names_at names (id ∷ []))) ≡ nothing
+    unfolding all_printed
+    left_out_at e = one_at ∙ ap (λ t. all_printed printed (cond t (name ∷ []) [])) e
+
+    pub kept_at : keeps name ≡ true → all_printed printed (filter keeps (names_at names (id ∷ []))) ≡ printed name
+    unfolding all_printed
+    kept_at e = one_at ∙ ap (λ t. all_printed printed (cond t (name ∷ []) [])) e ∙ then_nothing (printed name)
+
+-- ---- the names of the candidates
+
+slice_get_at : (before : List (List ℕ)) (name : List ℕ) (after : List (List ℕ)) → slice_get (before ++ name ∷ after) (length before) ≡ Some name
+slice_get_at [] name after = refl
+slice_get_at (b ∷ before) name after = slice_get_at before name after
+
+module _ (query : Query) (lists : List Posting) where
+  -- the names from an id on
+  asked_from : (before names : List (List ℕ)) →
+      filter_map (slice_get (before ++ names)) (filter (λ id. holds query (λ g. has (set_at id lists) g)) (range_with_len (length before) (length names)))
+      ≡ map (λ (e : Entry). e.0) (filter (λ (e : Entry). holds query (has e.1)) (entries_of (length before) names lists))
+  asked_from before [] = refl
+  asked_from before (name ∷ names) =
+      let moved : (before ++ name ∷ []) ++ names ≡ before ++ name ∷ names = append_assoc before (name ∷ []) names in
+      let next : length (before ++ name ∷ []) ≡ length before + 1 = length-append before (name ∷ []) in
+      let rest = asked_from (before ++ name ∷ []) names in
+      let later = λ (all : List (List ℕ)) (n : ℕ). filter_map (slice_get all) (filter (λ id. holds query (λ g. has (set_at id lists) g)) (range_with_len n (length names))) in
+      let entries = λ (n : ℕ). map (λ (e : Entry). e.0) (filter (λ (e : Entry). holds query (has e.1)) (entries_of n names lists)) in
+      let more : later (before ++ name ∷ names) (length before + 1) ≡ entries (length before + 1) = sym (λ i. later (moved i) (next i)) ∙ rest ∙ ap entries next in
+      elim (holds query (has (set_at (length before) lists))) as (λ t.
+      filter_map (slice_get (before ++ name ∷ names)) (cond t (length before ∷ filter (λ id. holds query (λ g. has (set_at id lists) g)) (range_with_len (length before + 1) (length names))) (filter (λ id. holds query (λ g. has (set_at id lists) g)) (range_with_len (length before + 1) (length names))))
+      ≡ map (λ (e : Entry). e.0) (cond t ((name, set_at (length before) lists) ∷ filter (λ (e : Entry). holds query (has e.1)) (entries_of (length before + 1) names lists)) (filter (λ (e : Entry). holds query (has e.1)) (entries_of (length before + 1) names lists)))) [
+        | true ↦ ap (λ (o : Option (List ℕ)). cons_option o (later (before ++ name ∷ names) (length before + 1))) (slice_get_at before name names) ∙ ap (λ (l : List (List ℕ)). name ∷ l) more
+        | false ↦ more
+      ]
+
+pub candidates_named : (parts : Parts) (query : Query) → names_at parts.names (candidates_of parts query) ≡ names_meeting query (files_read parts)
+unfolding names_at candidates_of names_meeting
+candidates_named parts query = asked_from query (lists_in parts) [] parts.names
+
+-- the names of all files
+pub names_of_files : (first : ℕ) (names : List (List ℕ)) (lists : List Posting) → map (λ (e : Entry). e.0) (entries_of first names lists) ≡ names
+names_of_files first [] lists = refl
+names_of_files first (name ∷ names) lists = ap (λ (l : List (List ℕ)). name ∷ l) (names_of_files (first + 1) names lists)
+
+pub right_query : (brute : Bool) (query : Query) (text : List ℕ) (fold : Bool) (read : Tree) → Reads text fold read → IsQueryOf brute read query → (pattern : Tree) → Reads text fold pattern → IsQueryOf brute pattern query
+right_query brute query text fold read reads right pattern wanted = subst (λ (t : Tree). IsQueryOf brute t query) (read_once text fold read pattern reads wanted) right
+
+-- ---- refusals, in their order
+
+accepted_file : (text : Option (List ℕ)) (program : Option Tree) → IsCompiled text program → IsFileAccepted text
+accepted_file None None is = tt
+accepted_file (Some text) (Some program) is = (is.0, is.1, is.2)
+accepted_file None (Some program) is = absurd is
+accepted_file (Some text) None is = absurd is
+
+-- What is known after both patterns, the index and the query.
+module _ (job : SearchJob) (index : Option (List ℕ)) (text : List ℕ) (same : text ≡ string_bytes job.pattern) (pattern : Tree) (read : Reads text job.fold pattern) where
+  pub reads_job : Reads (string_bytes job.pattern) job.fold pattern
+  reads_job = subst (λ (t : List ℕ). Reads t job.fold pattern) same read
+
+  pub accepted_both : weight pattern ≤ 10000 → (program : Option Tree) → IsCompiled (file_text job) program → AreAccepted job
+  accepted_both light program is = ((pattern, reads_job, light), accepted_file (file_text job) program is)
+
+  abbrev pub asked : (parts : Parts) → OpensWith index parts → (query : Query) → IsQueryOf job.brute pattern query → Asks job index
+  asked parts opens query right = record { parts = parts; opens = opens; query = query; is_right = right_query job.brute query (string_bytes job.pattern) job.fold pattern reads_job right }
+
+module _ (job : SearchJob) (index : Option (List ℕ)) where
+  pattern_first_at : (error : PatternError) (fault : PatternFault) → error.fault ≡ fault → IsRefused (string_bytes job.pattern) job.fold error → RefusedInOrder {A = Status} job index (Err (pattern_fault_at fault error))
+  pattern_first_at error pattern.Memory is refused = tt
+  pattern_first_at error fault is refused = (refused, λ memory. cc)
+
+  pub pattern_first : (error : PatternError) → IsRefused (string_bytes job.pattern) job.fold error → RefusedInOrder {A = Status} job index (Err (pattern_fault error))
+  pattern_first error refused = pattern_first_at error error.fault refl refused
+
+  pub file_second : (fault : ToolFault) → IsAccepted (string_bytes job.pattern) job.fold → FileRefused (file_text job) fault → RefusedInOrder {A = Status} job index (Err fault)
+  file_second (FilePattern error) accepted refused = (accepted, refused)
+  file_second Memory accepted refused = tt
+  file_second fault accepted refused = absurd refused
+
+  pub open_third : (fault : ToolFault) → AreAccepted job → OpenRefused index fault → RefusedInOrder {A = Status} job index (Err fault)
+  open_third fault accepted refused = by_index index fault accepted refused
+    where
+      by_index : (index : Option (List ℕ)) (fault : ToolFault) → AreAccepted job → OpenRefused index fault → RefusedInOrder {A = Status} job index (Err fault)
+      by_index None NoIndex accepted refused = (accepted, refl)
+      by_index None fault accepted refused = absurd refused
+      by_index (Some bytes) (BadIndex fault) accepted refused = (accepted, inl refused)
+      by_index (Some bytes) Memory accepted refused = tt
+      by_index (Some bytes) fault accepted refused = absurd refused
+
+  bad_list : (bytes : Option (List ℕ)) → AreAccepted job → (asks : Asks job bytes) → is_answerable asks.parts asks.query ≡ false → RefusedInOrder {A = Status} job bytes (Err (BadIndex BadList))
+  bad_list None accepted asks damaged = absurd asks.opens
+  bad_list (Some bytes) accepted asks damaged = (accepted, inr (refl, (asks, damaged)))
+
+  pub lists_fourth : (fault : IndexFault) → AreAccepted job → (asks : Asks job index) → IsListFault (is_answerable asks.parts asks.query) fault → RefusedInOrder {A = Status} job index (Err (index_fault fault))
+  lists_fourth fault accepted asks (inl bad) = subst (λ (f : IndexFault). RefusedInOrder {A = Status} job index (Err (index_fault f))) (sym bad.0) (bad_list index accepted asks bad.1)
+  lists_fourth fault accepted asks (inr memory) = subst (λ (f : IndexFault). RefusedInOrder {A = Status} job index (Err (index_fault f))) (sym memory) tt
+
+  pub search_last : (fault : ToolFault) → AreAccepted job → IsReady job index → IsSearchFault {A = Status} (Err fault) → RefusedInOrder {A = Status} job index (Err fault)
+  search_last Write accepted ready is = (accepted, ready)
+  search_last Memory accepted ready is = tt
+  search_last fault accepted ready is = absurd is
+
+-- ---- what is chosen
+
+pub names_decided : (text : Option (List ℕ)) (program : Option Tree) (keeps : List ℕ → Bool) → IsCompiled text program → Keeps text keeps → DecidesNames keeps program
+names_decided None None keeps is names = names
+names_decided (Some text) (Some program) keeps is names =
+    Decides-program keeps is.0 program names.0 is.3 (read_once text false is.0 names.0 is.1 names.1) names.2
+names_decided None (Some program) keeps is names = absurd is
+names_decided (Some text) None keeps is names = absurd is
+
+pub chosen : (most : ℕ) (style : Style) (finds keeps : List ℕ → Bool) (parts : Parts) (query : Query) (tree : Option Snapshot) (ids : List ℕ) → ids ≡ candidates_of parts query →
+    option_map (λ (s : Snapshot). all_printed (file_printed most Csearch style finds s) (filter keeps (names_at parts.names ids))) tree ≡ csearch_printed most style finds keeps parts query tree
+unfolding csearch_printed
+chosen most style finds keeps parts query tree ids is =
+    ap (λ (names : List (List ℕ)). option_map (λ (s : Snapshot). all_printed (file_printed most Csearch style finds s) (filter keeps names)) tree)
+    (ap (names_at parts.names) is ∙ candidates_named parts query)
+
+-- ---- what was printed of a name
+
+pub Prints-nothing : (tree : Option Snapshot) (printed : Snapshot → Printed) (out err : Option (List ℕ)) → ((s : Snapshot) → printed s ≡ nothing) → Prints (option_map printed tree) out out err err false
+Prints-nothing None printed out err is = tt
+Prints-nothing (Some s) printed out err is = subst (λ (p : Printed). IsPrinted p out out err err false) (sym (is s)) (Grows-same out, Grows-same err, refl)
+
+pub Prints-as : (tree : Option Snapshot) (printed wanted : Snapshot → Printed) (out out' err err' : Option (List ℕ)) (matched : Bool) → ((s : Snapshot) → wanted s ≡ printed s) → Prints (option_map printed tree) out out' err err' matched → Prints (option_map wanted tree) out out' err err' matched
+Prints-as None printed wanted out out' err err' matched is p = tt
+Prints-as (Some s) printed wanted out out' err err' matched is p = subst (λ (x : Printed). IsPrinted x out out' err err' matched) (sym (is s)) p

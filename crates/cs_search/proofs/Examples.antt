@@ -1,0 +1,74 @@
+-- Worked rows of lines and reports, computed.
+use Rattle.std.proofs.Common.{◌≡◌, ℕ, Bool, true, false, List, [], ◌∷◌, Some, None, refl, codes}
+use Rattle.std.specs.Str.{bytes_eq}
+use Rattle.std.specs.Fmt.{digits}
+use Rattle.cs_words.specs.declared.jobs.Style.{Style}
+use Rattle.cs_search.specs.declared.grep_fault.ReadFault.{ReadFault}
+use Rattle.cs_search.specs.declared.grep_fault.ReadFault.TheVariants.{Read}
+use Rattle.cs_search.specs.Lines.{lines, ended_lines}
+use Rattle.cs_search.specs.Report.{report, printed, hits_from, hit_line, name_line, count_line}
+
+lines_of_two : lines (codes "ab\ncd\n") ≡ codes "ab" ∷ codes "cd" ∷ []
+unfolding lines
+lines_of_two = refl
+
+last_without_newline : lines (codes "ab\n\ncd") ≡ codes "ab" ∷ [] ∷ codes "cd" ∷ []
+unfolding lines
+last_without_newline = refl
+
+carriage_return_stays : lines (codes "a\r\n") ≡ codes "a\r" ∷ []
+unfolding lines
+carriage_return_stays = refl
+
+no_line_of_nothing : lines [] ≡ []
+unfolding lines
+no_line_of_nothing = refl
+
+unfinished_is_no_ended_line : ended_lines (codes "one\ntwo\non") ≡ codes "one" ∷ codes "two" ∷ []
+unfolding ended_lines
+unfinished_is_no_ended_line = refl
+
+-- ---- reports, where a line matches that is `one`
+
+one : List ℕ → Bool
+one line = bytes_eq line (codes "one")
+
+plain : Style
+plain = record { count = false; list = false; number = false; bare = false }
+
+counted : Style
+counted = record { count = true; list = false; number = false; bare = false }
+
+listed : Style
+listed = record { count = true; list = true; number = false; bare = false }
+
+numbered : Style
+numbered = record { count = false; list = false; number = true; bare = true }
+
+numbers_without_names : (report {Fault = ReadFault} numbered (codes "/t/p") one (codes "one\ntwo\none\n") None).output ≡ codes "1:one\n3:one\n"
+unfolding one numbered report printed hits_from hit_line lines digits
+numbers_without_names = refl
+
+count_of_two : (report {Fault = ReadFault} counted (codes "/t/p") one (codes "one\ntwo\none\n") None).output ≡ codes "/t/p: 2\n"
+unfolding one counted report printed hits_from count_line lines digits
+count_of_two = refl
+
+list_before_count : (report {Fault = ReadFault} listed (codes "/t/p") one (codes "one\ntwo\none\n") None).output ≡ codes "/t/p\n"
+unfolding one listed report printed hits_from name_line lines
+list_before_count = refl
+
+added_newline : (report {Fault = ReadFault} plain (codes "t") one (codes "two\none") None).output ≡ codes "t:one\n"
+unfolding one plain report printed hits_from hit_line lines
+added_newline = refl
+
+no_count_of_a_failed_input : (report counted (codes "/t/c") one (codes "one\ntwo\non") (Some Read)).output ≡ []
+unfolding one counted report printed hits_from count_line ended_lines
+no_count_of_a_failed_input = refl
+
+fault_of_a_failed_input : (report counted (codes "/t/c") one (codes "one\ntwo\non") (Some Read)).fault ≡ Some Read
+unfolding one counted report printed hits_from count_line ended_lines
+fault_of_a_failed_input = refl
+
+no_fault_after_a_listed_hit : (report listed (codes "/t/c") one (codes "one\ntwo\non") (Some Read)).fault ≡ None
+unfolding one listed report printed hits_from name_line ended_lines
+no_fault_after_a_listed_hit = refl

@@ -1,0 +1,16 @@
+mod Examples
+pub mod AgreementLemmas
+pub mod BlockLemmas
+pub mod BufferLemmas
+pub mod CgrepLemmas
+pub mod CsearchLemmas
+pub mod LinesLemmas
+pub mod NewlineLemmas
+pub mod HitLemmas
+pub mod Printing
+pub mod PromiseLemmas
+pub mod ProgressLemmas
+pub mod ReportLemmas
+pub mod ReportedLemmas
+pub mod PrintedLemmas
+pub mod TestedLemmas

@@ -1,0 +1,114 @@
+-- Lines of a text that comes in pieces.
+use Rattle.std.proofs.Common.{◌≡◌, ℕ, suc, ◌+◌, ◌<◌, ◌≤◌, Bool, true, false, cond, nat_eq, List, [], ◌∷◌, ◌++◌, length, get_or, refl, sym, ap, ◌∙◌, arith}
+use Rattle.cs_tree.specs.Pieces.{onto_first}
+use Rattle.cs_search.specs.Lines.{newline, lines, ended_lines, with_byte_in_line, IsPart}
+use Rattle.cs_search.specs.Unended.{unended, unless_ended, last_line}
+
+module _ (x : ℕ) (b : List ℕ) where
+  ended-step : (t : Bool) → nat_eq x newline ≡ t → (ls : List (List ℕ)) (rest : List ℕ) (whole : List (List ℕ)) → whole ≡ ls ++ ended_lines (rest ++ b) → cond t ([] ∷ whole) (with_byte_in_line x whole) ≡ cond t ([] ∷ ls) (with_byte_in_line x ls) ++ ended_lines (cond t rest (unless_ended x ls rest) ++ b)
+  unfolding ended_lines
+  ended-step true e ls rest whole h = ap (λ (w : List (List ℕ)). [] ∷ w) h
+  ended-step false e [] rest whole h = rw (e, h) refl
+  ended-step false e (l ∷ ls) rest whole h = rw h refl
+
+  unended-step : (t : Bool) → nat_eq x newline ≡ t → (ls : List (List ℕ)) (rest : List ℕ) (whole : List (List ℕ)) (left : List ℕ) → whole ≡ ls ++ ended_lines (rest ++ b) → left ≡ unended (rest ++ b) → cond t left (unless_ended x whole left) ≡ unended (cond t rest (unless_ended x ls rest) ++ b)
+  unfolding unended
+  unended-step true e ls rest whole left h k = k
+  unended-step false e [] rest whole left h k = rw (e, h, k) refl
+  unended-step false e (l ∷ ls) rest whole left h k = rw h k
+
+-- the lines of a text and more, from its lines and its rest
+pub ended_lines-append : (a b : List ℕ) → ended_lines (a ++ b) ≡ ended_lines a ++ ended_lines (unended a ++ b)
+unfolding ended_lines unended
+ended_lines-append [] b = refl
+ended_lines-append (x ∷ a) b = ended-step x b (nat_eq x newline) refl (ended_lines a) (unended a) (ended_lines (a ++ b)) (ended_lines-append a b)
+
+pub unended-append : (a b : List ℕ) → unended (a ++ b) ≡ unended (unended a ++ b)
+unfolding ended_lines unended
+unended-append [] b = refl
+unended-append (x ∷ a) b = unended-step x b (nat_eq x newline) refl (ended_lines a) (unended a) (ended_lines (a ++ b)) (unended (a ++ b)) (ended_lines-append a b) (unended-append a b)
+
+-- a part without a newline has no line that has ended
+pub ended_lines-part : (part : List ℕ) → IsPart part → ended_lines part ≡ []
+unfolding ended_lines
+ended_lines-part [] p = refl
+ended_lines-part (x ∷ part) p = rw (p.0, ended_lines-part part p.1) refl
+
+pub unended-part : (part : List ℕ) → IsPart part → unended part ≡ part
+unfolding unended
+unended-part [] p = refl
+unended-part (x ∷ part) p = rw (p.0, ended_lines-part part p.1, unended-part part p.1) refl
+
+-- a part, a newline, and more
+pub ended_lines-line : (part more : List ℕ) → IsPart part → ended_lines (part ++ newline ∷ more) ≡ part ∷ ended_lines more
+unfolding ended_lines
+ended_lines-line [] more p = refl
+ended_lines-line (x ∷ part) more p = rw (p.0, ended_lines-line part more p.1) refl
+
+pub unended-line : (part more : List ℕ) → IsPart part → unended (part ++ newline ∷ more) ≡ unended more
+unfolding unended
+unended-line [] more p = refl
+unended-line (x ∷ part) more p = rw (p.0, ended_lines-line part more p.1, unended-line part more p.1) refl
+
+lines-step : (x : ℕ) (ls : List (List ℕ)) (rest : List ℕ) → onto_first x (ls ++ last_line rest) ≡ with_byte_in_line x ls ++ last_line (unless_ended x ls rest)
+lines-step x [] [] = refl
+lines-step x [] (b ∷ rest) = refl
+lines-step x (l ∷ ls) rest = refl
+
+lines-both : (x : ℕ) (t : Bool) (ls all : List (List ℕ)) (rest : List ℕ) → all ≡ ls ++ last_line rest → cond t ([] ∷ all) (onto_first x all) ≡ cond t ([] ∷ ls) (with_byte_in_line x ls) ++ last_line (cond t rest (unless_ended x ls rest))
+lines-both x true ls all rest h = ap (λ (w : List (List ℕ)). [] ∷ w) h
+lines-both x false ls all rest h = rw h (lines-step x ls rest)
+
+-- all lines are those that have ended, and the rest
+pub lines-split : (a : List ℕ) → lines a ≡ ended_lines a ++ last_line (unended a)
+unfolding lines ended_lines unended
+lines-split [] = refl
+lines-split (x ∷ a) = lines-both x (nat_eq x newline) (ended_lines a) (lines a) (unended a) (lines-split a)
+
+-- what follows a newline has no newline
+part-step : (x : ℕ) (t : Bool) → nat_eq x newline ≡ t → (ls : List (List ℕ)) (rest : List ℕ) → IsPart rest → IsPart (cond t rest (unless_ended x ls rest))
+part-step x true e ls rest p = p
+part-step x false e [] rest p = (e, p)
+part-step x false e (l ∷ ls) rest p = p
+
+pub IsPart-unended : (a : List ℕ) → IsPart (unended a)
+unfolding unended
+IsPart-unended [] = tt
+IsPart-unended (x ∷ a) = part-step x (nat_eq x newline) refl (ended_lines a) (unended a) (IsPart-unended a)
+
+-- each line that has ended took a byte at least
+count-step : (x : ℕ) (t : Bool) (ls : List (List ℕ)) (rest : List ℕ) (n : ℕ) → length ls + length rest ≤ n → length (cond t ([] ∷ ls) (with_byte_in_line x ls)) + length (cond t rest (unless_ended x ls rest)) ≤ n + 1
+count-step x true ls rest n h = omega arith
+count-step x false [] rest n h = omega arith
+count-step x false (l ∷ ls) rest n h = omega arith
+
+pub lines_within : (a : List ℕ) → length (ended_lines a) + length (unended a) ≤ length a
+unfolding ended_lines unended
+lines_within [] = omega arith
+lines_within (x ∷ a) = let h = count-step x (nat_eq x newline) (ended_lines a) (unended a) (length a) (lines_within a) in omega arith
+
+-- a text that a search for newlines found none in
+pub IsPart-searched : (a : List ℕ) → ((k : ℕ) → k < length a → nat_eq (get_or a k 0) newline ≡ true → ⊥) → IsPart a
+IsPart-searched [] h = tt
+IsPart-searched (x ∷ a) h = (elim (nat_eq x newline) as (λ t. nat_eq x newline ≡ t → t ≡ false) [ true ↦ λ e. absurd (h 0 (omega arith) e) | false ↦ λ e. refl ] refl, IsPart-searched a (λ k low. h (suc k) (omega arith)))
+
+pub IsPart-append : (a b : List ℕ) → IsPart a → IsPart b → IsPart (a ++ b)
+IsPart-append [] b p q = q
+IsPart-append (x ∷ a) b p q = (p.0, IsPart-append a b p.1 q)
+
+pub lines-line : (part more : List ℕ) → IsPart part → lines (part ++ newline ∷ more) ≡ part ∷ lines more
+lines-line part more p =
+    lines-split (part ++ newline ∷ more)
+    ∙ ap (λ ls. ls ++ last_line (unended (part ++ newline ∷ more))) (ended_lines-line part more p)
+    ∙ ap (λ rest. part ∷ (ended_lines more ++ last_line rest)) (unended-line part more p)
+    ∙ ap (λ (ls : List (List ℕ)). part ∷ ls) (sym (lines-split more))
+
+pub lines-last : (b : ℕ) (part : List ℕ) → IsPart (b ∷ part) → lines (b ∷ part) ≡ (b ∷ part) ∷ []
+lines-last b part p =
+    lines-split (b ∷ part)
+    ∙ ap (λ ls. ls ++ last_line (unended (b ∷ part))) (ended_lines-part (b ∷ part) p)
+    ∙ ap last_line (unended-part (b ∷ part) p)
+
+pub lines-none : lines [] ≡ []
+unfolding lines
+lines-none = refl

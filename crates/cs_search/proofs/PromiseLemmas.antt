@@ -1,0 +1,124 @@
+-- csearch prints what cgrep does where the files still read as they were indexed, and so where jobs left the index.
+use Rattle.std.proofs.Common.{◌≡◌, ℕ, ◌<◌, ◌^◌, List, length, refl, sym, ap, subst, ◌∙◌, Bool, true, false, Option, Some, None, Ok}
+use Rattle.cs_index.specs.Roundtrip.{parts_written, Has}
+use Rattle.std.specs.Prelude.{filter}
+use Rattle.std.specs.List.{AllByRecursion}
+use Rattle.std.specs.FinMap as map'
+use Rattle.cs_tree.specs.PathSet as set
+use Rattle.cs_syntax.specs.Matching.{Tree}
+use Rattle.cs_tree.specs.Snapshot.{Snapshot, item_at}
+use Rattle.cs_tree.specs.Reached.{read_item}
+use Rattle.cs_trigram.specs.Text.{text_trigrams, limits}
+use Rattle.cs_trigram.specs.declared.queries.Query.{Query, Query-F, fold-roll-Query}
+use Rattle.cs_trigram.specs.declared.queries.Query.TheVariants.{rolls-All}
+use Rattle.cs_trigram.specs.Query.{holds, holds_step}
+use Rattle.cs_trigram.specs.Query.{LosesNoLine}
+use Rattle.cs_index.specs.Image.{image, image_of}
+use Rattle.cs_index.specs.Opening.{Parts, opening, files_read, lists_in}
+use Rattle.cs_index.proofs.WrittenLemmas.{image_opens, image_has}
+use Rattle.cs_merge.proofs.ContentLemmas.{content_indexable, ascending_sets, each_of_map}
+use Rattle.cs_history.specs.History.{History, index_of, paths_of, files_of}
+use Rattle.cs_history.specs.Jobs.{snapshot_told}
+use Rattle.cs_history.specs.Headline.{IsShort, StillReads, indexed_names, SearchesLikeGrep}
+use Rattle.cs_history.specs.WellFormed.{IsHistory}
+use Rattle.cs_history.proofs.HistoryLemmas.{history_content, index_is}
+use Rattle.cs_words.specs.declared.jobs.Tool.TheVariants.{Csearch, Cgrep}
+use Rattle.cs_words.specs.declared.jobs.SearchJob.{SearchJob}
+use Rattle.cs_search.specs.declared.report.TheConstants.{MOST_SEARCHED}
+use Rattle.cs_search.specs.Cgrep.{searched_by_cgrep}
+use Rattle.cs_search.specs.Csearch.{OpensWith, IsQueryOf, Asks, Seeks, ReadsAs, Agrees, names_meeting, csearch_printed, PrintsAsked, PrintsLikeCgrep, PrintsAsPromised}
+use Rattle.cs_search.specs.Printed.{Printed, all_printed, file_printed}
+use Rattle.cs_search.proofs.AgreementLemmas.{search_alike}
+use Rattle.cs_search.proofs.CsearchLemmas.{names_of_files}
+
+-- by `-brute` too no line is lost
+loses : (brute : Bool) (pattern : Tree) (query : Query) → IsQueryOf brute pattern query → LosesNoLine query pattern
+loses true pattern query all = λ line set found has. ap (λ (q : Query). holds q set) (all ∙ sym rolls-All) ∙ fold-roll-Query Bool (holds_step set) Query-F.All
+loses false pattern query right = right.0
+
+-- bytes open in one way
+opens_once : (index : Option (List ℕ)) (a b : Parts) → OpensWith index a → OpensWith index b → a ≡ b
+opens_once None a b x y = absurd x
+opens_once (Some bytes) a b x y = cc
+
+module _ (job : SearchJob) (index : Option (List ℕ)) (finds keeps : List ℕ → Bool) (asks : Asks job index) (tests : Seeks job finds keeps) (tree : Snapshot) where
+  -- the search by the index, and that by cgrep
+  alike : Agrees asks.parts tree → all_printed (file_printed MOST_SEARCHED Csearch job.style finds tree) (filter keeps (names_meeting asks.query (files_read asks.parts))) ≡ searched_by_cgrep MOST_SEARCHED job.style finds tree (filter keeps asks.parts.names)
+  unfolding names_meeting searched_by_cgrep
+  alike agrees =
+      search_alike job.style finds keeps tree asks.query tests.pattern (loses job.brute tests.pattern asks.query (asks.is_right tests.pattern tests.reads)) tests.decides Csearch Cgrep (files_read asks.parts) agrees
+      ∙ ap (λ (names : List (List ℕ)). all_printed (file_printed MOST_SEARCHED Cgrep job.style finds tree) (filter keeps names)) (names_of_files 0 asks.parts.names (lists_in asks.parts))
+
+module _ (job : SearchJob) (index : Option (List ℕ)) (tree : Option Snapshot) (Prints : Option Printed → Type 0) (by_index : PrintsAsked MOST_SEARCHED job index tree Prints) where
+  -- what was printed, where the tree tells its snapshot
+  told_printed : (snapshot : Snapshot) (finds keeps : List ℕ → Bool) → tree ≡ Some snapshot → Seeks job finds keeps → Prints (Some (all_printed (file_printed MOST_SEARCHED Csearch job.style finds snapshot) (filter keeps (names_meeting by_index.0.query (files_read by_index.0.parts)))))
+  unfolding csearch_printed
+  told_printed snapshot finds keeps is tests =
+      subst (λ (t : Option Snapshot). Prints (csearch_printed MOST_SEARCHED job.style finds keeps by_index.0.parts by_index.0.query t)) is (by_index.2 finds keeps tests)
+
+  pub like_cgrep : PrintsLikeCgrep MOST_SEARCHED job index tree Prints
+  like_cgrep parts snapshot finds keeps opens is agrees tests =
+      let asks = by_index.0 in
+      let same : parts ≡ asks.parts = opens_once index parts asks.parts opens asks.opens in
+      let there : Agrees asks.parts snapshot = subst (λ (p : Parts). Agrees p snapshot) same agrees in
+      subst Prints (ap (λ (p : Printed). Some p) (alike job index finds keeps asks tests snapshot there ∙ ap (λ (p : Parts). searched_by_cgrep MOST_SEARCHED job.style finds snapshot (filter keeps p.names)) (sym same))) (told_printed snapshot finds keeps is tests)
+
+-- ---- an index that jobs left
+
+module _ (history : History) (bytes : List ℕ) (is : IsHistory history) (left : index_of history ≡ Some bytes) (short : length bytes < 2 ^ 32) where
+  written : Parts
+  written = parts_written (set.items (paths_of history)) (map'.entries (files_of history))
+
+  there : image_of (set.items (paths_of history)) (map'.entries (files_of history)) ≡ bytes
+  unfolding image
+  there = index_is history bytes left
+
+  opens_so : opening bytes ≡ Ok written
+  unfolding written
+  opens_so =
+      let small = subst (λ (b : List ℕ). length b < 2 ^ 32) (sym there) short in
+      ap opening (sym there) ∙ image_opens (set.items (paths_of history)) (map'.entries (files_of history)) (content_indexable (paths_of history) (files_of history) (history_content history is) small)
+
+  has_so : Has written (set.items (paths_of history)) (map'.entries (files_of history))
+  unfolding written
+  has_so =
+      let small = subst (λ (b : List ℕ). length b < 2 ^ 32) (sym there) short in
+      image_has (set.items (paths_of history)) (map'.entries (files_of history)) (content_indexable (paths_of history) (files_of history) (history_content history is) small)
+
+  pub named : (parts : Parts) → opening bytes ≡ Ok parts → parts.names ≡ indexed_names history
+  named parts opens =
+      let same : parts ≡ written = opens_once (Some bytes) parts written opens opens_so in
+      ap (λ (p : Parts). p.names) same ∙ has_so.has_names
+
+  pub agrees_still : (parts : Parts) (tree : Snapshot) → opening bytes ≡ Ok parts → StillReads history tree → Agrees parts tree
+  agrees_still parts tree opens still =
+      let same : written ≡ parts = opens_once (Some bytes) written parts opens_so opens in
+      let each = each_of_map (λ name (trigrams : List ℕ). read_item (text_trigrams limits) (item_at tree name) ≡ Some trigrams) (files_of history) still in
+      let files = has_so.has_files (ascending_sets (files_of history) (history_content history is).sets_are) in
+      subst (λ (p : Parts). Agrees p tree) same (subst (AllByRecursion (ReadsAs tree)) (sym files) each)
+
+module _ (job : SearchJob) (index : Option (List ℕ)) (tree : Option Snapshot) (finds keeps : List ℕ → Bool) (asks : Asks job index) (tests : Seeks job finds keeps) where
+  promised : (snapshot : Snapshot) → tree ≡ Some snapshot → SearchesLikeGrep (searched_by_cgrep MOST_SEARCHED job.style finds) keeps tree index (all_printed (file_printed MOST_SEARCHED Csearch job.style finds snapshot) (filter keeps (names_meeting asks.query (files_read asks.parts))))
+  promised snapshot tells earlier premises = by_bytes index refl asks.opens premises.jobs_left.they_left premises.jobs_left.short
+    where
+      snapshot_is : snapshot ≡ snapshot_told tree
+      snapshot_is = sym (ap snapshot_told tells)
+
+      by_bytes : (i : Option (List ℕ)) → index ≡ i → OpensWith i asks.parts → index_of earlier ≡ index → IsShort index →
+          all_printed (file_printed MOST_SEARCHED Csearch job.style finds snapshot) (filter keeps (names_meeting asks.query (files_read asks.parts))) ≡ searched_by_cgrep MOST_SEARCHED job.style finds (snapshot_told tree) (filter keeps (indexed_names earlier))
+      by_bytes None e opens left short = absurd opens
+      by_bytes (Some bytes) e opens left short =
+          let left' : index_of earlier ≡ Some bytes = left ∙ e in
+          let short' = subst IsShort e short in
+          let agrees = agrees_still earlier bytes premises.jobs_left.jobs_were left' short' asks.parts snapshot opens (subst (StillReads earlier) (sym snapshot_is) premises.still_reads) in
+          alike job index finds keeps asks tests snapshot agrees
+          ∙ ap (λ (s : Snapshot). searched_by_cgrep MOST_SEARCHED job.style finds s (filter keeps asks.parts.names)) snapshot_is
+          ∙ ap (λ (names : List (List ℕ)). searched_by_cgrep MOST_SEARCHED job.style finds (snapshot_told tree) (filter keeps names)) (named earlier bytes premises.jobs_left.jobs_were left' short' asks.parts opens)
+
+module _ (job : SearchJob) (index : Option (List ℕ)) (tree : Option Snapshot) (Prints : Option Printed → Type 0) (by_index : PrintsAsked MOST_SEARCHED job index tree Prints) where
+  pub as_promised : PrintsAsPromised MOST_SEARCHED job index tree Prints
+  as_promised snapshot finds keeps tells tests = (
+    all_printed (file_printed MOST_SEARCHED Csearch job.style finds snapshot) (filter keeps (names_meeting by_index.0.query (files_read by_index.0.parts))),
+    told_printed job index tree Prints by_index snapshot finds keeps tells tests,
+    promised job index tree finds keeps by_index.0 tests snapshot tells,
+  )

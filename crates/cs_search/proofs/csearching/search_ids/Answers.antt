@@ -1,0 +1,60 @@
+use Rattle.std.proofs.Common.{◌+◌, ◌∷◌, [], ℕ, List, take, get_or, refl, sym, subst, ◌∙◌}
+use Rattle.std.specs.Prelude.{option_map, filter}
+use Rattle.std.proofs.lemmas.List.{take_all}
+use Rattle.cs_match.specs.Finding.{Decides}
+use Rattle.cs_tree.specs.Snapshot.{Snapshot}
+use Rattle.cs_search.specs.declared.report.TheConstants.{MOST_SEARCHED}
+use Rattle.cs_search.specs.IndexSearch.{names_at, DecidesNames}
+use Rattle.cs_search.specs.Searcher.{Prints}
+use Rattle.cs_search.specs.Printed.{file_printed, all_printed, TellsFaults}
+use Rattle.cs_search.proofs.PrintedLemmas.{Prints-none, Prints-then, Tells-none, Tells-more}
+use Rattle.cs_search.proofs.CsearchLemmas.{chosen_more}
+use Rattle.cs_search.proofs.csearching.search_ids.Goals as goal
+
+pub loop-id-init : goal.loop-id-init
+unfolding names_at
+loop-id-init g c = record {
+  prints = λ finds keeps decides names. Prints-none (g.T.Tree.snapshot c.args.tree.now) (file_printed MOST_SEARCHED c.args.searcher.now.tool c.args.searcher.now.style finds) (g.O.Sink.taken c.args.out.now) (g.E.Sink.taken c.args.err.now);
+  faults = Tells-none c.args.searcher.now.tool _ _ _ _ refl refl;
+  out_failed = refl;
+  err_failed = refl;
+  kept = record { tool = refl; style = refl; matcher = refl };
+  names = refl;
+  keeps = refl;
+}
+
+pub loop-id-preserved : goal.loop-id-preserved
+loop-id-preserved g c =
+    let i = c.loop-id.invariant in
+    let s = c.in_ok-matched.ensures in
+    record {
+      prints = λ finds keeps decides names.
+          let searcher = c.args.searcher.now in
+          let all = c.args.index.now.names in
+          let ids = c.args.ids.now in
+          let at = c.loop-id.id-index in
+          let id = get_or ids at 0 in
+          let snapshot = g.T.Tree.snapshot c.args.tree.now in
+          let file = λ (s : Snapshot) (name : List ℕ). file_printed MOST_SEARCHED searcher.tool searcher.style finds s name in
+          let one = s.prints finds keeps (subst (Decides finds) (sym i.kept.matcher) decides) (subst (DecidesNames keeps) (sym i.names) names) in
+          let tools = subst (λ t. Prints (option_map (λ (s : Snapshot). all_printed (file_printed MOST_SEARCHED t c.loop-id.searcher.style finds s) (filter keeps (names_at all (id ∷ [])))) (g.T.Tree.snapshot c.loop-id.tree)) (g.O.Sink.taken c.loop-id.out) (g.O.Sink.taken c.search_id.new.out) (g.E.Sink.taken c.loop-id.err) (g.E.Sink.taken c.search_id.new.err) c.in_ok-matched.field-0) i.kept.tool one in
+          let styles = subst (λ t. Prints (option_map (λ (s : Snapshot). all_printed (file_printed MOST_SEARCHED searcher.tool t finds s) (filter keeps (names_at all (id ∷ [])))) (g.T.Tree.snapshot c.loop-id.tree)) (g.O.Sink.taken c.loop-id.out) (g.O.Sink.taken c.search_id.new.out) (g.E.Sink.taken c.loop-id.err) (g.E.Sink.taken c.search_id.new.err) c.in_ok-matched.field-0) i.kept.style tools in
+          let last = subst (λ tree. Prints (option_map (λ (s : Snapshot). all_printed (file s) (filter keeps (names_at all (id ∷ [])))) tree) (g.O.Sink.taken c.loop-id.out) (g.O.Sink.taken c.search_id.new.out) (g.E.Sink.taken c.loop-id.err) (g.E.Sink.taken c.search_id.new.err) c.in_ok-matched.field-0) i.keeps styles in
+          Prints-then snapshot (λ s. all_printed (file s) (filter keeps (names_at all (take at ids)))) (λ s. all_printed (file s) (filter keeps (names_at all (id ∷ [])))) (λ s. all_printed (file s) (filter keeps (names_at all (take (at + 1) ids)))) _ _ _ _ _ _ c.loop-id.matched c.in_ok-matched.field-0
+          (λ s. chosen_more (file s) keeps all ids at c.loop-id-test.true)
+          (i.prints finds keeps decides names) last;
+      faults = Tells-more c.args.searcher.now.tool _ (g.T.Tree.failed c.loop-id.tree) _ _ (g.E.Sink.taken c.loop-id.err) _ i.faults
+          (subst (λ t. TellsFaults t (g.T.Tree.failed c.loop-id.tree) (g.T.Tree.failed c.search_id.new.tree) (g.E.Sink.taken c.loop-id.err) (g.E.Sink.taken c.search_id.new.err)) i.kept.tool s.faults);
+      out_failed = s.writes.0 ∙ i.out_failed;
+      err_failed = s.writes.1 ∙ i.err_failed;
+      kept = record { tool = s.kept.tool ∙ i.kept.tool; style = s.kept.style ∙ i.kept.style; matcher = s.kept.matcher ∙ i.kept.matcher };
+      names = s.names ∙ i.names;
+      keeps = s.keeps ∙ i.keeps;
+    }
+
+pub returns-clause-prints : goal.returns-clause-prints
+returns-clause-prints g c = λ finds keeps decides names.
+    let i = c.loop-id.invariant in
+    let ids = c.args.ids.now in
+    subst (λ (l : List ℕ). Prints (option_map (λ (tree : Snapshot). all_printed (file_printed MOST_SEARCHED c.args.searcher.now.tool c.args.searcher.now.style finds tree) (filter keeps (names_at c.args.index.now.names l))) (g.T.Tree.snapshot c.args.tree.now)) (g.O.Sink.taken c.args.out.now) (g.O.Sink.taken c.loop-id.out) (g.E.Sink.taken c.args.err.now) (g.E.Sink.taken c.loop-id.err) c.loop-id.matched)
+    (take_all c.loop-id.id-index ids c.loop-id-test.false) (i.prints finds keeps decides names)

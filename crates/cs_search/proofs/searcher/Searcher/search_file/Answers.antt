@@ -1,0 +1,35 @@
+use Rattle.std.proofs.Common.{ap, subst, ◌∙◌}
+use Rattle.cs_words.specs.FileFaults.{fault_line_of}
+use Rattle.std.specs.Prelude.{option_map}
+use Rattle.cs_tree.specs.Told.{Grows}
+use Rattle.cs_tree.specs.Trees.{open_told}
+use Rattle.cs_search.specs.declared.report.TheConstants.{MOST_SEARCHED}
+use Rattle.cs_search.specs.Searcher.{Prints}
+use Rattle.cs_search.specs.Printed.{input_printed}
+use Rattle.cs_search.proofs.PrintedLemmas.{Prints-opened, Prints-refused, Tells-open}
+use Rattle.cs_search.proofs.searcher.Searcher.search_file.Goals as goal
+
+pub returns-in-Err-clause-prints : goal.returns-in-Err-clause-prints
+returns-in-Err-clause-prints g c = λ finds decides.
+    let tool = c.args.self.now.tool in
+    let name = c.args.name.now in
+    let file = c.in_ok-fault.ensures.file in
+    Prints-refused MOST_SEARCHED tool c.args.self.now.style finds name (g.T.Tree.snapshot c.args.tree.now) c.in-Err.fault (g.T.Tree.opened c.open.new.self) (g.O.Sink.taken c.args.out.now) (g.E.Sink.taken c.args.err.now) (g.E.Sink.taken c.print_fault.new.err) file.1 c.in-Err.ensures.answer
+    (subst (λ fault. Grows (g.E.Sink.taken c.args.err.now) (g.E.Sink.taken c.print_fault.new.err) (fault_line_of tool name fault)) file.0 c.in_ok-print_fault.ensures.written)
+
+pub returns-clause-prints : goal.returns-clause-prints
+returns-clause-prints g c = λ finds decides.
+    let tool = c.args.self.now.tool in
+    let style = c.args.self.now.style in
+    let name = c.args.name.now in
+    let told = ap (λ t. open_told (g.T.Tree.snapshot t) (g.T.Tree.opened t)) c.new-reader.ensures.same_tree ∙ ap (λ s. open_told s (g.T.Tree.opened c.open.new.self)) c.open.ensures.keeps in
+    Prints-opened MOST_SEARCHED tool style finds name (g.T.Tree.snapshot c.args.tree.now) (g.T.Tree.opened c.open.new.self) (g.O.Sink.taken c.args.out.now) (g.O.Sink.taken c.search.new.out) (g.E.Sink.taken c.args.err.now) (g.E.Sink.taken c.search.new.err) c.in_ok-matched.matched c.in_default.ensures.answer
+    (subst (λ input. Prints (option_map (input_printed MOST_SEARCHED tool style finds name) input) (g.O.Sink.taken c.args.out.now) (g.O.Sink.taken c.search.new.out) (g.E.Sink.taken c.args.err.now) (g.E.Sink.taken c.search.new.err) c.in_ok-matched.matched) told (c.in_ok-matched.ensures.prints finds decides))
+
+pub returns-in-Err-clause-faults : goal.returns-in-Err-clause-faults
+returns-in-Err-clause-faults g c =
+    let tool = c.args.self.now.tool in
+    let name = c.args.name.now in
+    let file = c.in_ok-fault.ensures.file in
+    Tells-open tool c.in-Err.fault name (g.T.Tree.failed c.args.tree.now) (g.T.Tree.failed c.open.new.self) (g.E.Sink.taken c.args.err.now) (g.E.Sink.taken c.print_fault.new.err) file.1 c.in-Err.ensures.failed
+    (subst (λ fault. Grows (g.E.Sink.taken c.args.err.now) (g.E.Sink.taken c.print_fault.new.err) (fault_line_of tool name fault)) file.0 c.in_ok-print_fault.ensures.written)

@@ -1,0 +1,54 @@
+use Rattle.std.proofs.Common.{◌+◌, ℕ, List, take, refl, sym, ap, subst, ◌∙◌}
+use Rattle.std.specs.Prelude.{option_map, map, string_bytes}
+use Rattle.std.proofs.lemmas.List.{take_all}
+use Rattle.cs_match.specs.Finding.{Decides}
+use Rattle.cs_tree.specs.Snapshot.{Snapshot}
+use Rattle.cs_search.specs.declared.report.TheConstants.{MOST_SEARCHED}
+use Rattle.cs_search.specs.Searcher.{Prints}
+use Rattle.cs_search.specs.Printed.{file_printed, all_printed, TellsFaults}
+use Rattle.cs_search.proofs.PrintedLemmas.{Prints-none, Prints-then, all_more, mapped_more, Tells-none, Tells-more}
+use Rattle.cs_search.proofs.searcher.Searcher.search_files.Goals as goal
+
+pub loop-name-init : goal.loop-name-init
+loop-name-init g c = record {
+  prints = λ finds decides. Prints-none (g.T.Tree.snapshot c.args.tree.now) (file_printed MOST_SEARCHED c.args.self.now.tool c.args.self.now.style finds) (g.O.Sink.taken c.args.out.now) (g.E.Sink.taken c.args.err.now);
+  faults = Tells-none c.args.self.now.tool _ _ _ _ refl refl;
+  out_failed = refl;
+  err_failed = refl;
+  kept = record { tool = refl; style = refl; matcher = refl };
+  keeps = refl;
+}
+
+pub loop-name-preserved : goal.loop-name-preserved
+loop-name-preserved g c =
+    let i = c.loop-name.invariant in
+    let s = c.in_ok-matched.ensures in
+    record {
+      prints = λ finds decides.
+          let self = c.args.self.now in
+          let names = c.args.names.now in
+          let at = c.loop-name.name-index in
+          let item = c.name-item.result in
+          let file = λ (s : Snapshot) (name : List ℕ). file_printed MOST_SEARCHED self.tool self.style finds s name in
+          let one = s.prints finds (subst (Decides finds) (sym i.kept.matcher) decides) in
+          let tools = subst (λ t. Prints (option_map (λ (s : Snapshot). file_printed MOST_SEARCHED t c.loop-name.self.style finds s c.as_str.result.now) (g.T.Tree.snapshot c.loop-name.tree)) (g.O.Sink.taken c.loop-name.out) (g.O.Sink.taken c.search_file.new.out) (g.E.Sink.taken c.loop-name.err) (g.E.Sink.taken c.search_file.new.err) c.in_ok-matched.field-0) i.kept.tool one in
+          let styles = subst (λ t. Prints (option_map (λ (s : Snapshot). file_printed MOST_SEARCHED self.tool t finds s c.as_str.result.now) (g.T.Tree.snapshot c.loop-name.tree)) (g.O.Sink.taken c.loop-name.out) (g.O.Sink.taken c.search_file.new.out) (g.E.Sink.taken c.loop-name.err) (g.E.Sink.taken c.search_file.new.err) c.in_ok-matched.field-0) i.kept.style tools in
+          let trees = subst (λ tree. Prints (option_map (λ (s : Snapshot). file s c.as_str.result.now) tree) (g.O.Sink.taken c.loop-name.out) (g.O.Sink.taken c.search_file.new.out) (g.E.Sink.taken c.loop-name.err) (g.E.Sink.taken c.search_file.new.err) c.in_ok-matched.field-0) i.keeps styles in
+          let last = subst (λ name. Prints (option_map (λ (s : Snapshot). file s name) (g.T.Tree.snapshot c.args.tree.now)) (g.O.Sink.taken c.loop-name.out) (g.O.Sink.taken c.search_file.new.out) (g.E.Sink.taken c.loop-name.err) (g.E.Sink.taken c.search_file.new.err) c.in_ok-matched.field-0) c.as_str.ensures.value trees in
+          Prints-then (g.T.Tree.snapshot c.args.tree.now) (λ s. all_printed (file s) (map string_bytes (take at names))) (λ s. file s (string_bytes item)) (λ s. all_printed (file s) (map string_bytes (take (at + 1) names))) _ _ _ _ _ _ c.loop-name.matched c.in_ok-matched.field-0
+          (λ s. ap (all_printed (file s)) (mapped_more string_bytes names at item c.loop-name-test.true c.name-item.is) ∙ all_more (file s) (map string_bytes (take at names)) (string_bytes item))
+          (i.prints finds decides) last;
+      faults = Tells-more c.args.self.now.tool _ (g.T.Tree.failed c.loop-name.tree) _ _ (g.E.Sink.taken c.loop-name.err) _ i.faults
+          (subst (λ t. TellsFaults t (g.T.Tree.failed c.loop-name.tree) (g.T.Tree.failed c.search_file.new.tree) (g.E.Sink.taken c.loop-name.err) (g.E.Sink.taken c.search_file.new.err)) i.kept.tool s.faults);
+      out_failed = s.writes.0 ∙ i.out_failed;
+      err_failed = s.writes.1 ∙ i.err_failed;
+      kept = record { tool = s.kept.tool ∙ i.kept.tool; style = s.kept.style ∙ i.kept.style; matcher = s.kept.matcher ∙ i.kept.matcher };
+      keeps = s.keeps ∙ i.keeps;
+    }
+
+pub returns-clause-prints : goal.returns-clause-prints
+returns-clause-prints g c = λ finds decides.
+    let i = c.loop-name.invariant in
+    let names = c.args.names.now in
+    subst (λ (l : List _). Prints (option_map (λ (tree : Snapshot). all_printed (file_printed MOST_SEARCHED c.args.self.now.tool c.args.self.now.style finds tree) (map string_bytes l)) (g.T.Tree.snapshot c.args.tree.now)) (g.O.Sink.taken c.args.out.now) (g.O.Sink.taken c.loop-name.out) (g.E.Sink.taken c.args.err.now) (g.E.Sink.taken c.loop-name.err) c.loop-name.matched)
+    (take_all c.loop-name.name-index names c.loop-name-test.false) (i.prints finds decides)

@@ -1,0 +1,111 @@
+-- What a tool prints and answers of the inputs that it searches, one after another.
+-- docs/PROMISES.md, "What is printed".
+use Rattle.std.specs.Prelude.{ℕ, ◌≡◌, Bool, true, false, ◌||◌, List, [], ◌∷◌, ◌++◌, Option, Some, None, option_map, Result, Ok, Err}
+use Rattle.cs_tree.specs.TreeAnswers.{opening_of}
+use Rattle.cs_words.specs.FileFaults.{fault_line_of, file_fault_of}
+use Rattle.cs_tree.specs.Failures.{count_if}
+use Rattle.std.specs.List.{flat_map}
+use Rattle.cs_tree.specs.Told.{Told, Grows}
+use Rattle.cs_tree.specs.Snapshot.{Snapshot, item_at}
+use Rattle.cs_tree.specs.declared.fault.TreeFault.{TreeFault}
+use Rattle.cs_words.specs.declared.jobs.Tool.{Tool}
+use Rattle.cs_words.specs.declared.jobs.Style.{Style}
+use Rattle.cs_words.specs.declared.fault.FileFault.{FileFault}
+use Rattle.cs_words.specs.declared.fault.FileFault.TheVariants.{Failed, InputTooLong}
+use Rattle.cs_search.specs.declared.grep_fault.ReadFault.{ReadFault}
+use Rattle.cs_search.specs.declared.grep_fault.ReadFault.TheVariants.{Read, TooLong}
+use Rattle.cs_search.specs.declared.status.Status.{Status}
+use Rattle.cs_search.specs.declared.status.Status.TheVariants.{Matched, NoMatch}
+use Rattle.cs_search.specs.Report.{Report}
+use Rattle.cs_search.specs.InputReport.{told_report}
+
+-- the fault of an input as that of a file
+abbrev pub left_fault : ReadFault → FileFault
+left_fault Read = Failed
+left_fault TooLong = InputTooLong
+
+-- what is printed on both outputs, and whether some line matched
+pub record Printed : Type 0 where
+  pub output : List ℕ
+  pub errors : List ℕ
+  pub matched : Bool
+
+abbrev pub fault_text : Tool → List ℕ → Option FileFault → List ℕ
+fault_text tool name None = []
+fault_text tool name (Some fault) = fault_line_of tool name fault
+
+-- the report of an input with this name, and the line of its fault
+abbrev pub printed_of : Tool → List ℕ → Report ReadFault → Printed
+printed_of tool name report = record {
+  output = report.output;
+  errors = fault_text tool name (option_map left_fault report.fault);
+  matched = report.matched;
+}
+
+module _ (most : ℕ) (tool : Tool) (style : Style) (finds : List ℕ → Bool) where
+  -- of an input that tells this
+  unfoldable pub input_printed : List ℕ → Told → Printed
+  input_printed name told = printed_of tool name (told_report most style name finds told)
+
+  -- of what was opened, or refused, at this name
+  abbrev pub opened_printed : List ℕ → Result Told TreeFault → Printed
+  opened_printed name (Ok told) = input_printed name told
+  opened_printed name (Err fault) = record {
+    output = [];
+    errors = fault_line_of tool name (file_fault_of fault);
+    matched = false;
+  }
+
+  -- of what stands in the tree at this name
+  unfoldable pub file_printed : Snapshot → List ℕ → Printed
+  file_printed tree name = opened_printed name (opening_of (item_at tree name))
+
+-- one after the other
+abbrev pub then : Printed → Printed → Printed
+then first next = record {
+  output = first.output ++ next.output;
+  errors = first.errors ++ next.errors;
+  matched = first.matched || next.matched;
+}
+
+abbrev pub nothing : Printed
+nothing = record { output = []; errors = []; matched = false }
+
+-- of inputs with these names, in their order
+unfoldable pub all_printed : (List ℕ → Printed) → List (List ℕ) → Printed
+all_printed printed [] = nothing
+all_printed printed (name ∷ names) = then (printed name) (all_printed printed names)
+
+abbrev pub status_of : Bool → Status
+status_of true = Matched
+status_of false = NoMatch
+
+-- This was printed, and the answer is its mark as a status, where what was searched tells its bytes.
+abbrev pub PrintsStatus : Option Printed → Option (List ℕ) → Option (List ℕ) → Option (List ℕ) → Option (List ℕ) → Status → Type 0
+PrintsStatus None out out' err err' status = Unit {0}
+PrintsStatus (Some printed) out out' err err' status =
+    Grows out out' printed.output × Grows err err' printed.errors × (status ≡ status_of printed.matched)
+
+-- ---- faults that are printed, and failures that are counted
+
+-- a name, and why it was not searched to its end
+abbrev pub NamedFault : Type 0
+NamedFault = List ℕ × FileFault
+
+abbrev pub fault_lines : Tool → List NamedFault → List ℕ
+fault_lines tool faults = flat_map (λ (fault : NamedFault). fault_line_of tool fault.0 fault.1) faults
+
+-- a fault is a failure, unless the input is only too long
+abbrev pub is_file_failure : FileFault → Bool
+is_file_failure InputTooLong = false
+is_file_failure fault = true
+
+-- the count after some faults
+abbrev pub failures_of : List NamedFault → ℕ → ℕ
+failures_of [] n = n
+failures_of (fault ∷ faults) n = failures_of faults (count_if (is_file_failure fault.1) n)
+
+-- The lines of some faults were printed and no other, and each that is a failure was counted.
+abbrev pub TellsFaults : Tool → ℕ → ℕ → Option (List ℕ) → Option (List ℕ) → Type 0
+TellsFaults tool failed failed' err err' =
+    (faults : List NamedFault) × (failed' ≡ failures_of faults failed) × Grows err err' (fault_lines tool faults)

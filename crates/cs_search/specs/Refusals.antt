@@ -1,0 +1,33 @@
+-- What a tool that searches refuses for its patterns, and what is printed then.
+-- docs/PATTERNS.md, "Faults"; docs/PROMISES.md, "What is printed".
+use Rattle.std.specs.Prelude.{ℕ, ◌≢◌, ◌≤◌, Bool, true, false, List, Result, Ok, Err}
+use Rattle.cs_syntax.specs.Matching.{Tree}
+use Rattle.cs_syntax.specs.Weight.{weight}
+use Rattle.cs_syntax.specs.Reading.{Reads}
+use Rattle.cs_syntax.specs.Refusal.{IsRefused}
+use Rattle.cs_syntax.specs.declared.fault.PatternError.{PatternError}
+use Rattle.cs_syntax.specs.declared.fault.PatternFault.TheVariants as pattern
+use Rattle.cs_words.specs.declared.fault.ToolFault.{ToolFault}
+use Rattle.cs_words.specs.declared.fault.ToolFault.TheVariants.{Pattern, FilePattern, NoIndex, BadIndex, Write}
+
+-- the text reads as a tree that is not too heavy
+abbrev pub IsAccepted : List ℕ → Bool → Type 0
+IsAccepted text fold = (t : Tree) × Reads text fold t × (weight t ≤ 10000)
+
+-- The text is refused for what is wrong with it: want of memory is a fault of its own.
+abbrev pub IsPatternRefused : List ℕ → Bool → PatternError → Type 0
+IsPatternRefused text fold error = IsRefused text fold error × (error.fault ≢ pattern.Memory)
+
+-- Nothing is printed before a refusal that is no failed write and no want of memory.
+abbrev pub QuietAtRefusal : {A : Type 0} → Result A ToolFault → Type 0 → Type 0
+QuietAtRefusal (Err (Pattern error)) Quiet = Quiet
+QuietAtRefusal (Err (FilePattern error)) Quiet = Quiet
+QuietAtRefusal (Err NoIndex) Quiet = Quiet
+QuietAtRefusal (Err (BadIndex fault)) Quiet = Quiet
+QuietAtRefusal answer Quiet = Unit {0}
+
+-- a write to one of the outputs has failed
+abbrev pub has_write_failed : {A : Type 0} → Result A ToolFault → Bool
+has_write_failed (Ok answer) = false
+has_write_failed (Err Write) = true
+has_write_failed (Err fault) = false

@@ -1,0 +1,31 @@
+-- What functions inside a search promise each other: which lines were tested, and what was printed of them.
+use Rattle.std.specs.Prelude.{ℕ, ◌+◌, ◌<◌, ◌≡◌, nat_lt, true, if◌then◌else◌, Bool, List, [], ◌∷◌, ◌++◌, length, Option, codes, decimal}
+use Rattle.std.specs.List.{flat_map}
+use Rattle.cs_tree.specs.Told.{Grows}
+use Rattle.cs_words.specs.declared.jobs.Style.{Style}
+use Rattle.cs_search.specs.declared.tally.Tally.{Tally}
+use Rattle.cs_search.specs.Lines.{newline}
+use Rattle.cs_search.specs.Report.{Hit, hits_from, hit_line, some_hit}
+
+-- what is printed at a hit
+unfoldable pub shown : Style → List ℕ → Hit → List ℕ
+shown style name hit = if style.list then name ++ newline ∷ [] else (if style.count then [] else hit_line style name hit)
+
+-- These lines were tested after those that the first tally counts: they and their hits are counted, and what is
+-- printed at the hits was written.
+pub record Tests (style : Style) (name : List ℕ) (finds : List ℕ → Bool) (lines : List (List ℕ)) (before after : Tally) (taken later : Option (List ℕ)) : Type 0 where
+  pub hits : after.hits ≡ before.hits + length (hits_from (before.lines + 1) finds lines)
+  pub written : Grows taken later (flat_map (shown style name) (hits_from (before.lines + 1) finds lines))
+
+-- With `-l` something was found in one of these lines, and the name was written.
+pub record IsListed (style : Style) (name : List ℕ) (finds : List ℕ → Bool) (lines : List (List ℕ)) (first : ℕ) (after : Tally) (taken later : Option (List ℕ)) : Type 0 where
+  pub listed : style.list ≡ true
+  pub found : some_hit (hits_from first finds lines) ≡ true
+  pub hits : 0 < after.hits
+  pub written : Grows taken later (name ++ newline ∷ [])
+
+-- `NAME: COUNT`, where that is what is printed at the end of an input
+unfoldable pub total : Style → List ℕ → ℕ → List ℕ
+total style name count =
+    if style.list then []
+    else (if style.count then (if nat_lt 0 count then name ++ (codes ": " ++ (decimal count ++ newline ∷ [])) else []) else [])

@@ -1,0 +1,148 @@
+// The buffer that inputs are read into.
+ghost use Rattle.std.specs.Prelude.{◌≡◌, ◌≤◌, ◌<◌, ◌+◌, vec_len, length, take, drop, IfOk};
+ghost use Rattle.cs_tree.specs.Transfers.{ReadGives, is_io_failure};
+ghost use Rattle.cs_tree.specs.Failures.{count_after};
+
+use cs_tree::{IoFault, Source};
+use std::alloc::{AllocError, Global};
+
+/// How many bytes a buffer has at first.
+const FIRST_SIZE: usize = 65536;
+
+/// A buffer for the bytes of one input after another. It grows only for a line that is longer than it.
+#[derive(Drop)]
+pub(crate) struct LineBuffer {
+    bytes: Vec<u8>,
+    start: usize,
+    end: usize,
+    ghost ordered: { start ≤ end },
+    ghost within: { end ≤ vec_len bytes },
+    ghost some: { 0 < vec_len bytes },
+}
+
+impl LineBuffer {
+    ghost use Rattle.std.specs.Prelude.{ℕ, ◌^◌, [], OnOk, OnErr};
+    ghost use Rattle.cs_search.specs.Buffer.{pending, Gains, Fills};
+
+    /// A buffer with nothing in it.
+    #[tactic(auto, unfolding(crate::specs::Buffer::pending))]
+    pub(crate) fn new(alloc: Global) -> Result<LineBuffer, AllocError>
+        ensures { IfOk result (λ buffer. pending buffer ≡ []) }
+    {
+        LineBuffer::of_size(alloc, FIRST_SIZE)
+    }
+
+    /// A buffer of so many bytes with nothing in it.
+    #[tactic(auto, unfolding(crate::specs::Buffer::pending))]
+    pub(crate) fn of_size(alloc: Global, size: usize) -> Result<LineBuffer, AllocError>
+        requires { 0 < size }
+        ensures { IfOk result (λ buffer. pending buffer ≡ []) }
+    {
+        let bytes = vec![in alloc; 0u8; size]?;
+        Ok(LineBuffer {
+            bytes,
+            start: 0,
+            end: 0,
+        })
+    }
+
+    /// Lets go what is in it.
+    #[tactic(auto, unfolding(crate::specs::Buffer::pending))]
+    pub(crate) fn clear(&mut self)
+        ensures { pending self.new ≡ [] }
+    {
+        self.start = 0;
+        self.end = 0;
+    }
+
+    /// What is in it.
+    #[tactic(auto, unfolding(crate::specs::Buffer::pending))]
+    pub(crate) fn pending(&self) -> &[u8]
+        ensures { result.now ≡ pending self.now }
+    {
+        &self.bytes[self.start..self.end]
+    }
+
+    /// Lets go so many bytes at the front of what is in it.
+    #[tactic(auto, unfolding(crate::specs::Buffer::pending))]
+    pub(crate) fn skip(&mut self, n: usize)
+        requires { n ≤ length (pending self.old) }
+        ensures { pending self.new ≡ drop n (pending self.old) }
+    {
+        self.start += n;
+    }
+
+    /// Moves what is in it to the front.
+    #[tactic(auto, unfolding(crate::specs::Buffer::pending))]
+    fn move_front(&mut self)
+        ensures same { pending self.new ≡ pending self.old }
+        ensures size { vec_len self.new.bytes ≡ vec_len self.old.bytes }
+        ensures end { self.new.end + self.old.start ≡ self.old.end }
+    {
+        let start = self.start;
+        let end = self.end;
+        self.bytes.copy_within(start..end, 0);
+        self.start = 0;
+        self.end = end - start;
+    }
+
+    /// Makes room behind what is in it.
+    #[tactic(auto, unfolding(crate::specs::Buffer::pending))]
+    fn make_room(&mut self) -> Result<(), AllocError>
+        requires { length (pending self.old) < 2 ^ 32 }
+        ensures room { OnOk result (self.new.end < vec_len self.new.bytes) }
+        ensures same { pending self.new ≡ pending self.old }
+    {
+        if self.end < self.bytes.len() {
+            return Ok(());
+        }
+        if self.start > 0 {
+            self.move_front();
+            return Ok(());
+        }
+        let size = self.bytes.len() * 2;
+        self.bytes.resize(size, 0)?;
+        Ok(())
+    }
+
+    /// Reads some bytes behind what is in it, at most so many, and answers how many. None is the end.
+    #[tactic(auto, unfolding(crate::specs::Buffer::pending))]
+    pub(crate) fn fill<R: Source>(&mut self, input: &mut R, most: usize) -> Result<usize, IoFault>
+        requires some { 0 < most }
+        requires few { length (pending self.old) < 2 ^ 32 }
+        ensures within { IfOk result (λ n. n ≤ most) }
+        ensures gains { IfOk result (λ n. Gains (pending self.old) (pending self.new) n) }
+        ensures told { Fills (R.told input.old) (R.told input.new) result
+            (drop (length (pending self.old)) (pending self.new)) }
+        ensures same { OnErr result (pending self.new ≡ pending self.old) }
+        ensures failed { R.failed input.new ≡
+            count_after is_io_failure result (R.failed input.old) }
+        ensures keeps { R.Keeps input.old input.new }
+    {
+        self.make_room()?;
+        let n = read_behind(input, &mut self.bytes, self.end, most)?;
+        self.end += n;
+        Ok(n)
+    }
+}
+
+/// Reads some bytes to the place from `end` on, at most so many.
+fn read_behind<R: Source>(
+    input: &mut R,
+    bytes: &mut [u8],
+    end: usize,
+    most: usize,
+) -> Result<usize, IoFault>
+    requires some { 0 < most }
+    requires room { end < length bytes.old }
+    ensures within { IfOk result (λ n. n ≤ most) }
+    ensures size { IfOk result (λ n. end + n ≤ length bytes.new) }
+    ensures before { take end bytes.new ≡ take end bytes.old }
+    ensures told { ReadGives (R.told input.old) (R.told input.new) result (drop end bytes.new) }
+    ensures failed { R.failed input.new ≡ count_after is_io_failure result (R.failed input.old) }
+    ensures keeps { R.Keeps input.old input.new }
+{
+    let stop = end + most.min(bytes.len() - end);
+    let n = input.read(&mut bytes[end..stop])?;
+    Ok(n)
+}

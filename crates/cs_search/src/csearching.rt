@@ -1,0 +1,159 @@
+// The tool that searches by an index.
+ghost use Rattle.std.specs.Prelude.{◌≡◌, ℕ, Bool, List, [], ◌∷◌, IfOk, IfErr, option_map, option_copied, filter};
+ghost use Rattle.cs_tree.specs.Failures.{CountsOne};
+ghost use Rattle.cs_match.specs.Finding.{Decides};
+ghost use Rattle.cs_tree.specs.Snapshot.{Snapshot};
+ghost use Rattle.cs_tree.specs.Told.{Grows};
+ghost use Rattle.cs_words.specs.declared.jobs.Tool.TheVariants.{Csearch};
+ghost use Rattle.cs_search.specs.Searcher.{IsSearchFault, IsKept, Prints};
+ghost use Rattle.cs_search.specs.Refusals.{has_write_failed, QuietAtRefusal};
+ghost use Rattle.cs_search.specs.Csearch.{OpensWith, IsQueryOf, PrintsAsked, PrintsLikeCgrep, PrintsAsPromised, RefusedInOrder};
+ghost use Rattle.cs_search.specs.IndexSearch.{names_at, DecidesNames, OpenRefused};
+ghost use Rattle.cs_search.specs.Printed.{PrintsStatus, TellsFaults, all_printed, file_printed};
+
+use crate::names::{NameFilter, compile_file};
+use crate::report::MOST_SEARCHED;
+use crate::searcher::Searcher;
+use crate::searching::finish;
+use crate::status::Status;
+use cs_index::Index;
+use cs_match::Program;
+use cs_syntax::{Pattern, parse};
+use cs_tree::{Sink, Tree};
+use cs_trigram::{Query, query};
+use cs_words::{SearchJob, Tool, ToolFault};
+use std::alloc::{AllocError, Global};
+
+/// Prints the lines that match the pattern of the job, in the indexed files that may have one, in the order of their
+/// ids. A line on `err` names each file that could not be searched to its end. At the end both outputs are flushed,
+/// `out` first. Refusals come before any output: of the pattern, of that of `-f`, for want of an index, of a bad one.
+pub fn csearch<T: Tree, O: Sink, E: Sink>(
+    alloc: Global,
+    job: &SearchJob,
+    index: Option<&[u8]>,
+    tree: &mut T,
+    out: &mut O,
+    err: &mut E,
+) -> Result<Status, ToolFault>
+    ensures prints { IfOk result (λ status. PrintsAsked MOST_SEARCHED job.now
+        (option_copied index.entry) (T.snapshot tree.old)
+        (λ printed. PrintsStatus printed
+        (O.taken out.old) (O.taken out.new) (E.taken err.old) (E.taken err.new) status)) }
+    ensures agrees { IfOk result (λ status. PrintsLikeCgrep MOST_SEARCHED job.now
+        (option_copied index.entry) (T.snapshot tree.old)
+        (λ printed. PrintsStatus printed
+        (O.taken out.old) (O.taken out.new) (E.taken err.old) (E.taken err.new) status)) }
+    ensures promised { IfOk result (λ status. PrintsAsPromised MOST_SEARCHED job.now
+        (option_copied index.entry) (T.snapshot tree.old)
+        (λ printed. PrintsStatus printed
+        (O.taken out.old) (O.taken out.new) (E.taken err.old) (E.taken err.new) status)) }
+    ensures refused { RefusedInOrder job.now (option_copied index.entry) result }
+    ensures quiet { QuietAtRefusal result
+        (Grows (O.taken out.old) (O.taken out.new) []
+        × Grows (E.taken err.old) (E.taken err.new) []) }
+    ensures faults { IfOk result (λ _. TellsFaults Csearch
+        (T.failed tree.old) (T.failed tree.new) (E.taken err.old) (E.taken err.new)) }
+    ensures writes { CountsOne (has_write_failed result)
+        (O.failed out.old) (O.failed out.new) (E.failed err.old) (E.failed err.new) }
+    ensures keeps { T.snapshot tree.new ≡ T.snapshot tree.old }
+{
+    let pattern = parse(alloc, job.pattern.as_str(), job.fold)?;
+    let file = compile_file(alloc, job)?;
+    let index = open(index)?;
+    let query = query_of(alloc, job.brute, &pattern)?;
+    let ids = index.candidates(alloc, &query)?;
+    let program = Program::compile(alloc, &pattern)?;
+    let mut searcher = Searcher::new(alloc, Tool::Csearch, job.style, &program)?;
+    let mut kept = NameFilter::new(alloc, file.as_ref())?;
+    let matched = search_ids(&mut searcher, &mut kept, &index, &ids, tree, out, err)?;
+    let status = finish(matched, out, err)?;
+    Ok(status)
+}
+
+/// The index, where there is one.
+fn open<'a>(index: Option<&'a [u8]>) -> Result<Index<'a>, ToolFault>
+    ensures opens { IfOk result (OpensWith (option_copied index.entry)) }
+    ensures refused { IfErr result (OpenRefused (option_copied index.entry)) }
+{
+    let Some(bytes) = index else {
+        return Err(ToolFault::NoIndex);
+    };
+    let index = Index::open(bytes)?;
+    Ok(index)
+}
+
+/// The query of a pattern, or with `-brute` that which every file meets.
+fn query_of(alloc: Global, brute: bool, pattern: &Pattern) -> Result<Query, AllocError>
+    ensures { IfOk result (IsQueryOf brute pattern.now) }
+{
+    if brute {
+        return Ok(Query::All);
+    }
+    let query = query(alloc, pattern)?;
+    Ok(query)
+}
+
+/// Searches the files that have the ids and whose names are kept. Answers whether some line of some file matched.
+fn search_ids<T: Tree, O: Sink, E: Sink>(
+    searcher: &mut Searcher<'_>,
+    kept: &mut NameFilter<'_>,
+    index: &Index<'_>,
+    ids: &[u32],
+    tree: &mut T,
+    out: &mut O,
+    err: &mut E,
+) -> Result<bool, ToolFault>
+    ensures prints { IfOk result (λ matched. (finds keeps : List ℕ → Bool) →
+        Decides finds searcher.old.matcher → DecidesNames keeps kept.old.matcher →
+        Prints (option_map (λ tree. all_printed
+        (file_printed MOST_SEARCHED searcher.old.tool searcher.old.style finds tree)
+        (filter keeps (names_at index.now.names ids.now))) (T.snapshot tree.old))
+        (O.taken out.old) (O.taken out.new) (E.taken err.old) (E.taken err.new) matched) }
+    ensures faults { IfOk result (λ _. TellsFaults searcher.old.tool
+        (T.failed tree.old) (T.failed tree.new) (E.taken err.old) (E.taken err.new)) }
+    ensures writes { CountsOne (has_write_failed result)
+        (O.failed out.old) (O.failed out.new) (E.failed err.old) (E.failed err.new) }
+    ensures only { IsSearchFault result }
+    ensures keeps { T.snapshot tree.new ≡ T.snapshot tree.old }
+{
+    let mut matched = false;
+    for id in ids {
+        matched |= search_id(searcher, kept, index, *id, tree, out, err)?;
+    }
+    Ok(matched)
+}
+
+/// Searches the file that has the id, where its name is kept.
+fn search_id<T: Tree, O: Sink, E: Sink>(
+    searcher: &mut Searcher<'_>,
+    kept: &mut NameFilter<'_>,
+    index: &Index<'_>,
+    id: u32,
+    tree: &mut T,
+    out: &mut O,
+    err: &mut E,
+) -> Result<bool, ToolFault>
+    ensures prints { IfOk result (λ matched. (finds keeps : List ℕ → Bool) →
+        Decides finds searcher.old.matcher → DecidesNames keeps kept.old.matcher →
+        Prints (option_map (λ tree. all_printed
+        (file_printed MOST_SEARCHED searcher.old.tool searcher.old.style finds tree)
+        (filter keeps (names_at index.now.names (id ∷ [])))) (T.snapshot tree.old))
+        (O.taken out.old) (O.taken out.new) (E.taken err.old) (E.taken err.new) matched) }
+    ensures faults { IfOk result (λ _. TellsFaults searcher.old.tool
+        (T.failed tree.old) (T.failed tree.new) (E.taken err.old) (E.taken err.new)) }
+    ensures writes { CountsOne (has_write_failed result)
+        (O.failed out.old) (O.failed out.new) (E.failed err.old) (E.failed err.new) }
+    ensures only { IsSearchFault result }
+    ensures kept { IsKept searcher.old searcher.new }
+    ensures names { kept.new.matcher ≡ kept.old.matcher }
+    ensures keeps { T.snapshot tree.new ≡ T.snapshot tree.old }
+{
+    let Some(name) = index.name(id) else {
+        return Ok(false);
+    };
+    if !kept.keeps(name) {
+        return Ok(false);
+    }
+    let matched = searcher.search_file(tree, name, out, err)?;
+    Ok(matched)
+}

@@ -1,0 +1,148 @@
+// How what is found in an input is printed.
+ghost use Rattle.std.specs.Prelude.{◌≡◌, ◌++◌, ◌∷◌, [], ℕ, OnOk, codes, decimal, if◌then◌else◌};
+ghost use Rattle.cs_search.specs.GrepFaults.{is_grep_failure};
+ghost use Rattle.cs_tree.specs.Failures.{count_after};
+ghost use Rattle.cs_tree.specs.Told.{Grows};
+ghost use Rattle.cs_search.specs.Lines.{newline};
+ghost use Rattle.cs_search.specs.Report.{hit_line};
+ghost use Rattle.cs_search.specs.TestedLines.{shown, total};
+
+use crate::grep_fault::GrepFault;
+use cs_tree::{Sink, write_all};
+use cs_words::Style;
+use itoa::Buffer;
+
+/// The name of an input, and what is printed of it.
+#[derive(Clone, Copy, Drop)]
+pub(crate) struct Form<'a> {
+    pub(crate) name: &'a str,
+    pub(crate) style: Style,
+}
+
+impl Form<'_> {
+    /// What is printed where something is found in a line: under `-l` the name, and under `-c` nothing.
+    #[tactic(auto, using(crate::proofs::Printing::printing), unfolding(crate::specs::TestedLines::shown))]
+    pub(crate) fn print_hit<O: Sink>(
+        &self,
+        number: u64,
+        line: &[u8],
+        out: &mut O,
+    ) -> Result<(), GrepFault>
+        ensures written { OnOk result (Grows (O.taken out.old) (O.taken out.new)
+            (shown self.now.style self.now.name.now (number, line.now))) }
+        ensures failed { O.failed out.new ≡ count_after is_grep_failure result (O.failed out.old) }
+    {
+        if self.style.list {
+            self.print_name(out)?;
+            return Ok(());
+        }
+        if self.style.count {
+            return Ok(());
+        }
+        self.print_line(number, line, out)?;
+        Ok(())
+    }
+
+    /// The name on a line.
+    #[tactic(auto, using(crate::proofs::Printing::printing))]
+    fn print_name<O: Sink>(&self, out: &mut O) -> Result<(), GrepFault>
+        ensures written { OnOk result (Grows (O.taken out.old) (O.taken out.new)
+            (self.now.name.now ++ newline ∷ [])) }
+        ensures failed { O.failed out.new ≡ count_after is_grep_failure result (O.failed out.old) }
+    {
+        write_all(out, self.name.as_bytes())?;
+        end_line(out)?;
+        Ok(())
+    }
+
+    /// The line, after the name and the number that the style asks for.
+    #[tactic(auto, using(crate::proofs::Printing::printing), unfolding(crate::specs::Report::hit_line))]
+    fn print_line<O: Sink>(&self, number: u64, line: &[u8], out: &mut O) -> Result<(), GrepFault>
+        ensures written { OnOk result (Grows (O.taken out.old) (O.taken out.new)
+            (hit_line self.now.style self.now.name.now (number, line.now))) }
+        ensures failed { O.failed out.new ≡ count_after is_grep_failure result (O.failed out.old) }
+    {
+        self.print_front(out)?;
+        self.print_number(number, out)?;
+        write_all(out, line)?;
+        end_line(out)?;
+        Ok(())
+    }
+
+    /// `NAME:`, and under `-h` nothing.
+    #[tactic(auto, using(crate::proofs::Printing::printing))]
+    fn print_front<O: Sink>(&self, out: &mut O) -> Result<(), GrepFault>
+        ensures written { OnOk result (Grows (O.taken out.old) (O.taken out.new)
+            (if self.now.style.bare then [] else self.now.name.now ++ codes ":")) }
+        ensures failed { O.failed out.new ≡ count_after is_grep_failure result (O.failed out.old) }
+    {
+        if self.style.bare {
+            return Ok(());
+        }
+        write_all(out, self.name.as_bytes())?;
+        write_all(out, b":")?;
+        Ok(())
+    }
+
+    /// `NUMBER:` under `-n`, and else nothing.
+    #[tactic(auto, using(crate::proofs::Printing::printing))]
+    fn print_number<O: Sink>(&self, number: u64, out: &mut O) -> Result<(), GrepFault>
+        ensures written { OnOk result (Grows (O.taken out.old) (O.taken out.new)
+            (if self.now.style.number then decimal number ++ codes ":" else [])) }
+        ensures failed { O.failed out.new ≡ count_after is_grep_failure result (O.failed out.old) }
+    {
+        if !self.style.number {
+            return Ok(());
+        }
+        write_number(number, out)?;
+        write_all(out, b":")?;
+        Ok(())
+    }
+
+    /// What is printed at the end of an input where so many lines matched: under `-c` without `-l` their number.
+    #[tactic(auto, using(crate::proofs::Printing::printing), unfolding(crate::specs::TestedLines::total))]
+    pub(crate) fn print_total<O: Sink>(&self, count: u64, out: &mut O) -> Result<(), GrepFault>
+        ensures written { OnOk result (Grows (O.taken out.old) (O.taken out.new)
+            (total self.now.style self.now.name.now count)) }
+        ensures failed { O.failed out.new ≡ count_after is_grep_failure result (O.failed out.old) }
+    {
+        if self.style.list || !self.style.count || count == 0 {
+            return Ok(());
+        }
+        self.print_count(count, out)?;
+        Ok(())
+    }
+
+    /// `NAME: COUNT` on a line.
+    #[tactic(auto, using(crate::proofs::Printing::printing))]
+    fn print_count<O: Sink>(&self, count: u64, out: &mut O) -> Result<(), GrepFault>
+        ensures written { OnOk result (Grows (O.taken out.old) (O.taken out.new)
+            (self.now.name.now ++ (codes ": " ++ (decimal count ++ newline ∷ [])))) }
+        ensures failed { O.failed out.new ≡ count_after is_grep_failure result (O.failed out.old) }
+    {
+        write_all(out, self.name.as_bytes())?;
+        write_all(out, b": ")?;
+        write_number(count, out)?;
+        end_line(out)?;
+        Ok(())
+    }
+}
+
+/// The digits of a number.
+fn write_number<O: Sink>(number: u64, out: &mut O) -> Result<(), GrepFault>
+    ensures written { OnOk result (Grows (O.taken out.old) (O.taken out.new) (decimal number)) }
+    ensures failed { O.failed out.new ≡ count_after is_grep_failure result (O.failed out.old) }
+{
+    let mut digits = Buffer::new();
+    write_all(out, digits.format(number).as_bytes())?;
+    Ok(())
+}
+
+/// A newline.
+fn end_line<O: Sink>(out: &mut O) -> Result<(), GrepFault>
+    ensures written { OnOk result (Grows (O.taken out.old) (O.taken out.new) (newline ∷ [])) }
+    ensures failed { O.failed out.new ≡ count_after is_grep_failure result (O.failed out.old) }
+{
+    write_all(out, b"\n")?;
+    Ok(())
+}

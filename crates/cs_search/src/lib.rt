@@ -1,0 +1,29 @@
+//! The tools that search: inputs line by line, and what is printed of them. Read `specs/Report.antt`
+//! first, which says what a search of one input prints, then `specs/Printed.antt`.
+#![tactic(auto)]
+
+mod blocks;
+mod buffer;
+mod csearching;
+mod form;
+mod grep_fault;
+mod grepped;
+pub mod laws;
+mod names;
+mod reading;
+mod report;
+mod searcher;
+mod searching;
+mod status;
+mod stop;
+mod tally;
+
+pub use csearching::csearch;
+pub use grep_fault::{GrepFault, ReadFault};
+pub use grepped::Grepped;
+pub use report::{MOST_SEARCHED, grep};
+pub use searching::cgrep;
+pub use status::Status;
+
+#[cfg(test)]
+mod tests;

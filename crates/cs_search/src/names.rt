@@ -1,0 +1,70 @@
+// Which names `-f` keeps.
+ghost use Rattle.std.specs.Prelude.{◌≡◌, ℕ, Bool, List, IfOk, IfErr, option_copied};
+ghost use Rattle.cs_search.specs.Csearch.{file_text};
+ghost use Rattle.cs_search.specs.IndexSearch.{DecidesNames, IsCompiled, FileRefused, file_pattern_fault};
+
+use cs_match::{Matcher, Program};
+use cs_syntax::{PatternError, PatternFault, parse};
+use cs_words::{SearchJob, ToolFault};
+use std::alloc::{AllocError, Global};
+
+/// The program of the pattern of `-f`, where there is one.
+pub(crate) fn compile_file(alloc: Global, job: &SearchJob) -> Result<Option<Program>, ToolFault>
+    ensures compiled { IfOk result (IsCompiled (file_text job.now)) }
+    ensures refused { IfErr result (FileRefused (file_text job.now)) }
+{
+    let Some(text) = &job.file else {
+        return Ok(None);
+    };
+    match parse(alloc, text.as_str(), false) {
+        Ok(pattern) => {
+            let program = Program::compile(alloc, &pattern)?;
+            Ok(Some(program))
+        }
+        Err(error) => Err(file_fault(error)),
+    }
+}
+
+/// The fault of the pattern of `-f`. Want of memory is its own fault.
+fn file_fault(error: PatternError) -> ToolFault
+    ensures { result ≡ file_pattern_fault error }
+{
+    match error.fault {
+        PatternFault::Memory => ToolFault::Memory,
+        _ => ToolFault::FilePattern(error),
+    }
+}
+
+/// Tells which names `-f` keeps: all, where it was not given.
+#[derive(Drop)]
+pub(crate) struct NameFilter<'p> {
+    matcher: Option<Matcher<'p>>,
+}
+
+impl<'p> NameFilter<'p> {
+    pub(crate) fn new(
+        alloc: Global,
+        program: Option<&'p Program>,
+    ) -> Result<NameFilter<'p>, AllocError>
+        ensures { IfOk result (λ filter. filter.matcher ≡ option_copied program.entry) }
+    {
+        let Some(program) = program else {
+            return Ok(NameFilter { matcher: None });
+        };
+        let matcher = Matcher::new(alloc, program)?;
+        Ok(NameFilter {
+            matcher: Some(matcher),
+        })
+    }
+
+    pub(crate) fn keeps(&mut self, name: &str) -> bool
+        ensures tested { (keeps : List ℕ → Bool) → DecidesNames keeps self.old.matcher →
+            result ≡ keeps name.now }
+        ensures same { self.new.matcher ≡ self.old.matcher }
+    {
+        match &mut self.matcher {
+            Some(matcher) => matcher.is_match(name.as_bytes()),
+            None => true,
+        }
+    }
+}

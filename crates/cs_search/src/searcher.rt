@@ -1,0 +1,182 @@
+// What a tool searches its inputs with.
+ghost use Rattle.std.specs.Prelude.{◌≡◌, ℕ, Bool, List, IfOk, OnOk, option_map, map, string_bytes};
+ghost use Rattle.cs_words.specs.FileFaults.{fault_line_of};
+ghost use Rattle.cs_tree.specs.Failures.{count_if, CountsOne};
+ghost use Rattle.cs_match.specs.Finding.{Decides};
+ghost use Rattle.cs_tree.specs.Told.{Grows};
+ghost use Rattle.cs_search.specs.Searcher.{IsSearchFault, Prints};
+ghost use Rattle.cs_search.specs.Refusals.{has_write_failed};
+ghost use Rattle.cs_search.specs.Printed.{input_printed, file_printed, all_printed, left_fault, TellsFaults};
+
+use crate::buffer::LineBuffer;
+use crate::form::Form;
+use crate::grep_fault::ReadFault;
+use crate::report::{MOST_SEARCHED, grep_within};
+use cs_match::{Matcher, Program};
+use cs_tree::{Sink, Source, Tree, TreeReader, write_all};
+use cs_words::{FileFault, Style, Tool, ToolFault, fault_line};
+use std::alloc::{AllocError, Global};
+
+/// A tool's matcher and read buffer, which serve for one input after another.
+#[derive(Drop)]
+pub(crate) struct Searcher<'p> {
+    alloc: Global,
+    tool: Tool,
+    style: Style,
+    matcher: Matcher<'p>,
+    buffer: LineBuffer,
+}
+
+impl<'p> Searcher<'p> {
+    ghost use Rattle.cs_search.specs.Searcher.{IsKept};
+
+    pub(crate) fn new(
+        alloc: Global,
+        tool: Tool,
+        style: Style,
+        program: &'p Program,
+    ) -> Result<Searcher<'p>, AllocError>
+        ensures tool { IfOk result (λ searcher. searcher.tool ≡ tool) }
+        ensures style { IfOk result (λ searcher. searcher.style ≡ style) }
+        ensures matcher { IfOk result (λ searcher. searcher.matcher ≡ program.now) }
+    {
+        let matcher = Matcher::new(alloc, program)?;
+        let buffer = LineBuffer::new(alloc)?;
+        Ok(Searcher {
+            alloc,
+            tool,
+            style,
+            matcher,
+            buffer,
+        })
+    }
+
+    /// Prints what is found in an input, and the line of its fault. Answers whether some line matched.
+    pub(crate) fn search<R: Source, O: Sink, E: Sink>(
+        &mut self,
+        name: &str,
+        input: &mut R,
+        out: &mut O,
+        err: &mut E,
+    ) -> Result<bool, ToolFault>
+        ensures prints { IfOk result (λ matched. (finds : List ℕ → Bool) →
+            Decides finds self.old.matcher →
+            Prints (option_map
+            (input_printed MOST_SEARCHED self.old.tool self.old.style finds name.now)
+            (R.told input.old))
+            (O.taken out.old) (O.taken out.new) (E.taken err.old) (E.taken err.new) matched) }
+        ensures faults { IfOk result (λ _. TellsFaults self.old.tool
+            (R.failed input.old) (R.failed input.new) (E.taken err.old) (E.taken err.new)) }
+        ensures writes { CountsOne (has_write_failed result)
+            (O.failed out.old) (O.failed out.new) (E.failed err.old) (E.failed err.new) }
+        ensures only { IsSearchFault result }
+        ensures kept { IsKept self.old self.new }
+        ensures keeps { R.Keeps input.old input.new }
+    {
+        let form = Form {
+            name,
+            style: self.style,
+        };
+        let answer = grep_within(
+            &form,
+            input,
+            MOST_SEARCHED,
+            &mut self.buffer,
+            &mut self.matcher,
+            out,
+        )?;
+        if let Some(fault) = answer.fault {
+            self.print_fault(name, of_input(fault), err)?;
+        }
+        Ok(answer.matched)
+    }
+
+    /// Prints what is found in what stands in the tree at the name, and the line of its fault.
+    pub(crate) fn search_file<T: Tree, O: Sink, E: Sink>(
+        &mut self,
+        tree: &mut T,
+        name: &str,
+        out: &mut O,
+        err: &mut E,
+    ) -> Result<bool, ToolFault>
+        ensures prints { IfOk result (λ matched. (finds : List ℕ → Bool) →
+            Decides finds self.old.matcher →
+            Prints (option_map (λ tree.
+            file_printed MOST_SEARCHED self.old.tool self.old.style finds tree name.now)
+            (T.snapshot tree.old))
+            (O.taken out.old) (O.taken out.new) (E.taken err.old) (E.taken err.new) matched) }
+        ensures faults { IfOk result (λ _. TellsFaults self.old.tool
+            (T.failed tree.old) (T.failed tree.new) (E.taken err.old) (E.taken err.new)) }
+        ensures writes { CountsOne (has_write_failed result)
+            (O.failed out.old) (O.failed out.new) (E.failed err.old) (E.failed err.new) }
+        ensures only { IsSearchFault result }
+        ensures kept { IsKept self.old self.new }
+        ensures keeps { T.snapshot tree.new ≡ T.snapshot tree.old }
+    {
+        if let Err(fault) = tree.open(name) {
+            let fault = FileFault::of_tree(fault)?;
+            self.print_fault(name, fault, err)?;
+            return Ok(false);
+        }
+        let mut reader = TreeReader::new(tree);
+        let matched = self.search(name, &mut reader, out, err)?;
+        Ok(matched)
+    }
+
+    /// The same for one name after the other. Answers whether some line of some file matched.
+    pub(crate) fn search_files<T: Tree, O: Sink, E: Sink>(
+        &mut self,
+        tree: &mut T,
+        names: &[String],
+        out: &mut O,
+        err: &mut E,
+    ) -> Result<bool, ToolFault>
+        ensures prints { IfOk result (λ matched. (finds : List ℕ → Bool) →
+            Decides finds self.old.matcher →
+            Prints (option_map (λ tree. all_printed
+            (file_printed MOST_SEARCHED self.old.tool self.old.style finds tree)
+            (map string_bytes names.now))
+            (T.snapshot tree.old))
+            (O.taken out.old) (O.taken out.new) (E.taken err.old) (E.taken err.new) matched) }
+        ensures faults { IfOk result (λ _. TellsFaults self.old.tool
+            (T.failed tree.old) (T.failed tree.new) (E.taken err.old) (E.taken err.new)) }
+        ensures writes { CountsOne (has_write_failed result)
+            (O.failed out.old) (O.failed out.new) (E.failed err.old) (E.failed err.new) }
+        ensures only { IsSearchFault result }
+        ensures kept { IsKept self.old self.new }
+        ensures keeps { T.snapshot tree.new ≡ T.snapshot tree.old }
+    {
+        let mut matched = false;
+        for name in names {
+            matched |= self.search_file(tree, name.as_str(), out, err)?;
+        }
+        Ok(matched)
+    }
+
+    /// The line of a fault.
+    fn print_fault<E: Sink>(
+        &self,
+        name: &str,
+        fault: FileFault,
+        err: &mut E,
+    ) -> Result<(), ToolFault>
+        ensures written { OnOk result (Grows (E.taken err.old) (E.taken err.new)
+            (fault_line_of self.now.tool name.now fault)) }
+        ensures failed { E.failed err.new ≡ count_if (has_write_failed result) (E.failed err.old) }
+        ensures only { IsSearchFault result }
+    {
+        let line = fault_line(self.alloc, self.tool, name, fault)?;
+        write_all(err, line.as_bytes())?;
+        Ok(())
+    }
+}
+
+/// The fault of an input as that of a file.
+fn of_input(fault: ReadFault) -> FileFault
+    ensures { result ≡ left_fault fault }
+{
+    match fault {
+        ReadFault::Read => FileFault::Failed,
+        ReadFault::TooLong => FileFault::InputTooLong,
+    }
+}

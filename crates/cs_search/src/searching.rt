@@ -1,0 +1,106 @@
+// The tools that search.
+ghost use Rattle.std.specs.Prelude.{◌≡◌, ℕ, Bool, List, [], IfOk, string_bytes};
+ghost use Rattle.cs_tree.specs.Failures.{CountsOne};
+ghost use Rattle.cs_syntax.specs.Matching.{Tree as PatternTree};
+ghost use Rattle.cs_syntax.specs.Reading.{Reads};
+ghost use Rattle.cs_match.specs.Finding.{Decides};
+ghost use Rattle.cs_tree.specs.Told.{Grows};
+ghost use Rattle.cs_search.specs.Cgrep.{cgrep_printed, PatternFirst, TellsFaultsOf};
+ghost use Rattle.cs_search.specs.Refusals.{QuietAtRefusal, has_write_failed};
+ghost use Rattle.cs_search.specs.Searcher.{IsSearchFault, Prints};
+ghost use Rattle.cs_search.specs.Printed.{PrintsStatus, status_of};
+
+use crate::report::MOST_SEARCHED;
+use crate::searcher::Searcher;
+use crate::status::Status;
+use cs_match::Program;
+use cs_syntax::parse;
+use cs_tree::{Sink, Source, Tree};
+use cs_words::{GrepJob, Tool, ToolFault};
+use std::alloc::Global;
+
+/// Prints the lines that match the pattern of the job: those of standard input, or those of its files in the order of
+/// the words. A line on `err` names each input that could not be searched to its end. At the end both outputs are
+/// flushed, `out` first.
+pub fn cgrep<T: Tree, R: Source, O: Sink, E: Sink>(
+    alloc: Global,
+    job: &GrepJob,
+    tree: &mut T,
+    input: &mut R,
+    out: &mut O,
+    err: &mut E,
+) -> Result<Status, ToolFault>
+    ensures prints { IfOk result (λ status. (pattern : PatternTree) (finds : List ℕ → Bool) →
+        Reads (string_bytes job.now.pattern) job.now.fold pattern → Decides finds pattern →
+        PrintsStatus
+        (cgrep_printed MOST_SEARCHED job.now finds (T.snapshot tree.old) (R.told input.old))
+        (O.taken out.old) (O.taken out.new) (E.taken err.old) (E.taken err.new) status) }
+    ensures pattern { PatternFirst (string_bytes job.now.pattern) job.now.fold result }
+    ensures quiet { QuietAtRefusal result
+        (Grows (O.taken out.old) (O.taken out.new) []
+        × Grows (E.taken err.old) (E.taken err.new) []) }
+    ensures faults { IfOk result (λ _. TellsFaultsOf job.now.standard
+        (T.failed tree.old) (T.failed tree.new) (R.failed input.old) (R.failed input.new)
+        (E.taken err.old) (E.taken err.new)) }
+    ensures writes { CountsOne (has_write_failed result)
+        (O.failed out.old) (O.failed out.new) (E.failed err.old) (E.failed err.new) }
+    ensures tree_keeps { T.snapshot tree.new ≡ T.snapshot tree.old }
+    ensures input_keeps { R.Keeps input.old input.new }
+{
+    let pattern = parse(alloc, job.pattern.as_str(), job.fold)?;
+    let program = Program::compile(alloc, &pattern)?;
+    let mut searcher = Searcher::new(alloc, Tool::Cgrep, job.style, &program)?;
+    let matched = search_job(&mut searcher, job, tree, input, out, err)?;
+    let status = finish(matched, out, err)?;
+    Ok(status)
+}
+
+/// The end of a search: both outputs are flushed.
+pub(crate) fn finish<O: Sink, E: Sink>(
+    matched: bool,
+    out: &mut O,
+    err: &mut E,
+) -> Result<Status, ToolFault>
+    ensures status { IfOk result (λ status. status ≡ status_of matched) }
+    ensures out { Grows (O.taken out.old) (O.taken out.new) [] }
+    ensures err { Grows (E.taken err.old) (E.taken err.new) [] }
+    ensures writes { CountsOne (has_write_failed result)
+        (O.failed out.old) (O.failed out.new) (E.failed err.old) (E.failed err.new) }
+    ensures only { IsSearchFault result }
+{
+    out.flush()?;
+    err.flush()?;
+    Ok(Status::of(matched))
+}
+
+/// Searches standard input or the files of the job.
+fn search_job<T: Tree, R: Source, O: Sink, E: Sink>(
+    searcher: &mut Searcher<'_>,
+    job: &GrepJob,
+    tree: &mut T,
+    input: &mut R,
+    out: &mut O,
+    err: &mut E,
+) -> Result<bool, ToolFault>
+    requires tool { searcher.old.tool ≡ Tool.Cgrep }
+    requires style { searcher.old.style ≡ job.now.style }
+    ensures prints { IfOk result (λ matched. (finds : List ℕ → Bool) →
+        Decides finds searcher.old.matcher →
+        Prints (cgrep_printed MOST_SEARCHED job.now finds (T.snapshot tree.old) (R.told input.old))
+        (O.taken out.old) (O.taken out.new) (E.taken err.old) (E.taken err.new) matched) }
+    ensures faults { IfOk result (λ _. TellsFaultsOf job.now.standard
+        (T.failed tree.old) (T.failed tree.new) (R.failed input.old) (R.failed input.new)
+        (E.taken err.old) (E.taken err.new)) }
+    ensures writes { CountsOne (has_write_failed result)
+        (O.failed out.old) (O.failed out.new) (E.failed err.old) (E.failed err.new) }
+    ensures only { IsSearchFault result }
+    ensures tree_keeps { T.snapshot tree.new ≡ T.snapshot tree.old }
+    ensures input_keeps { R.Keeps input.old input.new }
+{
+    if job.standard {
+        let matched = searcher.search("<standard input>", input, out, err)?;
+        return Ok(matched);
+    }
+    let matched = searcher.search_files(tree, &job.files, out, err)?;
+    Ok(matched)
+}

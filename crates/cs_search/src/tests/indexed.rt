@@ -1,0 +1,121 @@
+// Searches of an index, over trees that lack the files that are not to be opened.
+use crate::csearching::csearch;
+use crate::status::Status;
+use cs_index::Builder;
+use cs_tree::{Item, MemSink, MemSource, MemTree, Sink};
+use cs_trigram::{Scan, Scanner};
+use cs_words::{Job, SearchJob, Tool, ToolFault, read_words};
+use std::alloc::Global;
+use std::process::Abort;
+use std::test::Fail;
+
+/// Names with what the files say.
+type Files<'a> = &'a [(&'a str, &'a [u8])];
+
+/// What is printed on both outputs, and the answer.
+type Wanted<'a> = (&'a str, &'a str, Result<Status, ToolFault>);
+
+/// Three files, of which one has a line that matches `Google.*Search`.
+const GOOGLE: Files<'static> = &[
+    ("/g/1", b"Google Search\n"),
+    ("/g/2", b"Google\n"),
+    ("/g/3", b"Search\n"),
+];
+
+/// One file with the eight trigrams of `Google.*Search`, eight files that each lack another one of them, and one that
+/// has them all and no match.
+const LACKING: Files<'static> = &[
+    ("/g/0", b"Google Search\n"),
+    ("/g/1", b"oogle Search\n"),
+    ("/g/2", b"Goo ogle Search\n"),
+    ("/g/3", b"Goog gle Search\n"),
+    ("/g/4", b"Googl Search\n"),
+    ("/g/5", b"Google earch\n"),
+    ("/g/6", b"Google Sea arch\n"),
+    ("/g/7", b"Google Sear rch\n"),
+    ("/g/8", b"Google Searc\n"),
+    ("/g/9", b"Search\nGoogle\n"),
+];
+
+/// The job of the words of csearch, between spaces.
+fn job_of(alloc: Global, text: &str) -> Result<SearchJob, Fail> {
+    let mut words = Vec::new(alloc);
+    for word in text.split(' ') {
+        words.push(String::from_str(alloc, word)?)?;
+    }
+    match read_words(alloc, Tool::Csearch, "/w", &words) {
+        Ok(Job::Search(job)) => Ok(job),
+        _ => Err(Fail::from("words")),
+    }
+}
+
+/// The index of the files, below one path.
+fn index_of(alloc: Global, path: &str, files: Files<'_>) -> Result<Vec<u8>, Fail> {
+    let mut paths = Vec::new(alloc);
+    paths.push(String::from_str(alloc, path)?)?;
+    let mut builder = Builder::new(alloc, &paths)?;
+    let mut scanner = Scanner::new(alloc)?;
+    for (name, text) in files {
+        let mut source = MemSource::new(text, 4, false);
+        match scanner.scan(&mut source) {
+            Ok(Scan::Text { trigrams, .. }) => {
+                let _id = builder.add(name, &trigrams)?;
+            }
+            _ => return Err(Fail::from("text")),
+        }
+    }
+    Ok(builder.finish()?)
+}
+
+/// A tree of the files.
+fn tree_of(alloc: Global, files: Files<'_>) -> Result<MemTree, Fail> {
+    let mut tree = MemTree::new(alloc, 4)?;
+    tree.put("/g", Item::Folder).ok().ok_or("put")?;
+    for (name, text) in files {
+        let text = Vec::from_slice(alloc, text)?;
+        tree.put(name, Item::File(text)).ok().ok_or("put")?;
+    }
+    Ok(tree)
+}
+
+fn run(
+    rt: &impl Abort,
+    alloc: Global,
+    words: &str,
+    index: &[u8],
+    tree: &mut MemTree,
+    wanted: Wanted<'_>,
+) -> Result<(), Fail> {
+    let job = job_of(alloc, words)?;
+    let mut out = MemSink::new(alloc, 1000);
+    let mut err = MemSink::new(alloc, 1000);
+    let status = csearch(alloc, &job, Some(index), tree, &mut out, &mut err);
+    assert_eq!(rt; out.bytes(), wanted.0.as_bytes(), "of {words:?}");
+    assert_eq!(rt; err.bytes(), wanted.1.as_bytes(), "of {words:?}");
+    assert_eq!(rt; status, wanted.2, "of {words:?}");
+    Ok(())
+}
+
+#[test]
+fn only_candidates_are_opened(rt: HostRuntime) -> Result<(), Fail> {
+    let alloc = rt.alloc();
+    let matched = Ok(Status::Matched);
+    let index = index_of(alloc, "/g", GOOGLE)?;
+    let tree = &mut tree_of(alloc, &[("/g/1", b"Google Search\n")])?;
+    let found = "/g/1:Google Search\n";
+    let words = "Google.*Search";
+    run(&rt, alloc, words, &index, tree, (found, "", matched))?;
+    let missing = "csearch: /g/2: no such file\ncsearch: /g/3: no such file\n";
+    let words = "-brute Google.*Search";
+    run(&rt, alloc, words, &index, tree, (found, missing, matched))
+}
+
+#[test]
+fn candidates_have_each_trigram(rt: HostRuntime) -> Result<(), Fail> {
+    let alloc = rt.alloc();
+    let index = index_of(alloc, "/g", LACKING)?;
+    let files: Files<'_> = &[("/g/0", b"Google Search\n"), ("/g/9", b"Search\nGoogle\n")];
+    let tree = &mut tree_of(alloc, files)?;
+    let found = ("/g/0:Google Search\n", "", Ok(Status::Matched));
+    run(&rt, alloc, "Google.*Search", &index, tree, found)
+}

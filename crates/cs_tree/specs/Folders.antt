@@ -1,0 +1,48 @@
+-- What folders list, and which snapshots are trees.
+-- docs/FORMAT.md, "Paths and names".
+use Rattle.std.specs.Prelude.{◌≡◌, ℕ, Bool, true, false, not, ◌&&◌, nat_eq, if◌then◌else◌, List, [], ◌∷◌, ◌++◌, Option, Some, None, IsUtf8}
+use Rattle.std.specs.List.{list_any, list_all, AllByRecursion, after_last}
+use Rattle.cs_tree.specs.Cover.{slash, same, is_among}
+use Rattle.cs_tree.specs.Snapshot.{Item, Snapshot, item_at, folder}
+
+-- a folder's path as its children's begin: the root adds nothing to the slash
+abbrev pub stem_of : List ℕ → List ℕ
+stem_of folder_path = if same folder_path (slash ∷ []) then [] else folder_path
+
+-- the path of what a folder lists under a name
+abbrev pub child : List ℕ → List ℕ → List ℕ
+child folder_path name = stem_of folder_path ++ slash ∷ name
+
+-- whether an item is a folder that lists the name
+abbrev pub lists : Item → List ℕ → Bool
+lists (folder names unnamed) name = is_among names name
+lists _ name = false
+
+-- whether a name is not empty, and has no `/` and no NUL
+abbrev pub is_name : List ℕ → Bool
+is_name name = not (same name []) && (not (list_any (λ b. nat_eq b slash) name) && not (list_any (λ b. nat_eq b 0) name))
+
+abbrev pub are_distinct : List (List ℕ) → Bool
+are_distinct [] = true
+are_distinct (name ∷ names) = not (is_among names name) && are_distinct names
+
+-- whether a folder may list these
+abbrev pub are_names : List (List ℕ) → Bool
+are_names names = list_all is_name names && are_distinct names
+
+abbrev pub HasNames : Item → Type 0
+HasNames (folder names unnamed) = (are_names names ≡ true) × AllByRecursion IsUtf8 names
+HasNames _ = Unit {0}
+
+-- Each folder lists distinct names, and each of them is text that is not empty, without `/` and NUL.
+abbrev pub IsTree : Snapshot → Type 0
+IsTree tree = (path : List ℕ) → HasNames (item_at tree path)
+
+-- what is told is a tree
+abbrev pub Tells : Option Snapshot → Type 0
+Tells None = ⊥
+Tells (Some tree) = IsTree tree
+
+-- the name under which a path is listed: what follows its last slash
+abbrev pub name_of : List ℕ → List ℕ
+name_of path = after_last (λ b. nat_eq b slash) path

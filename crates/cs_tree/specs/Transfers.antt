@@ -1,0 +1,64 @@
+-- How reads and writes change what is told of a source and of a sink. Where nothing is told nothing is asked.
+-- docs/PROMISES.md, "Sources and sinks".
+use Rattle.std.specs.Prelude.{◌≡◌, ℕ, ◌+◌, ◌-◌, ◌<◌, ◌≤◌, List, [], ◌++◌, length, take, drop, Option, Some, None, Result, Ok, Err, MatchResult, Vec, Bool, true, false}
+use Rattle.std.specs.declared.alloc.Global.{Global}
+use Rattle.cs_tree.specs.declared.fault.IoFault.{IoFault}
+use Rattle.cs_tree.specs.declared.fault.IoFault.TheVariants.{Failed, Memory}
+use Rattle.cs_tree.specs.Told.{Ending, Told, Grows, ends, fails}
+
+-- what is told loses these bytes at its front, and its ending stays
+abbrev pub Loses : Option Told → Option Told → List ℕ → Type 0
+Loses None later bytes = Unit {0}
+Loses (Some told) None bytes = ⊥
+Loses (Some told) (Some rest) bytes = (told.bytes ≡ bytes ++ rest.bytes) × (told.ending ≡ rest.ending)
+
+-- no byte is left, and this follows
+abbrev pub IsAt : Ending → Option Told → Type 0
+IsAt ending None = Unit {0}
+IsAt ending (Some told) = (told.bytes ≡ []) × (told.ending ≡ ending)
+
+-- A read has failed only where no byte is left and failure follows.
+abbrev pub RefusedBy : IoFault → Option Told → Type 0
+RefusedBy Failed told = IsAt fails told
+RefusedBy Memory told = Unit {0}
+
+-- A read gives the next bytes, and none only into no room or at the end. A refused one gives none.
+abbrev pub ReadGives : Option Told → Option Told → Result ℕ IoFault → List ℕ → Type 0
+ReadGives told later answer buf =
+    MatchResult answer (λ n. Loses told later (take n buf) × (n ≡ 0 → 0 < length buf → IsAt ends later)) (λ fault. Loses told later [] × RefusedBy fault later)
+
+-- what is told loses at most so many bytes, at its front
+abbrev pub LosesAtMost : ℕ → Option Told → Option Told → Type 0
+LosesAtMost most None later = Unit {0}
+LosesAtMost most (Some told) None = ⊥
+LosesAtMost most (Some told) (Some rest) =
+    (rest.bytes ≡ drop (length told.bytes - length rest.bytes) told.bytes) × (length told.bytes ≤ most + length rest.bytes) × (told.ending ≡ rest.ending)
+
+-- a reading up to a limit has failed only where the bytes are within the limit, and failure follows them
+abbrev pub FailsWithin : ℕ → IoFault → Option Told → Type 0
+FailsWithin limit fault None = Unit {0}
+FailsWithin limit Memory (Some told) = Unit {0}
+FailsWithin limit Failed (Some told) = (length told.bytes ≤ limit) × (told.ending ≡ fails)
+
+-- All bytes up to the limit are read, and one more where there are more.
+abbrev pub ReadGivesAll : Option Told → Option Told → ℕ → Result (List ℕ) IoFault → Type 0
+ReadGivesAll told later limit answer =
+    MatchResult answer (λ bytes. Loses told later bytes × (length bytes ≤ limit → IsAt ends later)) (λ fault. LosesAtMost (limit + 1) told later × FailsWithin limit fault told)
+
+abbrev pub items_of : Result (Vec ℕ Global) IoFault → Result (List ℕ) IoFault
+items_of (Ok v) = Ok v.items
+items_of (Err fault) = Err fault
+
+-- A write takes a front of its bytes. A refused one takes none.
+abbrev pub Writes : Option (List ℕ) → Option (List ℕ) → Result ℕ IoFault → List ℕ → Type 0
+Writes taken later answer buf = MatchResult answer (λ n. Grows taken later (take n buf)) (λ fault. Grows taken later [])
+
+-- All of the bytes are taken, and where the call was refused, a front of them.
+abbrev pub WritesFront : Option (List ℕ) → Option (List ℕ) → Result (Unit {0}) IoFault → List ℕ → Type 0
+WritesFront taken later answer bytes =
+    MatchResult answer (λ _. Grows taken later bytes) (λ fault. (n : ℕ) × (n ≤ length bytes) × Grows taken later (take n bytes))
+
+-- want of memory is no failure
+abbrev pub is_io_failure : IoFault → Bool
+is_io_failure Failed = true
+is_io_failure Memory = false

@@ -1,0 +1,206 @@
+-- Affixes of texts that are joined, and of trees.
+use Rattle.std.proofs.Common.{◌≡◌, ℕ, zero, suc, ◌+◌, ◌-◌, ◌<◌, ◌≤◌, ◌⊎◌, inl, inr, true, false, List, [], ◌∷◌, ◌++◌, take, drop, length, get_or, refl, sym, ◌∙◌, ap, subst, arith, append_assoc, drop-cons, length-drop, drop_of_length-le}
+use Rattle.cs_syntax.specs.TreeList.{append}
+use Rattle.std.proofs.Math.Seq.{take-length}
+use Rattle.std.specs.Prelude.{Option}
+use Rattle.std.proofs.lemmas.List.{append-nil, take-append-drop}
+use Rattle.cs_syntax.specs.Matching.{Tree, Trees, empty, one_of, cat, alt, rep, line_start, line_end, word_edge, not_word_edge, none, more, Chain, Takes, TakesAll, TakesSome}
+use Rattle.cs_trigram.specs.Affixes.{part, laid, near_part, Fits, FitsSome, AreAffixes, AreAffixesOfAll}
+use Rattle.cs_trigram.specs.declared.affixes.Side.{Side}
+use Rattle.cs_trigram.specs.declared.affixes.Side.TheVariants.{Prefix, Suffix}
+use Rattle.cs_trigram.specs.declared.affixes.Affix.{Affix}
+use Rattle.cs_trigram.proofs.SpellingLemmas.{part_split, part_empty}
+
+pub laid_assoc : (side : Side) (a b c : List ℕ) → laid side (laid side a b) c ≡ laid side a (laid side b c)
+laid_assoc Prefix a b c = append_assoc a b c
+laid_assoc Suffix a b c = sym (append_assoc c b a)
+
+pub laid_none : (side : Side) (a : List ℕ) → laid side a [] ≡ a
+laid_none Prefix a = append-nil a
+laid_none Suffix a = refl
+
+pub laid_behind : (side : Side) (a : List ℕ) → laid side [] a ≡ a
+laid_behind Prefix a = refl
+laid_behind Suffix a = append-nil a
+
+-- an affix of a joining, where the near one is whole and where it is not
+pub fits_joined : (side : Side) (near far affix : Affix) → affix.word ≡ laid side near.word far.word → affix.whole ≡ far.whole → near.whole ≡ true →
+    (u v : List ℕ) → Fits side near u → Fits side far v → Fits side affix (laid side u v)
+fits_joined side near far affix word whole is u v a b =
+    let same : u ≡ near.word = a.1 ∙ ap (laid side near.word) (a.2 is) ∙ laid_none side near.word in (
+      b.0,
+      ap (λ (x : List ℕ). laid side x v) same ∙ ap (laid side near.word) b.1 ∙ sym (laid_assoc side near.word far.word b.0)
+          ∙ ap (λ (x : List ℕ). laid side x b.0) (sym word),
+      λ e. b.2 (sym whole ∙ e),
+    )
+
+pub fits_open : (side : Side) (near affix : Affix) → affix.word ≡ near.word → affix.whole ≡ false →
+    (u v : List ℕ) → Fits side near u → Fits side affix (laid side u v)
+fits_open side near affix word loose u v a = (
+  laid side a.0 v,
+  ap (λ (x : List ℕ). laid side x v) a.1 ∙ laid_assoc side near.word a.0 v ∙ ap (λ (x : List ℕ). laid side x (laid side a.0 v)) (sym word),
+  λ e. let odd : false ≡ true = sym loose ∙ e in (cc),
+)
+
+-- an affix with the same word and kind
+pub fits_same : (side : Side) (old affix : Affix) → affix.word ≡ old.word → affix.whole ≡ old.whole → (text : List ℕ) → Fits side old text → Fits side affix text
+fits_same side old affix word whole text a =
+    (a.0, a.1 ∙ ap (λ (x : List ℕ). laid side x a.0) (sym word), λ e. a.2 (sym whole ∙ e))
+
+-- an affix that is cut
+pub fits_cut : (side : Side) (old affix : Affix) (rest : List ℕ) → old.word ≡ laid side affix.word rest → affix.whole ≡ false → (text : List ℕ) → Fits side old text → Fits side affix text
+fits_cut side old affix rest word loose text a = (
+  laid side rest a.0,
+  a.1 ∙ ap (λ (x : List ℕ). laid side x a.0) word ∙ laid_assoc side affix.word rest a.0,
+  λ e. let odd : false ≡ true = sym loose ∙ e in (cc),
+)
+
+-- one affix more
+pub fits_push : (side : Side) (affixes : List Affix) (affix : Affix) (text : List ℕ) → Fits side affix text ⊎ FitsSome side affixes text → FitsSome side (affixes ++ affix ∷ []) text
+fits_push side [] affix text h = h
+fits_push side (e ∷ affixes) affix text h =
+    elim h [
+      | inl a ↦ inr (fits_push side affixes affix text (inl a))
+      | inr b ↦ elim b [ inl c ↦ inl c | inr d ↦ inr (fits_push side affixes affix text (inr d)) ]
+    ]
+
+-- the affixes from a place on
+pub fits_from : (side : Side) (affixes : List Affix) (i : ℕ) (affix : Affix) (text : List ℕ) → i < length affixes → affix ≡ get_or affixes i affix →
+    FitsSome side (drop i affixes) text → Fits side affix text ⊎ FitsSome side (drop (i + 1) affixes) text
+fits_from side affixes i affix text lt is h =
+    let next : suc i ≡ i + 1 = omega arith in
+    let cut : drop i affixes ≡ affix ∷ drop (i + 1) affixes =
+    drop-cons affixes i affix lt ∙ ap (λ x. x ∷ drop (suc i) affixes) (sym is) ∙ ap (λ n. affix ∷ drop n affixes) next in
+    subst (λ (es : List Affix). FitsSome side es text) cut h
+
+pub fits_at : (side : Side) (affixes : List Affix) (i : ℕ) (affix : Affix) (text : List ℕ) → i < length affixes → affix ≡ get_or affixes i affix →
+    Fits side affix text → FitsSome side affixes text
+fits_at side [] i affix text lt is h = absurd (omega arith)
+fits_at side (e ∷ affixes) zero affix text lt is h = inl (subst (λ (x : Affix). Fits side x text) is h)
+fits_at side (e ∷ affixes) (suc i) affix text lt is h = inr (fits_at side affixes i affix text (omega arith) is h)
+
+-- the affix of each text, and that of the text without bytes
+pub fits_any : (side : Side) (affix : Affix) (text : List ℕ) → affix.word ≡ [] → affix.whole ≡ false → FitsSome side (affix ∷ []) text
+fits_any side affix text word loose =
+    inl (text, sym (laid_behind side text) ∙ ap (λ (x : List ℕ). laid side x text) (sym word), λ e. let odd : false ≡ true = sym loose ∙ e in (cc))
+
+pub fits_none : (side : Side) (affix : Affix) → affix.word ≡ [] → FitsSome side (affix ∷ []) []
+fits_none side affix word = inl ([], sym (laid_none side []) ∙ ap (λ (x : List ℕ). laid side x []) (sym word), λ e. refl)
+
+pub fits_whole : (side : Side) (affix : Affix) (text : List ℕ) → text ≡ affix.word → Fits side affix text
+fits_whole side affix text e = ([], e ∙ sym (laid_none side affix.word), λ w. refl)
+
+-- places rise
+chain_rises : (R : ℕ → ℕ → Type 0) → ((i j : ℕ) → R i j → i ≤ j) → (k i j : ℕ) → Chain R k i j → i ≤ j
+chain_rises R each zero i j c = omega (arith, c)
+chain_rises R each (suc k) i j c = let a = each i c.0 c.1 in let b = chain_rises R each k c.0 j c.2 in omega (arith, a, b)
+
+module _ (s : List ℕ) where
+  mutual
+    pub rises : (t : Tree) (i j : ℕ) → Takes s t i j → i ≤ j
+    rises empty i j h = omega (arith, h)
+    rises (one_of set) i j h = omega (arith, h.2)
+    rises (cat ts) i j h = rises_all ts i j h
+    rises (alt ts) i j h = rises_some ts i j h
+    rises (rep x n m) i j h = chain_rises (Takes s x) (λ a b k. rises x a b k) h.0 i j h.3
+    rises line_start i j h = omega (arith, h.0, h.1)
+    rises line_end i j h = omega (arith, h.0, h.1)
+    rises word_edge i j h = omega (arith, h.0)
+    rises not_word_edge i j h = omega (arith, h.0)
+
+    pub rises_all : (ts : Trees) (i j : ℕ) → TakesAll s ts i j → i ≤ j
+    rises_all none i j h = omega (arith, h)
+    rises_all (more t ts) i j h = let a = rises t i h.0 h.1 in let b = rises_all ts h.0 j h.2 in omega (arith, a, b)
+
+    rises_some : (ts : Trees) (i j : ℕ) → TakesSome s ts i j → i ≤ j
+    rises_some none i j h = absurd h
+    rises_some (more t ts) i j h = elim h [ inl a ↦ rises t i j a | inr b ↦ rises_some ts i j b ]
+
+-- a sequence from its front, and from its back
+pub affixes_none : (side : Side) (affixes : List Affix) → FitsSome side affixes [] → AreAffixesOfAll side affixes none
+affixes_none side affixes h = λ s i j e. subst (FitsSome side affixes) (sym (part_empty s i) ∙ ap (part s i) e) h
+
+pub prefixes_before : (nears fars affixes : List Affix) (t : Tree) (ts : Trees) →
+    ((u v : List ℕ) → FitsSome Prefix nears u → FitsSome Prefix fars v → FitsSome Prefix affixes (laid Prefix u v)) →
+    AreAffixes Prefix nears t → AreAffixesOfAll Prefix fars ts → AreAffixesOfAll Prefix affixes (more t ts)
+prefixes_before nears fars affixes t ts join a b = λ s i j h.
+    subst (FitsSome Prefix affixes) (sym (part_split s i h.0 j (rises s t i h.0 h.1) (rises_all s ts h.0 j h.2)))
+    (join (part s i h.0) (part s h.0 j) (a s i h.0 h.1) (b s h.0 j h.2))
+
+all_split : (s : List ℕ) (ts : Trees) (t : Tree) (i j : ℕ) → TakesAll s (append ts (more t none)) i j → (l : ℕ) × TakesAll s ts i l × Takes s t l j
+all_split s none t i j h = (i, refl, subst (λ n. Takes s t i n) h.2 h.1)
+all_split s (more u ts) t i j h = let r = all_split s ts t h.0 j h.2 in (r.0, (h.0, h.1, r.1), r.2)
+
+pub suffixes_behind : (nears fars affixes : List Affix) (ts : Trees) (t : Tree) →
+    ((u v : List ℕ) → FitsSome Suffix nears u → FitsSome Suffix fars v → FitsSome Suffix affixes (laid Suffix u v)) →
+    AreAffixes Suffix nears t → AreAffixesOfAll Suffix fars ts → AreAffixesOfAll Suffix affixes (append ts (more t none))
+suffixes_behind nears fars affixes ts t join a b = λ s i j h.
+    let r = all_split s ts t i j h in
+    subst (FitsSome Suffix affixes) (sym (part_split s i r.0 j (rises_all s ts i r.0 r.1) (rises s t r.0 j r.2)))
+    (join (part s r.0 j) (part s i r.0) (a s r.0 j r.2) (b s i r.0 r.1))
+
+-- rounds
+abbrev pub AreAffixesOfRounds : Side → List Affix → Tree → ℕ → Type 0
+AreAffixesOfRounds side affixes t n = (s : List ℕ) (k i j : ℕ) → n ≤ k → Chain (Takes s t) k i j → FitsSome side affixes (part s i j)
+
+chain_last : (R : ℕ → ℕ → Type 0) (k i j : ℕ) → Chain R (suc k) i j → (l : ℕ) × Chain R k i l × R l j
+chain_last R zero i j c = (i, refl, subst (R i) c.2 c.1)
+chain_last R (suc k) i j c = let r = chain_last R k c.0 j c.2 in (r.0, (c.0, c.1, r.1), r.2)
+
+pub round_more : (side : Side) (once fars affixes : List Affix) (t : Tree) (n : ℕ) →
+    ((u v : List ℕ) → FitsSome side once u → FitsSome side fars v → FitsSome side affixes (laid side u v)) →
+    AreAffixes side once t → AreAffixesOfRounds side fars t n → AreAffixesOfRounds side affixes t (n + 1)
+round_more side once fars affixes t n join a b = λ s k i j le c. by side join a b s k i j le c
+  where
+    by : (side : Side) → ((u v : List ℕ) → FitsSome side once u → FitsSome side fars v → FitsSome side affixes (laid side u v)) →
+        AreAffixes side once t → AreAffixesOfRounds side fars t n → (s : List ℕ) (k i j : ℕ) → n + 1 ≤ k → Chain (Takes s t) k i j → FitsSome side affixes (part s i j)
+    by side join a b s zero i j le c = absurd (omega arith)
+    by Prefix join a b s (suc k) i j le c =
+        subst (FitsSome Prefix affixes) (sym (part_split s i c.0 j (rises s t i c.0 c.1) (chain_rises (Takes s t) (rises s t) k c.0 j c.2)))
+        (join (part s i c.0) (part s c.0 j) (a s i c.0 c.1) (b s k c.0 j (omega arith) c.2))
+    by Suffix join a b s (suc k) i j le c =
+        let r = chain_last (Takes s t) k i j c in
+        subst (FitsSome Suffix affixes) (sym (part_split s i r.0 j (chain_rises (Takes s t) (rises s t) k i r.0 r.1) (rises s t r.0 j r.2)))
+        (join (part s r.0 j) (part s i r.0) (a s r.0 j r.2) (b s k i r.0 (omega arith) r.1))
+
+-- any number of rounds: none, or one and anything
+pub rounds_any : (side : Side) (once any loose affixes : List Affix) (t : Tree) → ((text : List ℕ) → FitsSome side any text) →
+    ((u v : List ℕ) → FitsSome side once u → FitsSome side any v → FitsSome side loose (laid side u v)) →
+    FitsSome side affixes [] → ((text : List ℕ) → FitsSome side loose text → FitsSome side affixes text) →
+    AreAffixes side once t → AreAffixesOfRounds side affixes t 0
+rounds_any side once any loose affixes t all join none_fits keep a = λ s k i j le c. by s k i j c
+  where
+    by : (s : List ℕ) (k i j : ℕ) → Chain (Takes s t) k i j → FitsSome side affixes (part s i j)
+    by s zero i j c = subst (FitsSome side affixes) (sym (part_empty s i) ∙ ap (part s i) c) none_fits
+    by s (suc k) i j c =
+        keep (part s i j) (round_more side once any loose t 0 join a (λ r l x y le d. all (part r x y)) s (suc k) i j (omega arith) c)
+
+pub affixes_rounds : (side : Side) (affixes : List Affix) (t : Tree) (n least : ℕ) (m : Option ℕ) → n ≤ least → AreAffixesOfRounds side affixes t n → AreAffixes side affixes (rep t least m)
+affixes_rounds side affixes t n least m le r = λ s i j h. r s h.0 i j (omega (arith, h.1, le)) h.3
+
+-- the same affixes
+pub fits_via : (side : Side) (xs ys : List Affix) (text : List ℕ) → ys ≡ xs → FitsSome side xs text → FitsSome side ys text
+fits_via side xs ys text e h = subst (λ (es : List Affix). FitsSome side es text) (sym e) h
+
+-- there is none behind the last
+pub fits_end : (side : Side) (affixes : List Affix) (i : ℕ) (text : List ℕ) → length affixes ≤ i → FitsSome side (drop i affixes) text → ⊥
+fits_end side affixes i text le h = subst (λ (es : List Affix). FitsSome side es text) (drop_of_length-le affixes {i = i} le) h
+
+-- what is left of a word that is cut
+abbrev pub far_part : Side → ℕ → List ℕ → List ℕ
+far_part Prefix n text = drop n text
+far_part Suffix n text = take (length text - n) text
+
+pub near_far : (side : Side) (n : ℕ) (text : List ℕ) → text ≡ laid side (near_part side n text) (far_part side n text)
+near_far Prefix n text = sym (take-append-drop n text)
+near_far Suffix n text = sym (take-append-drop (length text - n) text)
+
+pub rest_bytes : (text : List ℕ) (i : ℕ) → take (length text - i) (drop i text) ≡ drop i text
+rest_bytes text i = ap (λ n. take n (drop i text)) (sym (length-drop i text)) ∙ take-length (drop i text)
+
+-- the bytes at a side that is known
+pub near_prefix : (side : Side) (n : ℕ) (text near : List ℕ) → side ≡ Prefix → near ≡ take n text → near ≡ near_part side n text
+near_prefix side n text near is e = subst (λ (x : Side). near ≡ near_part x n text) (sym is) e
+
+pub near_suffix : (side : Side) (n : ℕ) (text near : List ℕ) → side ≡ Suffix → near ≡ drop (length text - n) text → near ≡ near_part side n text
+near_suffix side n text near is e = subst (λ (x : Side). near ≡ near_part x n text) (sym is) e

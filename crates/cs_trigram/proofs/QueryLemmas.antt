@@ -1,0 +1,109 @@
+-- The equations of `holds`, one for each variant.
+use Rattle.std.proofs.Common.{◌≡◌, ℕ, ◌+◌, ◌≤◌, ◌&&◌, ◌||◌, Bool, true, false, List, [], ◌∷◌, ◌++◌, drop, length, map, Vec, Global, refl, sym, ◌∙◌, ap, arith, length-drop}
+use Rattle.cs_trigram.specs.QueryNumbers.{numbers_step, are_trigrams}
+use Rattle.std.specs.Prelude.{nat_lt}
+use Rattle.std.specs.List.{list_all, list_any}
+use Rattle.std.proofs.lemmas.Bool.{and_from}
+use Rattle.std.proofs.lemmas.List.Folds.{list_all-map, list_all-append, list_any-append}
+use Rattle.cs_trigram.specs.Trigram.{trigram_sequence}
+use Rattle.cs_trigram.specs.Query.{holds, holds_step}
+use Rattle.cs_trigram.specs.Sample.{all_hold, some_holds, has_any}
+use Rattle.cs_trigram.specs.declared.queries.Query.{Query, Query-F, fold-roll-Query}
+use Rattle.cs_trigram.specs.declared.queries.Query.TheVariants.{All, Nothing, Tri, And, Or, rolls-All, rolls-Nothing, rolls-Tri, rolls-And, rolls-Or}
+
+list_any-map : (f : Query → Bool) (xs : List Query) → list_any (λ b. b) (map f xs) ≡ list_any f xs
+list_any-map f [] = refl
+list_any-map f (x ∷ xs) = ap (λ b. f x || b) (list_any-map f xs)
+
+module _ (set : ℕ → Bool) where
+  pub holds-All : holds All set ≡ true
+  holds-All = ap (λ q. holds q set) (sym rolls-All) ∙ fold-roll-Query Bool (holds_step set) Query-F.All
+
+  pub holds-Nothing : holds Nothing set ≡ false
+  holds-Nothing = ap (λ q. holds q set) (sym rolls-Nothing) ∙ fold-roll-Query Bool (holds_step set) Query-F.Nothing
+
+  pub holds-Tri : (n : ℕ) → holds (Tri n) set ≡ set n
+  holds-Tri n = ap (λ q. holds q set) (sym (rolls-Tri n)) ∙ fold-roll-Query Bool (holds_step set) (Query-F.Tri n)
+
+  pub holds-And : (members : Vec Query Global) → holds (And members) set ≡ all_hold members.items set
+  holds-And members =
+      ap (λ q. holds q set) (sym (rolls-And members)) ∙ fold-roll-Query Bool (holds_step set) (Query-F.And members)
+      ∙ list_all-map (λ b. b) (λ q. holds q set) members.items
+
+  pub holds-Or : (members : Vec Query Global) → holds (Or members) set ≡ some_holds members.items set
+  holds-Or members =
+      ap (λ q. holds q set) (sym (rolls-Or members)) ∙ fold-roll-Query Bool (holds_step set) (Query-F.Or members)
+      ∙ list_any-map (λ q. holds q set) members.items
+
+pub numbers-All : are_trigrams All ≡ true
+numbers-All = ap are_trigrams (sym rolls-All) ∙ fold-roll-Query Bool numbers_step Query-F.All
+
+pub numbers-Tri : (n : ℕ) → are_trigrams (Tri n) ≡ nat_lt n 16777216
+numbers-Tri n = ap are_trigrams (sym (rolls-Tri n)) ∙ fold-roll-Query Bool numbers_step (Query-F.Tri n)
+
+pub numbers-And : (members : Vec Query Global) → are_trigrams (And members) ≡ list_all are_trigrams members.items
+numbers-And members =
+    ap are_trigrams (sym (rolls-And members)) ∙ fold-roll-Query Bool numbers_step (Query-F.And members)
+    ∙ list_all-map (λ b. b) are_trigrams members.items
+
+pub numbers-Or : (members : Vec Query Global) → are_trigrams (Or members) ≡ list_all are_trigrams members.items
+numbers-Or members =
+    ap are_trigrams (sym (rolls-Or members)) ∙ fold-roll-Query Bool numbers_step (Query-F.Or members)
+    ∙ list_all-map (λ b. b) are_trigrams members.items
+
+or_assoc : (a b c : Bool) → ((a || b) || c) ≡ (a || (b || c))
+or_assoc true b c = refl
+or_assoc false b c = refl
+
+and_true : (a : Bool) → (a && true) ≡ a
+and_true true = refl
+and_true false = refl
+
+or_false : (a : Bool) → (a || false) ≡ a
+or_false true = refl
+or_false false = refl
+
+-- a member more
+pub all_hold_push : (set : ℕ → Bool) (queries : List Query) (q : Query) → all_hold (queries ++ q ∷ []) set ≡ (all_hold queries set && holds q set)
+all_hold_push set queries q =
+    list_all-append (λ x. holds x set) queries (q ∷ []) ∙ ap (λ b. all_hold queries set && b) (and_true (holds q set))
+
+pub numbers_push : (queries : List Query) (q : Query) → list_all are_trigrams (queries ++ q ∷ []) ≡ (list_all are_trigrams queries && are_trigrams q)
+numbers_push queries q = list_all-append are_trigrams queries (q ∷ []) ∙ ap (λ b. list_all are_trigrams queries && b) (and_true (are_trigrams q))
+
+pub numbers_more : (queries : List Query) (q : Query) → list_all are_trigrams queries ≡ true → are_trigrams q ≡ true → list_all are_trigrams (queries ++ q ∷ []) ≡ true
+numbers_more queries q a b = numbers_push queries q ∙ and_from (list_all are_trigrams queries) (are_trigrams q) a b
+
+pub some_holds_push : (set : ℕ → Bool) (queries : List Query) (q : Query) → some_holds (queries ++ q ∷ []) set ≡ (some_holds queries set || holds q set)
+some_holds_push set queries q =
+    list_any-append (λ x. holds x set) queries (q ∷ []) ∙ ap (λ b. some_holds queries set || b) (or_false (holds q set))
+
+pub trigrams_short : (text : List ℕ) → length text ≤ 2 → trigram_sequence text ≡ []
+trigrams_short [] h = refl
+trigrams_short (a ∷ []) h = refl
+trigrams_short (a ∷ b ∷ []) h = refl
+trigrams_short (a ∷ b ∷ c ∷ rest) h = absurd (omega arith)
+
+pub trigram_end : (set : ℕ → Bool) (members : List Query) (text : List ℕ) (at : ℕ) → length text ≤ at + 2 →
+    (all_hold members set && list_all set (trigram_sequence (drop at text))) ≡ all_hold members set
+trigram_end set members text at le =
+    ap (λ (ns : List ℕ). all_hold members set && list_all set ns) (trigrams_short (drop at text) (omega (arith, length-drop at text))) ∙ and_true (all_hold members set)
+
+-- one word more
+pub word_step : (set : ℕ → Bool) (members : List Query) (q : Query) (w : List ℕ) (ws : List (List ℕ)) → holds q set ≡ list_all set (trigram_sequence w) →
+    (some_holds (members ++ q ∷ []) set || has_any set ws) ≡ (some_holds members set || has_any set (w ∷ ws))
+word_step set members q w ws e =
+    ap (λ b. b || has_any set ws) (some_holds_push set members q ∙ ap (λ b. some_holds members set || b) e)
+    ∙ or_assoc (some_holds members set) (list_all set (trigram_sequence w)) (has_any set ws)
+
+pub word_end : (set : ℕ → Bool) (members : List Query) → (some_holds members set || has_any set []) ≡ some_holds members set
+word_end set members = or_false (some_holds members set)
+
+-- a word without trigrams is always there
+pub short_there : (set : ℕ → Bool) (rest : List (List ℕ)) (w : List ℕ) (b : Bool) → length w ≤ 2 → (b || has_any set (w ∷ rest)) ≡ true
+short_there set rest w b le =
+    ap (λ (ns : List ℕ). b || (list_all set ns || has_any set rest)) (trigrams_short w le) ∙ or_all b
+  where
+    or_all : (x : Bool) → (x || true) ≡ true
+    or_all true = refl
+    or_all false = refl

@@ -1,0 +1,87 @@
+-- Queries that are right for a tree.
+use Rattle.std.proofs.Common.{◌≡◌, ℕ, zero, suc, ◌-◌, ◌<◌, ◌≤◌, inl, inr, Bool, true, false, List, [], ◌∷◌, ◌++◌, Vec, Global, sym, ◌∙◌, ap, subst, arith}
+use Rattle.cs_trigram.specs.QueryNumbers.{are_trigrams}
+use Rattle.std.specs.Prelude.{Option}
+use Rattle.std.specs.List.{list_all}
+use Rattle.std.proofs.lemmas.Bool.{or_cases, or_left, or_right}
+use Rattle.cs_syntax.specs.Matching.{TakesSome, Tree, Trees, alt, rep, none, more, Chain, Takes}
+use Rattle.cs_trigram.specs.Affixes.{part}
+use Rattle.cs_trigram.specs.Query.{holds, HasTrigrams, LosesNoLine}
+use Rattle.cs_trigram.specs.Windows.{HasWindows, SomeHasWindows}
+use Rattle.cs_trigram.specs.Sample.{some_holds, has_any, TreeWords, IsRight}
+use Rattle.cs_trigram.specs.declared.queries.Query.{Query}
+use Rattle.cs_trigram.specs.declared.queries.Query.TheVariants.{All, Or}
+use Rattle.cs_trigram.proofs.AskedLemmas.{any_shown, shown_any}
+use Rattle.cs_trigram.proofs.SpellingLemmas.{spelled, spelled_windows}
+use Rattle.cs_trigram.proofs.PartTrigramLemmas.{has_part}
+use Rattle.cs_trigram.proofs.QueryLemmas.{holds-All, holds-Or, some_holds_push, numbers-All, numbers-Or, numbers_more}
+
+-- queries of the branches of a choice
+pub record AreRight (queries : List Query) (ts : Trees) : Type 0 where
+  pub holding : (s : List ℕ) (set : ℕ → Bool) (i j : ℕ) → TakesSome s ts i j → HasTrigrams set s → some_holds queries set ≡ true
+  pub sharp : (set : ℕ → Bool) → some_holds queries set ≡ true → SomeHasWindows set ts
+  pub numbers : list_all are_trigrams queries ≡ true
+
+-- a tree that asks nothing
+pub right_all : (t : Tree) → ((set : ℕ → Bool) → HasWindows set t) → IsRight All t
+right_all t windows = record { holding = λ s set i j h has. holds-All set; sharp = λ set h. windows set; numbers = numbers-All }
+
+pub all_repeated : (x : Tree) (n : ℕ) (m : Option ℕ) → n ≡ 0 → IsRight All (rep x n m)
+all_repeated x n m e = subst (λ k. IsRight All (rep x k m)) (sym e) (right_all (rep x 0 m) (λ set. tt))
+
+-- at least one round
+pub right_repeated : (q : Query) (x : Tree) (n : ℕ) (m : Option ℕ) → 0 < n → IsRight q x → IsRight q (rep x n m)
+right_repeated q x zero m some r = absurd (omega arith)
+right_repeated q x (suc n) m some r = record {
+  holding = λ s set i j h has. first s set h.0 i j h.1 h.3 has;
+  sharp = λ set h. r.sharp set h;
+  numbers = r.numbers;
+}
+  where
+    first : (s : List ℕ) (set : ℕ → Bool) (k i j : ℕ) → suc n ≤ k → Chain (Takes s x) k i j → HasTrigrams set s → holds q set ≡ true
+    first s set zero i j le c has = absurd (omega arith)
+    first s set (suc k) i j le c has = r.holding s set i c.0 c.1 has
+
+-- a tree that has few words
+pub right_words : (q : Query) (ws : List (List ℕ)) (t : Tree) → TreeWords ws t → ((set : ℕ → Bool) → holds q set ≡ has_any set ws) → are_trigrams q ≡ true → IsRight q t
+right_words q ws t words asks numbers = record {
+  holding = λ s set i j h has.
+      let r = spelled s t i j words.0 h in
+      asks set ∙ shown_any set ws (part s i j) ((words.1.each (part s i j)).0 r.1) (has_part set (j - i) i s has);
+  sharp = λ set h.
+      let w = any_shown set ws (sym (asks set) ∙ h) in
+      spelled_windows set t w.0 ((words.1.each w.0).1 w.1) w.2;
+  numbers = numbers;
+}
+
+pub right_none : (queries : List Query) → queries ≡ [] → AreRight queries none
+right_none queries e = record { holding = λ s set i j h has. absurd h; sharp = λ set h. empty set (ap (λ (qs : List Query). some_holds qs set) (sym e) ∙ h); numbers = ap (list_all are_trigrams) e }
+  where
+    empty : (set : ℕ → Bool) → false ≡ true → ⊥
+    empty set h = (cc)
+
+pub right_more : (queries : List Query) (q : Query) (t : Tree) (ts : Trees) → IsRight q t → AreRight queries ts → AreRight (queries ++ q ∷ []) (more t ts)
+right_more queries q t ts own others = record {
+  holding = λ s set i j h has.
+      some_holds_push set queries q
+      ∙ elim h [
+        | inl a ↦ or_right (some_holds queries set) (holds q set) (own.holding s set i j a has)
+        | inr b ↦ or_left (some_holds queries set) (holds q set) (others.holding s set i j b has)
+      ];
+  sharp = λ set h.
+      elim (or_cases (some_holds queries set) (holds q set) (sym (some_holds_push set queries q) ∙ h)) [
+        | inl a ↦ inr (others.sharp set a)
+        | inr b ↦ inl (own.sharp set b)
+      ];
+  numbers = numbers_more queries q others.numbers own.numbers;
+}
+
+pub right_choice : (members : Vec Query Global) (ts : Trees) → AreRight members.items ts → IsRight (Or members) (alt ts)
+right_choice members ts r = record {
+  holding = λ s set i j h has. holds-Or set members ∙ r.holding s set i j h has;
+  sharp = λ set h. r.sharp set (sym (holds-Or set members) ∙ h);
+  numbers = numbers-Or members ∙ r.numbers;
+}
+
+pub right_loses_nothing : (q : Query) (t : Tree) → IsRight q t → LosesNoLine q t
+right_loses_nothing q t r = λ line set f has. r.holding line set f.0 f.1 f.4 has

@@ -1,0 +1,186 @@
+-- Samples of words that are added one after another, and of words that are joined.
+use Rattle.std.proofs.Common.{◌≡◌, ℕ, zero, suc, ◌+◌, ◌<◌, ◌≤◌, ◌⊎◌, ◌&&◌, inl, inr, not, Bool, true, false, List, [], ◌∷◌, ◌++◌, drop, length, map, get_or, refl, sym, ◌∙◌, ap, subst, arith, drop-cons}
+use Rattle.std.specs.Prelude.{nat_le, if◌then◌else◌}
+use Rattle.std.specs.List.{list_any}
+use Rattle.std.specs.Str.{bytes_eq}
+use Rattle.std.proofs.lemmas.Bool.{leb-true, le-leb, both_ways, cases_lt}
+use Rattle.std.proofs.lemmas.List.{append_cancel_left, append_cancel_right, length-map}
+use Rattle.cs_syntax.specs.Matching.{one_of, member}
+use Rattle.cs_trigram.specs.Windows.{IsMember}
+use Rattle.cs_trigram.specs.FiniteWords.{HasWord}
+use Rattle.cs_trigram.specs.Sample.{with_word, with_words, joinings, IsSample}
+use Rattle.cs_trigram.proofs.MemberLemmas.{member_append, member_left, member_right, member_map, map_member, any_member, member_any, different_within, different_push, different_map}
+
+-- the byte words of a set below n
+abbrev pub SpellsBelow : List Bool → ℕ → List ℕ → Type 0
+SpellsBelow set n word = (b : ℕ) × (b < n) × (member set b ≡ true) × (word ≡ b ∷ [])
+
+pub with_words_append : (words us vs : List (List ℕ)) → with_words words (us ++ vs) ≡ with_words (with_words words us) vs
+with_words_append words [] vs = refl
+with_words_append words (u ∷ us) vs = with_words_append (with_word words u) us vs
+
+pub words_from : (words : List (List ℕ)) (i : ℕ) (word : List ℕ) → i < length words → word ≡ get_or words i word →
+    drop i words ≡ word ∷ drop (i + 1) words
+words_from words i word lt is =
+    let next : suc i ≡ i + 1 = omega arith in
+    drop-cons words i word lt ∙ ap (λ w. w ∷ drop (suc i) words) (sym is) ∙ ap (λ n. word ∷ drop n words) next
+
+pub sample_same : (ws : List (List ℕ)) (P R : List ℕ → Type 0) → IsSample ws P → ((v : List ℕ) → P v → R v) → ((v : List ℕ) → R v → P v) → IsSample ws R
+sample_same ws P R s to from =
+    record { right = λ v m. to v (s.right v m); different = s.different; whole = λ le v r. s.whole le v (from v r) }
+
+module _ (ws : List (List ℕ)) (w : List ℕ) (P R : List ℕ → Type 0) (s : IsSample ws P)
+    (to : (v : List ℕ) → P v → R v) (new : R w) (from : (v : List ℕ) → R v → P v ⊎ (v ≡ w)) where
+  more_by : (room there : Bool) → nat_le (length ws) 20 ≡ room → list_any (λ v. bytes_eq v w) ws ≡ there →
+      IsSample (if room && not there then ws ++ w ∷ [] else ws) R
+  more_by true false r t = record {
+    right = λ v m. elim (member_append v ws (w ∷ []) m) [
+      | inl a ↦ to v (s.right v a)
+      | inr b ↦ elim b [ inl e ↦ subst R (sym e) new | inr n ↦ absurd n ]
+    ];
+    different = different_push ws w s.different (λ m. both_ways (list_any (λ v. bytes_eq v w) ws) t (member_any w ws m));
+    whole = λ le v h. elim (from v h) [
+      | inl p ↦ member_left v ws (w ∷ []) (s.whole (leb-true (length ws) 20 r) v p)
+      | inr e ↦ member_right v ws (w ∷ []) (inl e)
+    ];
+  }
+  more_by true true r t = record {
+    right = λ v m. to v (s.right v m);
+    different = s.different;
+    whole = λ le v h. elim (from v h) [
+      | inl p ↦ s.whole le v p
+      | inr e ↦ subst (λ (x : List ℕ). IsMember x ws) (sym e) (any_member w ws t)
+    ];
+  }
+  more_by false there r t = record {
+    right = λ v m. to v (s.right v m);
+    different = s.different;
+    whole = λ le v h. absurd (both_ways (nat_le (length ws) 20) r (le-leb (length ws) 20 le));
+  }
+
+  -- a word more
+  pub sample_more : IsSample (with_word ws w) R
+  sample_more = more_by (nat_le (length ws) 20) (list_any (λ v. bytes_eq v w) ws) refl refl
+
+-- more words
+pub sample_words : (ws us : List (List ℕ)) (P R : List ℕ → Type 0) → IsSample ws P → ((v : List ℕ) → P v → R v) → ((v : List ℕ) → IsMember v us → R v) →
+    ((v : List ℕ) → R v → P v ⊎ IsMember v us) → IsSample (with_words ws us) R
+sample_words ws [] P R s to new from =
+    sample_same ws P R s to (λ v r. elim (from v r) [ inl p ↦ p | inr n ↦ absurd n ])
+sample_words ws (u ∷ us) P R s to new from =
+    let Q : List ℕ → Type 0 = λ v. P v ⊎ (v ≡ u) in
+    let t : IsSample (with_word ws u) Q = sample_more ws u P Q s (λ v p. inl p) (inr refl) (λ v q. q) in
+    sample_words (with_word ws u) us Q R t
+    (λ v q. elim q [ inl p ↦ to v p | inr e ↦ new v (inl e) ])
+    (λ v m. new v (inr m))
+    (λ v r. elim (from v r) [ inl p ↦ inl (inl p) | inr m ↦ elim m [ inl e ↦ inl (inr e) | inr n ↦ inr n ] ])
+
+-- no words
+pub no_sample : IsSample [] (λ w. ⊥)
+no_sample = record { right = λ v m. m; different = tt; whole = λ le v p. p }
+
+pub sample_of : (us : List (List ℕ)) → IsSample (with_words [] us) (λ w. IsMember w us)
+sample_of us = sample_words [] us (λ w. ⊥) (λ w. IsMember w us) no_sample (λ v p. absurd p) (λ v m. m) (λ v m. inr m)
+
+pub joining_parts : (w : List ℕ) (us vs : List (List ℕ)) → IsMember w (joinings us vs) →
+    (u v : List ℕ) × IsMember u us × IsMember v vs × (w ≡ u ++ v)
+joining_parts w [] vs m = absurd m
+joining_parts w (u ∷ us) vs m =
+    elim (member_append w (map (λ v. u ++ v) vs) (joinings us vs) m) [
+      | inl a ↦ let r = member_map (λ v. u ++ v) w vs a in (u, r.0, inl refl, r.1, r.2)
+      | inr b ↦ let r = joining_parts w us vs b in (r.0, r.1, inr r.2, r.3, r.4)
+    ]
+
+pub joining_member : (u v : List ℕ) (us vs : List (List ℕ)) → IsMember u us → IsMember v vs → IsMember (u ++ v) (joinings us vs)
+joining_member u v [] vs m n = absurd m
+joining_member u v (x ∷ us) vs m n =
+    elim m [
+      | inl e ↦ member_left (u ++ v) (map (λ y. x ++ y) vs) (joinings us vs) (subst (λ (y : List ℕ). IsMember (y ++ v) (map (λ z. x ++ z) vs)) (sym e) (map_member (λ z. x ++ z) v vs n))
+      | inr k ↦ member_right (u ++ v) (map (λ y. x ++ y) vs) (joinings us vs) (joining_member u v us vs k n)
+    ]
+
+module _ (us vs : List (List ℕ)) (P Q : List ℕ → Type 0) (s : IsSample us P) (t : IsSample vs Q) where
+  abbrev pub Joined : List ℕ → Type 0
+  Joined w = (u v : List ℕ) × P u × Q v × (w ≡ u ++ v)
+
+  abbrev few_of : List (List ℕ)
+  few_of = with_words [] (joinings us vs)
+
+  -- where one may stand behind, those in front are as few as the joinings
+  fronts_few : (v : List ℕ) → IsMember v vs → length few_of ≤ 20 → length us ≤ 20
+  fronts_few v m le =
+      let fits = different_within (map (λ u. u ++ v) us) few_of
+      (different_map (λ u. u ++ v) (λ a b e. append_cancel_right a b v e) us s.different)
+      (λ w n. let r = member_map (λ u. u ++ v) w us n in
+      (sample_of (joinings us vs)).whole le w (subst (λ (x : List ℕ). IsMember x (joinings us vs)) (sym r.2) (joining_member r.0 v us vs r.1 m))) in
+      omega (arith, fits, length-map us (λ (u : List ℕ). u ++ v))
+
+  backs_few : (u : List ℕ) → IsMember u us → length few_of ≤ 20 → length vs ≤ 20
+  backs_few u m le =
+      let fits = different_within (map (λ v. u ++ v) vs) few_of
+      (different_map (λ v. u ++ v) (λ a b e. append_cancel_left u a b e) vs t.different)
+      (λ w n. let r = member_map (λ v. u ++ v) w vs n in
+      (sample_of (joinings us vs)).whole le w (subst (λ (x : List ℕ). IsMember x (joinings us vs)) (sym r.2) (joining_member u r.0 us vs m r.1))) in
+      omega (arith, fits, length-map vs (λ (v : List ℕ). u ++ v))
+
+  -- where a word has the property, the other list has a member, if it is whole
+  fronts_whole : (xs : List (List ℕ)) → vs ≡ xs → (v : List ℕ) → Q v → length few_of ≤ 20 → length us ≤ 20
+  fronts_whole [] e v q le =
+      let short : length vs ≤ 20 = rw e (omega arith) in absurd (subst (IsMember v) e (t.whole short v q))
+  fronts_whole (x ∷ xs) e v q le = fronts_few x (subst (IsMember x) (sym e) (inl refl)) le
+
+  pub sample_joinings : IsSample few_of Joined
+  sample_joinings =
+      let all = sample_of (joinings us vs) in
+      record {
+        right = λ w m. let r = joining_parts w us vs (all.right w m) in (r.0, r.1, s.right r.0 r.2, t.right r.1 r.3, r.4);
+        different = all.different;
+        whole = λ le w j.
+            let front = s.whole (fronts_whole vs refl j.1 j.3 le) j.0 j.2 in
+            let back = t.whole (backs_few j.0 front le) j.1 j.3 in
+            all.whole le w (subst (λ (x : List ℕ). IsMember x (joinings us vs)) (sym j.4) (joining_member j.0 j.1 us vs front back));
+      }
+
+-- the words of a set
+set_step : (set : List Bool) (ws : List (List ℕ)) (n : ℕ) → IsSample ws (SpellsBelow set n) → member set n ≡ true → IsSample (with_word ws (n ∷ [])) (SpellsBelow set (n + 1))
+set_step set ws n s m =
+    sample_more ws (n ∷ []) (SpellsBelow set n) (SpellsBelow set (n + 1)) s
+    (λ v p. (p.0, omega (arith, p.1), p.2, p.3))
+    (n, omega arith, m, refl)
+    (λ v p. elim (cases_lt p.0 n) [
+      | inl lt ↦ inl (p.0, lt, p.2, p.3)
+      | inr ge ↦ let same : p.0 ≡ n = omega (arith, p.1) in inr (p.3 ∙ ap (λ b. b ∷ []) same)
+    ])
+
+set_skip : (set : List Bool) (ws : List (List ℕ)) (n : ℕ) → IsSample ws (SpellsBelow set n) → member set n ≡ false → IsSample ws (SpellsBelow set (n + 1))
+set_skip set ws n s m =
+    sample_same ws (SpellsBelow set n) (SpellsBelow set (n + 1)) s
+    (λ v p. (p.0, omega (arith, p.1), p.2, p.3))
+    (λ v p. elim (cases_lt p.0 n) [
+      | inl lt ↦ (p.0, lt, p.2, p.3)
+      | inr ge ↦
+          let same : p.0 ≡ n = omega (arith, p.1) in
+          absurd (both_ways (member set n) m (ap (member set) (sym same) ∙ p.2))
+    ])
+
+beyond : (set : List Bool) (b : ℕ) → length set ≤ b → member set b ≡ false
+beyond [] b le = refl
+beyond (x ∷ set) zero le = absurd (omega arith)
+beyond (x ∷ set) (suc b) le = beyond set b (omega arith)
+
+pub set_whole : (set : List Bool) (ws : List (List ℕ)) (n : ℕ) → length set ≤ n → IsSample ws (SpellsBelow set n) → IsSample ws (HasWord (one_of set))
+set_whole set ws n le s =
+    sample_same ws (SpellsBelow set n) (HasWord (one_of set)) s
+    (λ v p. (p.0, p.2, p.3))
+    (λ v p. elim (cases_lt p.0 n) [
+      | inl lt ↦ (p.0, lt, p.1, p.2)
+      | inr ge ↦ absurd (both_ways (member set p.0) (beyond set p.0 (omega arith)) p.1)
+    ])
+
+pub set_next : (set : List Bool) (ws : List (List ℕ)) (n : ℕ) → IsSample ws (SpellsBelow set n) →
+    IsSample (if member set n then with_word ws (n ∷ []) else ws) (SpellsBelow set (n + 1))
+set_next set ws n s = by (member set n) refl
+  where
+    by : (b : Bool) → member set n ≡ b → IsSample (if b then with_word ws (n ∷ []) else ws) (SpellsBelow set (n + 1))
+    by true e = set_step set ws n s e
+    by false e = set_skip set ws n s e

@@ -1,0 +1,11 @@
+use Rattle.std.proofs.Common.{◌++◌, ◌∙◌, ap}
+use Rattle.cs_trigram.specs.Sample.{has_any}
+use Rattle.cs_trigram.proofs.NodeLemmas.{if_ok}
+use Rattle.cs_trigram.proofs.CrossingLemmas.{standing_asked}
+use Rattle.cs_trigram.proofs.crossings.any_crossing.Goals as goal
+
+pub returns-clause-asks : goal.returns-clause-asks
+returns-clause-asks c =
+    if_ok c.any_word.result _ _ c.any_word.ensures.asks
+    (λ q asks. λ set u v a b has.
+    asks set ∙ ap (has_any set) c.deref.ensures.value ∙ standing_asked set c.in_ok-words.words.items (u ++ v) (c.in_ok-words.ensures u v a b) has)

@@ -1,7 +1,0 @@
-use Rattle.std.proofs.Common.{drop, IsTrue}
-use Rattle.cs_trigram.specs.Plain.{Follow}
-use Rattle.cs_trigram.proofs.plain.follow.Given as goal
-
--- what is left decides
-abbrev pub invariant-loop-byte : goal.invariant-loop-byte
-invariant-loop-byte l = IsTrue l.fit → Follow l.last (drop l.byte-index l.bytes) → Follow l.before l.bytes

@@ -1,0 +1,81 @@
+-- How texts begin or end, as the analysis keeps it: an affix is a prefix or a suffix.
+-- The article "Regular Expression Matching with a Trigram Index".
+use Rattle.std.specs.Prelude.{ℕ, ◌≡◌, ◌-◌, ◌⊎◌, ◌++◌, ◌∷◌, [], Bool, true, List, length, take, drop, nat_eq, Option}
+use Rattle.std.specs.List.{list_all}
+use Rattle.cs_syntax.specs.Matching.{Tree, Trees, rep, Takes, TakesAll, TakesSome}
+use Rattle.cs_trigram.specs.declared.affixes.Side.{Side}
+use Rattle.cs_trigram.specs.declared.affixes.Side.TheVariants.{Prefix, Suffix}
+use Rattle.cs_trigram.specs.declared.affixes.Affix.{Affix}
+
+-- the part of a line from i to j
+abbrev pub part : List ℕ → ℕ → ℕ → List ℕ
+part s i j = take (j - i) (drop i s)
+
+-- the one text at the side, and the other behind it
+abbrev pub laid : Side → List ℕ → List ℕ → List ℕ
+laid Prefix near far = near ++ far
+laid Suffix near far = far ++ near
+
+-- so many bytes at the side
+abbrev pub near_part : Side → ℕ → List ℕ → List ℕ
+near_part Prefix n text = take n text
+near_part Suffix n text = drop (length text - n) text
+
+-- no affix has a byte
+abbrev pub are_bare : List Affix → Bool
+are_bare affixes = list_all (λ affix. nat_eq (length affix.word) 0) affixes
+
+-- the text has the affix's word at the side, and nothing else where the affix is whole
+abbrev pub Fits : Side → Affix → List ℕ → Type 0
+Fits side affix text = (rest : List ℕ) × (text ≡ laid side affix.word rest) × (affix.whole ≡ true → rest ≡ [])
+
+-- the text fits some affix
+abbrev pub FitsSome : Side → List Affix → List ℕ → Type 0
+FitsSome side [] text = ⊥
+FitsSome side (affix ∷ affixes) text = Fits side affix text ⊎ FitsSome side affixes text
+
+-- each text that fits the other affix fits this one
+abbrev pub IsWider : Side → Affix → Affix → Type 0
+IsWider side affix other = (text : List ℕ) → Fits side other text → Fits side affix text
+
+-- each text that fits the affix fits some of these
+abbrev pub HaveWider : Side → List Affix → Affix → Type 0
+HaveWider side affixes affix = (text : List ℕ) → Fits side affix text → FitsSome side affixes text
+
+-- each text that fits some of the others fits some of these
+abbrev pub AreWider : Side → List Affix → List Affix → Type 0
+AreWider side affixes others = (text : List ℕ) → FitsSome side others text → FitsSome side affixes text
+
+-- a text that fits the one, with a text behind it that fits the other, fits this affix
+abbrev pub IsAffixOfTwo : Side → Affix → Affix → Affix → Type 0
+IsAffixOfTwo side near far affix = (u v : List ℕ) → Fits side near u → Fits side far v → Fits side affix (laid side u v)
+
+abbrev pub AreAffixesOfTwo : Side → List Affix → List Affix → List Affix → Type 0
+AreAffixesOfTwo side nears fars affixes = (u v : List ℕ) → FitsSome side nears u → FitsSome side fars v → FitsSome side affixes (laid side u v)
+
+-- each part of a line that the tree takes fits some affix
+abbrev pub AreAffixes : Side → List Affix → Tree → Type 0
+AreAffixes side affixes t = (s : List ℕ) (i j : ℕ) → Takes s t i j → FitsSome side affixes (part s i j)
+
+abbrev pub AreAffixesOfAll : Side → List Affix → Trees → Type 0
+AreAffixesOfAll side affixes ts = (s : List ℕ) (i j : ℕ) → TakesAll s ts i j → FitsSome side affixes (part s i j)
+
+abbrev pub AreAffixesOfSome : Side → List Affix → Trees → Type 0
+AreAffixesOfSome side affixes ts = (s : List ℕ) (i j : ℕ) → TakesSome s ts i j → FitsSome side affixes (part s i j)
+
+-- the same of at least so many rounds of the tree
+abbrev pub AreAffixesOfRepeat : Side → List Affix → Tree → ℕ → Type 0
+AreAffixesOfRepeat side affixes t least = (most : Option ℕ) → AreAffixes side affixes (rep t least most)
+
+-- the word stands in the text
+abbrev pub StandsIn : List ℕ → List ℕ → Type 0
+StandsIn word text = (before after : List ℕ) × (text ≡ before ++ (word ++ after))
+
+-- some word stands in the text
+abbrev pub SomeStands : List (List ℕ) → List ℕ → Type 0
+SomeStands [] text = ⊥
+SomeStands (word ∷ words) text = StandsIn word text ⊎ SomeStands words text
+
+-- where a text with one of the suffixes stands before one with one of the prefixes, some word stands in both together
+abbrev pub SomeCrosses : List (List ℕ) → List Affix → List Affix → Type 0
+SomeCrosses words suffixes prefixes = (u v : List ℕ) → FitsSome Suffix suffixes u → FitsSome Prefix prefixes v → SomeStands words (u ++ v)

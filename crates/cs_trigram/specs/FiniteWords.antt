@@ -1,0 +1,66 @@
+-- The words of a finite tree, which are all texts that it takes, wherever they stand.
+-- docs/PATTERNS.md, "Queries".
+use Rattle.std.specs.Prelude.{ℕ, zero, suc, ◌≡◌, ◌≤◌, ◌⊎◌, ◌&&◌, ◌++◌, ◌∷◌, [], Bool, true, false, List, length, nat_le, Some, None}
+use Rattle.cs_syntax.specs.Matching.{Tree, Trees, empty, one_of, cat, alt, rep, line_start, line_end, word_edge, not_word_edge, none, more, member}
+use Rattle.cs_trigram.specs.Windows.{IsMember}
+
+-- each repeat in it has a most
+abbrev mutual
+  pub is_finite : Tree → Bool
+  is_finite empty = true
+  is_finite (one_of set) = true
+  is_finite (cat ts) = are_finite ts
+  is_finite (alt ts) = are_finite ts
+  is_finite (rep x n None) = false
+  is_finite (rep x n (Some m)) = nat_le n m && is_finite x
+  is_finite line_start = true
+  is_finite line_end = true
+  is_finite word_edge = true
+  is_finite not_word_edge = true
+
+  pub are_finite : Trees → Bool
+  are_finite none = true
+  are_finite (more t ts) = is_finite t && are_finite ts
+
+-- the word joins k words that have the property
+abbrev pub Rounds : (List ℕ → Type 0) → ℕ → List ℕ → Type 0
+Rounds P zero word = word ≡ []
+Rounds P (suc k) word = (front back : List ℕ) × P front × Rounds P k back × (word ≡ front ++ back)
+
+-- the word joins at least n words that have the property, and at most `more_rounds` beyond these
+abbrev pub SomeRounds : (List ℕ → Type 0) → ℕ → ℕ → List ℕ → Type 0
+SomeRounds P least most word = (k : ℕ) × (least ≤ k) × (k ≤ most) × Rounds P k word
+
+-- the word is one of a finite tree; the word of an edge is that without bytes
+abbrev mutual
+  pub HasWord : Tree → List ℕ → Type 0
+  HasWord empty word = word ≡ []
+  HasWord (one_of set) word = (b : ℕ) × (member set b ≡ true) × (word ≡ b ∷ [])
+  HasWord (cat ts) word = JoinWords ts word
+  HasWord (alt ts) word = SomeHasWord ts word
+  HasWord (rep x n None) word = ⊥
+  HasWord (rep x n (Some m)) word = SomeRounds (HasWord x) n m word
+  HasWord line_start word = word ≡ []
+  HasWord line_end word = word ≡ []
+  HasWord word_edge word = word ≡ []
+  HasWord not_word_edge word = word ≡ []
+
+  -- the word joins a word of each tree, in order
+  pub JoinWords : Trees → List ℕ → Type 0
+  JoinWords none word = word ≡ []
+  JoinWords (more t ts) word = (front back : List ℕ) × HasWord t front × JoinWords ts back × (word ≡ front ++ back)
+
+  pub SomeHasWord : Trees → List ℕ → Type 0
+  SomeHasWord none word = ⊥
+  SomeHasWord (more t ts) word = HasWord t word ⊎ SomeHasWord ts word
+
+-- the trees are finite, and the words that join theirs are few: at least one and at most twenty
+abbrev pub HaveFewWords : Trees → Type 0
+HaveFewWords ts =
+    (are_finite ts ≡ true)
+    × ((word : List ℕ) × JoinWords ts word)
+    × ((words : List (List ℕ)) × (length words ≤ 20) × ((word : List ℕ) → JoinWords ts word → IsMember word words))
+
+-- the tree is finite, and its words are few
+abbrev pub HasFewWords : Tree → Type 0
+HasFewWords t = HaveFewWords (more t none)

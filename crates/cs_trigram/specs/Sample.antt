@@ -1,0 +1,128 @@
+-- Samples of words: at most twenty-one different words, which are all there are where they are at most twenty.
+use Rattle.std.specs.Prelude.{ℕ, ◌≡◌, ◌≤◌, ◌<◌, ◌↔◌, ◌&&◌, ◌++◌, ◌∷◌, [], Bool, true, not, List, length, map, nat_le, nat_lt, if◌then◌else◌, Option}
+use Rattle.cs_trigram.specs.QueryNumbers.{are_trigrams}
+use Rattle.cs_syntax.specs.TreeList.{append}
+use Rattle.std.specs.List.{list_any, list_all}
+use Rattle.std.specs.Str.{bytes_eq}
+use Rattle.cs_syntax.specs.Matching.{Tree, Trees, none, more, cat, rep, member, Takes, TakesAll}
+use Rattle.cs_trigram.specs.Trigram.{trigram_sequence}
+use Rattle.cs_trigram.specs.Query.{holds, HasTrigrams}
+use Rattle.cs_trigram.specs.Windows.{IsMember, HasWindows}
+use Rattle.cs_trigram.specs.FiniteWords.{SomeRounds, HasWord, JoinWords, SomeHasWord, HaveFewWords, is_finite, are_finite}
+use Rattle.cs_trigram.specs.declared.queries.Query.{Query}
+
+-- a word more, where there are at most twenty and it is not there
+abbrev pub with_word : List (List ℕ) → List ℕ → List (List ℕ)
+with_word words word =
+    if nat_le (length words) 20 && not (list_any (λ w. bytes_eq w word) words) then words ++ word ∷ [] else words
+
+abbrev pub with_words : List (List ℕ) → List (List ℕ) → List (List ℕ)
+with_words words [] = words
+with_words words (v ∷ vs) = with_words (with_word words v) vs
+
+-- each of the one list before each of the other
+abbrev pub joinings : List (List ℕ) → List (List ℕ) → List (List ℕ)
+joinings [] backs = []
+joinings (u ∷ us) backs = map (λ v. u ++ v) backs ++ joinings us backs
+
+abbrev pub AreDifferent : List (List ℕ) → Type 0
+AreDifferent [] = Unit {0}
+AreDifferent (w ∷ ws) = (IsMember w ws → ⊥) × AreDifferent ws
+
+-- different words that have the property, and all of those where they are at most twenty
+pub record IsSample (words : List (List ℕ)) (P : List ℕ → Type 0) : Type 0 where
+  pub right : (word : List ℕ) → IsMember word words → P word
+  pub different : AreDifferent words
+  pub whole : length words ≤ 20 → (word : List ℕ) → P word → IsMember word words
+
+-- at least one and at most twenty
+abbrev pub is_few : ℕ → Bool
+is_few n = nat_lt 0 n && nat_le n 20
+
+-- the words that have the property, at least one and at most twenty
+pub record AreWords (words : List (List ℕ)) (P : List ℕ → Type 0) : Type 0 where
+  pub some : 0 < length words
+  pub few : length words ≤ 20
+  pub different : AreDifferent words
+  pub each : (word : List ℕ) → P word ↔ IsMember word words
+
+-- a run at the front cannot go on
+abbrev pub IsBlocked : Trees → Trees → Type 0
+IsBlocked run none = Unit {0}
+IsBlocked run (more t rest) = HaveFewWords (append run (more t none)) → ⊥
+
+-- the words of the longest run at the front that has few
+pub record IsFront (ts : Trees) (words : List (List ℕ)) : Type 0 where
+  pub run : Trees
+  pub after : Trees
+  pub is : ts ≡ append run after
+  pub finite : are_finite run ≡ true
+  pub each : AreWords words (JoinWords run)
+  pub blocked : IsBlocked run after
+
+abbrev pub all_hold : List Query → (ℕ → Bool) → Bool
+all_hold queries set = list_all (λ q. holds q set) queries
+
+-- these queries ask what the old ones do, and what the test asks
+abbrev pub AsksToo : List Query → List Query → ((ℕ → Bool) → Bool) → Type 0
+AsksToo old queries test = (set : ℕ → Bool) → all_hold queries set ≡ (all_hold old set && test set)
+
+-- the numbers of these queries are trigrams where those of the old ones are, and the test says so of the others
+abbrev pub NumbersToo : List Query → List Query → Bool → Type 0
+NumbersToo old queries small = list_all are_trigrams queries ≡ (list_all are_trigrams old && small)
+
+-- the query loses no line in which the tree takes a part, is sharp, and has numbers of trigrams
+pub record IsRight (query : Query) (t : Tree) : Type 0 where
+  pub holding : (s : List ℕ) (set : ℕ → Bool) (i j : ℕ) → Takes s t i j → HasTrigrams set s → holds query set ≡ true
+  pub sharp : (set : ℕ → Bool) → holds query set ≡ true → HasWindows set t
+  pub numbers : are_trigrams query ≡ true
+
+-- the query is right for at least so many rounds of the tree
+abbrev pub IsRightForRounds : Query → Tree → ℕ → Type 0
+IsRightForRounds query t least = (most : Option ℕ) → IsRight query (rep t least most)
+
+-- a sample of the words of a finite tree, a run and a choice
+abbrev pub SamplesTree : List (List ℕ) → Tree → Type 0
+SamplesTree words t = (is_finite t ≡ true) × IsSample words (HasWord t)
+
+abbrev pub SamplesRun : List (List ℕ) → Trees → Type 0
+SamplesRun words ts = (are_finite ts ≡ true) × IsSample words (JoinWords ts)
+
+abbrev pub SamplesChoice : List (List ℕ) → Trees → Type 0
+SamplesChoice words ts = (are_finite ts ≡ true) × IsSample words (SomeHasWord ts)
+
+-- the word of the byte too, where the set has it
+abbrev pub with_byte : List (List ℕ) → List Bool → ℕ → List (List ℕ)
+with_byte words set byte = if member set byte then with_word words (byte ∷ []) else words
+
+-- samples of the words of a tree, joined so many times
+abbrev pub SamplesRounds : List (List ℕ) → Tree → ℕ → ℕ → Type 0
+SamplesRounds words t least most = IsSample words (SomeRounds (HasWord t) least most)
+
+-- the few words of a finite tree, and of a run
+abbrev pub TreeWords : List (List ℕ) → Tree → Type 0
+TreeWords words t = (is_finite t ≡ true) × AreWords words (HasWord t)
+
+abbrev pub RunWords : List (List ℕ) → Trees → Type 0
+RunWords words ts = (are_finite ts ≡ true) × AreWords words (JoinWords ts)
+
+-- the set has the trigrams of one of the words
+abbrev pub has_any : (ℕ → Bool) → List (List ℕ) → Bool
+has_any set words = list_any (λ w. list_all set (trigram_sequence w)) words
+
+-- the query asks for the trigrams of a text, and for those of one of the words
+abbrev pub AsksForText : Query → List ℕ → Type 0
+AsksForText query text = (set : ℕ → Bool) → holds query set ≡ list_all set (trigram_sequence text)
+
+abbrev pub AsksForWord : Query → List (List ℕ) → Type 0
+AsksForWord query words = (set : ℕ → Bool) → holds query set ≡ has_any set words
+
+-- what is asked by a sequence but for the longest run at its front: it holds of each set that has the trigrams of a
+-- line in which the sequence takes a part; and where the set also has a word of that run, it has the windows
+pub record IsAsked (front : List (List ℕ)) (needs : (ℕ → Bool) → Bool) (ts : Trees) : Type 0 where
+  pub run : IsFront ts front
+  pub holding : (s : List ℕ) (set : ℕ → Bool) (i j : ℕ) → TakesAll s ts i j → HasTrigrams set s → needs set ≡ true
+  pub sharp : (set : ℕ → Bool) → needs set ≡ true → has_any set front ≡ true → HasWindows set (cat ts)
+
+abbrev pub some_holds : List Query → (ℕ → Bool) → Bool
+some_holds queries set = list_any (λ q. holds q set) queries

@@ -1,0 +1,53 @@
+-- What a scan finds in a file, and what it answers.
+-- docs/FORMAT.md, "Which files are text".
+use Rattle.std.specs.Prelude.{◌≡◌, ℕ, Bool, false, List, [], length, Option, Some, None, Result, Ok, Err, true}
+use Rattle.cs_tree.specs.Told.{Told, Ending, ends, fails}
+use Rattle.cs_trigram.specs.declared.limits.Limits.{Limits}
+use Rattle.cs_trigram.specs.declared.scan.Reason.{Reason}
+use Rattle.cs_trigram.specs.declared.scan.Scan.{Scan}
+use Rattle.cs_trigram.specs.declared.scan.Scan.TheVariants as answer
+use Rattle.cs_trigram.specs.declared.scan.ScanFault.{ScanFault}
+use Rattle.cs_trigram.specs.declared.scan.ScanFault.TheVariants as fault
+use Rattle.cs_trigram.specs.Trigram.{tri, IsTrigramSet}
+use Rattle.cs_trigram.specs.Text.{first_broken, skip}
+
+-- a text, with its trigrams and how many bytes it has; why a file is left out; or that a read failed
+-- after bytes that break no rule
+pub data Finding : Type 0 where
+  text : List ℕ → ℕ → Finding
+  left_out : Reason → Finding
+  unread : Finding
+
+abbrev pub found_or : Option Reason → Finding → Finding
+found_or None finding = finding
+found_or (Some reason) finding = left_out reason
+
+abbrev pub found_at : Limits → List ℕ → Ending → Finding
+found_at most bytes ends = found_or (skip most bytes) (text (tri bytes) (length bytes))
+found_at most bytes fails = found_or (first_broken most [] bytes) unread
+
+-- what there is to find in a source
+abbrev pub finding : Limits → Told → Finding
+finding most told = found_at most told.bytes told.ending
+
+-- an answer says what was found; want of memory says nothing
+abbrev pub Says : Result Scan ScanFault → Finding → Type 0
+Says (Ok (answer.Text trigrams bytes)) found = text trigrams.items bytes ≡ found
+Says (Ok (answer.Skip reason)) found = left_out reason ≡ found
+Says (Err fault.Read) found = unread ≡ found
+Says (Err fault.Memory) found = Unit {0}
+
+-- an answer is right of a source, where the source tells its bytes
+abbrev pub IsRight : Limits → Option Told → Result Scan ScanFault → Type 0
+IsRight most None answer = Unit {0}
+IsRight most (Some told) answer = Says answer (finding most told)
+
+-- the trigrams that are answered ascend, and none is ff ff ff, whatever the source was
+abbrev pub HasTrigramSet : Scan → Type 0
+HasTrigramSet (answer.Text trigrams bytes) = IsTrigramSet trigrams.items
+HasTrigramSet (answer.Skip reason) = Unit {0}
+
+-- which faults are failures of the source
+abbrev pub is_scan_failure : ScanFault → Bool
+is_scan_failure fault.Read = true
+is_scan_failure fault.Memory = false

@@ -1,0 +1,244 @@
+// How the texts that a tree takes begin and end.
+ghost use Rattle.std.specs.Prelude.{◌≡◌, ◌<◌, ◌⊎◌, [], ◌∷◌, ℕ, true, List, length, IfOk, OnOk};
+ghost use Rattle.cs_trigram.specs.Windows.{IsMember};
+ghost use Rattle.cs_trigram.specs.Affixes.{laid, near_part, are_bare, Fits, FitsSome, IsWider, HaveWider, AreWider, IsAffixOfTwo, AreAffixesOfTwo};
+
+use crate::words::Word;
+use std::alloc::{AllocError, Global};
+
+/// So many affixes are kept at most.
+const MANY: usize = 20;
+
+/// So many bytes of an affix are kept at most.
+const LONGEST: usize = 3;
+
+/// Whether an affix is a prefix or a suffix.
+#[derive(Clone, Copy)]
+pub(crate) enum Side {
+    Prefix,
+    Suffix,
+}
+
+/// A prefix or a suffix of a text: what it has at a side.
+#[derive(Drop)]
+pub(crate) struct Affix {
+    pub(crate) word: Word,
+    /// Whether it has nothing else.
+    pub(crate) whole: bool,
+}
+
+/// The one word at the side, and the other behind it.
+fn laid_word(alloc: Global, side: Side, near: &Word, far: &Word) -> Result<Word, AllocError>
+    ensures { IfOk result (λ word. word ≡ laid side near.now far.now) }
+{
+    match side {
+        Side::Prefix => Word::joining(alloc, near, far),
+        Side::Suffix => Word::joining(alloc, far, near),
+    }
+}
+
+/// The affix of a text that fits the one at the side, and the other behind it.
+fn joined_affix(alloc: Global, side: Side, near: &Affix, far: &Affix) -> Result<Affix, AllocError>
+    ensures { IfOk result (λ affix. IsAffixOfTwo side near.now far.now affix) }
+{
+    if near.whole {
+        let word = laid_word(alloc, side, &near.word, &far.word)?;
+        return Ok(Affix {
+            word,
+            whole: far.whole,
+        });
+    }
+    let word = near.word.copy(alloc)?;
+    Ok(Affix { word, whole: false })
+}
+
+/// So many bytes of the word at the side.
+fn near_word(alloc: Global, side: Side, word: &Word, len: usize) -> Result<Word, AllocError>
+    requires shorter { len < length word.now }
+    ensures { IfOk result (λ near. near ≡ near_part side len word.now) }
+{
+    let bytes = word.bytes();
+    match side {
+        Side::Prefix => Word::of(alloc, &bytes[..len]),
+        Side::Suffix => Word::of(alloc, &bytes[bytes.len() - len..]),
+    }
+}
+
+/// The affix, cut to so many bytes.
+fn short_affix(
+    alloc: Global,
+    side: Side,
+    affix: &Affix,
+    longest: usize,
+) -> Result<Affix, AllocError>
+    ensures { IfOk result (λ short. IsWider side short affix.now) }
+{
+    if affix.word.bytes().len() <= longest {
+        let word = affix.word.copy(alloc)?;
+        return Ok(Affix {
+            word,
+            whole: affix.whole,
+        });
+    }
+    let word = near_word(alloc, side, &affix.word, longest)?;
+    Ok(Affix { word, whole: false })
+}
+
+/// Whether each text that fits the other affix is seen to fit this one.
+fn is_wider(affix: &Affix, other: &Affix) -> bool
+    ensures { result ≡ true → (side : Side) → IsWider side affix.now other.now }
+{
+    (!affix.whole || other.whole) && affix.word.bytes() == other.word.bytes()
+}
+
+/// Whether some of the affixes is as wide.
+fn has_affix(affixes: &[Affix], affix: &Affix) -> bool
+    ensures { result ≡ true → (side : Side) → HaveWider side affixes.now affix.now }
+{
+    for other in affixes {
+        if is_wider(other, affix) {
+            return true;
+        }
+    }
+    false
+}
+
+/// Adds an affix where none is as wide.
+fn add_affix(affixes: &mut Vec<Affix>, affix: Affix) -> Result<(), AllocError>
+    ensures { OnOk result ((side : Side) →
+        AreWider side affixes.new.items (affix ∷ affixes.old.items)) }
+{
+    if !has_affix(affixes, &affix) {
+        affixes.push(affix)?;
+    }
+    Ok(())
+}
+
+/// The affixes, each cut to so many bytes.
+fn short_affixes(
+    alloc: Global,
+    side: Side,
+    affixes: &[Affix],
+    longest: usize,
+) -> Result<Vec<Affix>, AllocError>
+    ensures { IfOk result (λ short. AreWider side short.items affixes.now) }
+{
+    let mut short = Vec::new(alloc);
+    for affix in affixes {
+        add_affix(&mut short, short_affix(alloc, side, affix, longest)?)?;
+    }
+    Ok(short)
+}
+
+/// The affixes, cut until they are not many.
+fn cut_affixes(alloc: Global, side: Side, affixes: &[Affix]) -> Result<Vec<Affix>, AllocError>
+    ensures { IfOk result (λ short. AreWider side short.items affixes.now) }
+{
+    let mut longest = LONGEST;
+    let mut short = short_affixes(alloc, side, affixes, longest)?;
+    'cut: while short.len() > MANY && longest > 0 {
+        longest -= 1;
+        short = short_affixes(alloc, side, &short, longest)?;
+    }
+    Ok(short)
+}
+
+/// Adds the joinings of an affix with each of those behind it.
+fn add_joined(
+    alloc: Global,
+    side: Side,
+    near: &Affix,
+    fars: &[Affix],
+    affixes: &mut Vec<Affix>,
+) -> Result<(), AllocError>
+    ensures keeps { OnOk result (AreWider side affixes.new.items affixes.old.items) }
+    ensures joins { OnOk result ((u v : List ℕ) → Fits side near.now u → FitsSome side fars.now v →
+        FitsSome side affixes.new.items (laid side u v)) }
+{
+    for far in fars {
+        add_affix(affixes, joined_affix(alloc, side, near, far)?)?;
+    }
+    Ok(())
+}
+
+/// The affixes of the one text at the side, and the other behind it.
+pub(crate) fn joined_affixes(
+    alloc: Global,
+    side: Side,
+    nears: &[Affix],
+    fars: &[Affix],
+) -> Result<Vec<Affix>, AllocError>
+    ensures { IfOk result (λ affixes. AreAffixesOfTwo side nears.now fars.now affixes.items) }
+{
+    let mut affixes = Vec::new(alloc);
+    for near in nears {
+        add_joined(alloc, side, near, fars, &mut affixes)?;
+    }
+    cut_affixes(alloc, side, &affixes)
+}
+
+/// The affixes of the texts of both.
+pub(crate) fn either_affixes(
+    alloc: Global,
+    side: Side,
+    affixes: Vec<Affix>,
+    more: &[Affix],
+) -> Result<Vec<Affix>, AllocError>
+    ensures { IfOk result (λ both. (text : List ℕ) →
+        FitsSome side affixes.items text ⊎ FitsSome side more.now text →
+        FitsSome side both.items text) }
+{
+    let mut both = affixes;
+    for affix in more {
+        add_affix(&mut both, short_affix(alloc, side, affix, LONGEST)?)?;
+    }
+    cut_affixes(alloc, side, &both)
+}
+
+/// The affix of each text.
+pub(crate) fn any_affix(alloc: Global) -> Result<Vec<Affix>, AllocError>
+    ensures { IfOk result (λ any. (side : Side) (text : List ℕ) → FitsSome side any.items text) }
+{
+    let mut affixes = Vec::new(alloc);
+    affixes.push(Affix {
+        word: Word::empty(alloc),
+        whole: false,
+    })?;
+    Ok(affixes)
+}
+
+/// The affix of the text without bytes.
+pub(crate) fn empty_affix(alloc: Global) -> Result<Vec<Affix>, AllocError>
+    ensures { IfOk result (λ affixes. (side : Side) → FitsSome side affixes.items []) }
+{
+    let mut affixes = Vec::new(alloc);
+    affixes.push(Affix {
+        word: Word::empty(alloc),
+        whole: true,
+    })?;
+    Ok(affixes)
+}
+
+/// The affixes of the words.
+pub(crate) fn affixes_of_words(
+    alloc: Global,
+    side: Side,
+    words: &[Word],
+) -> Result<Vec<Affix>, AllocError>
+    ensures { IfOk result (λ affixes. (text : List ℕ) → IsMember text words.now →
+        FitsSome side affixes.items text) }
+{
+    let mut affixes = Vec::new(alloc);
+    for word in words {
+        let word = word.copy(alloc)?;
+        add_affix(&mut affixes, Affix { word, whole: true })?;
+    }
+    cut_affixes(alloc, side, &affixes)
+}
+
+/// Whether no affix has a byte.
+pub(crate) fn are_empty(affixes: &[Affix]) -> bool
+    ensures { result ≡ are_bare affixes.now }
+{
+    affixes.iter().all(|affix| affix.word.bytes().is_empty())
+}

@@ -1,0 +1,104 @@
+// Queries that ask for words, and what the parts of a sequence ask.
+ghost use Rattle.std.specs.Prelude.{◌≡◌, ◌<◌, ℕ, Bool, true, Contains, IsTrue, IfOk, OnOk};
+ghost use Rattle.cs_trigram.specs.QueryNumbers.{are_trigrams};
+ghost use Rattle.std.specs.List.{list_all};
+ghost use Rattle.cs_trigram.specs.Trigram.{trigram, trigram_count};
+ghost use Rattle.cs_trigram.specs.Query.{holds};
+ghost use Rattle.cs_trigram.specs.declared.queries.Query.TheVariants.{Tri};
+ghost use Rattle.cs_trigram.specs.Sample.{some_holds, AsksToo, NumbersToo, AsksForText, AsksForWord};
+
+use crate::queries::Query;
+use crate::words::Word;
+use std::alloc::{AllocError, Global};
+
+/// The number of three bytes.
+fn trigram(a: u8, b: u8, c: u8) -> u32
+    ensures number { result ≡ trigram a b c }
+    ensures below { result < trigram_count }
+{
+    65536 * a as u32 + 256 * b as u32 + c as u32
+}
+
+/// Whether the trigram is one of the members.
+fn has_trigram(members: &[Query], number: u32) -> bool
+    ensures { IsTrue result → Contains members.now (Tri number) }
+{
+    for member in members {
+        if let Query::Tri(other) = member
+            && *other == number
+        {
+            return true;
+        }
+    }
+    false
+}
+
+/// Asks for the trigram too, where it is not a member yet.
+fn add_trigram(members: &mut Vec<Query>, number: u32) -> Result<(), AllocError>
+    ensures asks { OnOk result (AsksToo members.old.items members.new.items (holds (Tri number))) }
+    ensures numbers { OnOk result (
+        NumbersToo members.old.items members.new.items (are_trigrams (Tri number))) }
+{
+    if has_trigram(members, number) {
+        return Ok(());
+    }
+    members.push(Query::Tri(number))?;
+    Ok(())
+}
+
+/// Asks for the query too. A trigram is asked for once.
+pub(crate) fn add_query(members: &mut Vec<Query>, query: Query) -> Result<(), AllocError>
+    ensures asks { OnOk result (AsksToo members.old.items members.new.items (holds query)) }
+    ensures numbers { OnOk result (
+        NumbersToo members.old.items members.new.items (are_trigrams query)) }
+{
+    match query {
+        Query::Tri(number) => add_trigram(members, number),
+        query => {
+            members.push(query)?;
+            Ok(())
+        }
+    }
+}
+
+/// The text's trigrams are all there.
+pub(crate) fn all_trigrams(alloc: Global, text: &[u8]) -> Result<Query, AllocError>
+    ensures asks { IfOk result (λ query. AsksForText query text.now) }
+    ensures numbers { IfOk result (λ query. are_trigrams query ≡ true) }
+{
+    let mut members = Vec::new(alloc);
+    let mut at = 0;
+    while text.len() - at > 2 {
+        add_trigram(&mut members, trigram(text[at], text[at + 1], text[at + 2]))?;
+        at += 1;
+    }
+    Ok(Query::And(members))
+}
+
+/// Some member is met. One member alone is what it asks.
+fn any_of(mut members: Vec<Query>) -> Query
+    ensures asks { (set : ℕ → Bool) → holds result set ≡ some_holds members.items set }
+    ensures numbers { are_trigrams result ≡ list_all are_trigrams members.items }
+{
+    if members.len() == 1
+        && let Some(only) = members.pop()
+    {
+        return only;
+    }
+    Query::Or(members)
+}
+
+/// The trigrams of some word are all there.
+pub(crate) fn any_word(alloc: Global, words: &[Word]) -> Result<Query, AllocError>
+    ensures asks { IfOk result (λ query. AsksForWord query words.now) }
+    ensures numbers { IfOk result (λ query. are_trigrams query ≡ true) }
+{
+    let mut members = Vec::new(alloc);
+    for word in words {
+        if word.bytes().len() < 3 {
+            return Ok(Query::All);
+        }
+        members.push(all_trigrams(alloc, word.bytes())?)?;
+    }
+    Ok(any_of(members))
+}

@@ -1,0 +1,194 @@
+use crate::{Query, query};
+use cs_syntax::parse;
+use std::test::Fail;
+
+/// The number of the first three bytes.
+fn number(text: &[u8]) -> u32 {
+    match text {
+        [a, b, c, ..] => 65536 * *a as u32 + 256 * *b as u32 + *c as u32,
+        _ => 0,
+    }
+}
+
+/// Whether the query holds of the set of these trigrams, which stand one after another with a blank
+/// between two.
+#[cycle(holds)]
+fn holds(query: &Query, set: &str) -> bool {
+    match query {
+        Query::All => true,
+        Query::Nothing => false,
+        Query::Tri(n) => set.as_bytes().chunks(4).any(|text| number(text) == *n),
+        Query::And(members) => all_hold(members, set),
+        Query::Or(members) => some_holds(members, set),
+    }
+}
+
+#[cycle(holds)]
+fn all_hold(queries: &[Query], set: &str) -> bool {
+    for query in queries {
+        if !holds(query, set) {
+            return false;
+        }
+    }
+    true
+}
+
+#[cycle(holds)]
+fn some_holds(queries: &[Query], set: &str) -> bool {
+    for query in queries {
+        if holds(query, set) {
+            return true;
+        }
+    }
+    false
+}
+
+fn query_holds(rt: &HostRuntime, pattern: &str, fold: bool, set: &str) -> Result<bool, Fail> {
+    let pattern = parse(rt.alloc(), pattern, fold).ok().ok_or("pattern")?;
+    Ok(holds(&query(rt.alloc(), &pattern)?, set))
+}
+
+#[test]
+fn queries_of_patterns(rt: HostRuntime) -> Result<(), Fail> {
+    for (pattern, set, want) in [
+        ("abc", "", false),
+        ("a(bc)", "", false),
+        ("a(bc)", "abc", true),
+        ("(abc)*", "", true),
+        ("abc|x", "", true),
+        ("abc|abd", "", false),
+        ("abc|abd", "abd", true),
+        ("^$", "", true),
+        ("ab*", "", true),
+        ("hello", "hel ell llo", true),
+        ("hello", "ell llo", false),
+        ("hello", "hel llo", false),
+        ("hello", "hel ell", false),
+        ("(ab|cd)ef", "abe bef", true),
+        ("(ab|cd)ef", "cde def", true),
+        ("(ab|cd)ef", "abe def", false),
+        ("abc.def", "abc def", true),
+        ("abc.def", "abc", false),
+        ("abc?", "", true),
+        ("x(abc)+", "", false),
+        ("x(abc)+", "abc", false),
+        ("x(abc)+", "abc xab", true),
+        ("(abc){2,}", "abc", true),
+        ("a[bc]d", "", false),
+        ("a[bc]d", "acd", true),
+        ("[ab][ab][ab]", "", false),
+        ("[ab][ab][ab]", "bab", true),
+        ("(?i)abc", "", false),
+        ("(?i)abc", "ABc", true),
+        ("[abc][abc][abc]", "", false),
+        ("[abc][abc][abc]", "cab", true),
+        ("[a-z][a-z][a-z]", "", true),
+        ("ab$", "", true),
+        ("abc$", "abc", true),
+        ("\\bab\\b|abc", "", true),
+        ("colou?r", "col olo lor", true),
+        ("colou?r", "col olo lou our", true),
+        ("colou?r", "col olo our", false),
+        ("ab{3}c", "abb bbb bbc", true),
+        ("ab{3}c", "abb bbc", false),
+        ("(foo){2}", "foo oof ofo", true),
+        ("(foo){2}", "foo", false),
+        ("fo+bar", "fob oba bar", true),
+        ("fo+bar", "foo oob oba bar", true),
+        ("fo+bar", "foo oob bar", false),
+        ("xab*cd", "xac acd", true),
+        ("xab*cd", "xab", true),
+        ("xab*cd", "", false),
+        ("foo(bar|baz)+qux", "foo oob oba bar arq rqu qux", true),
+        ("foo(bar|baz)+qux", "foo oob oba bar qux", false),
+        ("0x[0-9a-f]+", "0x7", true),
+        ("0x[0-9a-f]+", "", false),
+        ("[0-9]{3}-[0-9]{4}", "012 12- 2-3 -34 345 456", true),
+        ("[0-9]{3}-[0-9]{4}", "", false),
+        ("[a-h]bc", "hbc", true),
+        ("[a-h]bc", "ibc", false),
+        ("[a-h]bc", "", false),
+        // Nine words: a sharp query may leave them out, and this one asks for them up to twenty.
+        ("[a-i]bc", "abc", true),
+        ("[a-i]bc", "ibc", true),
+        ("[a-i]bc", "", false),
+    ] {
+        assert_eq!(rt;
+            query_holds(&rt, pattern, false, set)?,
+            want,
+            "{pattern} of {set}"
+        );
+    }
+    for (set, want) in [("abc", true), ("aBC", true), ("abd", false)] {
+        assert_eq!(rt;
+            query_holds(&rt, "abc", true, set)?,
+            want,
+            "in both cases of {set}"
+        );
+    }
+    Ok(())
+}
+
+/// Each trigram of two words with anything between them is asked for.
+#[test]
+fn query_of_two_words_apart(rt: HostRuntime) -> Result<(), Fail> {
+    let pattern = "Google.*Search";
+    for (set, want) in [
+        ("Goo oog ogl gle Sea ear arc rch", true),
+        ("oog ogl gle Sea ear arc rch", false),
+        ("Goo ogl gle Sea ear arc rch", false),
+        ("Goo oog gle Sea ear arc rch", false),
+        ("Goo oog ogl Sea ear arc rch", false),
+        ("Goo oog ogl gle ear arc rch", false),
+        ("Goo oog ogl gle Sea arc rch", false),
+        ("Goo oog ogl gle Sea ear rch", false),
+        ("Goo oog ogl gle Sea ear arc", false),
+    ] {
+        assert_eq!(rt; query_holds(&rt, pattern, false, set)?, want, "of {set}");
+    }
+    Ok(())
+}
+
+/// How many trigrams the query asks for, where it asks for nothing else and for all of them.
+fn count_trigrams(query: &Query) -> Option<usize> {
+    let Query::And(members) = query else {
+        return None;
+    };
+    for member in members {
+        if !matches!(member, Query::Tri(_)) {
+            return None;
+        }
+    }
+    Some(members.len())
+}
+
+/// The index narrows by the rarest of the trigrams first, where they stand side by side, and reads
+/// each list once, where each stands once.
+#[test]
+fn trigrams_stand_side_by_side(rt: HostRuntime) -> Result<(), Fail> {
+    for (pattern, want) in [
+        ("hello", Some(3)),
+        ("Google.*Search", Some(8)),
+        ("={70}", Some(1)),
+        ("(abc){1000}", Some(3)),
+        ("foo.*foo", Some(1)),
+        ("abc|abd", None),
+    ] {
+        let parsed = parse(rt.alloc(), pattern, false).ok().ok_or("pattern")?;
+        let query = query(rt.alloc(), &parsed)?;
+        assert_eq!(rt; count_trigrams(&query), want, "of {pattern}");
+    }
+    Ok(())
+}
+
+/// A word of the greatest weight.
+#[test]
+fn query_of_a_long_word(rt: HostRuntime) -> Result<(), Fail> {
+    let mut text = String::new(rt.alloc());
+    for _i in 0..3000 {
+        text.push_str("abc")?;
+    }
+    assert!(rt; query_holds(&rt, text.as_str(), false, "abc bca cab")?);
+    assert!(rt; !query_holds(&rt, text.as_str(), false, "abc bca")?);
+    Ok(())
+}

@@ -1,0 +1,33 @@
+-- Why a file or a path is left out, and the line that is printed then.
+-- docs/PROMISES.md, "What is printed".
+use Rattle.std.specs.Prelude.{ℕ, List, ◌++◌, codes}
+use Rattle.cs_tree.specs.declared.fault.TreeFault.TheVariants as tree
+use Rattle.cs_tree.specs.declared.fault.TreeFault.{TreeFault}
+use Rattle.cs_words.specs.declared.jobs.Tool.{Tool}
+use Rattle.cs_words.specs.declared.jobs.Tool.TheVariants.{Cindex, Csearch, Cgrep}
+use Rattle.cs_words.specs.declared.fault.FileFault.{FileFault}
+use Rattle.cs_words.specs.declared.fault.FileFault.TheVariants.{Missing, Denied, Failed, Unnamed, PathTooLong, InputTooLong}
+
+abbrev pub tool_name : Tool → List ℕ
+tool_name Cindex = codes "cindex"
+tool_name Csearch = codes "csearch"
+tool_name Cgrep = codes "cgrep"
+
+-- why a file or a path is left out
+abbrev pub file_fault_words : FileFault → List ℕ
+file_fault_words Missing = codes "no such file"
+file_fault_words Denied = codes "permission denied"
+file_fault_words Failed = codes "cannot be read"
+file_fault_words Unnamed = codes "name is not text"
+file_fault_words PathTooLong = codes "path too long"
+file_fault_words InputTooLong = codes "input too long"
+
+abbrev pub fault_line_of : Tool → List ℕ → FileFault → List ℕ
+fault_line_of tool name fault = tool_name tool ++ codes ": " ++ name ++ codes ": " ++ file_fault_words fault ++ codes "\n"
+
+-- the fault of a file that can't be looked at, opened or read
+abbrev pub file_fault_of : TreeFault → FileFault
+file_fault_of tree.Missing = Missing
+file_fault_of tree.Denied = Denied
+file_fault_of tree.Failed = Failed
+file_fault_of tree.Memory = Failed  -- never: want of memory is none of the file's

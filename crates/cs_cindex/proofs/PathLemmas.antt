@@ -3,7 +3,7 @@ use Rattle.std.proofs.Common.{◌≡◌, ◌≢◌, ℕ, zero, suc, ◌+◌, ◌
 use Rattle.cs_tree.specs.PathSet.{Paths}
 use Rattle.cs_tree.specs.NameOrder.{bytes_cmp}
 use Rattle.std.specs.Prelude.{is_some, T, string_bytes}
-use Rattle.std.proofs.lemmas.Bool.{true≢false, and_parts, and_from, cases_Bool, or_left, or_right, or_parts, not_from_false, ltb-false, false_from_ne_true, ne_eqb, eqb-false, or_from, lt-ltb, le-ltb}
+use Rattle.std.proofs.lemmas.Bool.{true≢false, and_parts, and_from, cases_Bool, or_left, or_right, not_from_false, ltb-false, false_from_ne_true, ne_eqb, lt-ltb}
 use Rattle.std.proofs.lemmas.List.Sums.{position_or_len_is}
 use Rattle.std.proofs.lemmas.List.Quantifiers.{position-Some}
 use Rattle.std.proofs.lemmas.List.{take_more, get_or-map}
@@ -14,14 +14,13 @@ use Rattle.std.specs.Ordering.{is_lt, eq_by_cmp}
 use Rattle.std.specs.FinMap as map'
 use Rattle.std.specs.FinMap.Entries.{below_all}
 use Rattle.std.specs.Cmp.{tied_itself}
-use Rattle.std.specs.Cmp.Lexicographic.{bytes_decides, nat_list_cmp_total}
+use Rattle.std.specs.Cmp.Lexicographic.{nat_list_cmp_total}
 use Rattle.cs_tree.specs.PathSet as set
-use Rattle.cs_tree.specs.Cover.{covers, least, same}
-use Rattle.cs_tree.specs.Clean.{absolute, clean_path, has_nul, longest_path}
+use Rattle.cs_tree.specs.Cover.{covers, least}
+use Rattle.cs_tree.specs.Clean.{clean_path}
 use Rattle.cs_tree.specs.Cleaning.{clean_fault, is_settled}
 use Rattle.cs_tree.proofs.SettledLemmas.{settled_filled, settled_no_nul, no_nul_bytes}
 use Rattle.cs_tree.specs.declared.cleaning.PathFault.{PathFault}
-use Rattle.cs_tree.specs.declared.cleaning.PathFault.TheVariants.{Empty, Nul, TooLong}
 use Rattle.cs_tree.proofs.Sets.{tied_same, same_set}
 use Rattle.cs_tree.proofs.Least.{least_says}
 use Rattle.cs_index.specs.Built.{is_storable, is_before, are_reduced, are_paths}
@@ -103,14 +102,6 @@ set_of_items paths = same_set (set.from_list (set.items paths)) paths (λ q.
 
 -- ---- texts that cleaning takes
 
-no_nul_all : (text : List ℕ) → has_nul text ≡ false → AllByRecursion (λ b. 0 < b) text
-no_nul_all [] h = tt
-no_nul_all (b ∷ text) h = let parts = or_parts (eqb b 0) (has_nul text) h in ((let ne = eqb-false b 0 parts.0 in omega (arith, ne)), no_nul_all text parts.1)
-
-all_no_nul : (text : List ℕ) → AllByRecursion (λ b. 0 < b) text → has_nul text ≡ false
-all_no_nul [] all = refl
-all_no_nul (b ∷ text) all = or_from (eqb b 0) (has_nul text) (ne_eqb b 0 (λ e. let h = all.0 in omega (arith, h, e))) (all_no_nul text all.1)
-
 above_all : (text : List ℕ) → AllByRecursion (λ b. 0 < b) text → list_all (λ b. ltb 0 b) text ≡ true
 above_all [] all = refl
 above_all (b ∷ text) all = and_from (ltb 0 b) (list_all (λ c. ltb 0 c) text) (lt-ltb 0 b all.0) (above_all text all.1)
@@ -119,34 +110,15 @@ pub storable_text : (text : List ℕ) → text ≢ [] → AllByRecursion (λ b. 
 storable_text [] some all = absurd (some refl)
 storable_text (b ∷ text) some all = and_from (not (eqb (length (b ∷ text)) 0)) _ (not_from_false _ (ne_eqb (length (b ∷ text)) 0 (λ e. omega (arith, e)))) (above_all (b ∷ text) all)
 
--- the three tests of cleaning
-abbrev told_by : Bool → Bool → Bool → Option PathFault
-told_by a b c = cond a (Some Empty) (cond b (Some Nul) (cond c (Some TooLong) None))
+is_no_fault : (fault : Option PathFault) → is_some fault ≡ false → fault ≡ None
+is_no_fault None h = refl
+is_no_fault (Some fault) h = absurd (true≢false h)
 
-none_of : (a b c : Bool) → is_some (told_by a b c) ≡ false → (a ≡ false) × (b ≡ false) × (c ≡ false)
-none_of true b c h = absurd (true≢false h)
-none_of false true c h = absurd (true≢false h)
-none_of false false true h = absurd (true≢false h)
-none_of false false false h = (refl, refl, refl)
+taken_from : (folder text : List ℕ) → is_bad folder text ≡ false → IsTaken folder text
+taken_from folder text h = is_no_fault (clean_fault folder text) h
 
-pub taken_from : (folder text : List ℕ) → is_bad folder text ≡ false → IsTaken folder text
-taken_from folder text h =
-    let tests = none_of (same text []) (has_nul (absolute folder text)) (ltb longest_path (length (clean_path folder text))) h in
-    record {
-      filled = λ e. true≢false (sym (ap (λ t. same t []) e) ∙ tests.0);
-      no_nul = no_nul_all (absolute folder text) tests.1;
-      short = ltb-false longest_path (length (clean_path folder text)) tests.2;
-    }
-
-pub none_taken : (folder text : List ℕ) → IsTaken folder text → clean_fault folder text ≡ None
-none_taken folder text taken =
-    let a : same text [] ≡ false = false_from_ne_true (same text []) (λ e. taken.filled ((bytes_decides text []).0 e)) in
-    let b : has_nul (absolute folder text) ≡ false = all_no_nul (absolute folder text) taken.no_nul in
-    let c : ltb longest_path (length (clean_path folder text)) ≡ false = le-ltb longest_path (length (clean_path folder text)) taken.short in
-    λ i. told_by (a i) (b i) (c i)
-
-pub not_taken : (folder text : List ℕ) → is_bad folder text ≡ true → IsTaken folder text → ⊥
-not_taken folder text h taken = true≢false (sym h ∙ ap is_some (none_taken folder text taken))
+not_taken : (folder text : List ℕ) → is_bad folder text ≡ true → IsTaken folder text → ⊥
+not_taken folder text h taken = true≢false (sym h ∙ ap is_some taken)
 
 -- the first refused text, and none
 none_upto : (folder : List ℕ) (texts : List (List ℕ)) → length texts ≤ position_or_len (is_bad folder) texts → AllByRecursion (IsTaken folder) texts

@@ -1,9 +1,9 @@
 -- How far the files of a tree are indexed.
-use Rattle.std.specs.Prelude.{◌≡◌, ℕ, ◌≤◌, ◌^◌, Bool, true, List, length, take, Option, Some, None, option_map, filter_map}
+use Rattle.std.specs.Prelude.{◌≡◌, ℕ, ◌≤◌, Bool, true, List, length, take, Option, Some, None, option_map, filter_map}
 use Rattle.std.specs.List.{list_all, AllByRecursion}
 use Rattle.cs_tree.specs.Snapshot.{Snapshot}
 use Rattle.cs_index.specs.Image.{Entry, names_of}
-use Rattle.cs_index.specs.Built.{is_storable, is_above}
+use Rattle.cs_index.specs.Built.{is_storable, is_above, most_names}
 use Rattle.cs_cindex.specs.Notices.{Line, file_line}
 use Rattle.cs_cindex.specs.Verdicts.{file_trigrams}
 
@@ -22,7 +22,7 @@ AreTextsIn (Some tree) names entries = are_storable names ≡ true → entries �
 -- More of them than an index can have.
 abbrev pub AreTooManyIn : Option Snapshot → List (List ℕ) → Type 0
 AreTooManyIn None names = Unit {0}
-AreTooManyIn (Some tree) names = are_storable names ≡ true → 2 ^ 30 ≤ length (texts_at tree names)
+AreTooManyIn (Some tree) names = are_storable names ≡ true → most_names ≤ length (texts_at tree names)
 
 -- The lines are those of the files at these names.
 abbrev pub AreFileLinesIn : Bool → Option Snapshot → List (List ℕ) → List Line → Type 0

@@ -5,6 +5,7 @@ use Rattle.cs_history.specs.JobIndex.{tree_index}
 use Rattle.cs_tree.specs.Folders.{IsTree}
 use Rattle.cs_tree.specs.PathSet.{Paths}
 use Rattle.std.specs.FinMap as map'
+use Rattle.cs_index.specs.Built.{most_names}
 use Rattle.cs_tree.specs.Snapshot.{Snapshot}
 use Rattle.cs_tree.specs.Reached.{files_reached}
 use Rattle.cs_trigram.specs.Text.{limits, text_trigrams}
@@ -26,7 +27,7 @@ IsTreeTooLarge (Some tree) paths = IsTree tree → 2 ^ 32 ≤ length (tree_index
 -- More texts are found than an index may name: then it would be too large in any case.
 abbrev pub AreTooMany : Option Snapshot → Paths → Type 0
 AreTooMany None paths = Unit {0}
-AreTooMany (Some tree) paths = IsTree tree → 2 ^ 30 ≤ length (map'.entries (files_reached (text_trigrams limits) tree paths))
+AreTooMany (Some tree) paths = IsTree tree → most_names ≤ length (map'.entries (files_reached (text_trigrams limits) tree paths))
 
 -- The bytes are an index of these paths and of some names, whatever the tree told.
 pub record IsIndex (paths : List (List ℕ)) (bytes : List ℕ) : Type 0 where

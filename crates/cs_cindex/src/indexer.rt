@@ -3,7 +3,7 @@ ghost use Rattle.std.specs.Prelude.{◌≡◌, ◌≤◌, ◌^◌, ◌⊎◌, �
 ghost use Rattle.cs_tree.specs.NameOrder.{are_ascending};
 ghost use Rattle.cs_tree.specs.Failures.{count_after};
 ghost use Rattle.cs_trigram.specs.Trigram.{IsTrigramSet};
-ghost use Rattle.cs_index.specs.Built.{are_paths, is_above};
+ghost use Rattle.cs_index.specs.Built.{are_paths, is_above, most_names};
 ghost use Rattle.cs_index.specs.Image.{image_of, names_of};
 ghost use Rattle.cs_index.specs.Spelling.{IsIndexable};
 ghost use Rattle.cs_history.specs.Replies.{IsLong};
@@ -103,7 +103,7 @@ impl Indexer {
         ensures prints { PrintsAll (one_line (noted_line self.old.log_skip name.now verdict))
             (E.taken err.old) (E.taken err.new) result }
         ensures too_large { result ≡ Err CindexFault.TooLarge →
-            2 ^ 30 ≤ length self.old.builder.entries }
+            most_names ≤ length self.old.builder.entries }
         ensures paths { self.new.builder.paths ≡ self.old.builder.paths }
         ensures log_skip { self.new.log_skip ≡ self.old.log_skip }
         ensures writes { E.failed err.new ≡ count_after is_failed_write result (E.failed err.old) }
@@ -144,7 +144,7 @@ impl Indexer {
         ensures prints { PrintsAll (one_line (added_line name.now))
             (E.taken err.old) (E.taken err.new) result }
         ensures too_large { result ≡ Err CindexFault.TooLarge →
-            2 ^ 30 ≤ length self.old.builder.entries }
+            most_names ≤ length self.old.builder.entries }
         ensures paths { self.new.builder.paths ≡ self.old.builder.paths }
         ensures log_skip { self.new.log_skip ≡ self.old.log_skip }
         ensures writes { E.failed err.new ≡ count_after is_failed_write result (E.failed err.old) }

@@ -1,18 +1,18 @@
 -- What single jobs make of a history.
 use Rattle.std.proofs.Common.{◌≡◌, true, false, cond, List, [], ◌∷◌, ◌++◌, map, ap, ◌∙◌, Option, Some, None}
 use Rattle.cs_tree.specs.Folders.{IsTree, Tells}
-use Rattle.std.proofs.lemmas.Bool.{cond_both}
+use Rattle.std.proofs.lemmas.Bool.{cond_both, ltb-false}
 use Rattle.std.proofs.lemmas.Str.{IsUtf8-append, IsUtf8-string_bytes}
-use Rattle.std.specs.Prelude.{string_bytes, String, is_some, nat_eq}
+use Rattle.std.specs.Prelude.{string_bytes, String, is_some, nat_eq, nat_lt, length}
 use Rattle.std.specs.declared.alloc.Global.{Global}
 use Rattle.std.specs.List.{AllByRecursion, AllZip}
 use Rattle.std.specs.Ordering.{eq_by_cmp}
 use Rattle.std.specs.FinMap as map'
 use Rattle.std.specs.FinMap.{find}
-use Rattle.cs_tree.specs.Cover.{slash, begins}
+use Rattle.cs_tree.specs.Cover.{slash, begins, same}
 use Rattle.cs_tree.specs.Snapshot.{Snapshot}
-use Rattle.cs_tree.specs.Clean.{absolute, clean_path}
-use Rattle.cs_tree.proofs.SettledLemmas.{settled_from, bytes_no_nul}
+use Rattle.cs_tree.specs.Clean.{absolute, clean_path, has_nul, longest_path}
+use Rattle.cs_tree.proofs.SettledLemmas.{settled_from, bytes_no_nul, no_nul_bytes, no_fault_parts}
 use Rattle.cs_merge.proofs.HoldingLemmas.{from_list_all}
 use Rattle.cs_history.specs.History.{History}
 use Rattle.cs_history.specs.WellFormed.{IsClean, AreClean, IsVisit, IsHistory}
@@ -36,10 +36,14 @@ absolute_part cwd path h = record {
 -- a path that cleaning takes is clean then
 pub taken_clean : (cwd path : String Global) → IsTaken (string_bytes cwd) (string_bytes path) → IsClean (clean_path (string_bytes cwd) (string_bytes path))
 taken_clean cwd path h =
-    let part = cleaned_part (string_bytes cwd) (string_bytes path) (absolute_part cwd path h.no_nul) in
+    let folder = string_bytes cwd in
+    let text = string_bytes path in
+    let passed = no_fault_parts (same text []) (has_nul (absolute folder text)) (nat_lt longest_path (length (clean_path folder text))) h in
+    let part = cleaned_part folder text (absolute_part cwd path (no_nul_bytes (absolute folder text) passed.0)) in
     record {
       utf8 = part.utf8;
-      settled = settled_from (clean_path (string_bytes cwd) (string_bytes path)) (cleaned_settled (string_bytes cwd) (string_bytes path)) (bytes_no_nul (clean_path (string_bytes cwd) (string_bytes path)) part.no_nul) h.short;
+      settled = settled_from (clean_path folder text) (cleaned_settled folder text) (bytes_no_nul (clean_path folder text) part.no_nul)
+          (ltb-false longest_path (length (clean_path folder text)) passed.1);
     }
 
 all_cleaned : (cwd : String Global) (paths : List (String Global)) → AllByRecursion (IsTaken (string_bytes cwd)) (map string_bytes paths) → AllByRecursion IsClean (map (λ text. clean_path (string_bytes cwd) text) (map string_bytes paths))

@@ -1,12 +1,13 @@
 -- What jobs and their replies make of a history.
 -- docs/PROMISES.md, "Histories"; the comment of the command cindex.
-use Rattle.std.specs.Prelude.{◌≡◌, ◌≢◌, ◌<◌, ◌≤◌, ℕ, Bool, false, nat_eq, if◌then◌else◌, List, [], ◌∷◌, Option, unwrap_or, map, string_bytes, length}
+use Rattle.std.specs.Prelude.{◌≡◌, ℕ, Bool, false, nat_eq, if◌then◌else◌, List, [], ◌∷◌, Option, None, unwrap_or, map, string_bytes, length}
 use Rattle.cs_tree.specs.PathSet.{Paths}
 use Rattle.std.specs.List.{AllByRecursion}
 use Rattle.std.specs.FinMap as map'
 use Rattle.cs_tree.specs.PathSet as set
 use Rattle.cs_tree.specs.Snapshot.{Snapshot}
-use Rattle.cs_tree.specs.Clean.{absolute, clean_path, longest_path}
+use Rattle.cs_tree.specs.Clean.{clean_path}
+use Rattle.cs_tree.specs.Cleaning.{clean_fault}
 use Rattle.cs_history.specs.History.{History, Visit}
 use Rattle.cs_words.specs.declared.jobs.IndexJob.{IndexJob}
 use Rattle.cs_words.specs.declared.jobs.Reply.{Reply}
@@ -25,12 +26,9 @@ given_paths job = set.from_list (map (λ text. clean_path (string_bytes job.cwd)
 abbrev pub has_no_path : IndexJob → Bool
 has_no_path job = nat_eq (length job.paths.items) 0
 
--- Cleaning takes a text: it is not empty, it has no NUL, nor has the folder that it is joined to, and
--- what comes of it has at most 4095 bytes.
-pub record IsTaken (folder text : List ℕ) : Type 0 where
-  pub filled : text ≢ []
-  pub no_nul : AllByRecursion (λ b. 0 < b) (absolute folder text)
-  pub short : length (clean_path folder text) ≤ longest_path
+-- cleaning takes a text
+abbrev pub IsTaken : List ℕ → List ℕ → Type 0
+IsTaken folder text = clean_fault folder text ≡ None
 
 -- cleaning takes each path of the job
 abbrev pub AreTaken : IndexJob → Type 0

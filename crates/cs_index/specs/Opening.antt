@@ -1,6 +1,6 @@
 -- An index as it is read: which bytes open, what they hold, and which fault the others have.
 -- docs/FORMAT.md, "The index as it is read".
-use Rattle.std.specs.Prelude.{ℕ, zero, suc, ◌+◌, ◌-◌, ◌*◌, ◌/◌, ◌%◌, Bool, true, not, ◌&&◌, ◌||◌, nat_eq, nat_le, nat_lt, List, [], ◌∷◌, ◌++◌, length, map, slice_index, slice_range, if◌then◌else◌, Result, Ok, Err, Option, find, ◌^◌}
+use Rattle.std.specs.Prelude.{ℕ, zero, suc, ◌+◌, ◌-◌, ◌*◌, ◌/◌, ◌%◌, Bool, true, not, ◌&&◌, ◌||◌, nat_eq, nat_le, nat_lt, List, [], ◌∷◌, ◌++◌, length, map, slice_index, slice_range, if◌then◌else◌, Result, Ok, Err, ◌^◌}
 use Rattle.cs_index.specs.PostingLists.{Ids, read_list, entries_of}
 use Rattle.cs_trigram.specs.Trigram.{closing_trigram}
 use Rattle.std.specs.List.{list_all, starts_with, ends_with}
@@ -8,7 +8,7 @@ use Rattle.std.specs.Str.{is_utf8}
 use Rattle.std.specs.Int.{from_be_bytes, w32}
 use Rattle.cs_tree.specs.Cover.{same}
 use Rattle.cs_index.specs.declared.fault.IndexFault.{IndexFault}
-use Rattle.cs_index.specs.declared.fault.IndexFault.TheVariants.{BadMagic, BadTrailer, BadOffsets, BadPaths, BadNames, BadNameIndex, BadListIndex, BadList}
+use Rattle.cs_index.specs.declared.fault.IndexFault.TheVariants.{BadMagic, BadTrailer, BadOffsets, BadPaths, BadNames, BadNameIndex, BadListIndex}
 use Rattle.cs_index.specs.Image.{concat, with_nul, starts_from, Sections, magic, trailer_magic, Entry, ListEntry, Posting}
 use Rattle.cs_index.specs.Strings.{texts_in}
 

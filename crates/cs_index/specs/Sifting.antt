@@ -1,12 +1,10 @@
 -- What functions inside a search for candidates promise each other.
-use Rattle.std.specs.Prelude.{◌≡◌, ℕ, Bool, true, false, ◌||◌, ◌⊎◌, List, [], length, filter, unwrap_or, option_map, slice_index_or, nat_lt, ◌∷◌, ◌++◌, if◌then◌else◌}
+use Rattle.std.specs.Prelude.{◌≡◌, ℕ, Bool, true, false, ◌||◌, List, [], length, filter, unwrap_or, option_map, slice_index_or, nat_lt, ◌∷◌, ◌++◌, if◌then◌else◌}
 use Rattle.cs_index.specs.Postings.{entry_of}
 use Rattle.cs_index.specs.PostingLists.{Ids}
 use Rattle.cs_trigram.specs.Trigram.{has}
 use Rattle.std.specs.List.{list_all, list_any, range_with_len}
 use Rattle.cs_trigram.specs.declared.queries.Query.{Query}
-use Rattle.cs_index.specs.declared.fault.IndexFault.{IndexFault}
-use Rattle.cs_index.specs.declared.fault.IndexFault.TheVariants.{BadList, Memory}
 use Rattle.cs_index.specs.Candidates.{candidates_of, meets, names_that}
 use Rattle.cs_index.specs.Opening.{Parts, ids_read}
 

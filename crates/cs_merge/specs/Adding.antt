@@ -1,7 +1,7 @@
 -- What is built of the files of two indexes, and why it is not.
-use Rattle.std.specs.Prelude.{◌≡◌, ℕ, ◌<◌, ◌≤◌, ◌^◌, List, ◌++◌, length}
+use Rattle.std.specs.Prelude.{◌≡◌, ℕ, ◌<◌, ◌≤◌, List, ◌++◌, length}
 use Rattle.cs_index.specs.Image.{Entry}
-use Rattle.cs_index.specs.Built.{Built}
+use Rattle.cs_index.specs.Built.{Built, most_names}
 use Rattle.cs_merge.specs.declared.fault.MergeFault.{MergeFault}
 use Rattle.cs_merge.specs.declared.fault.MergeFault.TheVariants.{TooLarge, Memory}
 
@@ -11,7 +11,7 @@ with_files built files = record { paths = built.paths; entries = built.entries +
 
 -- Why files are not added.
 pub data IsAddFault (files : List Entry) (fault : MergeFault) : Type 0 where
-  many : fault ≡ TooLarge → 2 ^ 30 ≤ length files → IsAddFault files fault
+  many : fault ≡ TooLarge → most_names ≤ length files → IsAddFault files fault
   full : fault ≡ Memory → IsAddFault files fault
 
 -- The bytes are those of an index, and no more than a number of them.

@@ -10,7 +10,7 @@ use Rattle.std.proofs.lemmas.List.Elements.{filter-append, filter_map-append}
 use Rattle.cs_syntax.specs.Matching.{Tree}
 use Rattle.cs_syntax.specs.Reading.{Reads}
 use Rattle.cs_syntax.specs.Refusal.{IsRefused}
-use Rattle.cs_syntax.specs.Weight.{weight}
+use Rattle.cs_syntax.specs.Weight.{weight, most_weight}
 use Rattle.cs_syntax.specs.declared.fault.PatternFault.{PatternFault}
 use Rattle.cs_syntax.specs.declared.fault.PatternFault.TheVariants as pattern
 use Rattle.cs_syntax.specs.declared.fault.PatternError.{PatternError}
@@ -135,7 +135,7 @@ module _ (job : SearchJob) (index : Option (List ℕ)) (text : List ℕ) (same :
   pub reads_job : Reads (string_bytes job.pattern) job.fold pattern
   reads_job = subst (λ (t : List ℕ). Reads t job.fold pattern) same read
 
-  pub accepted_both : weight pattern ≤ 10000 → (program : Option Tree) → IsCompiled (file_text job) program → AreAccepted job
+  pub accepted_both : weight pattern ≤ most_weight → (program : Option Tree) → IsCompiled (file_text job) program → AreAccepted job
   accepted_both light program is = ((pattern, reads_job, light), accepted_file (file_text job) program is)
 
   abbrev pub asked : (parts : Parts) → OpensWith index parts → (query : Query) → IsQueryOf job.brute pattern query → Asks job index

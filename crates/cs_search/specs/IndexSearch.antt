@@ -2,7 +2,7 @@
 use Rattle.std.specs.Prelude.{ℕ, ◌≡◌, ◌≤◌, ◌↔◌, Bool, true, false, List, filter_map, Option, Some, None, slice_get, Err}
 use Rattle.cs_syntax.specs.Matching.{Tree, Found}
 use Rattle.cs_syntax.specs.Reading.{Reads}
-use Rattle.cs_syntax.specs.Weight.{weight}
+use Rattle.cs_syntax.specs.Weight.{weight, most_weight}
 use Rattle.cs_syntax.specs.declared.fault.PatternFault.{PatternFault}
 use Rattle.cs_syntax.specs.declared.fault.PatternFault.TheVariants as pattern
 use Rattle.cs_syntax.specs.declared.fault.PatternError.{PatternError}
@@ -25,7 +25,7 @@ DecidesNames keeps (Some program) = Decides keeps program
 abbrev pub IsCompiled : Option (List ℕ) → Option Tree → Type 0
 IsCompiled None None = Unit {0}
 IsCompiled (Some text) (Some program) =
-    (pattern : Tree) × Reads text false pattern × (weight pattern ≤ 10000) × ((line : List ℕ) → Found program line ↔ Found pattern line)
+    (pattern : Tree) × Reads text false pattern × (weight pattern ≤ most_weight) × ((line : List ℕ) → Found program line ↔ Found pattern line)
 IsCompiled text program = ⊥
 
 abbrev pub file_fault_at : PatternFault → PatternError → ToolFault

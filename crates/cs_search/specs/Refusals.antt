@@ -2,7 +2,7 @@
 -- docs/PATTERNS.md, "Faults"; docs/PROMISES.md, "What is printed".
 use Rattle.std.specs.Prelude.{ℕ, ◌≢◌, ◌≤◌, Bool, true, false, List, Result, Ok, Err}
 use Rattle.cs_syntax.specs.Matching.{Tree}
-use Rattle.cs_syntax.specs.Weight.{weight}
+use Rattle.cs_syntax.specs.Weight.{weight, most_weight}
 use Rattle.cs_syntax.specs.Reading.{Reads}
 use Rattle.cs_syntax.specs.Refusal.{IsRefused}
 use Rattle.cs_syntax.specs.declared.fault.PatternError.{PatternError}
@@ -12,7 +12,7 @@ use Rattle.cs_words.specs.declared.fault.ToolFault.TheVariants.{Pattern, FilePat
 
 -- the text reads as a tree that is not too heavy
 abbrev pub IsAccepted : List ℕ → Bool → Type 0
-IsAccepted text fold = (t : Tree) × Reads text fold t × (weight t ≤ 10000)
+IsAccepted text fold = (t : Tree) × Reads text fold t × (weight t ≤ most_weight)
 
 -- The text is refused for what is wrong with it: want of memory is a fault of its own.
 abbrev pub IsPatternRefused : List ℕ → Bool → PatternError → Type 0

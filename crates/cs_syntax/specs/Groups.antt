@@ -1,8 +1,9 @@
 -- Heads of groups, and flags.
 -- docs/PATTERNS.md, "Groups and flags"; the RE2 syntax page, "Grouping".
 use Rattle.std.specs.Prelude.{ℕ, ◌+◌, Bool, ◌&&◌, ◌||◌, not, List, nat_lt, nat_eq, take, drop, if◌then◌else◌}
-use Rattle.std.specs.List.{prefix_len, list_any}
+use Rattle.std.specs.List.{prefix_len}
 use Rattle.cs_syntax.specs.Matching.{is_word}
+use Rattle.cs_syntax.specs.Ranges.{has}
 use Rattle.cs_syntax.specs.Fronts.{Front, item, fault, group_start, flags_from_here, is_front}
 use Rattle.cs_syntax.specs.declared.flags.Flags.{Flags}
 use Rattle.cs_syntax.specs.declared.fault.PatternFault.TheVariants.{BadGroup, NotInProfile}
@@ -22,16 +23,13 @@ is_flag b = nat_eq b 105 || nat_eq b 109 || nat_eq b 115 || nat_eq b 85
 unfoldable pub is_cleared_flag : ℕ → Bool
 is_cleared_flag b = nat_eq b 105 || nat_eq b 115 || nat_eq b 85
 
-abbrev pub has : ℕ → List ℕ → Bool
-has b letters = list_any (λ c. nat_eq c b) letters
-
 abbrev pub with_set : List ℕ → Flags → Flags
 with_set letters flags =
-    record { fold = flags.fold || has 105 letters; dot_all = flags.dot_all || has 115 letters }
+    record { fold = flags.fold || has letters 105; dot_all = flags.dot_all || has letters 115 }
 
 abbrev pub with_cleared : List ℕ → Flags → Flags
 with_cleared letters flags =
-    record { fold = flags.fold && not (has 105 letters); dot_all = flags.dot_all && not (has 115 letters) }
+    record { fold = flags.fold && not (has letters 105); dot_all = flags.dot_all && not (has letters 115) }
 
 -- at the end of the flags: a `:` and the group's text, or a `)`
 abbrev pub after_flags : Flags → ℕ → List ℕ → Front

@@ -3,7 +3,8 @@ ghost use Rattle.std.specs.Prelude.{◌≡◌, ◌+◌, ◌≤◌, ◌<◌, ◌^
 ghost use Rattle.std.specs.List.{prefix_len, list_any};
 ghost use Rattle.cs_syntax.specs.Matching.{is_word};
 ghost use Rattle.cs_syntax.specs.ItemViews.{IsWithin, front_view};
-ghost use Rattle.cs_syntax.specs.Groups.{name, is_flag, is_cleared_flag, has, with_set, with_cleared, after_flags, cleared_flags, set_flags, head, group};
+ghost use Rattle.cs_syntax.specs.Ranges.{has};
+ghost use Rattle.cs_syntax.specs.Groups.{name, is_flag, is_cleared_flag, with_set, with_cleared, after_flags, cleared_flags, set_flags, head, group};
 
 use crate::fault::PatternFault;
 use crate::flags::Flags;
@@ -36,8 +37,8 @@ fn is_cleared_flag(byte: u8) -> bool
     matches!(byte, b'i' | b's' | b'U')
 }
 
-fn has(letter: u8, letters: &[u8]) -> bool
-    ensures { result ≡ has letter letters.now }
+fn has(letters: &[u8], letter: u8) -> bool
+    ensures { result ≡ has letters.now letter }
 {
     letters.iter().any(|c| *c == letter)
 }
@@ -46,8 +47,8 @@ fn with_set(letters: &[u8], flags: Flags) -> Flags
     ensures { result ≡ with_set letters.now flags }
 {
     Flags {
-        fold: flags.fold || has(b'i', letters),
-        dot_all: flags.dot_all || has(b's', letters),
+        fold: flags.fold || has(letters, b'i'),
+        dot_all: flags.dot_all || has(letters, b's'),
     }
 }
 
@@ -55,8 +56,8 @@ fn with_cleared(letters: &[u8], flags: Flags) -> Flags
     ensures { result ≡ with_cleared letters.now flags }
 {
     Flags {
-        fold: flags.fold && !has(b'i', letters),
-        dot_all: flags.dot_all && !has(b's', letters),
+        fold: flags.fold && !has(letters, b'i'),
+        dot_all: flags.dot_all && !has(letters, b's'),
     }
 }
 

@@ -145,7 +145,7 @@ fault_at empty nul long = cond empty (Some Empty) (cond nul (Some Nul) (cond lon
 no_fault : (empty nul long : Bool) → empty ≡ false → nul ≡ false → long ≡ false → fault_at empty nul long ≡ None
 no_fault empty nul long e f g = ap (λ b. fault_at b nul long) e ∙ ap (λ b. fault_at false b long) f ∙ ap (λ b. fault_at false false b) g
 
-no_fault_parts : (empty nul long : Bool) → fault_at empty nul long ≡ None → (nul ≡ false) × (long ≡ false)
+pub no_fault_parts : (empty nul long : Bool) → fault_at empty nul long ≡ None → (nul ≡ false) × (long ≡ false)
 no_fault_parts true nul long e = cc
 no_fault_parts false true long e = cc
 no_fault_parts false false true e = cc

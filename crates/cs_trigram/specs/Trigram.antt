@@ -1,7 +1,8 @@
 -- The trigrams of some bytes: the numbers of all their parts of three bytes.
 -- docs/FORMAT.md, "Which files are text"; the article "Regular Expression Matching with a Trigram Index".
-use Rattle.std.specs.Prelude.{ℕ, ◌+◌, ◌*◌, ◌<◌, Bool, nat_eq, nat_lt, if◌then◌else◌, List, [], ◌∷◌}
-use Rattle.std.specs.List.{list_any, AllByRecursion}
+use Rattle.std.specs.Prelude.{ℕ, ◌+◌, ◌*◌, ◌<◌, nat_eq, nat_lt, if◌then◌else◌, List, [], ◌∷◌}
+use Rattle.std.specs.List.{AllByRecursion}
+pub use Rattle.cs_syntax.specs.Ranges.{has}
 
 -- how many numbers three bytes have: 2^24
 abbrev pub trigram_count : ℕ
@@ -35,10 +36,6 @@ with_number n (m ∷ ms) = if nat_lt n m then n ∷ m ∷ ms else (if nat_eq n m
 abbrev pub set_of_numbers : List ℕ → List ℕ
 set_of_numbers [] = []
 set_of_numbers (n ∷ ns) = with_number n (set_of_numbers ns)
-
--- whether a list has the number
-abbrev pub has : List ℕ → ℕ → Bool
-has numbers n = list_any (λ m. nat_eq m n) numbers
 
 -- the set of the trigrams of some bytes
 abbrev pub tri : List ℕ → List ℕ

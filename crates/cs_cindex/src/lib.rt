@@ -16,6 +16,3 @@ mod reading;
 mod walked;
 
 pub use cindexing::cindex;
-
-#[cfg(test)]
-mod tests;

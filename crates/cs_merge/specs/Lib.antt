@@ -9,8 +9,8 @@ pub use Rattle.cs_index.specs.Opening
 pub mod Join
 pub mod Content
 pub mod Joinable
+pub mod Joining
 -- What functions inside promise each other.
 pub mod Regrouping
 pub mod Interleaving
 pub mod Adding
-pub mod Joining

@@ -37,8 +37,8 @@ pub fn merge(alloc: Global, old: &Index<'_>, newer: &Index<'_>) -> Result<Vec<u8
     merge_within(alloc, u32::MAX, old, newer)
 }
 
-// The index of what both have, unless it has more than a number of bytes.
-pub(crate) fn merge_within(
+/// The index of what both have, unless it has more than a number of bytes: `merge` with a limit of the caller's own.
+pub fn merge_within(
     alloc: Global,
     most: u32,
     old: &Index<'_>,

@@ -1,5 +1,6 @@
 //! The joining of an index with a newer one. Read `specs/Join.antt` first: what joining means, then
-//! `specs/Content.antt`: what an index holds, and what of it its bytes determine.
+//! `specs/Content.antt`: what an index holds, and what of it its bytes determine. `merge_within` takes a limit
+//! of the caller's own.
 #![tactic(auto)]
 
 mod building;
@@ -10,7 +11,4 @@ mod joining;
 pub mod laws;
 
 pub use fault::MergeFault;
-pub use joining::merge;
-
-#[cfg(test)]
-mod tests;
+pub use joining::{merge, merge_within};

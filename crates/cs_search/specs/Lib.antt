@@ -16,10 +16,10 @@ pub mod Printed
 pub mod Refusals
 pub mod Cgrep
 pub mod Csearch
+pub mod Buffer
 -- What functions inside promise each other.
 pub mod Unended
 pub mod TestedLines
-pub mod Buffer
 pub mod Progress
 pub mod Searcher
 pub mod IndexSearch

@@ -11,7 +11,7 @@ const FIRST_SIZE: usize = 65536;
 
 /// A buffer for the bytes of one input after another. It grows only for a line that is longer than it.
 #[derive(Drop)]
-pub(crate) struct LineBuffer {
+pub struct LineBuffer {
     bytes: Vec<u8>,
     start: usize,
     end: usize,
@@ -34,7 +34,7 @@ impl LineBuffer {
 
     /// A buffer of so many bytes with nothing in it.
     #[tactic(auto, unfolding(crate::specs::Buffer::pending))]
-    pub(crate) fn of_size(alloc: Global, size: usize) -> Result<LineBuffer, AllocError>
+    pub fn of_size(alloc: Global, size: usize) -> Result<LineBuffer, AllocError>
         requires { 0 < size }
         ensures { IfOk result (λ buffer. pending buffer ≡ []) }
     {

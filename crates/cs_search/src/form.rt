@@ -14,9 +14,9 @@ use itoa::Buffer;
 
 /// The name of an input, and what is printed of it.
 #[derive(Clone, Copy, Drop)]
-pub(crate) struct Form<'a> {
-    pub(crate) name: &'a str,
-    pub(crate) style: Style,
+pub struct Form<'a> {
+    pub name: &'a str,
+    pub style: Style,
 }
 
 impl Form<'_> {

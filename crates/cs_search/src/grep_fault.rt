@@ -12,7 +12,7 @@ pub enum ReadFault {
     /// A read has failed.
     #[error("a read has failed")]
     Read,
-    /// It has more than `MOST_SEARCHED` bytes.
+    /// It has more bytes than are searched: `MOST_SEARCHED`, where the caller sets no other limit.
     #[error("the input is too long")]
     TooLong,
 }

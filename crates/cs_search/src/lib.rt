@@ -1,5 +1,6 @@
 //! The tools that search: inputs line by line, and what is printed of them. Read `specs/Report.antt`
-//! first, which says what a search of one input prints, then `specs/Printed.antt`.
+//! first, which says what a search of one input prints, then `specs/Printed.antt`. `grep_within` takes a limit and a
+//! buffer of the caller's own.
 #![tactic(auto)]
 
 mod blocks;
@@ -18,12 +19,11 @@ mod status;
 mod stop;
 mod tally;
 
+pub use buffer::LineBuffer;
 pub use csearching::csearch;
+pub use form::Form;
 pub use grep_fault::{GrepFault, ReadFault};
 pub use grepped::Grepped;
-pub use report::{MOST_SEARCHED, grep};
+pub use report::{MOST_SEARCHED, grep, grep_within};
 pub use searching::cgrep;
 pub use status::Status;
-
-#[cfg(test)]
-mod tests;

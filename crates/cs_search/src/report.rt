@@ -57,8 +57,9 @@ pub fn grep<R: Source, O: Sink>(
     )
 }
 
-/// Searches the first `most` bytes of the input, by way of the buffer.
-pub(crate) fn grep_within<R: Source, O: Sink>(
+/// Searches the first `most` bytes of the input, by way of the buffer: `grep` with a limit and a buffer of the caller's
+/// own. What is in the buffer before is let go.
+pub fn grep_within<R: Source, O: Sink>(
     form: &Form<'_>,
     input: &mut R,
     most: usize,

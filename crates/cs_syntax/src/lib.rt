@@ -31,6 +31,3 @@ pub use fault::{PatternError, PatternFault};
 pub use node::Node;
 pub use parser::parse;
 pub use pattern::Pattern;
-
-#[cfg(test)]
-mod tests;

@@ -1,15 +1,9 @@
 -- What a scanner keeps of the bytes that it has tested.
-use Rattle.std.specs.Prelude.{◌≡◌, ℕ, ◌+◌, ◌^◌, ◌<◌, ◌≤◌, List, ◌++◌, length, Result, Some, None, MatchResult}
+use Rattle.std.specs.Prelude.{◌≡◌, ℕ, ◌+◌, ◌<◌, ◌≤◌, List, ◌++◌, length, Result, Some, None, MatchResult}
 use Rattle.cs_trigram.specs.declared.limits.Limits.{Limits}
 use Rattle.cs_trigram.specs.declared.place.Place.{Place}
 use Rattle.cs_trigram.specs.declared.scan.Reason.{Reason}
 use Rattle.cs_trigram.specs.Text.{last_byte, line_so_far, first_broken}
-
--- the numbers of the core are small, so that no sum of them overflows
-pub record IsSmall (most : Limits) : Type 0 where
-  pub bytes : most.bytes < 2 ^ 32
-  pub line : most.line < 2 ^ 32
-  pub trigrams : most.trigrams < 2 ^ 32
 
 -- one more byte is within the numbers
 pub record IsWithin (most : Limits) (place : Place) : Type 0 where

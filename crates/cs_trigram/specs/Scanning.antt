@@ -3,7 +3,7 @@ use Rattle.std.specs.Prelude.{ℕ, ◌<◌, [], length, Vec}
 use Rattle.std.specs.declared.alloc.Global.{Global}
 use Rattle.cs_trigram.specs.declared.limits.Limits.{Limits}
 use Rattle.cs_trigram.specs.declared.found.Found.{Found}
-use Rattle.cs_trigram.specs.Place.{IsSmall}
+use Rattle.cs_trigram.specs.Small.{IsSmall}
 use Rattle.cs_trigram.specs.Found.{Knows}
 
 -- nothing is found yet, and there is room for what comes

@@ -5,7 +5,7 @@ ghost use Rattle.cs_trigram.specs.Scans.{found_at, Says, IsRight, HasTrigramSet,
 ghost use Rattle.cs_tree.specs.Failures.{count_after};
 ghost use Rattle.cs_tree.specs.Told.{ends};
 ghost use Rattle.cs_trigram.specs.Text.{first_broken};
-ghost use Rattle.cs_trigram.specs.Place.{IsSmall};
+ghost use Rattle.cs_trigram.specs.Small.{IsSmall};
 ghost use Rattle.cs_trigram.specs.Found.{Knows, IsSound};
 
 use crate::found::Found;
@@ -78,9 +78,10 @@ fn read_through<R: Source>(
     }
 }
 
-/// A scanner with limits of its own, which are all that a contract sees of it.
+/// A scanner with limits of its own, which are all that a contract sees of it: the most bytes of a file and of a line,
+/// and the most trigrams. `Scanner` is the one at the limits of files that are indexed.
 #[derive(Drop)]
-pub(crate) struct BoundedScanner {
+pub struct BoundedScanner {
     alloc: Global,
     limits: Limits,
     sorter: Sorter,
@@ -102,7 +103,7 @@ impl Model for BoundedScanner {
 
 impl BoundedScanner {
     /// A scanner that has its buffer and its table, about 2.2 MB.
-    pub(crate) fn new(alloc: Global, limits: Limits) -> Result<BoundedScanner, AllocError>
+    pub fn new(alloc: Global, limits: Limits) -> Result<BoundedScanner, AllocError>
         requires { IsSmall limits }
         ensures { IfOk result (λ scanner. scanner ≡ limits) }
     {
@@ -116,7 +117,7 @@ impl BoundedScanner {
     }
 
     /// What the file is that the source gives.
-    pub(crate) fn scan<R: Source>(&mut self, source: &mut R) -> Result<Scan, ScanFault>
+    pub fn scan<R: Source>(&mut self, source: &mut R) -> Result<Scan, ScanFault>
         ensures told { IsRight self.old (R.told source.old) result }
         ensures trigrams { IfOk result HasTrigramSet }
         ensures failed { R.failed source.new ≡

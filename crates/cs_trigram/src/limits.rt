@@ -2,10 +2,10 @@
 
 /// The most bytes of a file, the most bytes of a line with its newline, and the most trigrams.
 #[derive(Clone, Copy, Debug, PartialEq, Eq)]
-pub(crate) struct Limits {
-    pub(crate) bytes: u64,
-    pub(crate) line: usize,
-    pub(crate) trigrams: usize,
+pub struct Limits {
+    pub bytes: u64,
+    pub line: usize,
+    pub trigrams: usize,
 }
 
 /// The limits of a file that is indexed.

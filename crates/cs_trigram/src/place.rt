@@ -1,7 +1,8 @@
 // The rules that each byte is tested by.
 ghost use Rattle.std.specs.Prelude.{◌≡◌, ◌+◌, ◌<◌, ◌≤◌, ◌^◌, ℕ, List, [], ◌∷◌, ◌++◌, None, length, IfOk};
 ghost use Rattle.cs_trigram.specs.Text.{is_lead, may_follow, rule_broken};
-ghost use Rattle.cs_trigram.specs.Place.{IsSmall, IsWithin, Stands, IsBehind, PassesFrom};
+ghost use Rattle.cs_trigram.specs.Small.{IsSmall};
+ghost use Rattle.cs_trigram.specs.Place.{IsWithin, Stands, IsBehind, PassesFrom};
 
 use crate::limits::Limits;
 use crate::scan::Reason;

@@ -1,7 +1,8 @@
 // A quick test for bytes that break no rule, as most files have them. It does not look for a reason.
 ghost use Rattle.std.specs.Prelude.{◌≡◌, ◌+◌, ◌-◌, ◌<◌, ◌≤◌, ◌^◌, ℕ, List, [], ◌++◌, length, IsTrue, IfSome, IfOk, Ok};
 ghost use Rattle.std.specs.List.{AllByRecursion};
-ghost use Rattle.cs_trigram.specs.Place.{IsSmall, IsBehind, PassesFrom};
+ghost use Rattle.cs_trigram.specs.Small.{IsSmall};
+ghost use Rattle.cs_trigram.specs.Place.{IsBehind, PassesFrom};
 ghost use Rattle.cs_trigram.specs.QuickTest.{LinesFit, column_behind, IsAsciiByte, Follow};
 
 use crate::limits::Limits;

@@ -14,6 +14,3 @@ pub use fault::{CindexFault, FileFault, Refusal, ToolFault, WordFault};
 pub use jobs::{GrepJob, IndexJob, Job, Reply, SearchJob, Style, Tool};
 pub use messages::{fault_line, message, skip_line};
 pub use words::read_words;
-
-#[cfg(test)]
-mod tests;

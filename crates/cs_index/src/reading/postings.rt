@@ -31,8 +31,8 @@ impl<'a> Model for Postings<'a> {
 }
 
 impl<'a> Postings<'a> {
-    /// The ids at the front of the bytes.
-    pub(crate) fn new(bytes: &'a [u8], count: u32, names: u32) -> Self
+    /// The ids at the front of the bytes: so many of them, each below the number of names.
+    pub fn new(bytes: &'a [u8], count: u32, names: u32) -> Self
         requires { names < 2 ^ 31 }
         ensures { result ≡ read_ids names count 0 bytes.now }
     {

@@ -98,8 +98,8 @@ impl Builder {
         self.finish_within(u32::MAX)
     }
 
-    /// The index, unless it has more than a number of bytes.
-    pub(crate) fn finish_within(mut self, most: u32) -> Result<Vec<u8>, BuildFault>
+    /// The index, unless it has more than a number of bytes: `finish` with a limit of the caller's own.
+    pub fn finish_within(mut self, most: u32) -> Result<Vec<u8>, BuildFault>
         ensures ok { IfOk result (λ index. index.items ≡ image_of self.paths self.entries) }
         ensures within { IfOk result (λ index. length index.items ≤ most) }
         ensures built { IsBuilt self }
@@ -121,13 +121,8 @@ impl Builder {
         )
     }
 
-    /// Adds a name where there are fewer than a number of them.
-    pub(crate) fn add_within(
-        &mut self,
-        most: u32,
-        name: &str,
-        trigrams: &[u32],
-    ) -> Result<u32, BuildFault>
+    /// Adds a name where there are fewer than a number of them: `add` with a limit of the caller's own.
+    pub fn add_within(&mut self, most: u32, name: &str, trigrams: &[u32]) -> Result<u32, BuildFault>
         requires ascending { Ascends trigrams.now }
         requires below { AllByRecursion (λ g. g < closing_trigram) trigrams.now }
         requires few { most ≤ most_names }

@@ -1,10 +1,9 @@
 // Worked rows, byte for byte, over trees in memory.
-ghost use Rattle.std.specs.Prelude.{◌≡◌, ◌∷◌, [], true, map, string_bytes, IfOk};
-ghost use Rattle.cs_index.specs.Built.{are_paths};
-
-use crate::indexing::index_paths;
-use cs_tree::{IoFault, Item, Kind, Listing, MemSink, MemTree, Sink, Tree, TreeFault};
-use cs_words::CindexFault;
+use crate::fixtures::{strings, tree_of};
+use crate::indexing::job_of;
+use cs_cindex::cindex;
+use cs_tree::{Item, Kind, Listing, MemSink, MemTree, Sink, Tree, TreeFault};
+use cs_words::{CindexFault, Reply};
 use std::alloc::{AllocError, Global};
 use std::process::Abort;
 use std::test::Fail;
@@ -13,55 +12,34 @@ use std::test::Fail;
 const EMPTY: &[u8] =
     b"csearch index 1\n/v\0\0\0\xff\xff\xff\0\0\0\0\0\0\0\0\x10\0\0\0\x14\0\0\0\x15\0\0\0\x19\0\0\0\x1d\ncsearch trailr\n";
 
-/// A tree with a folder that has files with these bytes.
-fn tree_of(alloc: Global, folder: &str, files: &[(&str, &[u8])]) -> Result<MemTree, Fail> {
-    let mut tree = MemTree::new(alloc, 4)?;
-    tree.put(folder, Item::Folder).ok().ok_or("put")?;
-    for (name, bytes) in files {
-        let file = Item::File(Vec::from_slice(alloc, *bytes)?);
-        tree.put(*name, file).ok().ok_or("put")?;
-    }
-    Ok(tree)
-}
-
-/// One string.
-fn one(alloc: Global, text: &str) -> Result<Vec<String>, AllocError>
-    ensures { IfOk result (λ texts. map string_bytes texts.items ≡ text.now ∷ []) }
-{
-    let mut texts = Vec::new(alloc);
-    texts.push(String::from_str(alloc, text)?)?;
-    Ok(texts)
-}
-
-/// Makes an index of one path.
-fn index_of<T: Tree, E: Sink>(
+/// A job without an index, over the tree: the index after it, and its reply.
+fn index_of<T: Tree + Drop, E: Sink>(
     alloc: Global,
-    tree: &mut T,
-    path: &str,
-    log_skip: bool,
+    tree: T,
+    words: &[&str],
     err: &mut E,
-) -> Result<Vec<u8>, CindexFault>
-    requires { are_paths (path.now ∷ []) ≡ true }
-{
-    let paths = one(alloc, path)?;
-    index_paths(alloc, tree, &paths, log_skip, err)
+) -> Result<(Option<Vec<u8>>, Reply), Fail> {
+    let jobs = [job_of(alloc, words)?];
+    let mut trees = [tree];
+    let mut replies = [Reply::Done];
+    let mut out = MemSink::new(alloc, 1000);
+    let index = cindex(alloc, None, &jobs, &mut trees, &mut replies, &mut out, err);
+    Ok((index, replies[0]))
 }
 
-/// The index of one path, and the lines.
-fn expect<T: Tree>(
+/// The index of a job that is done, and the lines.
+fn expect<T: Tree + Drop>(
     rt: &impl Abort,
     alloc: Global,
-    tree: &mut T,
-    path: &str,
-    log_skip: bool,
+    tree: T,
+    words: &[&str],
     wanted: (&[u8], &str),
-) -> Result<(), Fail>
-    requires { are_paths (path.now ∷ []) ≡ true }
-{
+) -> Result<(), Fail> {
     let mut err = MemSink::new(alloc, 1000);
-    let index = index_of(alloc, tree, path, log_skip, &mut err)?;
-    assert_eq!(rt; index.as_slice(), wanted.0, "of {path}");
-    assert_eq!(rt; err.bytes(), wanted.1.as_bytes(), "of {path}");
+    let (index, _reply) = index_of(alloc, tree, words, &mut err)?;
+    let index = index.ok_or("no index")?;
+    assert_eq!(rt; index.as_slice(), wanted.0, "of {words:?}");
+    assert_eq!(rt; err.bytes(), wanted.1.as_bytes(), "of {words:?}");
     Ok(())
 }
 
@@ -74,16 +52,16 @@ fn the_faults_of_the_walk_come_first(rt: HostRuntime) -> Result<(), Fail> {
     tree.put("/v/d", Item::Other).ok().ok_or("put")?;
     let lines =
         "cindex: /v/b: permission denied\ncindex: /v/a: not indexed: NUL byte\ncindex: /v/c: cannot be read\n";
-    expect(&rt, rt.alloc(), &mut tree, "/v", true, (EMPTY, lines))?;
+    expect(&rt, rt.alloc(), tree, &["-logskip", "/v"], (EMPTY, lines))?;
     Ok(())
 }
 
 #[test]
 fn a_line_that_is_not_taken(rt: HostRuntime) -> Result<(), Fail> {
-    let mut tree = MemTree::new(rt.alloc(), 4)?;
+    let tree = MemTree::new(rt.alloc(), 4)?;
     let mut err = MemSink::new(rt.alloc(), 10);
-    let answer = index_of(rt.alloc(), &mut tree, "/v", false, &mut err);
-    assert_eq!(rt; answer.err(), Some(CindexFault::Write));
+    let (_index, reply) = index_of(rt.alloc(), tree, &["/v"], &mut err)?;
+    assert_eq!(rt; reply, Reply::Refused(CindexFault::Write));
     assert_eq!(rt; err.bytes(), b"cindex: /v".as_slice());
     assert_eq!(rt; err.failures(), 1);
     Ok(())
@@ -105,7 +83,7 @@ impl Tree for OddTree {
     }
 
     fn entries(&mut self, alloc: Global, _path: &str) -> Result<Listing, TreeFault> {
-        match one(alloc, "a\0b") {
+        match strings(alloc, &["a\0b"]) {
             Ok(names) => Ok(Listing {
                 names,
                 unnamed: false,
@@ -130,6 +108,6 @@ impl Tree for OddTree {
 #[test]
 fn a_name_that_no_index_holds(rt: HostRuntime) -> Result<(), Fail> {
     let line = "cindex: /v/a\0b: name is not text\n";
-    expect(&rt, rt.alloc(), &mut OddTree, "/v", false, (EMPTY, line))?;
+    expect(&rt, rt.alloc(), OddTree, &["/v"], (EMPTY, line))?;
     Ok(())
 }

@@ -1,10 +1,11 @@
 // Each call once with ample memory, and readers and writers that fail in mid-stream.
-use crate::{
+use crate::fixtures::{bytes_of, strings};
+use cs_tree::{
     DiskTree, IoFault, Item, Kind, MemSink, MemSource, MemTree, PathFault, PutFault, Sink, Source,
     StdSink, StdSource, Tree, TreeFault, TreeReader, clean, covers, is_settled, read_all, reduce,
     write_all,
 };
-use std::alloc::{AllocError, Global};
+use std::alloc::Global;
 use std::io::{Read, Write};
 use std::os::unix::fs::symlink;
 use std::test::*;
@@ -140,10 +141,6 @@ fn covered_names(rt: HostRuntime) {
     ] {
         assert_eq!(rt; covers(path, name), want, "{path} and {name}");
     }
-}
-
-fn bytes_of(alloc: Global, text: &str) -> Result<Vec<u8>, AllocError> {
-    Vec::from_slice(alloc, text.as_bytes())
 }
 
 /// Reads the open file to its end, by a reader over the tree.
@@ -317,14 +314,6 @@ fn paths_are_cleaned(rt: HostRuntime) {
             (answer, want) => assert_eq!(rt; answer.err(), want.err(), "{folder} and {text}"),
         }
     }
-}
-
-fn strings(alloc: Global, texts: &[&str]) -> Result<Vec<String>, AllocError> {
-    let mut strings = Vec::new(alloc);
-    for text in texts {
-        strings.push(String::from_str(alloc, text)?)?;
-    }
-    Ok(strings)
 }
 
 #[test]

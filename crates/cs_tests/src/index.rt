@@ -1,3 +1,4 @@
+// The index: written, read, and asked.
 mod building;
 mod candidates;
 mod reading;

@@ -1,28 +1,13 @@
-use crate::{
-    CindexFault, FileFault, GrepJob, IndexJob, Job, Refusal, SearchJob, Style, Tool, ToolFault,
-    WordFault, fault_line, message, read_words, skip_line,
-};
+// What words mean, and the lines of refusals.
+use crate::fixtures::{PLAIN, words_of};
 use cs_index::IndexFault;
 use cs_syntax::{PatternError, PatternFault};
 use cs_trigram::Reason;
-use std::alloc::{AllocError, Global};
-use std::test::Fail;
-
-const PLAIN: Style = Style {
-    count: false,
-    list: false,
-    number: false,
-    bare: false,
+use cs_words::{
+    CindexFault, FileFault, GrepJob, IndexJob, Job, Refusal, SearchJob, Style, Tool, ToolFault,
+    WordFault, fault_line, message, read_words, skip_line,
 };
-
-// The words of a text, between its bars.
-fn words(alloc: Global, text: &str) -> Result<Vec<String>, AllocError> {
-    let mut words = Vec::new(alloc);
-    for word in text.split('|') {
-        words.push(String::from_str(alloc, word)?)?;
-    }
-    Ok(words)
-}
+use std::test::Fail;
 
 #[test]
 fn refuses_words(rt: HostRuntime) -> Result<(), Fail> {
@@ -39,7 +24,7 @@ fn refuses_words(rt: HostRuntime) -> Result<(), Fail> {
         (Tool::Csearch, "-f|p|--|x|y", WordFault::ExtraWord(4)),
         (Tool::Cindex, "-list=", WordFault::BadTruth(0)),
     ] {
-        let words = words(rt.alloc(), text)?;
+        let words = words_of(rt.alloc(), text, '|')?;
         assert_eq!(rt;
             read_words(rt.alloc(), tool, "/w", &words),
             Err(fault),
@@ -62,11 +47,11 @@ fn reads_words_of_cgrep(rt: HostRuntime) -> Result<(), Fail> {
         ("-", false, "-", true, ""),
         ("-n=T|x|-n|y", true, "x", false, "-n|y"),
     ] {
-        let words_read = words(rt.alloc(), text)?;
+        let words_read = words_of(rt.alloc(), text, '|')?;
         let files = if standard {
             Vec::new(rt.alloc())
         } else {
-            words(rt.alloc(), files)?
+            words_of(rt.alloc(), files, '|')?
         };
         let style = Style { number, ..PLAIN };
         let pattern = String::from_str(rt.alloc(), pattern)?;
@@ -94,7 +79,7 @@ fn reads_words_of_csearch(rt: HostRuntime) -> Result<(), Fail> {
         ("-f|-i|-brute|x", true, Some("-i")),
         ("-f|a|-f=b=c|x", false, Some("b=c")),
     ] {
-        let words = words(rt.alloc(), text)?;
+        let words = words_of(rt.alloc(), text, '|')?;
         let file = match file {
             Some(file) => Some(String::from_str(rt.alloc(), file)?),
             None => None,
@@ -122,8 +107,8 @@ fn reads_words_of_cindex(rt: HostRuntime) -> Result<(), Fail> {
         ("/t|-list", false, false, "/t|-list"),
         ("-reset|--logskip|/t", true, true, "/t"),
     ] {
-        let words_read = words(rt.alloc(), text)?;
-        let paths = words(rt.alloc(), paths)?;
+        let words_read = words_of(rt.alloc(), text, '|')?;
+        let paths = words_of(rt.alloc(), paths, '|')?;
         let cwd = String::from_str(rt.alloc(), "/w")?;
         let want = Job::Index(IndexJob {
             list: false,

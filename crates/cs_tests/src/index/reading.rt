@@ -1,18 +1,13 @@
 // The reader over worked rows.
-use crate::{Index, IndexFault, Postings, Texts};
+use crate::fixtures::{ROW, UNSORTED};
+use cs_index::{Index, IndexFault, Postings, Texts};
 use std::test::Fail;
 
 /// The path `/a` and no name.
 pub const EMPTY: &[u8; 65] =
     b"csearch index 1\n/a\0\0\0\xff\xff\xff\0\0\0\0\0\0\0\0\x10\0\0\0\x14\0\0\0\x15\0\0\0\x19\0\0\0\x1d\ncsearch trailr\n";
 
-pub const ROW: &[u8; 122] =
-    b"csearch index 1\n/a\0\0/a/x\0\0abc\x01\0bcd\x01\0cd\n\x01\0\xff\xff\xff\0\0\0\0\0\0\0\0\x05abc\0\0\0\x01\0\0\0\0bcd\0\0\0\x01\0\0\0\x05cd\n\0\0\0\x01\0\0\0\x0a\0\0\0\x10\0\0\0\x14\0\0\0\x1a\0\0\0\x2d\0\0\0\x35\ncsearch trailr\n";
-
-const UNSORTED: &[u8; 115] =
-    b"csearch index 1\n/a\0\0/a/b/z\0/a/b-x\0\0abc\x01\x01\0\xff\xff\xff\0\0\0\0\0\0\0\0\x07\0\0\0\x0eabc\0\0\0\x02\0\0\0\0\xff\xff\xff\0\0\0\0\0\0\0\x06\0\0\0\x10\0\0\0\x14\0\0\0\x23\0\0\0\x2d\0\0\0\x39\ncsearch trailr\n";
-
-/// The same without the last NUL of its names, and with other bytes last in its name index.
+/// `UNSORTED` without the last NUL of its names, and with other bytes last in its name index.
 const UNCLOSED: &[u8; 114] =
     b"csearch index 1\n/a\0\0/a/b/z\0/a/b-x\0abc\x01\x01\0\xff\xff\xff\0\0\0\0\0\0\0\0\x07wxyzabc\0\0\0\x02\0\0\0\0\xff\xff\xff\0\0\0\0\0\0\0\x06\0\0\0\x10\0\0\0\x14\0\0\0\x22\0\0\0\x2c\0\0\0\x38\ncsearch trailr\n";
 

@@ -1,17 +1,8 @@
 // The writer over worked rows.
-use crate::tests::reading::{EMPTY, ROW};
-use crate::{BuildFault, Builder};
-use std::alloc::Global;
+use crate::fixtures::{ROW, strings};
+use crate::index::reading::EMPTY;
+use cs_index::{BuildFault, Builder};
 use std::test::Fail;
-
-/// The texts as strings.
-fn strings(alloc: Global, texts: &[&str]) -> Result<Vec<String>, Fail> {
-    let mut strings = Vec::new(alloc);
-    for text in texts {
-        strings.push(String::from_str(alloc, *text)?)?;
-    }
-    Ok(strings)
-}
 
 #[test]
 fn rows_are_written(rt: HostRuntime) -> Result<(), Fail> {

@@ -1,17 +1,13 @@
 // Joining over worked rows.
-use crate::joining::merge_within;
-use crate::{MergeFault, merge};
+use crate::fixtures::{ROW, UNSORTED, strings};
 use cs_index::{Builder, Index, IndexFault};
+use cs_merge::{MergeFault, merge, merge_within};
 use std::alloc::Global;
 use std::test::Fail;
 
 /// A builder of an index of the paths.
 fn begin(alloc: Global, paths: &[&str]) -> Result<Builder, Fail> {
-    let mut strings = Vec::new(alloc);
-    for path in paths {
-        strings.push(String::from_str(alloc, *path)?)?;
-    }
-    Ok(Builder::new(alloc, &strings)?)
+    Ok(Builder::new(alloc, &strings(alloc, paths)?)?)
 }
 
 // `one\n`, `two\n`, `six\n` and `ten\n`
@@ -98,17 +94,14 @@ fn refusals_are_told(rt: HostRuntime) -> Result<(), Fail> {
     let refused = merge(rt.alloc(), &empty, &Index::open(&outside)?);
     assert_eq!(rt; refused.err(), Some(MergeFault::Uncovered));
     // names out of order, also where they lie under no path
-    let unsorted =
-        b"csearch index 1\n/a\0\0/a/b/z\0/a/b-x\0\0abc\x01\x01\0\xff\xff\xff\0\0\0\0\0\0\0\0\x07\0\0\0\x0eabc\0\0\0\x02\0\0\0\0\xff\xff\xff\0\0\0\0\0\0\0\x06\0\0\0\x10\0\0\0\x14\0\0\0\x23\0\0\0\x2d\0\0\0\x39\ncsearch trailr\n";
-    let sorted = merge(rt.alloc(), &Index::open(unsorted)?, &empty);
+    let sorted = merge(rt.alloc(), &Index::open(UNSORTED)?, &empty);
     assert_eq!(rt; sorted.err(), Some(MergeFault::Unsorted));
-    let mut apart = *unsorted;
+    let mut apart = *UNSORTED;
     apart[17] = b'c';
     let refused = merge(rt.alloc(), &empty, &Index::open(&apart)?);
     assert_eq!(rt; refused.err(), Some(MergeFault::Unsorted));
     // a damaged list, all of whose ids are dropped
-    let mut damaged =
-        *b"csearch index 1\n/a\0\0/a/x\0\0abc\x01\0bcd\x01\0cd\n\x01\0\xff\xff\xff\0\0\0\0\0\0\0\0\x05abc\0\0\0\x01\0\0\0\0bcd\0\0\0\x01\0\0\0\x05cd\n\0\0\0\x01\0\0\0\x0a\0\0\0\x10\0\0\0\x14\0\0\0\x1a\0\0\0\x2d\0\0\0\x35\ncsearch trailr\n";
+    let mut damaged = *ROW;
     damaged[59] = 2;
     let refused = merge(rt.alloc(), &Index::open(&damaged)?, &empty);
     assert_eq!(rt; refused.err(), Some(MergeFault::Index(IndexFault::BadList)));

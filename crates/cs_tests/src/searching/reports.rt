@@ -1,22 +1,13 @@
 // Searches at small limits and in small buffers.
-use crate::buffer::LineBuffer;
-use crate::form::Form;
-use crate::grep_fault::ReadFault;
-use crate::report::{grep, grep_within};
+use crate::fixtures::PLAIN;
 use cs_match::{Matcher, Program};
+use cs_search::{Form, LineBuffer, ReadFault, grep, grep_within};
 use cs_syntax::parse;
 use cs_tree::{MemSink, MemSource, Source};
 use cs_words::Style;
 use std::alloc::Global;
 use std::process::Abort;
 use std::test::Fail;
-
-const PLAIN: Style = Style {
-    count: false,
-    list: false,
-    number: false,
-    bare: false,
-};
 
 /// An input: its bytes, whether it fails after them, and how many of them are searched.
 #[derive(Clone, Copy)]

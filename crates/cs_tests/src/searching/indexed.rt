@@ -1,16 +1,13 @@
 // Searches of an index, over trees that lack the files that are not to be opened.
-use crate::csearching::csearch;
-use crate::status::Status;
+use crate::fixtures::{Files, strings, tree_of, words_of};
 use cs_index::Builder;
-use cs_tree::{Item, MemSink, MemSource, MemTree, Sink};
+use cs_search::{Status, csearch};
+use cs_tree::{MemSink, MemSource, MemTree, Sink};
 use cs_trigram::{Scan, Scanner};
 use cs_words::{Job, SearchJob, Tool, ToolFault, read_words};
 use std::alloc::Global;
 use std::process::Abort;
 use std::test::Fail;
-
-/// Names with what the files say.
-type Files<'a> = &'a [(&'a str, &'a [u8])];
 
 /// What is printed on both outputs, and the answer.
 type Wanted<'a> = (&'a str, &'a str, Result<Status, ToolFault>);
@@ -39,11 +36,7 @@ const LACKING: Files<'static> = &[
 
 /// The job of the words of csearch, between spaces.
 fn job_of(alloc: Global, text: &str) -> Result<SearchJob, Fail> {
-    let mut words = Vec::new(alloc);
-    for word in text.split(' ') {
-        words.push(String::from_str(alloc, word)?)?;
-    }
-    match read_words(alloc, Tool::Csearch, "/w", &words) {
+    match read_words(alloc, Tool::Csearch, "/w", &words_of(alloc, text, ' ')?) {
         Ok(Job::Search(job)) => Ok(job),
         _ => Err(Fail::from("words")),
     }
@@ -51,9 +44,7 @@ fn job_of(alloc: Global, text: &str) -> Result<SearchJob, Fail> {
 
 /// The index of the files, below one path.
 fn index_of(alloc: Global, path: &str, files: Files<'_>) -> Result<Vec<u8>, Fail> {
-    let mut paths = Vec::new(alloc);
-    paths.push(String::from_str(alloc, path)?)?;
-    let mut builder = Builder::new(alloc, &paths)?;
+    let mut builder = Builder::new(alloc, &strings(alloc, &[path])?)?;
     let mut scanner = Scanner::new(alloc)?;
     for (name, text) in files {
         let mut source = MemSource::new(text, 4, false);
@@ -65,17 +56,6 @@ fn index_of(alloc: Global, path: &str, files: Files<'_>) -> Result<Vec<u8>, Fail
         }
     }
     Ok(builder.finish()?)
-}
-
-/// A tree of the files.
-fn tree_of(alloc: Global, files: Files<'_>) -> Result<MemTree, Fail> {
-    let mut tree = MemTree::new(alloc, 4)?;
-    tree.put("/g", Item::Folder).ok().ok_or("put")?;
-    for (name, text) in files {
-        let text = Vec::from_slice(alloc, text)?;
-        tree.put(name, Item::File(text)).ok().ok_or("put")?;
-    }
-    Ok(tree)
 }
 
 fn run(
@@ -101,7 +81,7 @@ fn only_candidates_are_opened(rt: HostRuntime) -> Result<(), Fail> {
     let alloc = rt.alloc();
     let matched = Ok(Status::Matched);
     let index = index_of(alloc, "/g", GOOGLE)?;
-    let tree = &mut tree_of(alloc, &[("/g/1", b"Google Search\n")])?;
+    let tree = &mut tree_of(alloc, "/g", &[("/g/1", b"Google Search\n")])?;
     let found = "/g/1:Google Search\n";
     let words = "Google.*Search";
     run(&rt, alloc, words, &index, tree, (found, "", matched))?;
@@ -115,7 +95,7 @@ fn candidates_have_each_trigram(rt: HostRuntime) -> Result<(), Fail> {
     let alloc = rt.alloc();
     let index = index_of(alloc, "/g", LACKING)?;
     let files: Files<'_> = &[("/g/0", b"Google Search\n"), ("/g/9", b"Search\nGoogle\n")];
-    let tree = &mut tree_of(alloc, files)?;
+    let tree = &mut tree_of(alloc, "/g", files)?;
     let found = ("/g/0:Google Search\n", "", Ok(Status::Matched));
     run(&rt, alloc, "Google.*Search", &index, tree, found)
 }

@@ -1,18 +1,14 @@
 // A run of cgrep over a tree in memory, and runs whose outputs fail.
-use crate::searching::cgrep;
-use crate::status::Status;
+use crate::fixtures::words_of;
+use cs_search::{Status, cgrep};
 use cs_tree::{IoFault, Item, MemSink, MemSource, MemTree, Sink};
 use cs_words::{GrepJob, Job, Tool, ToolFault, read_words};
-use std::alloc::{AllocError, Global};
+use std::alloc::Global;
 use std::test::Fail;
 
 /// The job of the words of cgrep, between spaces.
 fn job_of(alloc: Global, text: &str) -> Result<GrepJob, Fail> {
-    let mut words = Vec::new(alloc);
-    for word in text.split(' ') {
-        words.push(String::from_str(alloc, word)?)?;
-    }
-    match read_words(alloc, Tool::Cgrep, "/w", &words) {
+    match read_words(alloc, Tool::Cgrep, "/w", &words_of(alloc, text, ' ')?) {
         Ok(Job::Grep(job)) => Ok(job),
         _ => Err(Fail::from("words")),
     }

@@ -1,14 +1,8 @@
-use crate::{Query, query};
+// What patterns ask for.
+use crate::fixtures::number;
 use cs_syntax::parse;
+use cs_trigram::{Query, query};
 use std::test::Fail;
-
-/// The number of the first three bytes.
-fn number(text: &[u8]) -> u32 {
-    match text {
-        [a, b, c, ..] => 65536 * *a as u32 + 256 * *b as u32 + *c as u32,
-        _ => 0,
-    }
-}
 
 /// Whether the query holds of the set of these trigrams, which stand one after another with a blank
 /// between two.

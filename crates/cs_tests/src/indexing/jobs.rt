@@ -1,11 +1,10 @@
 // Worked rows over trees in memory.
-ghost use Rattle.std.specs.Prelude.{◌≡◌, ◌∷◌, [], true, string_bytes, IfOk};
-ghost use Rattle.cs_tree.specs.Cover.{begins, slash};
-
-use crate::cindex;
+use crate::fixtures::{UNSORTED, bytes_of};
+use crate::indexing::job_of;
+use cs_cindex::cindex;
 use cs_index::{Index, IndexFault};
 use cs_tree::{Item, MemSink, MemTree};
-use cs_words::{CindexFault, IndexJob, Reply};
+use cs_words::{CindexFault, Reply};
 use std::alloc::Global;
 use std::process::Abort;
 use std::test::Fail;
@@ -22,41 +21,16 @@ struct Done {
     err: Vec<u8>,
 }
 
-fn bytes_of(alloc: Global, text: &[u8]) -> Result<Vec<u8>, Fail> {
-    let mut bytes = Vec::new(alloc);
-    bytes.extend_from_slice(text)?;
-    Ok(bytes)
-}
-
 fn tree_of(alloc: Global, placed: &[Placed<'_>]) -> Result<MemTree, Fail> {
     let mut tree = MemTree::new(alloc, 2)?;
     for (path, text) in placed {
         let item = match text {
-            Some(text) => Item::File(bytes_of(alloc, text.as_bytes())?),
+            Some(text) => Item::File(bytes_of(alloc, text)?),
             None => Item::Folder,
         };
         tree.put(*path, item)?;
     }
     Ok(tree)
-}
-
-/// The job of words, of which those that begin with a dash are options.
-fn job_of(alloc: Global, words: &[&str]) -> Result<IndexJob, Fail>
-    ensures { IfOk result (λ job. begins (slash ∷ []) (string_bytes job.cwd) ≡ true) }
-{
-    let mut paths = Vec::new(alloc);
-    for word in words {
-        if !word.starts_with('-') {
-            paths.push(String::from_str(alloc, *word)?)?;
-        }
-    }
-    Ok(IndexJob {
-        list: words.contains(&"-list"),
-        reset: words.contains(&"-reset"),
-        log_skip: words.contains(&"-logskip"),
-        cwd: String::from_str(alloc, "/w")?,
-        paths,
-    })
 }
 
 /// One job on an index, over a tree.
@@ -83,8 +57,8 @@ fn run(
     Ok(Done {
         index,
         reply: replies[0],
-        out: bytes_of(alloc, out.bytes())?,
-        err: bytes_of(alloc, err.bytes())?,
+        out: Vec::from_slice(alloc, out.bytes())?,
+        err: Vec::from_slice(alloc, err.bytes())?,
     })
 }
 
@@ -130,8 +104,8 @@ fn run_three(
     Ok(Three {
         index,
         replies,
-        out: bytes_of(alloc, out.bytes())?,
-        err: bytes_of(alloc, err.bytes())?,
+        out: Vec::from_slice(alloc, out.bytes())?,
+        err: Vec::from_slice(alloc, err.bytes())?,
     })
 }
 
@@ -180,9 +154,6 @@ const TWO: u32 = 0x74776f;
 
 const WO: u32 = 0x776f0a;
 
-const UNSORTED: &[u8; 115] =
-    b"csearch index 1\n/a\0\0/a/b/z\0/a/b-x\0\0abc\x01\x01\0\xff\xff\xff\0\0\0\0\0\0\0\0\x07\0\0\0\x0eabc\0\0\0\x02\0\0\0\0\xff\xff\xff\0\0\0\0\0\0\0\x06\0\0\0\x10\0\0\0\x14\0\0\0\x23\0\0\0\x2d\0\0\0\x39\ncsearch trailr\n";
-
 const FOLDERS: &[Placed<'static>] = &[
     ("/a", None),
     ("/a/f", Some("one\n")),
@@ -222,14 +193,14 @@ fn a_refused_job_between_others(rt: HostRuntime) -> Result<(), Fail> {
 
 #[test]
 fn an_index_that_no_job_left(rt: HostRuntime) -> Result<(), Fail> {
-    let old = bytes_of(rt.alloc(), UNSORTED)?;
+    let old = Vec::from_slice(rt.alloc(), UNSORTED)?;
     let unsorted = run(rt.alloc(), Some(old), &[], &[])?;
     assert_eq!(rt; unsorted.reply, Reply::Refused(CindexFault::Unsorted));
     let kept = unsorted.index.ok_or("no index")?;
     assert_eq!(rt; kept.as_slice(), UNSORTED.as_slice());
     let listed = run(rt.alloc(), Some(kept), &["-list"], &[])?;
     assert_eq!(rt; listed.out.as_slice(), b"/a\n".as_slice());
-    let cut = bytes_of(rt.alloc(), &UNSORTED[..114])?;
+    let cut = Vec::from_slice(rt.alloc(), &UNSORTED[..114])?;
     let bad = run(rt.alloc(), Some(cut), &["/a"], &[])?;
     let fault = CindexFault::BadIndex(IndexFault::BadTrailer);
     assert_eq!(rt; bad.reply, Reply::Refused(fault));

@@ -1,17 +1,9 @@
 // The candidates of queries over worked rows.
-use crate::tests::reading::ROW;
-use crate::{Builder, Index, IndexFault};
+use crate::fixtures::{ROW, number, strings};
+use cs_index::{Builder, Index, IndexFault};
 use cs_trigram::Query;
 use std::alloc::Global;
 use std::test::Fail;
-
-/// The number of the first three bytes.
-fn number(text: &[u8]) -> u32 {
-    match text {
-        [a, b, c, ..] => 65536 * *a as u32 + 256 * *b as u32 + *c as u32,
-        _ => 0,
-    }
-}
 
 /// A query for each of the trigrams.
 fn tris(alloc: Global, trigrams: &[&str]) -> Result<Vec<Query>, Fail> {
@@ -24,9 +16,7 @@ fn tris(alloc: Global, trigrams: &[&str]) -> Result<Vec<Query>, Fail> {
 
 /// The index of three files: `Google Search`, `Google` and `Search`, each with a newline.
 fn three_files(alloc: Global) -> Result<Vec<u8>, Fail> {
-    let mut paths = Vec::new(alloc);
-    paths.push(String::from_str(alloc, "/g")?)?;
-    let mut builder = Builder::new(alloc, &paths)?;
+    let mut builder = Builder::new(alloc, &strings(alloc, &["/g"])?)?;
     let _first = builder.add(
         "/g/1",
         &[

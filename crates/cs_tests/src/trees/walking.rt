@@ -1,20 +1,11 @@
 // What walks find: the rows of the documents, and trees that fail.
-use crate::{Item, Kind, Listing, MemTree, Tree, TreeFault, WalkFault, Walked, walk};
+use crate::fixtures::{bytes_of, strings};
+use cs_tree::{Item, Kind, Listing, MemTree, Tree, TreeFault, WalkFault, Walked, walk};
 use std::alloc::{AllocError, Global};
 use std::test::*;
 
-fn bytes_of(alloc: Global, text: &str) -> Result<Vec<u8>, AllocError> {
-    let mut bytes = Vec::new(alloc);
-    bytes.extend_from_slice(text.as_bytes())?;
-    Ok(bytes)
-}
-
 fn walk_from<T: Tree>(alloc: Global, tree: &mut T, paths: &[&str]) -> Result<Walked, AllocError> {
-    let mut given = Vec::new(alloc);
-    for path in paths {
-        given.push(String::from_str(alloc, path)?)?;
-    }
-    walk(alloc, tree, &given)
+    walk(alloc, tree, &strings(alloc, paths)?)
 }
 
 /// The names, each with a space behind it.

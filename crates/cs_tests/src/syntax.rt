@@ -1,4 +1,5 @@
-use super::*;
+// What patterns read as, and where they are refused.
+use cs_syntax::{Node, PatternError, PatternFault, parse};
 use std::alloc::{AllocError, Global};
 use std::test::Fail;
 

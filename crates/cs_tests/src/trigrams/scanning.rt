@@ -1,21 +1,15 @@
 // Rows from outside, and files of which each byte, or each piece, is read apart.
-use crate::bounded::BoundedScanner;
-use crate::limits::Limits;
-use crate::{Reason, Scan, ScanFault, Scanner};
+use crate::fixtures::number;
 use cs_tree::MemSource;
+use cs_trigram::{BoundedScanner, Limits, Reason, Scan, ScanFault, Scanner};
 use std::process::Abort;
 use std::test::Fail;
-
-/// The number of three bytes.
-fn number(part: &[u8; 3]) -> u32 {
-    u32::from_be_bytes([0, part[0], part[1], part[2]])
-}
 
 /// A text of these trigrams.
 fn text(rt: &HostRuntime, parts: &[&[u8; 3]], bytes: u64) -> Result<Scan, Fail> {
     let mut trigrams = Vec::new(rt.alloc());
     for part in parts {
-        trigrams.push(number(*part))?;
+        trigrams.push(number(part.as_slice()))?;
     }
     Ok(Scan::Text { trigrams, bytes })
 }

@@ -1,2 +1,0 @@
-mod indexing;
-mod jobs;

@@ -1,0 +1,66 @@
+// What tests of several libraries are given.
+use cs_tree::{Item, MemTree};
+use cs_words::Style;
+use std::alloc::{AllocError, Global};
+use std::test::Fail;
+
+/// Names with what the files say.
+pub type Files<'a> = &'a [(&'a str, &'a [u8])];
+
+/// No option asks for another form of what is printed.
+pub const PLAIN: Style = Style {
+    count: false,
+    list: false,
+    number: false,
+    bare: false,
+};
+
+/// An index of the path `/a` and the file `/a/x`, which has `abcd` and a newline.
+pub const ROW: &[u8; 122] =
+    b"csearch index 1\n/a\0\0/a/x\0\0abc\x01\0bcd\x01\0cd\n\x01\0\xff\xff\xff\0\0\0\0\0\0\0\0\x05abc\0\0\0\x01\0\0\0\0bcd\0\0\0\x01\0\0\0\x05cd\n\0\0\0\x01\0\0\0\x0a\0\0\0\x10\0\0\0\x14\0\0\0\x1a\0\0\0\x2d\0\0\0\x35\ncsearch trailr\n";
+
+/// An index whose names do not ascend.
+pub const UNSORTED: &[u8; 115] =
+    b"csearch index 1\n/a\0\0/a/b/z\0/a/b-x\0\0abc\x01\x01\0\xff\xff\xff\0\0\0\0\0\0\0\0\x07\0\0\0\x0eabc\0\0\0\x02\0\0\0\0\xff\xff\xff\0\0\0\0\0\0\0\x06\0\0\0\x10\0\0\0\x14\0\0\0\x23\0\0\0\x2d\0\0\0\x39\ncsearch trailr\n";
+
+/// The bytes of a text.
+pub fn bytes_of(alloc: Global, text: &str) -> Result<Vec<u8>, AllocError> {
+    Vec::from_slice(alloc, text.as_bytes())
+}
+
+/// The texts as strings.
+pub fn strings(alloc: Global, texts: &[&str]) -> Result<Vec<String>, AllocError> {
+    let mut strings = Vec::new(alloc);
+    for text in texts {
+        strings.push(String::from_str(alloc, *text)?)?;
+    }
+    Ok(strings)
+}
+
+/// The words of a text, between such marks.
+pub fn words_of(alloc: Global, text: &str, mark: char) -> Result<Vec<String>, AllocError> {
+    let mut words = Vec::new(alloc);
+    for word in text.split(mark) {
+        words.push(String::from_str(alloc, word)?)?;
+    }
+    Ok(words)
+}
+
+/// The number of the first three bytes.
+pub fn number(text: &[u8]) -> u32 {
+    match text {
+        [a, b, c, ..] => 65536 * *a as u32 + 256 * *b as u32 + *c as u32,
+        _ => 0,
+    }
+}
+
+/// A tree with a folder that has files with these bytes.
+pub fn tree_of(alloc: Global, folder: &str, files: Files<'_>) -> Result<MemTree, Fail> {
+    let mut tree = MemTree::new(alloc, 4)?;
+    tree.put(folder, Item::Folder).ok().ok_or("put")?;
+    for (name, bytes) in files {
+        let file = Item::File(Vec::from_slice(alloc, *bytes)?);
+        tree.put(*name, file).ok().ok_or("put")?;
+    }
+    Ok(tree)
+}

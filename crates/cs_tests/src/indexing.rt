@@ -1,0 +1,29 @@
+// Jobs of cindex.
+ghost use Rattle.std.specs.Prelude.{◌≡◌, ◌∷◌, [], true, string_bytes, IfOk};
+ghost use Rattle.cs_tree.specs.Cover.{begins, slash};
+
+use cs_words::IndexJob;
+use std::alloc::Global;
+use std::test::Fail;
+
+mod files;
+mod jobs;
+
+/// The job of words, of which those that begin with a dash are options.
+fn job_of(alloc: Global, words: &[&str]) -> Result<IndexJob, Fail>
+    ensures { IfOk result (λ job. begins (slash ∷ []) (string_bytes job.cwd) ≡ true) }
+{
+    let mut paths = Vec::new(alloc);
+    for word in words {
+        if !word.starts_with('-') {
+            paths.push(String::from_str(alloc, *word)?)?;
+        }
+    }
+    Ok(IndexJob {
+        list: words.contains(&"-list"),
+        reset: words.contains(&"-reset"),
+        log_skip: words.contains(&"-logskip"),
+        cwd: String::from_str(alloc, "/w")?,
+        paths,
+    })
+}

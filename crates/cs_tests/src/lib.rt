@@ -1,0 +1,23 @@
+//! The tests of the libraries, one module for each: what no clause says, and rows from outside. They call public
+//! functions alone, so that a library has no test of its own and is proved once. What is private to `cs_match` is
+//! tested there, and the whole program in `codesearch`.
+#![tactic(auto)]
+
+#[cfg(test)]
+mod fixtures;
+#[cfg(test)]
+mod index;
+#[cfg(test)]
+mod indexing;
+#[cfg(test)]
+mod merging;
+#[cfg(test)]
+mod searching;
+#[cfg(test)]
+mod syntax;
+#[cfg(test)]
+mod trees;
+#[cfg(test)]
+mod trigrams;
+#[cfg(test)]
+mod words;

@@ -1,0 +1,3 @@
+// Trees, sources and sinks.
+mod files;
+mod walking;

@@ -1,0 +1,3 @@
+// Scans of files, and queries of patterns.
+mod queries;
+mod scanning;

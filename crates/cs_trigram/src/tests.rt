@@ -1,2 +1,0 @@
-mod queries;
-mod scanning;

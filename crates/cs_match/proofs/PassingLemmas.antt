@@ -1,10 +1,10 @@
 -- The walks over a tree: what a part of it needs of the marks and of the notes, and what one part more brings.
-use Rattle.std.proofs.Common.{◌≡◌, ℕ, zero, suc, ◌+◌, ◌-◌, ◌≤◌, inl, inr, ◌<◌, ◌++◌, ◌||◌, ◌&&◌, List, [], ◌∷◌, Bool, true, false, take, drop, set, length, min, get_or, refl, sym, ◌∙◌, ap, arith, append_assoc, length-append, length-drop, drop-cons, add-one}
+use Rattle.std.proofs.Common.{◌≡◌, ℕ, suc, ◌+◌, ◌-◌, ◌≤◌, inl, inr, ◌<◌, ◌++◌, ◌||◌, ◌&&◌, List, [], ◌∷◌, Bool, false, take, drop, set, length, min, refl, sym, ◌∙◌, ap, arith, append_assoc, length-append, length-drop}
 use Rattle.std.proofs.lemmas.Bool.{cases_lt}
 use Rattle.std.proofs.Math.Bool.{or_assoc}
 use Rattle.std.proofs.Math.ListN.{drop_of_length-le}
 use Rattle.std.proofs.Math.Seq.{sets, sets-eq, length-sets, set_out, set_comm, take-take, get_or-take}
-use Rattle.std.proofs.lemmas.List.{append-nil, drop-drop, drop-take, length-take, take_at, drop_at, length-set}
+use Rattle.std.proofs.lemmas.List.{append-nil, drop-drop, drop-take, length-take, take_at, drop_at}
 use Rattle.cs_syntax.specs.Matching.{Tree, Trees, empty, one_of, cat, alt, rep, line_start, line_end, word_edge, not_word_edge, none, more}
 use Rattle.cs_match.specs.declared.around.Around.{Around}
 use Rattle.cs_match.specs.Places.{places, places_of, repeats, repeats_of, nullable, nullable_all, nullable_some, leaves, leaves_all, leaves_some, exits, round_ends, round_ends_of, step, step_all, step_each}
@@ -214,13 +214,13 @@ module _ (t : Tree) (ts : Trees) (ms : List Bool) (a : Around) (p next : ℕ) (i
       j ≡ i + repeats t → take (repeats_of ts) (drop j l) ≡ round_ends_of ts (drop next ms) a
   noted_others l i j h e =
       rw (next_drop t ts ms a p next is, e, ← drop-drop)
-          (split_front (repeats t) (repeats_of ts) (drop i l) (round_ends t (drop p ms) a) (round_ends_of ts (drop (places t) (drop p ms)) a) (length-round_ends t (drop p ms) a) h).1
+      (split_front (repeats t) (repeats_of ts) (drop i l) (round_ends t (drop p ms) a) (round_ends_of ts (drop (places t) (drop p ms)) a) (length-round_ends t (drop p ms) a) h).1
 
   pub left_each : (enter so_far : Bool) (whole : Bool) → (so_far || exits (alt (more t ts)) enter (drop p ms) a) ≡ whole →
       ((so_far || exits t enter (drop p ms) a) || exits (alt ts) enter (drop next ms) a) ≡ whole
   left_each enter so_far whole h =
       rw (next_drop t ts ms a p next is)
-          (or_assoc so_far (exits t enter (drop p ms) a) _ ∙ ap (λ b. so_far || b) (sym (exits_alt t ts enter (drop p ms) a)) ∙ h)
+      (or_assoc so_far (exits t enter (drop p ms) a) _ ∙ ap (λ b. so_far || b) (sym (exits_alt t ts enter (drop p ms) a)) ∙ h)
 
 -- `ms` are the marks as they were, `old` those before a part, and `new` those after it
 module _ (t : Tree) (ts : Trees) (ms old new : List Bool) (a : Around) (b p next : ℕ) (enter : Bool) (is : next ≡ p + places t)
@@ -232,19 +232,19 @@ module _ (t : Tree) (ts : Trees) (ms old new : List Bool) (a : Around) (b p next
   pub moved_ahead : drop next new ≡ drop next ms
   moved_ahead =
       rw is (mid_rest p (places t) old new (step t enter (drop p old) a b) (length-step t enter (drop p old) a b) room moved
-          ∙ sym (drop-drop (places t) p old) ∙ ap (drop (places t)) ahead ∙ drop-drop (places t) p ms)
+      ∙ sym (drop-drop (places t) p old) ∙ ap (drop (places t)) ahead ∙ drop-drop (places t) p ms)
 
   moved_front : take next new ≡ take p old ++ step t enter (drop p ms) a b
   moved_front =
       rw is (mid_front p (places t) old new (step t enter (drop p old) a b) (length-step t enter (drop p old) a b) room moved
-          ∙ ap (λ k. take p old ++ step t enter k a b) ahead)
+      ∙ ap (λ k. take p old ++ step t enter k a b) ahead)
 
   moved_marks : (both others behind whole : List Bool) → both ≡ step t enter (drop p ms) a b ++ others → take p old ++ (both ++ behind) ≡ whole →
       take next new ++ (others ++ behind) ≡ whole
   moved_marks both others behind whole e h =
       let first = step t enter (drop p ms) a b in
       rw moved_front (append_assoc (take p old) first (others ++ behind) ∙ ap (λ k. take p old ++ k) (sym (append_assoc first others behind))
-          ∙ ap (λ k. take p old ++ (k ++ behind)) (sym e) ∙ h)
+      ∙ ap (λ k. take p old ++ (k ++ behind)) (sym e) ∙ h)
 
   pub moved_all : (whole : List Bool) →
       take p old ++ (step_all (more t ts) enter (drop p ms) a b ++ drop (p + places_of (more t ts)) ms) ≡ whole →
@@ -252,7 +252,7 @@ module _ (t : Tree) (ts : Trees) (ms old new : List Bool) (a : Around) (b p next
   moved_all whole h =
       let far : next + places_of ts ≡ p + places_of (more t ts) = omega arith in
       rw (next_drop t ts ms a p next is, far)
-          (moved_marks (step_all (more t ts) enter (drop p ms) a b) _ _ whole (step_cat t ts enter (drop p ms) a b) h)
+      (moved_marks (step_all (more t ts) enter (drop p ms) a b) _ _ whole (step_cat t ts enter (drop p ms) a b) h)
 
   pub moved_each : (whole : List Bool) →
       take p old ++ (step_each (more t ts) enter (drop p ms) a b ++ drop (p + places_of (more t ts)) ms) ≡ whole →
@@ -260,4 +260,4 @@ module _ (t : Tree) (ts : Trees) (ms old new : List Bool) (a : Around) (b p next
   moved_each whole h =
       let far : next + places_of ts ≡ p + places_of (more t ts) = omega arith in
       rw (next_drop t ts ms a p next is, far)
-          (moved_marks (step_each (more t ts) enter (drop p ms) a b) _ _ whole (step_alt t ts enter (drop p ms) a b) h)
+      (moved_marks (step_each (more t ts) enter (drop p ms) a b) _ _ whole (step_alt t ts enter (drop p ms) a b) h)

@@ -67,7 +67,8 @@ fn search(root: &Node, marks: &mut Marks, loops: &mut [bool], line: &[u8]) -> bo
     requires one_each { length marks.old ≡ places (tree_of root.now) }
     requires loops { length loops.old ≡ repeats (tree_of root.now) }
     requires looped { IsLooped (tree_of root.now) }
-    ensures { IsTrue result ↔ Found (tree_of root.now) line.now }
+    ensures found { IsTrue result ↔ Found (tree_of root.now) line.now }
+    ensures one_each { length marks.new ≡ length marks.old }
 {
     marks.clear();
     for i in 0..line.len() {

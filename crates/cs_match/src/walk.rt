@@ -70,7 +70,10 @@ struct Cursor {
     repeat: usize,
 }
 
-const START: Cursor = Cursor { place: 0, repeat: 0 };
+const START: Cursor = Cursor {
+    place: 0,
+    repeat: 0,
+};
 
 /// Where a tree can be left.
 #[derive(Clone, Copy, Drop)]
@@ -190,7 +193,10 @@ fn leave(node: &Node, marks: &Marks, loops: &mut [bool], here: Around, at: &mut 
         Node::Set(_) => {
             let left = marks.get(at.place);
             at.place += 1;
-            Ends { left, nullable: false }
+            Ends {
+                left,
+                nullable: false,
+            }
         }
         Node::Cat(parts) => leave_all(parts, marks, loops, here, at),
         Node::Alt(parts) => leave_some(parts, marks, loops, here, at),
@@ -231,7 +237,13 @@ fn note(loops: &mut [bool], at: usize, left: bool)
 }
 
 #[cycle(leave)]
-fn leave_all(parts: &[Node], marks: &Marks, loops: &mut [bool], here: Around, at: &mut Cursor) -> Ends
+fn leave_all(
+    parts: &[Node],
+    marks: &Marks,
+    loops: &mut [bool],
+    here: Around,
+    at: &mut Cursor,
+) -> Ends
     requires room { at.old.place + places_of (trees_of parts.now) ≤ length marks.now }
     requires fits { length marks.now < 2 ^ 64 }
     requires within { at.old.repeat ≤ length loops.old }
@@ -252,7 +264,13 @@ fn leave_all(parts: &[Node], marks: &Marks, loops: &mut [bool], here: Around, at
 }
 
 #[cycle(leave)]
-fn leave_some(parts: &[Node], marks: &Marks, loops: &mut [bool], here: Around, at: &mut Cursor) -> Ends
+fn leave_some(
+    parts: &[Node],
+    marks: &Marks,
+    loops: &mut [bool],
+    here: Around,
+    at: &mut Cursor,
+) -> Ends
     requires room { at.old.place + places_of (trees_of parts.now) ≤ length marks.now }
     requires fits { length marks.now < 2 ^ 64 }
     requires within { at.old.repeat ≤ length loops.old }

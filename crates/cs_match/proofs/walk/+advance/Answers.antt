@@ -1,7 +1,7 @@
-use Rattle.std.proofs.Common.{◌≡◌, ◌+◌, ◌≤◌, ◌∙◌, refl, ap, drop, take, length, arith, rules}
+use Rattle.std.proofs.Common.{◌+◌, ◌≤◌, ◌∙◌, refl, drop, length, arith}
 use Rattle.cs_syntax.specs.Node.{tree_of, trees_of}
 use Rattle.cs_syntax.proofs.TreeLemmas.{trees_from}
-use Rattle.cs_match.specs.Places.{places, repeats, round_ends}
+use Rattle.cs_match.specs.Places.{places}
 use Rattle.cs_match.proofs.PassingLemmas.{left_all, left_each, noted_others, first_noted, moved_long, moved_ahead, moved_all, moved_each}
 use Rattle.cs_match.proofs.walk.+advance.Goals as goal
 
@@ -16,7 +16,7 @@ advance_all-loop-part-preserved t c =
     let repeat = rw more at i.repeat in
     let room : c.loop-part.at.place + places t ≤ length c.loop-part.marks = omega arith in
     let noted = noted_others t ts c.args.marks.now c.args.here c.loop-part.at.place _ next c.args.loops.now c.loop-part.at.repeat _
-        (rw more at i.noted) c.advance-left.ensures.repeat in
+    (rw more at i.noted) c.advance-left.ensures.repeat in
     record {
       place = omega arith;
       repeat = omega arith;
@@ -30,7 +30,7 @@ advance_all-loop-part-preserved t c =
           next room i.ahead c.advance-left.ensures.marks;
       marks = rw (c.advance-left.ensures.left, i.ahead)
           (moved_all t ts c.args.marks.now c.loop-part.marks c.advance-left.new.marks c.args.here c.args.byte c.loop-part.at.place _ c.loop-part.left
-              next room i.ahead c.advance-left.ensures.marks _ (rw more at i.marks))
+          next room i.ahead c.advance-left.ensures.marks _ (rw more at i.marks));
     }
 
 pub advance_each-loop-part-preserved : goal.advance_each-loop-part-preserved
@@ -44,7 +44,7 @@ advance_each-loop-part-preserved t c =
     let repeat = rw more at i.repeat in
     let room : c.loop-part.at.place + places t ≤ length c.loop-part.marks = omega arith in
     let noted = noted_others t ts c.args.marks.now c.args.here c.loop-part.at.place _ next c.args.loops.now c.loop-part.at.repeat _
-        (rw more at i.noted) c.advance-left.ensures.repeat in
+    (rw more at i.noted) c.advance-left.ensures.repeat in
     record {
       place = omega arith;
       repeat = omega arith;
@@ -57,7 +57,7 @@ advance_each-loop-part-preserved t c =
       ahead = moved_ahead t ts c.args.marks.now c.loop-part.marks c.advance-left.new.marks c.args.here c.args.byte c.loop-part.at.place _ c.args.enter
           next room i.ahead c.advance-left.ensures.marks;
       marks = moved_each t ts c.args.marks.now c.loop-part.marks c.advance-left.new.marks c.args.here c.args.byte c.loop-part.at.place _ c.args.enter
-          next room i.ahead c.advance-left.ensures.marks _ (rw more at i.marks)
+          next room i.ahead c.advance-left.ensures.marks _ (rw more at i.marks);
     }
 
 pub advance_all-loop-part-init : goal.advance_all-loop-part-init
@@ -70,7 +70,7 @@ advance_all-loop-part-init t c =
       next = first_noted (trees_of c.args.parts.now) (drop c.args.at.now.repeat c.args.loops.now) (drop c.args.at.now.place c.args.marks.now) c.args.here c.requires.noted;
       left = refl;
       ahead = refl;
-      marks = refl
+      marks = refl;
     }
 
 pub advance_each-loop-part-init : goal.advance_each-loop-part-init
@@ -83,5 +83,5 @@ advance_each-loop-part-init t c =
       next = first_noted (trees_of c.args.parts.now) (drop c.args.at.now.repeat c.args.loops.now) (drop c.args.at.now.place c.args.marks.now) c.args.here c.requires.noted;
       left = refl;
       ahead = refl;
-      marks = refl
+      marks = refl;
     }

@@ -19,7 +19,7 @@ invariant-advance_all-loop-part l =
       left : exits (cat rest) l.left before l.here ≡ exits (cat parts) l.enter (drop l.fn.at.place l.fn.marks) l.here;
       ahead : drop l.at.place l.marks ≡ before;
       marks : take l.at.place l.marks ++ (step_all rest l.left before l.here l.byte ++ drop (l.at.place + places_of rest) l.fn.marks)
-          ≡ take l.fn.at.place l.fn.marks ++ (step_all parts l.enter (drop l.fn.at.place l.fn.marks) l.here l.byte ++ drop (l.fn.at.place + places_of parts) l.fn.marks)
+          ≡ take l.fn.at.place l.fn.marks ++ (step_all parts l.enter (drop l.fn.at.place l.fn.marks) l.here l.byte ++ drop (l.fn.at.place + places_of parts) l.fn.marks);
     }
 
 abbrev pub invariant-advance_each-loop-part : goal.invariant-advance_each-loop-part
@@ -36,5 +36,5 @@ invariant-advance_each-loop-part l =
       left : (l.out || exits (alt rest) l.enter before l.here) ≡ exits (alt parts) l.enter (drop l.fn.at.place l.fn.marks) l.here;
       ahead : drop l.at.place l.marks ≡ before;
       marks : take l.at.place l.marks ++ (step_each rest l.enter before l.here l.byte ++ drop (l.at.place + places_of rest) l.fn.marks)
-          ≡ take l.fn.at.place l.fn.marks ++ (step_each parts l.enter (drop l.fn.at.place l.fn.marks) l.here l.byte ++ drop (l.fn.at.place + places_of parts) l.fn.marks)
+          ≡ take l.fn.at.place l.fn.marks ++ (step_each parts l.enter (drop l.fn.at.place l.fn.marks) l.here l.byte ++ drop (l.fn.at.place + places_of parts) l.fn.marks);
     }

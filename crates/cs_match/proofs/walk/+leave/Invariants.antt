@@ -16,7 +16,7 @@ invariant-leave_all-loop-part l =
       left : exits (cat rest) l.all.left (drop l.at.place l.marks) l.here ≡ leaves_all parts (drop l.fn.at.place l.marks) l.here;
       nullable : (l.all.nullable && nullable_all rest l.here) ≡ nullable_all parts l.here;
       noted : sets l.loops l.at.repeat (round_ends_of rest (drop l.at.place l.marks) l.here)
-          ≡ sets l.fn.loops l.fn.at.repeat (round_ends_of parts (drop l.fn.at.place l.marks) l.here)
+          ≡ sets l.fn.loops l.fn.at.repeat (round_ends_of parts (drop l.fn.at.place l.marks) l.here);
     }
 
 abbrev pub invariant-leave_some-loop-part : goal.invariant-leave_some-loop-part
@@ -30,5 +30,5 @@ invariant-leave_some-loop-part l =
       left : (l.some.left || leaves_some rest (drop l.at.place l.marks) l.here) ≡ leaves_some parts (drop l.fn.at.place l.marks) l.here;
       nullable : (l.some.nullable || nullable_some rest l.here) ≡ nullable_some parts l.here;
       noted : sets l.loops l.at.repeat (round_ends_of rest (drop l.at.place l.marks) l.here)
-          ≡ sets l.fn.loops l.fn.at.repeat (round_ends_of parts (drop l.fn.at.place l.marks) l.here)
+          ≡ sets l.fn.loops l.fn.at.repeat (round_ends_of parts (drop l.fn.at.place l.marks) l.here);
     }

@@ -1,4 +1,4 @@
-use Rattle.std.proofs.Common.{◌≡◌, ◌<◌, ◌+◌, length, ap, arith, add-one}
+use Rattle.std.proofs.Common.{◌≡◌, ◌<◌, length, ap, arith, add-one}
 use Rattle.std.proofs.Math.Seq.{set_split}
 use Rattle.cs_match.proofs.marks.Marks.put.Goals as goal
 

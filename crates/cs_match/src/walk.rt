@@ -135,7 +135,6 @@ pub(crate) fn exit(root: &Node, marks: &Marks, here: Around) -> bool
     requires { length marks.now ≡ places (tree_of root.now) }
     ensures { result ≡ exits (tree_of root.now) true marks.now here }
 {
-    let _places = marks.len();
     let mut at = START;
     let ends = leave(root, marks, &mut [], here, &mut at);
     ends.left || ends.nullable
@@ -164,10 +163,8 @@ pub(crate) fn pass(
 fn note_loops(root: &Node, marks: &Marks, loops: &mut [bool], here: Around)
     requires one_each { length marks.now ≡ places (tree_of root.now) }
     requires loops { length loops.old ≡ repeats (tree_of root.now) }
-    ensures ended { loops.new ≡ round_ends (tree_of root.now) marks.now here }
-    ensures fits { length marks.now < 2 ^ 64 }
+    ensures { loops.new ≡ round_ends (tree_of root.now) marks.now here }
 {
-    let _places = marks.len();
     if !loops.is_empty() {
         let mut at = START;
         leave(root, marks, loops, here, &mut at);
@@ -178,7 +175,6 @@ fn note_loops(root: &Node, marks: &Marks, loops: &mut [bool], here: Around)
 #[cycle(leave)]
 fn leave(node: &Node, marks: &Marks, loops: &mut [bool], here: Around, at: &mut Cursor) -> Ends
     requires room { at.old.place + places (tree_of node.now) ≤ length marks.now }
-    requires fits { length marks.now < 2 ^ 64 }
     requires within { at.old.repeat ≤ length loops.old }
     ensures left { result.left ≡ leaves (tree_of node.now) (drop at.old.place marks.now) here }
     ensures nullable { result.nullable ≡ nullable (tree_of node.now) here }
@@ -191,8 +187,7 @@ fn leave(node: &Node, marks: &Marks, loops: &mut [bool], here: Around, at: &mut 
     match node {
         Node::Empty => Ends::within(true),
         Node::Set(_) => {
-            let left = marks.get(at.place);
-            at.place += 1;
+            let left = get_mark(marks, at);
             Ends {
                 left,
                 nullable: false,
@@ -211,6 +206,20 @@ fn leave(node: &Node, marks: &Marks, loops: &mut [bool], here: Around, at: &mut 
         Node::WordEdge => Ends::within(here.edge),
         Node::NotWordEdge => Ends::within(!here.edge),
     }
+}
+
+/// The next mark.
+fn get_mark(marks: &Marks, at: &mut Cursor) -> bool
+    requires { at.old.place < length marks.now }
+    ensures is { result ≡ slice_index_or marks.now at.old.place false }
+    ensures place { at.new.place ≡ at.old.place + 1 }
+    ensures repeat { at.new.repeat ≡ at.old.repeat }
+{
+    // So no step of the cursor wraps.
+    prove!(at.place < marks.len());
+    let place = at.place;
+    at.place += 1;
+    marks.get(place)
 }
 
 /// Goes past a repeat, and answers which one it is. What lies past the last one has no number.
@@ -245,7 +254,6 @@ fn leave_all(
     at: &mut Cursor,
 ) -> Ends
     requires room { at.old.place + places_of (trees_of parts.now) ≤ length marks.now }
-    requires fits { length marks.now < 2 ^ 64 }
     requires within { at.old.repeat ≤ length loops.old }
     ensures left { result.left ≡ leaves_all (trees_of parts.now) (drop at.old.place marks.now) here }
     ensures nullable { result.nullable ≡ nullable_all (trees_of parts.now) here }
@@ -272,7 +280,6 @@ fn leave_some(
     at: &mut Cursor,
 ) -> Ends
     requires room { at.old.place + places_of (trees_of parts.now) ≤ length marks.now }
-    requires fits { length marks.now < 2 ^ 64 }
     requires within { at.old.repeat ≤ length loops.old }
     ensures left { result.left ≡ leaves_some (trees_of parts.now) (drop at.old.place marks.now) here }
     ensures nullable { result.nullable ≡ nullable_some (trees_of parts.now) here }
@@ -303,7 +310,6 @@ fn advance(
     at: &mut Cursor,
 ) -> bool
     requires room { at.old.place + places (tree_of node.now) ≤ length marks.old }
-    requires fits { length marks.old < 2 ^ 64 }
     requires noted { take (repeats (tree_of node.now)) (drop at.old.repeat loops.now)
         ≡ round_ends (tree_of node.now) (drop at.old.place marks.old) here }
     ensures left { result ≡ exits (tree_of node.now) enter (drop at.old.place marks.old) here }
@@ -333,16 +339,15 @@ fn advance(
 
 /// Puts the next mark, and answers what it was.
 fn put_mark(marks: &mut Marks, on: bool, at: &mut Cursor) -> bool
-    requires room { at.old.place < length marks.old }
-    requires fits { length marks.old < 2 ^ 64 }
+    requires { at.old.place < length marks.old }
     ensures was { result ≡ slice_index_or marks.old at.old.place false }
     ensures now { marks.new ≡ take at.old.place marks.old ++ on ∷ drop (at.old.place + 1) marks.old }
     ensures place { at.new.place ≡ at.old.place + 1 }
     ensures repeat { at.new.repeat ≡ at.old.repeat }
 {
-    let was = marks.get(at.place);
-    marks.put(at.place, on);
-    at.place += 1;
+    let place = at.place;
+    let was = get_mark(marks, at);
+    marks.put(place, on);
     was
 }
 
@@ -357,7 +362,6 @@ fn advance_all(
     at: &mut Cursor,
 ) -> bool
     requires room { at.old.place + places_of (trees_of parts.now) ≤ length marks.old }
-    requires fits { length marks.old < 2 ^ 64 }
     requires noted { take (repeats_of (trees_of parts.now)) (drop at.old.repeat loops.now)
         ≡ round_ends_of (trees_of parts.now) (drop at.old.place marks.old) here }
     ensures left { result ≡ exits (cat (trees_of parts.now)) enter (drop at.old.place marks.old) here }
@@ -385,7 +389,6 @@ fn advance_each(
     at: &mut Cursor,
 ) -> bool
     requires room { at.old.place + places_of (trees_of parts.now) ≤ length marks.old }
-    requires fits { length marks.old < 2 ^ 64 }
     requires noted { take (repeats_of (trees_of parts.now)) (drop at.old.repeat loops.now)
         ≡ round_ends_of (trees_of parts.now) (drop at.old.place marks.old) here }
     ensures left { result ≡ exits (alt (trees_of parts.now)) enter (drop at.old.place marks.old) here }

@@ -1,9 +1,9 @@
--- A tree that is written out has no more places than it weighs.
+-- A tree that is written out has no more places than it weighs, and no more repeats.
 use Rattle.std.proofs.Common.{◌≡◌, ℕ, zero, suc, ◌+◌, ◌-◌, ◌*◌, ◌≤◌, Bool, true, false, refl, ◌∙◌, ap, arith}
 use Rattle.std.specs.Prelude.{Option, Some, None, nat_le, if◌then◌else◌}
 use Rattle.cs_syntax.specs.Matching.{Tree, Trees, empty, one_of, cat, alt, rep, line_start, line_end, word_edge, not_word_edge, none, more}
 use Rattle.cs_syntax.specs.Weight.{weight, weights, times}
-use Rattle.cs_match.specs.Places.{places, places_of}
+use Rattle.cs_match.specs.Places.{places, places_of, repeats, repeats_of}
 use Rattle.cs_match.specs.Expansion.{copies, optional, never, repeat_expansion, expansion, expansions}
 use Rattle.std.proofs.lemmas.Bool.{leb-true}
 
@@ -49,3 +49,40 @@ mutual
   pub all_light : (ts : Trees) → places_of (expansions ts) ≤ weights ts
   all_light none = omega arith
   all_light (more t ts) = omega (arith, places_light t, all_light ts)
+
+repeats_copies : (n : ℕ) (t : Tree) (rest : Trees) → repeats_of (copies n t rest) ≡ n * repeats t + repeats_of rest
+repeats_copies zero t rest = omega arith
+repeats_copies (suc n) t rest = omega (arith, repeats_copies n t rest)
+
+chosen_few : (x : Tree) (n m : ℕ) (b : Bool) → nat_le n m ≡ b →
+    repeats (if b then cat (copies n x (copies (m - n) (optional x) none)) else never) ≤ m * repeats x
+chosen_few x n m false e = omega arith
+chosen_few x n m true e =
+    let le : n ≤ m = leb-true n m e in
+    let d = m - n in
+    let split : n + d ≡ m = omega arith in
+    let shape : n * repeats x + d * repeats x ≡ m * repeats x = shared n d (repeats x) ∙ ap (λ k. k * repeats x) split in
+    omega (arith, repeats_copies n x (copies d (optional x) none), repeats_copies d (optional x) none, shape)
+
+repeat_few : (x : Tree) (n : ℕ) (m : Option ℕ) (w : ℕ) → repeats x ≤ w → repeats (repeat_expansion x n m) ≤ 1 + times n m * w
+repeat_few x zero None w le = omega (arith, mul_both 1 (repeats x) (times zero None) w (omega arith) le)
+repeat_few x (suc n) None w le =
+    omega (arith, repeats_copies n x (more (rep x 1 None) none), mul_both (suc n) (repeats x) (times (suc n) None) w (omega arith) le)
+repeat_few x n (Some m) w le =
+    omega (arith, chosen_few x n m (nat_le n m) refl, mul_both m (repeats x) (times n (Some m)) w (omega arith) le)
+
+mutual
+  pub repeats_light : (t : Tree) → repeats (expansion t) ≤ weight t
+  repeats_light empty = omega arith
+  repeats_light (one_of set) = omega arith
+  repeats_light (cat ts) = omega (arith, all_repeats_light ts)
+  repeats_light (alt ts) = omega (arith, all_repeats_light ts)
+  repeats_light (rep x n m) = repeat_few (expansion x) n m (weight x) (repeats_light x)
+  repeats_light line_start = omega arith
+  repeats_light line_end = omega arith
+  repeats_light word_edge = omega arith
+  repeats_light not_word_edge = omega arith
+
+  pub all_repeats_light : (ts : Trees) → repeats_of (expansions ts) ≤ weights ts
+  all_repeats_light none = omega arith
+  all_repeats_light (more t ts) = omega (arith, repeats_light t, all_repeats_light ts)

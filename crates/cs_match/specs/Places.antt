@@ -28,6 +28,23 @@ abbrev mutual
   places_of none = 0
   places_of (more t ts) = places t + places_of ts
 
+-- how many repeats the tree has
+abbrev mutual
+  pub repeats : Tree → ℕ
+  repeats empty = 0
+  repeats (one_of set) = 0
+  repeats (cat ts) = repeats_of ts
+  repeats (alt ts) = repeats_of ts
+  repeats (rep x n m) = suc (repeats x)
+  repeats line_start = 0
+  repeats line_end = 0
+  repeats word_edge = 0
+  repeats not_word_edge = 0
+
+  pub repeats_of : Trees → ℕ
+  repeats_of none = 0
+  repeats_of (more t ts) = repeats t + repeats_of ts
+
 -- the tree is nullable at a place with these surroundings: it takes the empty part there
 abbrev mutual
   pub nullable : Tree → Around → Bool
@@ -75,6 +92,24 @@ abbrev mutual
 -- the tree can be left here, where `enter` says whether it can be entered here
 abbrev pub exits : Tree → Bool → List Bool → Around → Bool
 exits t enter ms a = leaves t ms a || (enter && nullable t a)
+
+-- for each repeat of the tree, an outer one before those inside it: what is repeated can be left here, from a place of
+-- its own. The marks of the tree come first in `ms`
+abbrev mutual
+  pub round_ends : Tree → List Bool → Around → List Bool
+  round_ends empty ms a = []
+  round_ends (one_of set) ms a = []
+  round_ends (cat ts) ms a = round_ends_of ts ms a
+  round_ends (alt ts) ms a = round_ends_of ts ms a
+  round_ends (rep x n m) ms a = leaves x ms a ∷ round_ends x ms a
+  round_ends line_start ms a = []
+  round_ends line_end ms a = []
+  round_ends word_edge ms a = []
+  round_ends not_word_edge ms a = []
+
+  pub round_ends_of : Trees → List Bool → Around → List Bool
+  round_ends_of none ms a = []
+  round_ends_of (more t ts) ms a = round_ends t ms a ++ round_ends_of ts (drop (places t) ms) a
 
 -- the marks after the byte b
 abbrev mutual
@@ -125,6 +160,6 @@ abbrev mutual
   AreLooped none = Unit {0}
   AreLooped (more t ts) = IsLooped t × AreLooped ts
 
--- a tree whose repeats are loops, with the number of its places
-abbrev pub IsProgram : Tree → ℕ → Type 0
-IsProgram t n = (n ≡ places t) × IsLooped t
+-- a tree whose repeats are loops, with the numbers of its places and of its repeats
+abbrev pub IsProgram : Tree → ℕ → ℕ → Type 0
+IsProgram t n m = (n ≡ places t) × (m ≡ repeats t) × IsLooped t

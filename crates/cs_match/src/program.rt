@@ -2,10 +2,10 @@
 ghost use Rattle.std.specs.Prelude.{◌≡◌, ◌↔◌, ℕ, List, IfOk};
 ghost use Rattle.cs_syntax.specs.Matching.{Found};
 ghost use Rattle.cs_syntax.specs.Node.{tree_of};
-ghost use Rattle.cs_match.specs.Places.{places, IsLooped};
+ghost use Rattle.cs_match.specs.Places.{places, repeats, IsLooped};
 
 use crate::compiler::write_out;
-use crate::walk::count;
+use crate::walk::{count, count_repeats};
 use cs_syntax::{Node, Pattern};
 use std::alloc::{AllocError, Global};
 use std::marker::Model;
@@ -16,6 +16,7 @@ use std::marker::Model;
 pub struct Program {
     root: Node,
     count: usize,
+    repeats: usize,
 }
 
 impl Model for Program {
@@ -31,7 +32,7 @@ impl Model for Program {
 
     ghost view = { λ program. tree_of program.root };
 
-    ghost invariant = { λ program. IsProgram (tree_of program.root) program.count };
+    ghost invariant = { λ program. IsProgram (tree_of program.root) program.count program.repeats };
 }
 
 impl Program {
@@ -43,7 +44,12 @@ impl Program {
     {
         let root = write_out(alloc, pattern.tree())?;
         let count = count(&root);
-        Ok(Program { root, count })
+        let repeats = count_repeats(&root);
+        Ok(Program {
+            root,
+            count,
+            repeats,
+        })
     }
 
     /// The tree that is walked over.
@@ -59,5 +65,11 @@ impl Program {
         ensures { result ≡ places self.now }
     {
         self.count
+    }
+    /// How many repeats the tree has.
+    pub(crate) fn repeats(&self) -> usize
+        ensures { result ≡ repeats self.now }
+    {
+        self.repeats
     }
 }

@@ -1,10 +1,13 @@
-// The walk over a tree, with the marks of its places.
-ghost use Rattle.std.specs.Prelude.{◌≡◌, ℕ, ◌<◌, ◌^◌, length, Bool, false, [], ◌∷◌, slice_index_or};
+// The walks over a tree, with the marks of its places: from the leaves, to find out what can be left here, and then
+// down again, to move the marks over a byte.
+ghost use Rattle.std.specs.Prelude.{◌≡◌, ℕ, ◌+◌, ◌<◌, ◌≤◌, ◌^◌, ◌&&◌, ◌||◌, length, take, drop, min, Bool, true, false, nat_eq, ◌++◌, ◌∷◌, slice_index_or, slice_set};
+ghost use Rattle.std.proofs.Math.Seq.{sets};
 ghost use Rattle.cs_syntax.specs.Node.{tree_of, trees_of};
 ghost use Rattle.cs_syntax.specs.Matching.{cat, alt};
-ghost use Rattle.cs_match.specs.Places.{places, places_of, exits, step, step_all, step_each};
+ghost use Rattle.cs_match.specs.Places.{places, places_of, repeats, repeats_of, nullable, nullable_all, nullable_some, leaves, leaves_all, leaves_some, exits, round_ends, round_ends_of, step, step_all, step_each};
 
 use crate::around::Around;
+use crate::marks::Marks;
 use cs_syntax::Node;
 
 /// How many places the tree has.
@@ -34,20 +37,298 @@ fn count_all(parts: &[Node]) -> usize
     n
 }
 
-/// Whether the tree can be left here, where `enter` says whether it can be entered here.
-#[cycle(exit)]
-pub(crate) fn exit(node: &Node, enter: bool, marks: &[bool], here: Around) -> bool
-    requires { length marks.now ≡ places (tree_of node.now) }
-    ensures { result ≡ exits (tree_of node.now) enter marks.now here }
+/// How many repeats the tree has.
+#[cycle(count_repeats)]
+pub(crate) fn count_repeats(node: &Node) -> usize
+    requires { repeats (tree_of node.now) < 2 ^ 64 }
+    ensures { result ≡ repeats (tree_of node.now) }
+{
+    match node {
+        Node::Cat(parts) => count_all_repeats(parts),
+        Node::Alt(parts) => count_all_repeats(parts),
+        Node::Rep(x, _, _) => count_repeats(x) + 1,
+        _ => 0,
+    }
+}
+
+#[cycle(count_repeats)]
+fn count_all_repeats(parts: &[Node]) -> usize
+    requires { repeats_of (trees_of parts.now) < 2 ^ 64 }
+    ensures { result ≡ repeats_of (trees_of parts.now) }
+{
+    let mut n = 0;
+    for part in parts {
+        n += count_repeats(part);
+    }
+    n
+}
+
+/// How many places and repeats a walk has passed.
+#[derive(Drop)]
+struct Cursor {
+    place: usize,
+    repeat: usize,
+}
+
+const START: Cursor = Cursor {
+    place: 0,
+    repeat: 0,
+};
+
+/// Where a tree can be left.
+#[derive(Clone, Copy, Drop)]
+struct Ends {
+    /// From a place of its own.
+    left: bool,
+    /// Where it is entered.
+    nullable: bool,
+}
+
+impl Ends {
+    /// Of what has no places of its own.
+    fn within(nullable: bool) -> Ends
+        ensures left { result.left ≡ false }
+        ensures nullable { result.nullable ≡ nullable }
+    {
+        Ends {
+            left: false,
+            nullable,
+        }
+    }
+
+    /// Of two parts, one after the other.
+    fn then(self, next: Ends) -> Ends
+        ensures left { result.left ≡ (next.left || (self.left && next.nullable)) }
+        ensures nullable { result.nullable ≡ (self.nullable && next.nullable) }
+    {
+        Ends {
+            left: next.left || (self.left && next.nullable),
+            nullable: self.nullable && next.nullable,
+        }
+    }
+
+    /// Of two parts, one or the other.
+    fn or(self, other: Ends) -> Ends
+        ensures left { result.left ≡ (self.left || other.left) }
+        ensures nullable { result.nullable ≡ (self.nullable || other.nullable) }
+    {
+        Ends {
+            left: self.left || other.left,
+            nullable: self.nullable || other.nullable,
+        }
+    }
+
+    /// Of a loop of at least so many rounds.
+    fn repeated(self, least: u32) -> Ends
+        ensures left { result.left ≡ self.left }
+        ensures nullable { result.nullable ≡ (nat_eq least 0 || self.nullable) }
+    {
+        Ends {
+            left: self.left,
+            nullable: least == 0 || self.nullable,
+        }
+    }
+}
+
+/// Whether the tree can be left here.
+pub(crate) fn exit(root: &Node, marks: &Marks, here: Around) -> bool
+    requires { length marks.now ≡ places (tree_of root.now) }
+    ensures { result ≡ exits (tree_of root.now) true marks.now here }
+{
+    let mut at = START;
+    let ends = leave(root, marks, &mut [], here, &mut at);
+    ends.left || ends.nullable
+}
+
+/// Moves the marks over a byte, and answers whether the tree could be left before it.
+pub(crate) fn pass(
+    root: &Node,
+    marks: &mut Marks,
+    loops: &mut [bool],
+    here: Around,
+    byte: u8,
+) -> bool
+    requires one_each { length marks.old ≡ places (tree_of root.now) }
+    requires loops { length loops.old ≡ repeats (tree_of root.now) }
+    ensures left { result ≡ exits (tree_of root.now) true marks.old here }
+    ensures marks { marks.new ≡ step (tree_of root.now) true marks.old here byte }
+    ensures loops { length loops.new ≡ length loops.old }
+{
+    note_loops(root, marks, loops, here);
+    let mut at = START;
+    advance(root, true, marks, loops, here, byte, &mut at)
+}
+
+/// Notes of each repeat whether what is repeated can be left here.
+fn note_loops(root: &Node, marks: &Marks, loops: &mut [bool], here: Around)
+    requires one_each { length marks.now ≡ places (tree_of root.now) }
+    requires loops { length loops.old ≡ repeats (tree_of root.now) }
+    ensures { loops.new ≡ round_ends (tree_of root.now) marks.now here }
+{
+    if !loops.is_empty() {
+        let mut at = START;
+        leave(root, marks, loops, here, &mut at);
+    }
+}
+
+/// Whether the tree can be left here, noted of each of its repeats too, as far as `loops` goes.
+#[cycle(leave)]
+fn leave(node: &Node, marks: &Marks, loops: &mut [bool], here: Around, at: &mut Cursor) -> Ends
+    requires room { at.old.place + places (tree_of node.now) ≤ length marks.now }
+    requires within { at.old.repeat ≤ length loops.old }
+    ensures left { result.left ≡ leaves (tree_of node.now) (drop at.old.place marks.now) here }
+    ensures nullable { result.nullable ≡ nullable (tree_of node.now) here }
+    ensures noted { loops.new ≡ sets loops.old at.old.repeat
+        (round_ends (tree_of node.now) (drop at.old.place marks.now) here) }
+    ensures place { at.new.place ≡ at.old.place + places (tree_of node.now) }
+    ensures repeat { at.new.repeat
+        ≡ min (length loops.old) (at.old.repeat + repeats (tree_of node.now)) }
+{
+    match node {
+        Node::Empty => Ends::within(true),
+        Node::Set(_) => {
+            let left = get_mark(marks, at);
+            Ends {
+                left,
+                nullable: false,
+            }
+        }
+        Node::Cat(parts) => leave_all(parts, marks, loops, here, at),
+        Node::Alt(parts) => leave_some(parts, marks, loops, here, at),
+        Node::Rep(x, least, _) => {
+            let own = next_repeat(loops.len(), at);
+            let ends = leave(x, marks, loops, here, at);
+            note(loops, own, ends.left);
+            ends.repeated(*least)
+        }
+        Node::LineStart => Ends::within(here.first),
+        Node::LineEnd => Ends::within(here.last),
+        Node::WordEdge => Ends::within(here.edge),
+        Node::NotWordEdge => Ends::within(!here.edge),
+    }
+}
+
+/// The next mark.
+fn get_mark(marks: &Marks, at: &mut Cursor) -> bool
+    requires { at.old.place < length marks.now }
+    ensures is { result ≡ slice_index_or marks.now at.old.place false }
+    ensures place { at.new.place ≡ at.old.place + 1 }
+    ensures repeat { at.new.repeat ≡ at.old.repeat }
+{
+    // So no step of the cursor wraps.
+    prove!(at.place < marks.len());
+    let place = at.place;
+    at.place += 1;
+    marks.get(place)
+}
+
+/// Goes past a repeat, and answers which one it is. What lies past the last one has no number.
+fn next_repeat(most: usize, at: &mut Cursor) -> usize
+    requires { at.old.repeat ≤ most }
+    ensures is { result ≡ at.old.repeat }
+    ensures place { at.new.place ≡ at.old.place }
+    ensures repeat { at.new.repeat ≡ min most (at.old.repeat + 1) }
+{
+    let own = at.repeat;
+    if own < most {
+        at.repeat = own + 1;
+    }
+    own
+}
+
+/// Notes of a repeat that it is left, where it has an entry.
+fn note(loops: &mut [bool], at: usize, left: bool)
+    ensures { loops.new ≡ slice_set loops.old at left }
+{
+    if at < loops.len() {
+        loops[at] = left;
+    }
+}
+
+#[cycle(leave)]
+fn leave_all(
+    parts: &[Node],
+    marks: &Marks,
+    loops: &mut [bool],
+    here: Around,
+    at: &mut Cursor,
+) -> Ends
+    requires room { at.old.place + places_of (trees_of parts.now) ≤ length marks.now }
+    requires within { at.old.repeat ≤ length loops.old }
+    ensures left { result.left ≡ leaves_all (trees_of parts.now) (drop at.old.place marks.now) here }
+    ensures nullable { result.nullable ≡ nullable_all (trees_of parts.now) here }
+    ensures noted { loops.new ≡ sets loops.old at.old.repeat
+        (round_ends_of (trees_of parts.now) (drop at.old.place marks.now) here) }
+    ensures place { at.new.place ≡ at.old.place + places_of (trees_of parts.now) }
+    ensures repeat { at.new.repeat
+        ≡ min (length loops.old) (at.old.repeat + repeats_of (trees_of parts.now)) }
+{
+    let mut all = Ends::within(true);
+    for part in parts {
+        let ends = leave(part, marks, loops, here, at);
+        all = all.then(ends);
+    }
+    all
+}
+
+#[cycle(leave)]
+fn leave_some(
+    parts: &[Node],
+    marks: &Marks,
+    loops: &mut [bool],
+    here: Around,
+    at: &mut Cursor,
+) -> Ends
+    requires room { at.old.place + places_of (trees_of parts.now) ≤ length marks.now }
+    requires within { at.old.repeat ≤ length loops.old }
+    ensures left { result.left ≡ leaves_some (trees_of parts.now) (drop at.old.place marks.now) here }
+    ensures nullable { result.nullable ≡ nullable_some (trees_of parts.now) here }
+    ensures noted { loops.new ≡ sets loops.old at.old.repeat
+        (round_ends_of (trees_of parts.now) (drop at.old.place marks.now) here) }
+    ensures place { at.new.place ≡ at.old.place + places_of (trees_of parts.now) }
+    ensures repeat { at.new.repeat
+        ≡ min (length loops.old) (at.old.repeat + repeats_of (trees_of parts.now)) }
+{
+    let mut some = Ends::within(false);
+    for part in parts {
+        let ends = leave(part, marks, loops, here, at);
+        some = some.or(ends);
+    }
+    some
+}
+
+/// Moves the marks of the tree over a byte, where `enter` says whether it can be entered here, and answers whether it
+/// could be left before.
+#[cycle(advance)]
+fn advance(
+    node: &Node,
+    enter: bool,
+    marks: &mut Marks,
+    loops: &[bool],
+    here: Around,
+    byte: u8,
+    at: &mut Cursor,
+) -> bool
+    requires room { at.old.place + places (tree_of node.now) ≤ length marks.old }
+    requires noted { take (repeats (tree_of node.now)) (drop at.old.repeat loops.now)
+        ≡ round_ends (tree_of node.now) (drop at.old.place marks.old) here }
+    ensures left { result ≡ exits (tree_of node.now) enter (drop at.old.place marks.old) here }
+    ensures marks { marks.new ≡ take at.old.place marks.old
+        ++ (step (tree_of node.now) enter (drop at.old.place marks.old) here byte
+        ++ drop (at.old.place + places (tree_of node.now)) marks.old) }
+    ensures place { at.new.place ≡ at.old.place + places (tree_of node.now) }
+    ensures repeat { at.new.repeat ≡ at.old.repeat + repeats (tree_of node.now) }
 {
     match node {
         Node::Empty => enter,
-        Node::Set(_) => marks[0],
-        Node::Cat(parts) => exit_all(parts, enter, marks, here),
-        Node::Alt(parts) => exit_some(parts, enter, marks, here),
+        Node::Set(set) => put_mark(marks, enter && set.contains(byte), at),
+        Node::Cat(parts) => advance_all(parts, enter, marks, loops, here, byte, at),
+        Node::Alt(parts) => advance_each(parts, enter, marks, loops, here, byte, at),
         Node::Rep(x, least, _) => {
-            let out = exit(x, enter, marks, here);
-            out || (*least == 0 && enter)
+            let again = loops[at.repeat];
+            at.repeat += 1;
+            let left = advance(x, enter || again, marks, loops, here, byte, at);
+            left || (*least == 0 && enter)
         }
         Node::LineStart => enter && here.first,
         Node::LineEnd => enter && here.last,
@@ -56,99 +337,71 @@ pub(crate) fn exit(node: &Node, enter: bool, marks: &[bool], here: Around) -> bo
     }
 }
 
-#[cycle(exit)]
-fn exit_all(parts: &[Node], enter: bool, marks: &[bool], here: Around) -> bool
-    requires { length marks.now ≡ places_of (trees_of parts.now) }
-    ensures { result ≡ exits (cat (trees_of parts.now)) enter marks.now here }
+/// Puts the next mark, and answers what it was.
+fn put_mark(marks: &mut Marks, on: bool, at: &mut Cursor) -> bool
+    requires { at.old.place < length marks.old }
+    ensures was { result ≡ slice_index_or marks.old at.old.place false }
+    ensures now { marks.new ≡ take at.old.place marks.old ++ on ∷ drop (at.old.place + 1) marks.old }
+    ensures place { at.new.place ≡ at.old.place + 1 }
+    ensures repeat { at.new.repeat ≡ at.old.repeat }
 {
-    let mut out = enter;
-    let mut at = 0;
-    for part in parts {
-        let n = count(part);
-        out = exit(part, out, &marks[at..at + n], here);
-        at += n;
-    }
-    out
-}
-
-#[cycle(exit)]
-fn exit_some(parts: &[Node], enter: bool, marks: &[bool], here: Around) -> bool
-    requires { length marks.now ≡ places_of (trees_of parts.now) }
-    ensures { result ≡ exits (alt (trees_of parts.now)) enter marks.now here }
-{
-    let mut at = 0;
-    for part in parts {
-        let n = count(part);
-        if exit(part, enter, &marks[at..at + n], here) {
-            return true;
-        }
-        at += n;
-    }
-    false
-}
-
-/// Moves the marks over a byte, and answers whether the tree could be left before it.
-#[cycle(pass)]
-pub(crate) fn pass(node: &Node, enter: bool, marks: &mut [bool], here: Around, byte: u8) -> bool
-    requires { length marks.old ≡ places (tree_of node.now) }
-    ensures left { result ≡ exits (tree_of node.now) enter marks.old here }
-    ensures marks { marks.new ≡ step (tree_of node.now) enter marks.old here byte }
-{
-    match node {
-        Node::Set(set) => put_mark(marks, enter && set.contains(byte)),
-        Node::Cat(parts) => pass_all(parts, enter, marks, here, byte),
-        Node::Alt(parts) => pass_some(parts, enter, marks, here, byte),
-        Node::Rep(x, least, _) => {
-            let out = exit(x, enter, marks, here);
-            pass(x, enter || out, marks, here, byte);
-            out || (*least == 0 && enter)
-        }
-        Node::Empty | Node::LineStart | Node::LineEnd | Node::WordEdge | Node::NotWordEdge => {
-            exit(node, enter, marks, here)
-        }
-    }
-}
-
-/// Puts the mark of a single place, and answers what it was.
-fn put_mark(marks: &mut [bool], on: bool) -> bool
-    requires { length marks.old ≡ 1 }
-    ensures was { result ≡ slice_index_or marks.old 0 false }
-    ensures now { marks.new ≡ on ∷ [] }
-{
-    let was = marks[0];
-    marks[0] = on;
+    let place = at.place;
+    let was = get_mark(marks, at);
+    marks.put(place, on);
     was
 }
 
-#[cycle(pass)]
-fn pass_all(parts: &[Node], enter: bool, marks: &mut [bool], here: Around, byte: u8) -> bool
-    requires { length marks.old ≡ places_of (trees_of parts.now) }
-    ensures left { result ≡ exits (cat (trees_of parts.now)) enter marks.old here }
-    ensures marks { marks.new ≡ step_all (trees_of parts.now) enter marks.old here byte }
+#[cycle(advance)]
+fn advance_all(
+    parts: &[Node],
+    enter: bool,
+    marks: &mut Marks,
+    loops: &[bool],
+    here: Around,
+    byte: u8,
+    at: &mut Cursor,
+) -> bool
+    requires room { at.old.place + places_of (trees_of parts.now) ≤ length marks.old }
+    requires noted { take (repeats_of (trees_of parts.now)) (drop at.old.repeat loops.now)
+        ≡ round_ends_of (trees_of parts.now) (drop at.old.place marks.old) here }
+    ensures left { result ≡ exits (cat (trees_of parts.now)) enter (drop at.old.place marks.old) here }
+    ensures marks { marks.new ≡ take at.old.place marks.old
+        ++ (step_all (trees_of parts.now) enter (drop at.old.place marks.old) here byte
+        ++ drop (at.old.place + places_of (trees_of parts.now)) marks.old) }
+    ensures place { at.new.place ≡ at.old.place + places_of (trees_of parts.now) }
+    ensures repeat { at.new.repeat ≡ at.old.repeat + repeats_of (trees_of parts.now) }
 {
-    let mut out = enter;
-    let mut at = 0;
+    let mut left = enter;
     for part in parts {
-        let n = count(part);
-        out = pass(part, out, &mut marks[at..at + n], here, byte);
-        at += n;
+        left = advance(part, left, marks, loops, here, byte, at);
     }
-    out
+    left
 }
 
-#[cycle(pass)]
-fn pass_some(parts: &[Node], enter: bool, marks: &mut [bool], here: Around, byte: u8) -> bool
-    requires { length marks.old ≡ places_of (trees_of parts.now) }
-    ensures left { result ≡ exits (alt (trees_of parts.now)) enter marks.old here }
-    ensures marks { marks.new ≡ step_each (trees_of parts.now) enter marks.old here byte }
+#[cycle(advance)]
+fn advance_each(
+    parts: &[Node],
+    enter: bool,
+    marks: &mut Marks,
+    loops: &[bool],
+    here: Around,
+    byte: u8,
+    at: &mut Cursor,
+) -> bool
+    requires room { at.old.place + places_of (trees_of parts.now) ≤ length marks.old }
+    requires noted { take (repeats_of (trees_of parts.now)) (drop at.old.repeat loops.now)
+        ≡ round_ends_of (trees_of parts.now) (drop at.old.place marks.old) here }
+    ensures left { result ≡ exits (alt (trees_of parts.now)) enter (drop at.old.place marks.old) here }
+    ensures marks { marks.new ≡ take at.old.place marks.old
+        ++ (step_each (trees_of parts.now) enter (drop at.old.place marks.old) here byte
+        ++ drop (at.old.place + places_of (trees_of parts.now)) marks.old) }
+    ensures place { at.new.place ≡ at.old.place + places_of (trees_of parts.now) }
+    ensures repeat { at.new.repeat ≡ at.old.repeat + repeats_of (trees_of parts.now) }
 {
     let mut out = false;
-    let mut at = 0;
     for part in parts {
-        let n = count(part);
-        let left = pass(part, enter, &mut marks[at..at + n], here, byte);
+        let left = advance(part, enter, marks, loops, here, byte, at);
         out |= left;
-        at += n;
     }
     out
 }

@@ -3,13 +3,13 @@ use Rattle.cs_syntax.specs.Matching.{Tree, Found}
 use Rattle.cs_syntax.specs.Node.{tree_of}
 use Rattle.cs_match.specs.Places.{IsLooped}
 use Rattle.cs_match.specs.Expansion.{expansion}
-use Rattle.cs_match.proofs.WeightLemmas.{places_light}
+use Rattle.cs_match.proofs.WeightLemmas.{places_light, repeats_light}
 use Rattle.cs_match.proofs.ExpansionLemmas.{expansion_found, is_looped}
 use Rattle.cs_match.proofs.program.Program.compile.Goals as goal
 
 pub invariant_of-result : goal.invariant_of-result
 invariant_of-result c =
-    (c.count-count.ensures, subst IsLooped (sym c.in_ok-root.ensures) (is_looped (tree_of c.tree.result.now)))
+    (c.count-count.ensures, c.count_repeats-repeats.ensures, subst IsLooped (sym c.in_ok-root.ensures) (is_looped (tree_of c.tree.result.now)))
 
 pub returns : goal.returns
 returns c = λ line.
@@ -18,3 +18,6 @@ returns c = λ line.
 
 pub count-count-requires : goal.count-count-requires
 count-count-requires c = rw c.in_ok-root.ensures (omega (arith, places_light (tree_of c.tree.result.now)))
+
+pub count_repeats-repeats-requires : goal.count_repeats-repeats-requires
+count_repeats-repeats-requires c = rw c.in_ok-root.ensures (omega (arith, repeats_light (tree_of c.tree.result.now)))

@@ -28,6 +28,10 @@ abbrev mutual
   places_of none = 0
   places_of (more t ts) = places t + places_of ts
 
+-- how many repeats the tree has
+unfoldable pub repeats : Tree → ℕ
+repeats t = 0
+
 -- the tree is nullable at a place with these surroundings: it takes the empty part there
 abbrev mutual
   pub nullable : Tree → Around → Bool

@@ -7,8 +7,10 @@
 mod around;
 mod compiler;
 pub mod laws;
+mod marks;
 mod matcher;
 mod program;
+mod standing;
 mod walk;
 
 pub use matcher::Matcher;

@@ -1,8 +1,10 @@
 -- The standing after a front of a line tells what stands around its end, and has its marks.
 use Rattle.std.proofs.Common.{◌≡◌, ℕ, zero, suc, ◌+◌, ◌-◌, ◌<◌, ◌≤◌, Bool, true, false, List, [], ◌∷◌, ◌++◌, take, length, refl, sym, ◌∙◌, ap, arith}
 use Rattle.std.specs.Prelude.{slice_index, nat_eq, ◌≢◌}
-use Rattle.std.proofs.lemmas.List.{take_more, take_all}
-use Rattle.std.proofs.lemmas.Bool.{lt-ltb, le-ltb, le-leb, eq-eqb, ne_eqb}
+use Rattle.std.proofs.lemmas.List.{take_more, take_all, length-replicate}
+use Rattle.std.proofs.lemmas.Bool.{lt-ltb, le-ltb, le-leb, eq-eqb, ne_eqb, cases_eq}
+use Rattle.std.proofs.Common.{inl, inr}
+use Rattle.cs_match.proofs.MarksLemmas.{length-step}
 use Rattle.cs_syntax.specs.Matching.{Tree, is_word, differ, word_before, word_after, at_word_edge}
 use Rattle.cs_match.specs.declared.standing.Standing.{Standing}
 use Rattle.cs_match.specs.Places.{around, places, exits, marks, exit_at}
@@ -11,6 +13,14 @@ use Rattle.cs_match.specs.Standings.{start, ahead, at_end, moved, moved_all, sta
 moved_all-append : (t : Tree) (n : Standing) (xs ys : List ℕ) → moved_all t n (xs ++ ys) ≡ moved_all t (moved_all t n xs) ys
 moved_all-append t n [] ys = refl
 moved_all-append t n (x ∷ xs) ys = moved_all-append t (moved t n x) xs ys
+
+-- each standing of a run has a mark for each place
+pub length-after : (t : Tree) (n : Standing) (b : ℕ) → length (after t n b).marks ≡ places t
+length-after t n b =
+    elim (cases_eq b 10) [
+      | inl e ↦ rw (eq-eqb b 10 e) (length-replicate (places t) false)
+      | inr other ↦ rw (ne_eqb b 10 other) (length-step t true n.marks (ahead n b) b)
+    ]
 
 differ-false : (b : Bool) → differ b false ≡ b
 differ-false true = refl

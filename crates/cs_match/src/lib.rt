@@ -11,6 +11,7 @@ mod marks;
 mod matcher;
 mod program;
 mod standing;
+mod table;
 mod walk;
 
 pub use matcher::Matcher;

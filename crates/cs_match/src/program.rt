@@ -2,7 +2,7 @@
 ghost use Rattle.std.specs.Prelude.{◌≡◌, ◌↔◌, ℕ, List, IfOk};
 ghost use Rattle.cs_syntax.specs.Matching.{Found};
 ghost use Rattle.cs_syntax.specs.Node.{tree_of};
-ghost use Rattle.cs_match.specs.Places.{places, IsLooped};
+ghost use Rattle.cs_match.specs.Places.{places, repeats, IsLooped};
 
 use crate::compiler::write_out;
 use crate::walk::count;
@@ -52,6 +52,14 @@ impl Program {
         ensures looped { IsLooped self.now }
     {
         &self.root
+    }
+
+    /// How many repeats the tree has.
+    #[tactic(auto, unfolding(crate::specs::Places::repeats))]
+    pub(crate) fn repeats(&self) -> usize
+        ensures { result ≡ repeats self.now }
+    {
+        0
     }
 
     /// How many places the tree has.

@@ -64,14 +64,19 @@ module _ (t : Tree) (s : List ℕ) where
       ∙ moved_is i lt
 
   -- one byte more of the line
-  pub standing_more : (i : ℕ) → i < length s → slice_index s i ≢ 10 → after t (standing t (take i s)) (slice_index s i) ≡ standing t (take (i + 1) s)
-  standing_more i lt other =
-      rw (ne_eqb (slice_index s i) 10 other)
-      (sym (ap (standing t) (take_more s i 0 lt) ∙ moved_all-append t (start (places t)) (take i s) (slice_index s i ∷ [])))
+  pub moved_more : (i : ℕ) → i < length s → moved t (standing t (take i s)) (slice_index s i) ≡ standing t (take (i + 1) s)
+  moved_more i lt = sym (ap (standing t) (take_more s i 0 lt) ∙ moved_all-append t (start (places t)) (take i s) (slice_index s i ∷ []))
+
+  pub left_ahead : (i : ℕ) → i < length s →
+      exits t true (standing t (take i s)).marks (ahead (standing t (take i s)) (slice_index s i)) ≡ exit_at s t (λ _. true) i
+  left_ahead i lt = rw (standing_is i (omega arith), ahead_is i lt) refl
+
+  -- the same for a byte that is no newline
+  pub after_more : (i : ℕ) → i < length s → slice_index s i ≢ 10 → after t (standing t (take i s)) (slice_index s i) ≡ standing t (take (i + 1) s)
+  after_more i lt other = rw (ne_eqb (slice_index s i) 10 other) (moved_more i lt)
 
   pub left_in_line : (i : ℕ) → i < length s → slice_index s i ≢ 10 → is_left_before t (standing t (take i s)) (slice_index s i) ≡ exit_at s t (λ _. true) i
-  left_in_line i lt other =
-      rw (ne_eqb (slice_index s i) 10 other, standing_is i (omega arith), ahead_is i lt) refl
+  left_in_line i lt other = rw (ne_eqb (slice_index s i) 10 other) (left_ahead i lt)
 
   end_is : at_end (at_place (length s)) ≡ around s (length s)
   unfolding at_word_edge word_after

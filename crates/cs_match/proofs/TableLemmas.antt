@@ -1,5 +1,5 @@
 -- Rows and cells stay right where a cell is written, a row is added, or all is forgotten.
-use Rattle.std.proofs.Common.{◌≡◌, ℕ, ◌+◌, ◌*◌, ◌/◌, ◌<◌, ◌≤◌, inl, inr, false, List, length, set, sym, ◌∙◌, ap, subst, arith, get_or, get_or-set_same, get_or-set_other}
+use Rattle.std.proofs.Common.{true, ◌≡◌, ℕ, ◌+◌, ◌*◌, ◌/◌, ◌<◌, ◌≤◌, inl, inr, false, List, length, set, sym, ◌∙◌, ap, subst, arith, get_or, get_or-set_same, get_or-set_other}
 use Rattle.std.specs.Prelude.{replicate, if◌then◌else◌}
 use Rattle.std.proofs.Math.ListN.{length-set}
 use Rattle.std.proofs.lemmas.Bool.{cases_eq, cases_lt, eq-eqb, ne_eqb}
@@ -10,7 +10,7 @@ use Rattle.cs_syntax.specs.Matching.{Tree}
 use Rattle.cs_match.specs.declared.standing.Standing.{Standing}
 use Rattle.cs_match.specs.Places.{places}
 use Rattle.cs_match.specs.Standings.{start, after, is_left_before}
-use Rattle.cs_match.specs.Table.{left_number, unknown_number, IsRow, Tells, next, IsCell, unknown, known, AreRows, AreCells, blank_cell}
+use Rattle.cs_match.specs.Table.{found_number, unknown_number, IsRow, Tells, found, next, IsCell, unknown, known, AreRows, AreCells, blank_cell}
 
 -- the number of a cell is that of its row and its byte
 pub cell_place : (from b : ℕ) → 256 * (from / 256) ≡ from → b < 256 → bit_or from b ≡ 256 * (from / 256) + b
@@ -19,7 +19,7 @@ cell_place from b whole lt =
     ap (λ n. bit_or n b) e ∙ or_shifted (from / 256) 8 b lt ∙ omega arith
 
 -- no row in use has the number of what is left
-pub row_stays : (t : Tree) (rows : List Standing) (used number : ℕ) (n : Standing) → used ≤ 254 → IsRow t rows used number n → number < left_number
+pub row_stays : (t : Tree) (rows : List Standing) (used number : ℕ) (n : Standing) → used ≤ 254 → IsRow t rows used number n → number < found_number
 row_stays t rows used number n few row = omega (arith, row.whole, row.in_use)
 
 module _ (t : Tree) (rows : List Standing) (used : ℕ) (cells : List ℕ) (given : AreCells t rows used cells) where
@@ -45,7 +45,7 @@ module _ (t : Tree) (rows : List Standing) (used : ℕ) (cells : List ℕ) (give
   put_cell row b number lt few byte told = record {
     all = length-set cells (256 * row + b) number ∙ given.all;
     right = λ r c rl cl. put_right row b number lt few byte told r c rl cl;
-    left = λ c cl. get_or-set_other cells (256 * row + b) (left_number + c) number 0 (λ e. omega arith) ∙ given.left c cl;
+    found = λ c cl. get_or-set_other cells (256 * row + b) (found_number + c) number 0 (λ e. omega arith) ∙ given.found c cl;
     unknown = λ c cl. get_or-set_other cells (256 * row + b) (unknown_number + c) number 0 (λ e. omega arith) ∙ given.unknown c cl;
   }
 
@@ -69,6 +69,17 @@ pub known_tells : (t : Tree) (rows : List Standing) (used row b cell : ℕ) → 
 known_tells t rows used row b cell (unknown is) other = absurd (other is)
 known_tells t rows used row b cell (known lt told) other = told
 
+-- the number that is told says whether the tree can be left
+pub told_found : (t : Tree) (rows : List Standing) (used b number : ℕ) (n : Standing) → used ≤ 254 → Tells t rows used n b number → number ≡ found_number →
+    is_left_before t n b ≡ true
+told_found t rows used b number n few (found is h) e = h
+told_found t rows used b number n few (next h row) e = absurd (omega (arith, row_stays t rows used number (after t n b) few row))
+
+pub told_next : (t : Tree) (rows : List Standing) (used b number : ℕ) (n : Standing) → Tells t rows used n b number → (number ≡ found_number → ⊥) →
+    (is_left_before t n b ≡ false) × IsRow t rows used number (after t n b)
+told_next t rows used b number n (found is h) e = absurd (e is)
+told_next t rows used b number n (next h row) e = (h, row)
+
 -- at first each row is at the start of a line
 pub new_rows : (t : Tree) (rows : List Standing) → rows ≡ replicate 254 (start (places t)) → AreRows t rows 1
 new_rows t rows is =
@@ -85,7 +96,7 @@ pub blank_cells : (t : Tree) (rows : List Standing) (used : ℕ) (cells : List �
     ((k : ℕ) → k < length cells → get_or cells k 0 ≡ blank_cell k) → AreCells t rows used cells
 blank_cells t rows used cells long blank = record {
   all = long;
-  right = λ r b rl bl. unknown (blank (256 * r + b) (omega arith) ∙ ap (λ c. if c then left_number else unknown_number) (ne_eqb ((256 * r + b) / 256) 254 (λ e. omega arith)));
-  left = λ b bl. blank (left_number + b) (omega arith) ∙ ap (λ c. if c then left_number else unknown_number) (eq-eqb ((left_number + b) / 256) 254 (omega arith));
-  unknown = λ b bl. blank (unknown_number + b) (omega arith) ∙ ap (λ c. if c then left_number else unknown_number) (ne_eqb ((unknown_number + b) / 256) 254 (λ e. omega arith));
+  right = λ r b rl bl. unknown (blank (256 * r + b) (omega arith) ∙ ap (λ c. if c then found_number else unknown_number) (ne_eqb ((256 * r + b) / 256) 254 (λ e. omega arith)));
+  found = λ b bl. blank (found_number + b) (omega arith) ∙ ap (λ c. if c then found_number else unknown_number) (eq-eqb ((found_number + b) / 256) 254 (omega arith));
+  unknown = λ b bl. blank (unknown_number + b) (omega arith) ∙ ap (λ c. if c then found_number else unknown_number) (ne_eqb ((unknown_number + b) / 256) 254 (λ e. omega arith));
 }

@@ -8,8 +8,8 @@ use Rattle.cs_match.specs.Places.{places}
 use Rattle.cs_match.specs.Standings.{start, after, is_left_before}
 
 -- the number that no row has, and a cell has where the tree can be left before its byte
-abbrev pub left_number : ℕ
-left_number = 65024
+abbrev pub found_number : ℕ
+found_number = 65024
 
 -- the number that no row has, and a cell has where nothing is known
 abbrev pub unknown_number : ℕ
@@ -28,7 +28,7 @@ pub record IsRow (t : Tree) (rows : List Standing) (used number : ℕ) (standing
 -- what a number says of a standing and the byte b that follows: the tree can be left before it; or it cannot, and this
 -- is the row of the standing after it
 pub data Tells (t : Tree) (rows : List Standing) (used : ℕ) (standing : Standing) (b number : ℕ) : Type 0 where
-  left : number ≡ left_number → is_left_before t standing b ≡ true → Tells t rows used standing b number
+  found : number ≡ found_number → is_left_before t standing b ≡ true → Tells t rows used standing b number
   next : is_left_before t standing b ≡ false → IsRow t rows used number (after t standing b) → Tells t rows used standing b number
 
 -- a cell of a row tells of its standing and its byte, or is unknown
@@ -48,9 +48,9 @@ pub record AreRows (t : Tree) (rows : List Standing) (used : ℕ) : Type 0 where
 pub record AreCells (t : Tree) (rows : List Standing) (used : ℕ) (cells : List ℕ) : Type 0 where
   pub all : length cells ≡ 65536
   pub right : (row b : ℕ) → row < 254 → b < 256 → IsCell t rows used row b (slice_index cells (256 * row + b))
-  pub left : (b : ℕ) → b < 256 → slice_index cells (left_number + b) ≡ left_number
+  pub found : (b : ℕ) → b < 256 → slice_index cells (found_number + b) ≡ found_number
   pub unknown : (b : ℕ) → b < 256 → slice_index cells (unknown_number + b) ≡ unknown_number
 
 -- what a cell has where nothing is known of any row
 abbrev pub blank_cell : ℕ → ℕ
-blank_cell place = if nat_eq (place / 256) 254 then left_number else unknown_number
+blank_cell place = if nat_eq (place / 256) 254 then found_number else unknown_number

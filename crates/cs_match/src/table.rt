@@ -2,8 +2,8 @@
 ghost use Rattle.std.specs.Prelude.{◌≡◌, ◌↔◌, ◌+◌, ◌<◌, ◌≤◌, ◌*◌, ◌/◌, ℕ, IfOk, IsTrue, MatchOption, EachIndex, length, vec_len, replicate, slice_index, slice_index_or, slice_set, true, false};
 ghost use Rattle.cs_syntax.specs.Node.{tree_of};
 ghost use Rattle.cs_syntax.specs.Matching.{Found};
-ghost use Rattle.cs_match.specs.Places.{places, repeats};
-ghost use Rattle.cs_match.specs.Standings.{start, after, is_left_before};
+ghost use Rattle.cs_match.specs.Places.{places, repeats, IsLooped};
+ghost use Rattle.cs_match.specs.Standings.{start, after, is_left_before, HasNoNewline};
 ghost use Rattle.cs_match.specs.Table.{blank_cell, standing_of};
 ghost use Rattle.cs_match.specs.declared.standing.Standing.{Standing};
 ghost use Rattle.cs_match.specs.Remembering.{IsRight, HasRow, Tells, tree_in, standing_in};
@@ -13,7 +13,7 @@ use crate::standing::Standing;
 use std::alloc::{AllocError, Global};
 
 /// In a cell: the tree can be left before the byte. No row has this number.
-const LEFT: u16 = 0xFE00;
+const FOUND: u16 = 0xFE00;
 /// In a cell: nothing is known. No row has this number.
 const UNKNOWN: u16 = 0xFF00;
 /// At most so many rows.
@@ -55,7 +55,7 @@ fn forget(cells: &mut [u16])
     ensures blank { EachIndex cells.new (λ k. slice_index cells.new k ≡ blank_cell k) }
 {
     for i in 0..cells.len() {
-        cells[i] = if i >> 8 == 254 { LEFT } else { UNKNOWN };
+        cells[i] = if i >> 8 == 254 { FOUND } else { UNKNOWN };
     }
 }
 
@@ -152,6 +152,25 @@ impl<'a> Table<'a> {
         }
     }
 
+    /// Whether the tree takes some part of a line without newlines.
+    pub(crate) fn is_match(&mut self, line: &[u8]) -> bool
+        requires right { IsRight self.old }
+        requires looped { IsLooped (tree_in self.old) }
+        requires one { HasNoNewline line.now }
+        ensures found { IsTrue result ↔ Found (tree_in self.old) line.now }
+        ensures right { IsRight self.new }
+        ensures same { tree_in self.new ≡ tree_in self.old }
+    {
+        let mut at = 0;
+        for b in line {
+            at = self.next(at, *b);
+            if at == FOUND {
+                return true;
+            }
+        }
+        self.next(at, b'\n') == FOUND
+    }
+
     /// Finds out what a cell has to say, and writes it there.
     #[cold]
     #[inline(never)]
@@ -163,8 +182,8 @@ impl<'a> Table<'a> {
         ensures same { tree_in self.new ≡ tree_in self.old }
     {
         if pass_from(self.program, &self.rows, from, &mut self.now, &mut self.loops, byte) {
-            self.put(from, byte, LEFT);
-            return LEFT;
+            self.put(from, byte, FOUND);
+            return FOUND;
         }
         self.next_row(from, byte)
     }

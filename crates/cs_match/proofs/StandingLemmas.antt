@@ -4,7 +4,7 @@ use Rattle.std.specs.Prelude.{slice_index, nat_eq, ◌≢◌}
 use Rattle.std.proofs.lemmas.List.{take_more, take_all, length-replicate}
 use Rattle.std.proofs.lemmas.Bool.{lt-ltb, le-ltb, le-leb, eq-eqb, ne_eqb, cases_eq}
 use Rattle.std.proofs.Common.{inl, inr}
-use Rattle.cs_match.proofs.MarksLemmas.{length-step}
+use Rattle.cs_match.proofs.MarksLemmas.{length-step, length-marks}
 use Rattle.cs_syntax.specs.Matching.{Tree, is_word, differ, word_before, word_after, at_word_edge}
 use Rattle.cs_match.specs.declared.standing.Standing.{Standing}
 use Rattle.cs_match.specs.Places.{around, places, exits, marks, exit_at}
@@ -63,6 +63,9 @@ module _ (t : Tree) (s : List ℕ) where
       ∙ ap (λ n. moved t n (slice_index s i)) (standing_is i (omega arith))
       ∙ moved_is i lt
 
+  pub length-standing : (i : ℕ) → i ≤ length s → length (standing t (take i s)).marks ≡ places t
+  length-standing i le = ap (λ n. length n.marks) (standing_is i le) ∙ length-marks s t (λ _. true) i
+
   -- one byte more of the line
   pub moved_more : (i : ℕ) → i < length s → moved t (standing t (take i s)) (slice_index s i) ≡ standing t (take (i + 1) s)
   moved_more i lt = sym (ap (standing t) (take_more s i 0 lt) ∙ moved_all-append t (start (places t)) (take i s) (slice_index s i ∷ []))
@@ -82,7 +85,10 @@ module _ (t : Tree) (s : List ℕ) where
   unfolding at_word_edge word_after
   end_is = rw (eq-eqb (length s) (length s) refl, le-ltb (length s) (length s) (omega arith), differ-false (word_before s (length s))) refl
 
-  pub left_at_end : is_left_before t (standing t s) 10 ≡ exit_at s t (λ _. true) (length s)
-  left_at_end =
-      ap (λ n. is_left_before t n 10) (ap (standing t) (sym (take_all (length s) s (omega arith))) ∙ standing_is (length s) (omega arith))
+  pub left_by_end : exits t true (standing t s).marks (at_end (standing t s)) ≡ exit_at s t (λ _. true) (length s)
+  left_by_end =
+      ap (λ n. exits t true n.marks (at_end n)) (ap (standing t) (sym (take_all (length s) s (omega arith))) ∙ standing_is (length s) (omega arith))
       ∙ ap (λ a. exits t true (marks s t (λ _. true) (length s)) a) end_is
+
+  pub left_at_end : is_left_before t (standing t s) 10 ≡ exit_at s t (λ _. true) (length s)
+  left_at_end = left_by_end

@@ -1,7 +1,8 @@
 // What a run over a line has come to.
 ghost use Rattle.std.specs.Prelude.{◌≡◌, ◌↔◌, IfOk, IsTrue, length, true};
+ghost use Rattle.cs_syntax.specs.Matching.{Found};
 ghost use Rattle.cs_syntax.specs.Node.{tree_of};
-ghost use Rattle.cs_match.specs.Places.{places, repeats, exits};
+ghost use Rattle.cs_match.specs.Places.{places, repeats, exits, IsLooped};
 ghost use Rattle.cs_match.specs.Standings.{start, ahead, at_end, moved, before, after};
 
 use crate::around::{Around, is_word_byte};
@@ -63,6 +64,24 @@ impl Standing {
     pub(crate) fn print(&self) -> u32 {
         let print = self.marks.print();
         print.wrapping_mul(4).wrapping_add(u32::from(self.first) * 2 + u32::from(self.word))
+    }
+
+    /// Whether the tree takes some part of the line, byte by byte.
+    pub(crate) fn search(&mut self, root: &Node, loops: &mut [bool], line: &[u8]) -> bool
+        requires one_each { length self.old.marks ≡ places (tree_of root.now) }
+        requires loops { length loops.old ≡ repeats (tree_of root.now) }
+        requires looped { IsLooped (tree_of root.now) }
+        ensures found { IsTrue result ↔ Found (tree_of root.now) line.now }
+        ensures one_each { length self.new.marks ≡ places (tree_of root.now) }
+        ensures loops { length loops.new ≡ length loops.old }
+    {
+        self.begin();
+        for b in line {
+            if self.move_over(root, loops, *b) {
+                return true;
+            }
+        }
+        self.end(root)
     }
 
     /// Moves over a byte, where the newline stands for the end of the line, and answers whether the

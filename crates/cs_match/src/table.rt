@@ -10,6 +10,7 @@ ghost use Rattle.cs_match.specs.Remembering.{IsRight, HasRow, Tells, tree_in, st
 
 use crate::program::Program;
 use crate::standing::Standing;
+use cs_syntax::Node;
 use std::alloc::{AllocError, Global};
 
 /// In a cell: the tree can be left before the byte. No row has this number.
@@ -22,7 +23,7 @@ const MOST: usize = 254;
 /// A part of the automaton of sets of places, which grows as lines ask for it.
 #[derive(Drop)]
 pub(crate) struct Table<'a> {
-    pub(crate) program: &'a Program,
+    pub(crate) root: &'a Node,
     /// For each row 256 numbers: what each byte leads to.
     pub(crate) cells: Vec<u16>,
     /// The standing of each row. The first is the start of a line.
@@ -95,7 +96,7 @@ fn put_row(rows: &mut [Standing], row: usize, now: &Standing)
 
 /// Runs from a row over a byte, and answers whether the tree could be left before it.
 fn pass_from(
-    program: &Program,
+    root: &Node,
     rows: &[Standing],
     from: u16,
     now: &mut Standing,
@@ -103,15 +104,15 @@ fn pass_from(
     byte: u8,
 ) -> bool
     requires row { from / 256 < length rows.now }
-    requires marks { length (standing_of program.now rows.now from).marks ≡ places program.now }
-    requires room { length now.old.marks ≡ places program.now }
-    requires loops { length loops.old ≡ repeats program.now }
-    ensures left { result ≡ is_left_before program.now (standing_of program.now rows.now from) byte }
-    ensures moved { now.new ≡ after program.now (standing_of program.now rows.now from) byte }
+    requires marks { length (standing_of (tree_of root.now) rows.now from).marks ≡ places (tree_of root.now) }
+    requires room { length now.old.marks ≡ places (tree_of root.now) }
+    requires loops { length loops.old ≡ repeats (tree_of root.now) }
+    ensures left { result ≡ is_left_before (tree_of root.now) (standing_of (tree_of root.now) rows.now from) byte }
+    ensures moved { now.new ≡ after (tree_of root.now) (standing_of (tree_of root.now) rows.now from) byte }
     ensures loops { length loops.new ≡ length loops.old }
 {
     now.copy_from(&rows[(from >> 8) as usize]);
-    now.pass(program.root(), loops, byte)
+    now.pass(root, loops, byte)
 }
 
 impl<'a> Table<'a> {
@@ -125,7 +126,7 @@ impl<'a> Table<'a> {
         let loops = vec![in alloc; false; program.repeats()]?;
         let cells = blank(alloc)?;
         Ok(Table {
-            program,
+            root: program.root(),
             cells,
             rows,
             prints: [0; 256],
@@ -152,10 +153,19 @@ impl<'a> Table<'a> {
         }
     }
 
-    /// Whether the tree takes some part of a line without newlines.
+    /// Whether the tree takes some part of a line, byte by byte.
+    pub(crate) fn search(&mut self, line: &[u8]) -> bool
+        requires right { IsRight self.old }
+        ensures found { IsTrue result ↔ Found (tree_in self.old) line.now }
+        ensures right { IsRight self.new }
+        ensures same { tree_in self.new ≡ tree_in self.old }
+    {
+        self.now.search(self.root, &mut self.loops, line)
+    }
+
+    /// Whether the tree takes some part of a line without newlines, by what is known.
     pub(crate) fn is_match(&mut self, line: &[u8]) -> bool
         requires right { IsRight self.old }
-        requires looped { IsLooped (tree_in self.old) }
         requires one { HasNoNewline line.now }
         ensures found { IsTrue result ↔ Found (tree_in self.old) line.now }
         ensures right { IsRight self.new }
@@ -181,7 +191,7 @@ impl<'a> Table<'a> {
         ensures right { IsRight self.new }
         ensures same { tree_in self.new ≡ tree_in self.old }
     {
-        if pass_from(self.program, &self.rows, from, &mut self.now, &mut self.loops, byte) {
+        if pass_from(self.root, &self.rows, from, &mut self.now, &mut self.loops, byte) {
             self.put(from, byte, FOUND);
             return FOUND;
         }

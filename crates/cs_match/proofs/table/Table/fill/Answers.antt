@@ -9,6 +9,7 @@ pub put-requires-clause-right : goal.put-requires-clause-right
 put-requires-clause-right c =
     let s = c.args.self.now in
     record {
+      looped = c.requires.right.looped;
       rows = c.requires.right.rows;
       cells = c.requires.right.cells;
       room = ap (λ (n : Standing). length n.marks) c.pass_from.ensures.moved ∙ length-after (tree_in s) (standing_of (tree_in s) c.deref.result.now c.args.from) c.args.byte;
@@ -19,6 +20,7 @@ pub next_row-requires-clause-right : goal.next_row-requires-clause-right
 next_row-requires-clause-right c =
     let s = c.args.self.now in
     record {
+      looped = c.requires.right.looped;
       rows = c.requires.right.rows;
       cells = c.requires.right.cells;
       room = ap (λ (n : Standing). length n.marks) c.pass_from.ensures.moved ∙ length-after (tree_in s) (standing_of (tree_in s) c.deref.result.now c.args.from) c.args.byte;

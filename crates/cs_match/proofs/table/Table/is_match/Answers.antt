@@ -1,5 +1,4 @@
-use Rattle.std.proofs.Common.{◌≡◌, ℕ, ◌<◌, true, false, length, get_or, refl, ◌∙◌, arith, below_more}
-use Rattle.cs_match.specs.Places.{exit_at}
+use Rattle.std.proofs.Common.{◌<◌, length, get_or, refl, ◌∙◌, arith, below_more}
 use Rattle.cs_match.specs.Remembering.{tree_in, standing_in}
 use Rattle.cs_match.proofs.FindingLemmas.{found_at, found_last}
 use Rattle.cs_match.proofs.RunLemmas.{run_found, run_stays, run_next, run_ends}
@@ -14,7 +13,7 @@ returns-then-at-clause-found c =
     let new = c.next-at.new.self in
     let lt : i < length line = omega arith in
     let left = run_found t (tree_in new) new.rows.items new.used c.next-at.result (standing_in c.loop-b.self c.loop-b.at) (c.next-at.ensures.same ∙ given.same) line i (get_or line i 0) given.row.same c.next-at.ensures.told lt refl (c.requires.one i lt) c.next-at.ensures.right.rows.few c.if-at.true in
-    let f = found_at t line c.requires.looped i (omega arith) left in
+    let f = found_at t line c.requires.right.looped i (omega arith) left in
     (λ _. f, λ _. refl)
 
 pub loop-b-preserved : goal.loop-b-preserved
@@ -42,4 +41,4 @@ returns-clause-found c =
     let given = c.loop-b.invariant in
     let new = c.next.new.self in
     let ends = run_ends t (tree_in new) new.rows.items new.used c.next.result (standing_in c.loop-b.self c.loop-b.at) (c.next.ensures.same ∙ given.same) line i 10 given.row.same c.next.ensures.told (omega arith) refl c.next.ensures.right.rows.few in
-    found_last t line c.requires.looped _ ends (λ k lt. given.none k (omega arith))
+    found_last t line c.requires.right.looped _ ends (λ k lt. given.none k (omega arith))

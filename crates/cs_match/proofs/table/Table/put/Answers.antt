@@ -13,6 +13,7 @@ returns-clause-right c =
         ap (bit_or c.args.from) c.from.ensures ∙ cell_place c.args.from c.args.byte c.requires.row.whole (omega arith) in
     let P : ℕ → Type 0 = λ k. AreCells (tree_in s) s.rows.items s.used (set s.cells.items k c.args.next) in
     record {
+      looped = c.requires.right.looped;
       rows = c.requires.right.rows;
       cells = subst P (sym place)
           (put_cell (tree_in s) s.rows.items s.used s.cells.items c.requires.right.cells (c.args.from / 256) c.args.byte c.args.next c.requires.row.in_use c.requires.right.rows.few (omega arith) c.requires.told);

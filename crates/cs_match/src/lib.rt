@@ -10,6 +10,8 @@ pub mod laws;
 mod marks;
 mod matcher;
 mod program;
+mod standing;
+mod table;
 mod walk;
 
 pub use matcher::Matcher;

@@ -66,6 +66,7 @@ impl Program {
     {
         self.count
     }
+
     /// How many repeats the tree has.
     pub(crate) fn repeats(&self) -> usize
         ensures { result ≡ repeats self.now }

@@ -1,0 +1,32 @@
+-- Tables whose rows and cells are right, and what stays so from one to the next.
+use Rattle.std.specs.Prelude.{ℕ, ◌≡◌, length, vec_len}
+use Rattle.cs_syntax.specs.Matching.{Tree}
+use Rattle.cs_syntax.specs.Node.{tree_of}
+use Rattle.cs_match.specs.declared.standing.Standing.{Standing}
+use Rattle.cs_match.specs.declared.table.Table.{Table}
+use Rattle.cs_match.specs.Places.{places, repeats, IsLooped}
+use Rattle.cs_match.specs.Table as table
+
+-- the tree that the table is of
+abbrev pub tree_in : Table → Tree
+tree_in table = tree_of table.root.now
+
+-- the repeats of the tree are loops, the rows and cells are right, and there is room for a run
+pub record IsRight (t : Table) : Type 0 where
+  pub looped : IsLooped (tree_in t)
+  pub rows : table.AreRows (tree_in t) t.rows.items t.used
+  pub cells : table.AreCells (tree_in t) t.rows.items t.used t.cells.items
+  pub room : length t.now.marks ≡ places (tree_in t)
+  pub loops : vec_len t.loops ≡ repeats (tree_in t)
+
+-- the standing of the row with this number
+abbrev pub standing_in : Table → ℕ → Standing
+standing_in t number = table.standing_of (tree_in t) t.rows.items number
+
+-- the number of a row in use, which has this standing
+abbrev pub HasRow : Table → ℕ → Standing → Type 0
+HasRow t number standing = table.IsRow (tree_in t) t.rows.items t.used number standing
+
+-- what the number says of the standing and the byte
+abbrev pub Tells : Table → Standing → ℕ → ℕ → Type 0
+Tells t standing b number = table.Tells (tree_in t) t.rows.items t.used standing b number

@@ -7,6 +7,7 @@
 mod around;
 mod compiler;
 pub mod laws;
+mod marks;
 mod matcher;
 mod program;
 mod walk;

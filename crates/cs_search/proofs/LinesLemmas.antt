@@ -1,5 +1,8 @@
 -- Lines of a text that comes in pieces.
 use Rattle.std.proofs.Common.{◌≡◌, ℕ, suc, ◌+◌, ◌<◌, ◌≤◌, Bool, true, false, cond, nat_eq, List, [], ◌∷◌, ◌++◌, length, get_or, refl, sym, ap, ◌∙◌, arith}
+use Rattle.std.specs.List.{count_by}
+use Rattle.std.proofs.lemmas.List.Sums.{sum_by-append}
+use Rattle.std.proofs.lemmas.List.Recursion.{is_count_by}
 use Rattle.cs_tree.specs.Pieces.{onto_first}
 use Rattle.cs_search.specs.Lines.{newline, lines, ended_lines, with_byte_in_line, IsPart}
 use Rattle.cs_search.specs.Unended.{unended, unless_ended, last_line}
@@ -27,6 +30,10 @@ pub unended-append : (a b : List ℕ) → unended (a ++ b) ≡ unended (unended 
 unfolding ended_lines unended
 unended-append [] b = refl
 unended-append (x ∷ a) b = unended-step x b (nat_eq x newline) refl (ended_lines a) (unended a) (ended_lines (a ++ b)) (unended (a ++ b)) (ended_lines-append a b) (unended-append a b)
+
+-- a text that ends in a newline, or is empty, has its lines before those of what follows it
+pub ended_lines-cut : (a b : List ℕ) → unended a ≡ [] → ended_lines (a ++ b) ≡ ended_lines a ++ ended_lines b
+ended_lines-cut a b e = ended_lines-append a b ∙ ap (λ rest. ended_lines a ++ ended_lines (rest ++ b)) e
 
 -- a part without a newline has no line that has ended
 pub ended_lines-part : (part : List ℕ) → IsPart part → ended_lines part ≡ []
@@ -86,6 +93,27 @@ pub lines_within : (a : List ℕ) → length (ended_lines a) + length (unended a
 unfolding ended_lines unended
 lines_within [] = omega arith
 lines_within (x ∷ a) = let h = count-step x (nat_eq x newline) (ended_lines a) (unended a) (length a) (lines_within a) in omega arith
+
+-- as many lines have ended as there are newlines
+abbrev pub is_newline : ℕ → Bool
+is_newline b = nat_eq b newline
+
+length-with_byte : (b : ℕ) (ls : List (List ℕ)) → length (with_byte_in_line b ls) ≡ length ls
+length-with_byte b [] = refl
+length-with_byte b (l ∷ ls) = refl
+
+length-ended_step : (b : ℕ) (t : Bool) (ls : List (List ℕ)) → length (cond t ([] ∷ ls) (with_byte_in_line b ls)) ≡ cond t (1 + length ls) (length ls)
+length-ended_step b true ls = omega arith
+length-ended_step b false ls = length-with_byte b ls
+
+pub length-ended_lines : (text : List ℕ) → length (ended_lines text) ≡ count_by is_newline text
+unfolding ended_lines
+length-ended_lines = is_count_by (λ text. length (ended_lines text)) is_newline refl (λ b text. length-ended_step b (nat_eq b newline) (ended_lines text))
+
+pub length-ended_append : (a b : List ℕ) → length (ended_lines (a ++ b)) ≡ length (ended_lines a) + length (ended_lines b)
+length-ended_append a b =
+    length-ended_lines (a ++ b) ∙ sum_by-append (λ b. cond (is_newline b) 1 0) a b
+    ∙ sym (ap (λ n. n + length (ended_lines b)) (length-ended_lines a) ∙ ap (λ n. count_by is_newline a + n) (length-ended_lines b))
 
 -- a text that a search for newlines found none in
 pub IsPart-searched : (a : List ℕ) → ((k : ℕ) → k < length a → nat_eq (get_or a k 0) newline ≡ true → ⊥) → IsPart a

@@ -1,5 +1,6 @@
 -- Hits of lines that are tested one after another.
 use Rattle.std.proofs.Common.{◌≡◌, ℕ, ◌+◌, Bool, true, false, cond, List, [], ◌∷◌, ◌++◌, length, refl, sym, ap, ◌∙◌, arith, add-zero}
+use Rattle.std.specs.List.{AllByRecursion}
 use Rattle.cs_search.specs.Report.{Hit, hits_from, some_hit}
 
 cond-append : (b : Bool) (hit : Hit) (xs ys : List Hit) → cond b (hit ∷ (xs ++ ys)) (xs ++ ys) ≡ cond b (hit ∷ xs) xs ++ ys
@@ -20,6 +21,12 @@ module _ (finds : List ℕ → Bool) where
   pub hits_from-one : (n : ℕ) (line : List ℕ) → hits_from n finds (line ∷ []) ≡ cond (finds line) ((n, line) ∷ []) []
   unfolding hits_from
   hits_from-one n line = refl
+
+-- nothing is found in any of the lines
+pub hits_from-none : (finds : List ℕ → Bool) (n : ℕ) (lines : List (List ℕ)) → AllByRecursion (λ line. finds line ≡ false) lines → hits_from n finds lines ≡ []
+unfolding hits_from
+hits_from-none finds n [] none = refl
+hits_from-none finds n (line ∷ lines) none = rw (none.0, hits_from-none finds (n + 1) lines none.1) refl
 
 pub some_hit-append : (a b : List Hit) → some_hit a ≡ true → some_hit (a ++ b) ≡ true
 some_hit-append (hit ∷ a) b e = refl

@@ -8,7 +8,7 @@ pub use Rattle.cs_tree.specs.Snapshot
 pub use Rattle.cs_syntax.specs.Matching
 pub use Rattle.cs_syntax.specs.Reading
 pub use Rattle.cs_match.specs.Finding
-pub mod Lines
+pub use Rattle.cs_match.specs.Lines
 pub mod Report
 pub mod InputReport
 pub mod GrepFaults
@@ -17,7 +17,6 @@ pub mod Refusals
 pub mod Cgrep
 pub mod Csearch
 -- What functions inside promise each other.
-pub mod Unended
 pub mod TestedLines
 pub mod Buffer
 pub mod Progress

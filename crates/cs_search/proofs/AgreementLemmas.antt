@@ -29,7 +29,7 @@ use Rattle.cs_search.specs.declared.grep_fault.ReadFault.{ReadFault}
 use Rattle.cs_search.specs.declared.grep_fault.ReadFault.TheVariants.{TooLong}
 use Rattle.cs_search.specs.declared.report.TheConstants.{MOST_SEARCHED}
 use Rattle.cs_search.specs.Csearch.{ReadsAs}
-use Rattle.cs_search.specs.Lines.{newline, lines}
+use Rattle.cs_match.specs.Lines.{newline, lines}
 use Rattle.cs_search.specs.Report.{Hit, hits_from, some_hit, name_line, count_line, printed, report}
 use Rattle.cs_search.specs.InputReport.{told_report}
 use Rattle.cs_search.specs.Printed.{Printed, printed_of, input_printed, opened_printed, file_printed, all_printed, then, nothing}

@@ -2,9 +2,9 @@
 use Rattle.std.proofs.Common.{◌≡◌, ℕ, ◌+◌, ◌-◌, ◌<◌, ◌≤◌, List, [], ◌∷◌, ◌++◌, length, take, drop, refl, sym, ap, subst, ◌∙◌, arith, length-take}
 use Rattle.std.proofs.lemmas.List.{take-append-drop, drop-drop}
 use Rattle.cs_tree.proofs.Growing.{take_on}
-use Rattle.cs_search.specs.Lines.{newline, ended_lines, IsPart}
-use Rattle.cs_search.specs.Unended.{unended}
-use Rattle.cs_search.proofs.LinesLemmas.{lines_within, ended_lines-append, unended-append, ended_lines-part, unended-part, ended_lines-line, unended-line, IsPart-append}
+use Rattle.cs_match.specs.Lines.{newline, ended_lines, IsPart}
+use Rattle.cs_match.specs.Unended.{unended}
+use Rattle.cs_match.proofs.LinesLemmas.{lines_within, ended_lines-append, unended-append, ended_lines-part, unended-part, ended_lines-line, unended-line, IsPart-append}
 
 module _ (block : List ℕ) (start from : ℕ) (rising : start ≤ from) (before : unended (take start block) ≡ []) (clean : IsPart (take (from - start) (drop start block))) where
   -- the bytes from `start` are a part up to `from`, and what follows it

@@ -1,35 +1,14 @@
--- Worked rows of lines and reports, computed.
-use Rattle.std.proofs.Common.{◌≡◌, ℕ, Bool, true, false, List, [], ◌∷◌, Some, None, refl, codes}
+-- Worked rows of reports, computed.
+use Rattle.std.proofs.Common.{◌≡◌, ℕ, Bool, true, false, List, [], Some, None, refl, codes}
 use Rattle.std.specs.Str.{bytes_eq}
 use Rattle.std.specs.Fmt.{digits}
 use Rattle.cs_words.specs.declared.jobs.Style.{Style}
 use Rattle.cs_search.specs.declared.grep_fault.ReadFault.{ReadFault}
 use Rattle.cs_search.specs.declared.grep_fault.ReadFault.TheVariants.{Read}
-use Rattle.cs_search.specs.Lines.{lines, ended_lines}
+use Rattle.cs_match.specs.Lines.{lines, ended_lines}
 use Rattle.cs_search.specs.Report.{report, printed, hits_from, hit_line, name_line, count_line}
 
-lines_of_two : lines (codes "ab\ncd\n") ≡ codes "ab" ∷ codes "cd" ∷ []
-unfolding lines
-lines_of_two = refl
-
-last_without_newline : lines (codes "ab\n\ncd") ≡ codes "ab" ∷ [] ∷ codes "cd" ∷ []
-unfolding lines
-last_without_newline = refl
-
-carriage_return_stays : lines (codes "a\r\n") ≡ codes "a\r" ∷ []
-unfolding lines
-carriage_return_stays = refl
-
-no_line_of_nothing : lines [] ≡ []
-unfolding lines
-no_line_of_nothing = refl
-
-unfinished_is_no_ended_line : ended_lines (codes "one\ntwo\non") ≡ codes "one" ∷ codes "two" ∷ []
-unfolding ended_lines
-unfinished_is_no_ended_line = refl
-
--- ---- reports, where a line matches that is `one`
-
+-- a line matches that is `one`
 one : List ℕ → Bool
 one line = bytes_eq line (codes "one")
 

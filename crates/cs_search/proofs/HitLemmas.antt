@@ -9,12 +9,12 @@ use Rattle.cs_tree.proofs.Growing.{Grows-chain}
 use Rattle.cs_words.specs.declared.jobs.Style.{Style}
 use Rattle.cs_search.specs.declared.tally.Tally.{Tally}
 use Rattle.cs_search.specs.declared.grep_fault.ReadFault.{ReadFault}
-use Rattle.cs_search.specs.Lines.{newline, lines, ended_lines}
-use Rattle.cs_search.specs.Unended.{unended, last_line}
+use Rattle.cs_match.specs.Lines.{newline, lines, ended_lines}
+use Rattle.cs_match.specs.Unended.{unended, last_line}
 use Rattle.cs_search.specs.Report.{Hit, hits_from, some_hit, hit_line, name_line, count_line, printed, tested, report}
 use Rattle.cs_search.specs.InputReport.{IsReported}
 use Rattle.cs_search.specs.TestedLines.{shown, total, Tests, IsListed}
-use Rattle.cs_search.proofs.LinesLemmas.{lines-split}
+use Rattle.cs_match.proofs.LinesLemmas.{lines-split}
 use Rattle.cs_search.proofs.ReportLemmas.{hits_from-append, some_hit-append}
 use Rattle.cs_search.proofs.TestedLemmas.{Tests-more, few_hits}
 

@@ -11,12 +11,12 @@ use Rattle.cs_search.specs.declared.tally.Tally.{Tally}
 use Rattle.cs_search.specs.declared.grep_fault.ReadFault.TheVariants.{Read, TooLong}
 use Rattle.cs_search.specs.declared.stop.Stop.{Stop}
 use Rattle.cs_search.specs.declared.stop.Stop.TheVariants.{Listed, End, Left}
-use Rattle.cs_search.specs.Lines.{ended_lines}
-use Rattle.cs_search.specs.Unended.{unended}
+use Rattle.cs_match.specs.Lines.{ended_lines}
+use Rattle.cs_match.specs.Unended.{unended}
 use Rattle.cs_search.specs.InputReport.{fault_within, fault_at}
 use Rattle.cs_search.specs.TestedLines.{Tests, IsListed}
 use Rattle.cs_search.specs.Progress.{HasRead, HasTested, StopsHere, Stops, FindsBy, stop_fault}
-use Rattle.cs_search.proofs.LinesLemmas.{ended_lines-append, unended-append}
+use Rattle.cs_match.proofs.LinesLemmas.{ended_lines-append, unended-append}
 use Rattle.cs_search.proofs.TestedLemmas.{IsListed-after, IsListed-more}
 
 -- ---- before anything is read

@@ -6,7 +6,7 @@ use Rattle.std.proofs.lemmas.List.{nil_from_length}
 use Rattle.std.proofs.lemmas.List.Concat.{flat_map-append}
 use Rattle.cs_tree.specs.Told.{Grows}
 use Rattle.cs_tree.proofs.Growing.{Grows-chain}
-use Rattle.cs_search.specs.Lines.{newline}
+use Rattle.cs_match.specs.Lines.{newline}
 use Rattle.cs_words.specs.declared.jobs.Style.{Style}
 use Rattle.cs_search.specs.declared.tally.Tally.{Tally}
 use Rattle.cs_search.specs.Report.{Hit, hits_from, some_hit}

@@ -8,7 +8,7 @@ pub use Rattle.cs_tree.specs.Snapshot
 pub use Rattle.cs_syntax.specs.Matching
 pub use Rattle.cs_syntax.specs.Reading
 pub use Rattle.cs_match.specs.Finding
-pub mod Lines
+pub use Rattle.cs_match.specs.Lines
 pub mod Report
 pub mod InputReport
 pub mod GrepFaults
@@ -18,7 +18,6 @@ pub mod Cgrep
 pub mod Csearch
 pub mod Buffer
 -- What functions inside promise each other.
-pub mod Unended
 pub mod TestedLines
 pub mod Progress
 pub mod Searcher

@@ -8,8 +8,8 @@ use Rattle.cs_search.specs.declared.grep_fault.ReadFault.TheVariants.{Read, TooL
 use Rattle.cs_search.specs.declared.grep_fault.GrepFault.{GrepFault}
 use Rattle.cs_search.specs.declared.stop.Stop.{Stop}
 use Rattle.cs_search.specs.declared.stop.Stop.TheVariants.{Listed, End, Left}
-use Rattle.cs_search.specs.Lines.{ended_lines}
-use Rattle.cs_search.specs.Unended.{unended}
+use Rattle.cs_match.specs.Lines.{ended_lines}
+use Rattle.cs_match.specs.Unended.{unended}
 use Rattle.cs_search.specs.InputReport.{fault_within}
 use Rattle.cs_search.specs.GrepFaults.{is_failed_read}
 use Rattle.cs_search.specs.TestedLines.{Tests, IsListed}

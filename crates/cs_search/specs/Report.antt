@@ -1,7 +1,7 @@
 -- What a search of one input prints, and what it answers. docs/PROMISES.md, "What is printed".
 use Rattle.std.specs.Prelude.{ℕ, ◌+◌, Bool, true, false, ◌&&◌, if◌then◌else◌, List, [], ◌∷◌, ◌++◌, length, codes, decimal, Option, None, is_none}
 use Rattle.std.specs.List.{flat_map}
-use Rattle.cs_search.specs.Lines.{newline, lines, ended_lines}
+use Rattle.cs_match.specs.Lines.{newline, lines, ended_lines}
 use Rattle.cs_words.specs.declared.jobs.Style.{Style}
 
 -- a line in which something is found, after its number

@@ -3,8 +3,8 @@ ghost use Rattle.std.specs.Prelude.{◌≡◌, ◌≤◌, ◌<◌, ◌+◌, ◌-
 ghost use Rattle.cs_search.specs.GrepFaults.{is_grep_failure};
 ghost use Rattle.cs_tree.specs.Failures.{count_after};
 ghost use Rattle.cs_match.specs.Finding.{Decides};
-ghost use Rattle.cs_search.specs.Lines.{newline, ended_lines, IsPart};
-ghost use Rattle.cs_search.specs.Unended.{unended};
+ghost use Rattle.cs_match.specs.Lines.{newline, ended_lines, IsPart};
+ghost use Rattle.cs_match.specs.Unended.{unended};
 ghost use Rattle.cs_search.specs.TestedLines.{Tests, IsListed};
 
 use crate::form::Form;

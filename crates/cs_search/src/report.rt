@@ -3,7 +3,7 @@ ghost use Rattle.std.specs.Prelude.{◌≡◌, ◌<◌, ◌+◌, ◌^◌, ℕ, B
 ghost use Rattle.cs_tree.specs.Transfers.{LosesAtMost};
 ghost use Rattle.cs_tree.specs.Failures.{count_after, count_if};
 ghost use Rattle.cs_match.specs.Finding.{Decides};
-ghost use Rattle.cs_search.specs.Unended.{last_line};
+ghost use Rattle.cs_match.specs.Unended.{last_line};
 ghost use Rattle.cs_search.specs.InputReport.{Reports, told_report};
 ghost use Rattle.cs_search.specs.GrepFaults.{is_grep_failure, has_read_failed};
 ghost use Rattle.cs_search.specs.TestedLines.{Tests};

@@ -1,6 +1,6 @@
 // What is counted while an input is searched.
 ghost use Rattle.std.specs.Prelude.{◌≤◌, ◌≡◌, length};
-ghost use Rattle.cs_search.specs.Lines.{ended_lines};
+ghost use Rattle.cs_match.specs.Lines.{ended_lines};
 
 /// How many lines were tested, and in how many of them something was found.
 #[derive(Drop)]

@@ -1,8 +1,8 @@
 use Rattle.std.proofs.Common.{◌≡◌, ◌+◌, ◌-◌, ◌∷◌, ◌++◌, [], List, ℕ, length, take, drop, refl, sym, ap, subst, ◌∙◌, arith, length-append}
 use Rattle.std.proofs.lemmas.Bool.{false≢true}
 use Rattle.cs_match.specs.Finding.{Decides}
-use Rattle.cs_search.specs.Lines.{ended_lines, IsPart}
-use Rattle.cs_search.specs.Unended.{unended}
+use Rattle.cs_match.specs.Lines.{ended_lines, IsPart}
+use Rattle.cs_match.specs.Unended.{unended}
 use Rattle.cs_search.specs.TestedLines.{Tests, IsListed}
 use Rattle.cs_search.proofs.BlockLemmas.{ended_none, unended_none, ended_more, unended_more, ended_front, counted_within}
 use Rattle.cs_search.proofs.TestedLemmas.{Tests-none, Tests-more, IsListed-first, IsListed-more}

@@ -1,7 +1,7 @@
 use Rattle.std.proofs.Common.{◌≡◌, ◌≤◌, ◌+◌, ◌-◌, [], true, Bool, List, ℕ, length, take, drop}
 use Rattle.cs_match.specs.Finding.{Decides}
-use Rattle.cs_search.specs.Lines.{ended_lines, IsPart}
-use Rattle.cs_search.specs.Unended.{unended}
+use Rattle.cs_match.specs.Lines.{ended_lines, IsPart}
+use Rattle.cs_match.specs.Unended.{unended}
 use Rattle.cs_search.specs.TestedLines.{Tests}
 use Rattle.cs_search.proofs.blocks.search_block.Given as goal
 

@@ -6,12 +6,12 @@ use Rattle.cs_tree.specs.Told.{ends, fails}
 use Rattle.cs_search.specs.declared.grep_fault.ReadFault.TheVariants.{Read}
 use Rattle.cs_search.specs.declared.stop.Stop.TheVariants.{End, Left}
 use Rattle.cs_tree.proofs.Losing.{Loses_few}
-use Rattle.cs_search.specs.Lines.{ended_lines, IsPart}
-use Rattle.cs_search.specs.Unended.{unended}
+use Rattle.cs_match.specs.Lines.{ended_lines, IsPart}
+use Rattle.cs_match.specs.Unended.{unended}
 use Rattle.cs_search.specs.Buffer.{pending}
 use Rattle.cs_search.specs.TestedLines.{Tests, IsListed}
 use Rattle.cs_search.specs.Progress.{HasRead, HasTested}
-use Rattle.cs_search.proofs.LinesLemmas.{IsPart-unended, lines_within}
+use Rattle.cs_match.proofs.LinesLemmas.{IsPart-unended, lines_within}
 use Rattle.cs_search.proofs.BufferLemmas.{Gains-split, Gains-size}
 use Rattle.cs_search.proofs.TestedLemmas.{Tests-none, Tests-more}
 use Rattle.cs_search.proofs.ProgressLemmas.{HasRead-none, HasTested-none, HasRead-more, HasTested-more, FindsBy-empty, FindsBy-listed, FindsBy-past, Stops-past, Loses-taken, LosesAtMost-more}

@@ -1,6 +1,6 @@
 use Rattle.std.proofs.Common.{◌≡◌, take}
 use Rattle.std.specs.List.{count_by}
-use Rattle.cs_search.proofs.LinesLemmas.{is_newline}
+use Rattle.cs_match.proofs.LinesLemmas.{is_newline}
 use Rattle.cs_search.proofs.tally.few_newlines.Given as goal
 
 abbrev pub invariant-loop-b : goal.invariant-loop-b

@@ -1,6 +1,6 @@
 use Rattle.std.proofs.Common.{◌≡◌, ◌+◌, ◌≤◌, ◌++◌, List, ℕ, length, ◌∙◌, ap, arith}
-use Rattle.cs_search.specs.Lines.{ended_lines}
-use Rattle.cs_search.proofs.LinesLemmas.{lines_within, length-ended_append}
+use Rattle.cs_match.specs.Lines.{ended_lines}
+use Rattle.cs_match.proofs.LinesLemmas.{lines_within, length-ended_append}
 use Rattle.cs_search.proofs.tally.newlines.Goals as goal
 
 -- a text is a part and more, and the lines of all are those of a block

@@ -1,5 +1,5 @@
 use Rattle.std.proofs.Common.{◌≡◌, ◌+◌, length}
-use Rattle.cs_search.specs.Lines.{ended_lines}
+use Rattle.cs_match.specs.Lines.{ended_lines}
 use Rattle.cs_search.proofs.tally.newlines.Given as goal
 
 abbrev pub invariant-parts : goal.invariant-parts

@@ -1,6 +1,6 @@
 -- What is left of a text after its lines that have ended.
 use Rattle.std.specs.Prelude.{ℕ, nat_eq, if◌then◌else◌, List, [], ◌∷◌}
-use Rattle.cs_search.specs.Lines.{newline, ended_lines}
+use Rattle.cs_match.specs.Lines.{newline, ended_lines}
 
 abbrev pub unless_ended : ℕ → List (List ℕ) → List ℕ → List ℕ
 unless_ended b [] rest = b ∷ rest

@@ -4,8 +4,8 @@ use Rattle.std.specs.List.{count_by}
 use Rattle.std.proofs.lemmas.List.Sums.{sum_by-append}
 use Rattle.std.proofs.lemmas.List.Recursion.{is_count_by}
 use Rattle.cs_tree.specs.Pieces.{onto_first}
-use Rattle.cs_search.specs.Lines.{newline, lines, ended_lines, with_byte_in_line, IsPart}
-use Rattle.cs_search.specs.Unended.{unended, unless_ended, last_line}
+use Rattle.cs_match.specs.Lines.{newline, lines, ended_lines, with_byte_in_line, IsPart}
+use Rattle.cs_match.specs.Unended.{unended, unless_ended, last_line}
 
 module _ (x : ℕ) (b : List ℕ) where
   ended-step : (t : Bool) → nat_eq x newline ≡ t → (ls : List (List ℕ)) (rest : List ℕ) (whole : List (List ℕ)) → whole ≡ ls ++ ended_lines (rest ++ b) → cond t ([] ∷ whole) (with_byte_in_line x whole) ≡ cond t ([] ∷ ls) (with_byte_in_line x ls) ++ ended_lines (cond t rest (unless_ended x ls rest) ++ b)

@@ -1,5 +1,0 @@
-use Rattle.cs_search.proofs.LinesLemmas.{lines-line, lines-last, lines-none}
-use Rattle.cs_search.proofs.laws.lines_are_parts.Goals as goal
-
-pub returns : goal.returns
-returns c = record { cut = lines-line; last = lines-last; none = lines-none }

@@ -5,6 +5,7 @@
 #![tactic(auto)]
 
 mod around;
+mod chains;
 mod compiler;
 pub mod laws;
 mod matcher;

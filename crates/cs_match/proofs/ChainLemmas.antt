@@ -5,8 +5,8 @@ use Rattle.std.proofs.lemmas.List.Elements.{All-nil, All-cons, All-head, All-tai
 use Rattle.std.proofs.lemmas.Nat.{le_or_l, or_of_16}
 use Rattle.std.proofs.lemmas.Bool.{eqb-true, cases_lt}
 use Rattle.cs_match.specs.Lines.{newline, ended_lines, IsPart}
-use Rattle.cs_match.specs.Skipping.{AreWhole, NoneFound}
-use Rattle.cs_match.specs.Chains.{after, first_noisy, IsQuiet, AreBytes, Absorbs, Tells, ArePassed}
+use Rattle.cs_match.specs.Skipping.{AreWhole, NoneFound, ArePassed}
+use Rattle.cs_match.specs.Chains.{after, first_noisy, IsQuiet, AreBytes, Absorbs, Tells}
 use Rattle.cs_match.proofs.LinesLemmas.{ended_lines-part, ended_lines-line, IsPart-append, whole_between, none_between}
 
 abbrev IsByte : ℕ → Type 0
@@ -109,12 +109,9 @@ module _ (finds : List ℕ → Bool) (cells : List ℕ) (fits : (at : ℕ) → F
   unfolding after
   none_in_quiet text bytes quiet = none_behind text [] tt (All-nil IsByte) bytes quiet
 
-module _ (cells block : List ℕ) (fits : (at : ℕ) → Fits w16 (get_or cells at 0)) (bytes : (at : ℕ) → Fits w8 (get_or block at 0)) where
-  bytes_between : (from n : ℕ) → AreBytes (take n (drop from block))
-  bytes_between from n =
-      All-take IsByte n (drop from block) (All-drop IsByte from block (All-from_get_or IsByte block 0 (λ i _. omega (arith, bytes i))))
-
-  pub passed_none : (from : ℕ) → from ≤ length block → ArePassed cells block from from
+-- what is passed in nothing, and in two steps
+module _ (IsKind : (List ℕ → Bool) → Type 0) (block : List ℕ) where
+  pub passed_none : (from : ℕ) → from ≤ length block → ArePassed IsKind block from from
   unfolding AreWhole ended_lines
   passed_none from within =
       let none : 0 ≡ from - from = omega arith in
@@ -122,41 +119,43 @@ module _ (cells block : List ℕ) (fits : (at : ℕ) → Fits w16 (get_or cells 
         low = omega arith;
         high = within;
         whole = subst (λ n. AreWhole (take n (drop from block))) none tt;
-        none = λ finds tells. subst (λ n. NoneFound finds (ended_lines (take n (drop from block)))) none (All-nil (λ line. finds line ≡ false));
+        none = λ finds is. subst (λ n. NoneFound finds (ended_lines (take n (drop from block)))) none (All-nil (λ line. finds line ≡ false));
       }
 
-  pub passed_append : (from middle to : ℕ) → ArePassed cells block from middle → ArePassed cells block middle to → ArePassed cells block from to
+  pub passed_append : (from middle to : ℕ) → ArePassed IsKind block from middle → ArePassed IsKind block middle to → ArePassed IsKind block from to
   passed_append from middle to p q = record {
     low = omega (arith, p.low, q.low);
     high = q.high;
     whole = whole_between block from middle to p.low q.low p.whole q.whole;
-    none = λ finds tells. none_between finds block from middle to p.low q.low p.whole (p.none finds tells) (q.none finds tells);
+    none = λ finds is. none_between finds block from middle to p.low q.low p.whole (p.none finds is) (q.none finds is);
   }
 
-  -- a quiet part more
-  pub passed_more : (from middle to : ℕ) → ArePassed cells block from middle → middle ≤ to → to ≤ length block → AreWhole (take (to - middle) (drop middle block)) → IsQuiet cells (take (to - middle) (drop middle block)) → ArePassed cells block from to
-  passed_more from middle to p low high whole quiet =
-      passed_append from middle to p (record {
-        low = low;
-        high = high;
-        whole = whole;
-        none = λ finds tells. none_in_quiet finds cells fits tells (take (to - middle) (drop middle block)) (bytes_between middle (to - middle)) quiet;
-      })
-
-  -- the parts between a place, and others behind it
+-- the parts of a block between places
+module _ (block : List ℕ) where
   abbrev parts : ℕ → List ℕ → List (List ℕ)
   parts from [] = []
   parts from (to ∷ ends) = take (to - from) (drop from block) ∷ parts to ends
 
+  -- each part is whole lines
   abbrev AreCuts : ℕ → List ℕ → Type 0
   AreCuts from [] = Unit {0}
   AreCuts from (to ∷ ends) = ((from ≤ to) × (to ≤ length block) × AreWhole (take (to - from) (drop from block))) × AreCuts to ends
 
+module _ (cells block : List ℕ) (fits : (at : ℕ) → Fits w16 (get_or cells at 0)) (bytes : (at : ℕ) → Fits w8 (get_or block at 0)) where
+  abbrev AreQuiet : ℕ → ℕ → Type 0
+  AreQuiet from to = ArePassed (λ finds. Tells finds cells) block from to
+
+  quiet_part : (from to : ℕ) → from ≤ to → to ≤ length block → AreWhole (take (to - from) (drop from block)) → IsQuiet cells (take (to - from) (drop from block)) → AreQuiet from to
+  quiet_part from to low high whole quiet =
+      let part = take (to - from) (drop from block) in
+      let bytes_in : AreBytes part = All-take IsByte (to - from) (drop from block) (All-drop IsByte from block (All-from_get_or IsByte block 0 (λ i _. omega (arith, bytes i)))) in
+      record { low = low; high = high; whole = whole; none = λ finds tells. none_in_quiet finds cells fits tells part bytes_in quiet }
+
   -- the first n of the parts are quiet
-  pub passed_parts : (from : ℕ) (ends : List ℕ) (n : ℕ) → from ≤ length block → AreCuts from ends → n ≤ length ends → ((k : ℕ) → k < n → get_or (map (after cells 0) (parts from ends)) k 0 < first_noisy) → ArePassed cells block from (get_or (from ∷ ends) n 0)
-  passed_parts from ends zero within cuts most quiet = passed_none from within
+  pub passed_parts : (from : ℕ) (ends : List ℕ) (n : ℕ) → from ≤ length block → AreCuts block from ends → n ≤ length ends → ((k : ℕ) → k < n → get_or (map (after cells 0) (parts block from ends)) k 0 < first_noisy) → AreQuiet from (get_or (from ∷ ends) n 0)
+  passed_parts from ends zero within cuts most quiet = passed_none (λ finds. Tells finds cells) block from within
   passed_parts from [] (suc n) within cuts most quiet = let no : ⊥ = omega (arith, most) in absurd no
   passed_parts from (to ∷ ends) (suc n) within cuts most quiet =
-      passed_append from to (get_or (to ∷ ends) n 0)
-      (passed_more from from to (passed_none from within) cuts.0.0 cuts.0.1 cuts.0.2 (quiet 0 (omega arith)))
+      passed_append (λ finds. Tells finds cells) block from to (get_or (to ∷ ends) n 0)
+      (quiet_part from to cuts.0.0 cuts.0.1 cuts.0.2 (quiet 0 (omega arith)))
       (passed_parts to ends n cuts.0.1 cuts.1 (omega arith) (λ k low. quiet (suc k) (omega arith)))

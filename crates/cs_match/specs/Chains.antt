@@ -1,9 +1,8 @@
 -- Runs over a table of cells. A row is 256 cells, one for each byte, and goes by the place of its first cell. A run
 -- stands in a row, and the cell of the next byte is the row that it goes on in. At the start of a line it stands in
 -- row 0.
-use Rattle.std.specs.Prelude.{ℕ, ◌≡◌, ◌<◌, ◌≤◌, Bool, false, List, [], ◌∷◌, ◌++◌, All, length, take, drop, ◌-◌, slice_index, bit_or}
-use Rattle.cs_match.specs.Lines.{newline, ended_lines, IsPart}
-use Rattle.cs_match.specs.Skipping.{AreWhole, NoneFound}
+use Rattle.std.specs.Prelude.{ℕ, ◌≡◌, ◌<◌, ◌≤◌, Bool, false, List, [], ◌∷◌, ◌++◌, All, slice_index, bit_or}
+use Rattle.cs_match.specs.Lines.{newline, IsPart}
 
 -- the row that a run over the text comes to from a row
 unfoldable pub after : List ℕ → ℕ → List ℕ → ℕ
@@ -33,11 +32,3 @@ pub record Tells (finds : List ℕ → Bool) (cells : List ℕ) : Type 0 where
       after cells 0 (line ++ newline ∷ []) ≡ 0
   pub none : (line : List ℕ) → AreBytes line → IsPart line → IsQuiet cells (line ++ newline ∷ []) →
       finds line ≡ false
-
--- The block's bytes from one place to another are whole lines in which nothing is found.
-pub record ArePassed (cells block : List ℕ) (from to : ℕ) : Type 0 where
-  pub low : from ≤ to
-  pub high : to ≤ length block
-  pub whole : AreWhole (take (to - from) (drop from block))
-  pub none : (finds : List ℕ → Bool) → Tells finds cells →
-      NoneFound finds (ended_lines (take (to - from) (drop from block)))

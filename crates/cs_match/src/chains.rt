@@ -2,8 +2,8 @@
 // patterns. `specs/Chains.antt` says what a run comes to, and what a table has to tell.
 ghost use Rattle.std.specs.Prelude.{◌≡◌, ◌≤◌, ◌<◌, ◌+◌, ◌-◌, ◌∷◌, ℕ, Bool, List, [], map, true, length, slice_index, take, drop};
 ghost use Rattle.cs_match.specs.Lines.{newline, ended_lines, IsPart};
-ghost use Rattle.cs_match.specs.Skipping.{AreWhole, NoneFound};
-ghost use Rattle.cs_match.specs.Chains.{after, first_noisy, IsQuiet, Tells, ArePassed};
+ghost use Rattle.cs_match.specs.Skipping.{AreWhole, NoneFound, ArePassed};
+ghost use Rattle.cs_match.specs.Chains.{after, first_noisy, Tells};
 
 use memchr::memchr;
 
@@ -113,7 +113,7 @@ fn pass_group(cells: &[u16], block: &[u8], from: usize) -> Passed
     requires full { length cells.now ≡ 65536 }
     requires within { from ≤ length block.now }
     requires whole { AreWhole (drop from block.now) }
-    ensures passed { ArePassed cells.now block.now from result.to }
+    ensures passed { ArePassed (λ finds. Tells finds cells.now) block.now from result.to }
     ensures moves { result.all ≡ true → from < length block.now → from < result.to }
 {
     let a = cut(block, from);

@@ -1,13 +1,14 @@
 -- Runs over a table of cells, and the lines that quiet runs pass.
-use Rattle.std.proofs.Common.{◌≡◌, ℕ, zero, suc, ◌+◌, ◌-◌, ◌<◌, ◌≤◌, Bool, true, false, nat_eq, List, [], ◌∷◌, ◌++◌, take, drop, length, get_or, map, bit_or, Fits, w8, w16, refl, ap, sym, subst, ◌∙◌, arith, append_assoc, inl, inr}
-use Rattle.std.proofs.lemmas.List.{take_more, take_rest, append-nil}
+use Rattle.std.proofs.Common.{◌≡◌, ℕ, zero, suc, ◌+◌, ◌-◌, ◌<◌, ◌≤◌, Bool, true, false, nat_eq, List, [], ◌∷◌, ◌++◌, take, drop, length, get_or, map, bit_or, Fits, w8, w16, refl, ap, sym, subst, ◌∙◌, arith, append_assoc, length-take, inl, inr}
+use Rattle.std.proofs.lemmas.List.{take_more, take-take, take_rest, append-nil}
 use Rattle.std.proofs.lemmas.List.Elements.{All-nil, All-cons, All-head, All-tail, All-append, All-take, All-drop, All-from_get_or}
 use Rattle.std.proofs.lemmas.Nat.{le_or_l, or_of_16}
 use Rattle.std.proofs.lemmas.Bool.{eqb-true, cases_lt}
+use Rattle.std.specs.Prelude.{IsTrue, ◌↔◌}
 use Rattle.cs_match.specs.Lines.{newline, ended_lines, IsPart}
 use Rattle.cs_match.specs.Skipping.{AreWhole, NoneFound, ArePassed}
 use Rattle.cs_match.specs.Chains.{after, first_noisy, IsQuiet, AreBytes, Absorbs, Tells}
-use Rattle.cs_match.proofs.LinesLemmas.{ended_lines-part, ended_lines-line, IsPart-append, whole_between, none_between}
+use Rattle.cs_match.proofs.LinesLemmas.{ended_lines-part, ended_lines-line, IsPart-append, whole_between, none_between, whole_line, ended_line}
 
 abbrev IsByte : ℕ → Type 0
 IsByte b = b < 256
@@ -42,7 +43,7 @@ pub after_more : (cells : List ℕ) (row : ℕ) (text : List ℕ) (i : ℕ) → 
 unfolding after
 after_more cells row text i l = ap (after cells row) (take_more text i 0 l) ∙ after_append cells row (take i text) (get_or text i 0 ∷ [])
 
-module _ (cells : List ℕ) (fits : (at : ℕ) → Fits w16 (get_or cells at 0)) (absorbs : Absorbs cells) where
+module _ (cells : List ℕ) (fits : (at : ℕ) → at < 65536 → get_or cells at 0 < 65536) (absorbs : Absorbs cells) where
   -- a run does not come back from the two rows
   pub stays_noisy : (row : ℕ) (text : List ℕ) → first_noisy ≤ row → row < 65536 → AreBytes text → first_noisy ≤ after cells row text
   unfolding after
@@ -51,7 +52,7 @@ module _ (cells : List ℕ) (fits : (at : ℕ) → Fits w16 (get_or cells at 0))
       let byte : b < 256 = All-head IsByte b text bytes in
       let at : bit_or row b < 65536 = or_of_16 row b (omega arith) (omega arith) in
       let up : first_noisy ≤ bit_or row b = omega (arith, le_or_l row b) in
-      stays_noisy (get_or cells (bit_or row b) 0) text (absorbs (bit_or row b) up at) (omega (arith, fits (bit_or row b))) (All-tail IsByte b text bytes)
+      stays_noisy (get_or cells (bit_or row b) 0) text (absorbs (bit_or row b) up at) (fits (bit_or row b) at) (All-tail IsByte b text bytes)
 
 module _ (finds : List ℕ → Bool) (cells : List ℕ) (fits : (at : ℕ) → Fits w16 (get_or cells at 0)) (tells : Tells finds cells) where
   -- a run that is quiet behind the end of a line was quiet there
@@ -64,7 +65,7 @@ module _ (finds : List ℕ → Bool) (cells : List ℕ) (fits : (at : ℕ) → F
         | inl low ↦ low
         | inr noisy ↦
             let small : after cells 0 (part ++ newline ∷ []) < 65536 = omega (arith, is, fits (bit_or row newline)) in
-            let high = stays_noisy cells fits tells.absorbs (after cells 0 (part ++ newline ∷ [])) text noisy small bytes in
+            let high = stays_noisy cells (λ at _. omega (arith, fits at)) tells.absorbs (after cells 0 (part ++ newline ∷ [])) text noisy small bytes in
             omega (arith, high, quiet)
       ]
 
@@ -109,6 +110,11 @@ module _ (finds : List ℕ → Bool) (cells : List ℕ) (fits : (at : ℕ) → F
   unfolding after
   none_in_quiet text bytes quiet = none_behind text [] tt (All-nil IsByte) bytes quiet
 
+-- where one test is false, so is another that tells the same
+pub not_found : {P : Type 0} (a b : Bool) → IsTrue a ↔ P → IsTrue b ↔ P → a ≡ false → b ≡ false
+not_found a true p q missed = sym (p.1 (q.0 refl)) ∙ missed
+not_found a false p q missed = refl
+
 -- what is passed in nothing, and in two steps
 module _ (IsKind : (List ℕ → Bool) → Type 0) (block : List ℕ) where
   pub passed_none : (from : ℕ) → from ≤ length block → ArePassed IsKind block from from
@@ -129,6 +135,37 @@ module _ (IsKind : (List ℕ → Bool) → Type 0) (block : List ℕ) where
     whole = whole_between block from middle to p.low q.low p.whole q.whole;
     none = λ finds is. none_between finds block from middle to p.low q.low p.whole (p.none finds is) (q.none finds is);
   }
+
+  -- a line in which nothing is found
+  pub passed_line : (at end : ℕ) → at ≤ end → end < length block → IsPart (take (end - at) (drop at block)) → drop end block ≡ newline ∷ drop (end + 1) block → ((finds : List ℕ → Bool) → IsKind finds → finds (take (end - at) (drop at block)) ≡ false) → ArePassed IsKind block at (end + 1)
+  passed_line at end low high part here miss = record {
+    low = omega arith;
+    high = omega arith;
+    whole = whole_line block at end low here;
+    none = λ finds is.
+        subst (NoneFound finds) (sym (ended_line block at end low part here))
+        (All-cons (λ line. finds line ≡ false) (take (end - at) (drop at block)) [] (miss finds is) (All-nil (λ line. finds line ≡ false)));
+  }
+
+  -- what is passed in a part of the block
+  pub passed_within : (from end to : ℕ) → from ≤ end → end ≤ length block → ArePassed IsKind (take (end - from) (drop from block)) 0 to → ArePassed IsKind block from (from + to)
+  passed_within from end to low high p =
+      let part = take (end - from) (drop from block) in
+      let size : to ≤ end - from = omega (arith, p.high, length-take (end - from) (drop from block)) in
+      let is : take (to - 0) part ≡ take (from + to - from) (drop from block) =
+          ap (λ n. take n part) (zero_less to) ∙ take-take to (end - from) (drop from block) size ∙ ap (λ n. take n (drop from block)) (back from to) in
+      record {
+        low = omega arith;
+        high = omega (arith, size, low, high);
+        whole = subst AreWhole is p.whole;
+        none = λ finds kind. subst (λ text. NoneFound finds (ended_lines text)) is (p.none finds kind);
+      }
+    where
+      zero_less : (n : ℕ) → n - 0 ≡ n
+      zero_less n = omega arith
+
+      back : (m n : ℕ) → n ≡ m + n - m
+      back m n = omega arith
 
 -- the parts of a block between places
 module _ (block : List ℕ) where
@@ -159,3 +196,23 @@ module _ (cells block : List ℕ) (fits : (at : ℕ) → Fits w16 (get_or cells 
       passed_append (λ finds. Tells finds cells) block from to (get_or (to ∷ ends) n 0)
       (quiet_part from to cuts.0.0 cuts.0.1 cuts.0.2 (quiet 0 (omega arith)))
       (passed_parts to ends n cuts.0.1 cuts.1 (omega arith) (λ k low. quiet (suc k) (omega arith)))
+
+-- cells of which none is known
+module _ (cells : List ℕ) (row : ℕ) (noisy : first_noisy ≤ row) (low : row < 65536) (all : (at : ℕ) → at < 65536 → get_or cells at 0 ≡ row) where
+  begun : (b : ℕ) (text : List ℕ) → b < 256 → AreBytes text → first_noisy ≤ after cells 0 (b ∷ text)
+  unfolding after
+  begun b text byte bytes =
+      let at : bit_or 0 b < 65536 = or_of_16 0 b (omega arith) (omega arith) in
+      let is : get_or cells (bit_or 0 b) 0 ≡ row = all (bit_or 0 b) at in
+      stays_noisy cells (λ i within. omega (arith, all i within, low)) (λ i _ within. omega (arith, noisy, all i within)) (get_or cells (bit_or 0 b) 0) text (omega (arith, noisy, is)) (omega (arith, low, is)) bytes
+
+  noisy_run : (line : List ℕ) → AreBytes line → first_noisy ≤ after cells 0 (line ++ newline ∷ [])
+  noisy_run [] bytes = begun newline [] (omega arith) (All-nil IsByte)
+  noisy_run (b ∷ line) bytes = begun b (line ++ newline ∷ []) (All-head IsByte b line bytes) (All-append IsByte line (newline ∷ []) (All-tail IsByte b line bytes) (All-cons IsByte newline [] (omega arith) (All-nil IsByte)))
+
+  pub unknown_tells : (finds : List ℕ → Bool) → Tells finds cells
+  unknown_tells finds = record {
+    absorbs = λ at _ within. omega (arith, noisy, all at within);
+    back = λ line bytes _ quiet. let no : ⊥ = omega (arith, noisy_run line bytes, quiet) in absurd no;
+    none = λ line bytes _ quiet. let no : ⊥ = omega (arith, noisy_run line bytes, quiet) in absurd no;
+  }

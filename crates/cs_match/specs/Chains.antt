@@ -1,7 +1,9 @@
 -- Runs over a table of cells. A row is 256 cells, one for each byte, and goes by the place of its first cell. A run
 -- stands in a row, and the cell of the next byte is the row that it goes on in. At the start of a line it stands in
 -- row 0.
-use Rattle.std.specs.Prelude.{ℕ, ◌≡◌, ◌<◌, ◌≤◌, Bool, false, List, [], ◌∷◌, ◌++◌, All, slice_index, bit_or}
+use Rattle.std.specs.Prelude.{ℕ, ◌≡◌, ◌<◌, ◌≤◌, Bool, false, List, [], ◌∷◌, ◌++◌, All, length, slice_index, bit_or}
+use Rattle.cs_syntax.specs.Matching.{Tree}
+use Rattle.cs_match.specs.Finding.{Decides}
 use Rattle.cs_match.specs.Lines.{newline, IsPart}
 
 -- the row that a run over the text comes to from a row
@@ -32,3 +34,8 @@ pub record Tells (finds : List ℕ → Bool) (cells : List ℕ) : Type 0 where
       after cells 0 (line ++ newline ∷ []) ≡ 0
   pub none : (line : List ℕ) → AreBytes line → IsPart line → IsQuiet cells (line ++ newline ∷ []) →
       finds line ≡ false
+
+-- a whole table of cells, that tells of each line where the tree finds nothing in it
+pub record IsTable (tree : Tree) (cells : List ℕ) : Type 0 where
+  pub full : length cells ≡ 65536
+  pub tells : (finds : List ℕ → Bool) → Decides finds tree → Tells finds cells

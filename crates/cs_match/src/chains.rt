@@ -10,8 +10,14 @@ use memchr::memchr;
 /// From this row on, a row is no set of places: something is found, or nothing is known.
 const FIRST_NOISY: u16 = 0xFE00;
 
+/// The row of a line of which nothing is known.
+pub(crate) const UNKNOWN: u16 = 0xFF00;
+
 /// How many bytes a part has at least, where there are as many.
 const PART: usize = 512;
+
+/// How many bytes a group of six parts has at least.
+pub(crate) const GROUP: usize = 3072;
 
 /// The row that a run over the text comes to.
 #[tactic(auto, using(crate::proofs::ChainLemmas::after_more, crate::proofs::ChainLemmas::after_all), unfolding(crate::specs::Chains::after))]

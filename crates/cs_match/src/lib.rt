@@ -9,6 +9,7 @@ mod chains;
 mod compiler;
 pub mod laws;
 mod matcher;
+mod pause;
 mod program;
 mod walk;
 

@@ -1,10 +1,15 @@
 // Matchers: programs with the room that their runs write in.
-ghost use Rattle.std.specs.Prelude.{◌≡◌, ◌↔◌, IsTrue, IfOk, true, length};
+ghost use Rattle.std.specs.Prelude.{◌≡◌, ◌≤◌, ◌-◌, ◌↔◌, ℕ, Bool, List, IsTrue, IfOk, true, length, take, drop};
 ghost use Rattle.cs_syntax.specs.Matching.{Found};
 ghost use Rattle.cs_syntax.specs.Node.{tree_of};
+ghost use Rattle.cs_match.specs.Finding.{Decides};
+ghost use Rattle.cs_match.specs.Lines.{ended_lines};
+ghost use Rattle.cs_match.specs.Skipping.{AreWhole, NoneFound, ArePassed};
 ghost use Rattle.cs_match.specs.Places.{places, IsLooped};
 
 use crate::around::around_at;
+use crate::chains::{GROUP, UNKNOWN, cut, line_end, pass_quiet};
+use crate::pause::Pause;
 use crate::program::Program;
 use crate::walk::{exit, pass};
 use cs_syntax::Node;
@@ -16,6 +21,8 @@ use std::marker::Model;
 pub struct Matcher<'a> {
     program: &'a Program,
     marks: Vec<bool>,
+    cells: Vec<u16>,
+    pause: Pause,
 }
 
 impl<'a> Model for Matcher<'a> {
@@ -31,7 +38,10 @@ impl<'a> Model for Matcher<'a> {
 
     ghost view = { λ matcher. matcher.program.now };
 
-    ghost invariant = { λ matcher. vec_len matcher.marks ≡ places matcher.program.now };
+    ghost use Rattle.cs_match.specs.Chains.{IsTable};
+
+    ghost invariant = { λ matcher. (vec_len matcher.marks ≡ places matcher.program.now)
+        × IsTable matcher.program.now matcher.cells.items };
 }
 
 impl<'a> Matcher<'a> {
@@ -40,7 +50,13 @@ impl<'a> Matcher<'a> {
         ensures { IfOk result (λ matcher. matcher ≡ program.now) }
     {
         let marks = vec![in alloc; false; program.places()]?;
-        Ok(Matcher { program, marks })
+        let cells = vec![in alloc; UNKNOWN; 65536]?;
+        Ok(Matcher {
+            program,
+            marks,
+            cells,
+            pause: Pause::new(),
+        })
     }
 
     /// Whether the program takes some part of the line, whatever lines were asked before. It takes
@@ -50,6 +66,79 @@ impl<'a> Matcher<'a> {
         ensures same { self.new ≡ self.old }
     {
         search(self.program.root(), &mut self.marks, line)
+    }
+
+    /// A line's start from `from` on, such that nothing is found in the lines before it. The block is whole lines.
+    pub fn skip(&mut self, block: &[u8], from: usize) -> usize
+        requires within { from ≤ length block.now }
+        requires whole { AreWhole (drop from block.now) }
+        ensures low { from ≤ result }
+        ensures high { result ≤ length block.now }
+        ensures whole { AreWhole (take (result - from) (drop from block.now)) }
+        ensures none { (finds : List ℕ → Bool) → Decides finds self.old →
+            NoneFound finds (ended_lines (take (result - from) (drop from block.now))) }
+        ensures same { self.new ≡ self.old }
+    {
+        if self.pauses() {
+            return from;
+        }
+        let mut at = from;
+        'parts: while at < block.len() {
+            let noisy = self.pass_quiet(block, at);
+            let end = cut(block, noisy);
+            let hit = noisy + self.first_hit(&block[noisy..end]);
+            self.note(noisy - at, hit < end);
+            if hit < end {
+                return hit;
+            }
+            at = end;
+        }
+        at
+    }
+
+    /// Passes parts by the cells that are known.
+    fn pass_quiet(&self, block: &[u8], from: usize) -> usize
+        requires within { from ≤ length block.now }
+        requires whole { AreWhole (drop from block.now) }
+        ensures { ArePassed (λ finds. Decides finds self.now) block.now from result }
+    {
+        pass_quiet(&self.cells, block, from)
+    }
+
+    /// The start of the first line of a part in which something is found, or the part's end.
+    fn first_hit(&mut self, part: &[u8]) -> usize
+        requires { AreWhole part.now }
+        ensures passed { ArePassed (λ finds. Decides finds self.old) part.now 0 result }
+        ensures same { self.new ≡ self.old }
+    {
+        let mut at = 0;
+        'lines: while at < part.len() {
+            let end = line_end(part, at);
+            if self.is_match(&part[at..end]) {
+                return at;
+            }
+            at = end + 1;
+        }
+        at
+    }
+
+    /// Whether this call is not worth the chains.
+    fn pauses(&mut self) -> bool
+        ensures { self.new ≡ self.old }
+    {
+        self.pause.takes_one()
+    }
+
+    /// Notes how many bytes were quiet before a part, and whether something was found in the part.
+    fn note(&mut self, quiet: usize, found: bool)
+        ensures { self.new ≡ self.old }
+    {
+        if quiet >= GROUP {
+            self.pause.forget();
+        }
+        if found {
+            self.pause.begin();
+        }
     }
 }
 

@@ -1,4 +1,4 @@
-use Rattle.std.proofs.Common.{◌≤◌, ◌+◌, length, arith}
+use Rattle.std.proofs.Common.{◌+◌, length, arith}
 use Rattle.cs_match.proofs.LinesLemmas.{whole_from, whole_line}
 use Rattle.cs_match.proofs.chains.cut.Goals as goal
 

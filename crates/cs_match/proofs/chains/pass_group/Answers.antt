@@ -1,4 +1,4 @@
-use Rattle.std.proofs.Common.{◌≡◌, ◌<◌, ℕ, [], ◌∷◌, get_or, subst, arith}
+use Rattle.std.proofs.Common.{◌<◌, [], ◌∷◌, get_or, subst, arith}
 use Rattle.cs_match.specs.Chains.{first_noisy}
 use Rattle.cs_match.proofs.ChainLemmas.{passed_parts}
 use Rattle.cs_match.proofs.chains.pass_group.Goals as goal

@@ -1,6 +1,6 @@
 -- Rows and cells stay right where a cell is written, a row is added, or all is forgotten.
-use Rattle.std.proofs.Common.{true, ◌≡◌, ℕ, ◌+◌, ◌*◌, ◌/◌, ◌<◌, ◌≤◌, inl, inr, false, List, length, set, sym, ◌∙◌, ap, subst, arith, get_or, get_or-set_same, get_or-set_other}
-use Rattle.std.specs.Prelude.{replicate, if◌then◌else◌}
+use Rattle.std.proofs.Common.{true, ◌≡◌, ℕ, ◌+◌, ◌*◌, ◌/◌, ◌<◌, ◌≤◌, inl, inr, false, List, length, set, sym, ◌∙◌, ap, subst, arith, get_or, get_or-set_same, get_or-set_other, refl}
+use Rattle.std.specs.Prelude.{◌≢◌, replicate, if◌then◌else◌}
 use Rattle.std.proofs.Math.ListN.{length-set}
 use Rattle.std.proofs.lemmas.Bool.{cases_eq, cases_lt, eq-eqb, ne_eqb}
 use Rattle.std.proofs.lemmas.Nat.{or_shifted}
@@ -51,10 +51,15 @@ module _ (t : Tree) (rows : List Standing) (used : ℕ) (cells : List ℕ) (give
 
 -- a row is found for the standing that follows
 pub tells_next : (t u : Tree) (rows : List Standing) (used number : ℕ) (n m k : Standing) (b : ℕ) → u ≡ t → m ≡ n →
-    is_left_before t n b ≡ false → k ≡ after t n b → IsRow u rows used number k → Tells u rows used m b number
-tells_next t u rows used number n m k b e f h is row =
+    b ≢ 10 → is_left_before t n b ≡ false → k ≡ after t n b → IsRow u rows used number k → Tells u rows used m b number
+tells_next t u rows used number n m k b e f other h is row =
     next (ap (λ x. is_left_before x m b) e ∙ ap (λ x. is_left_before t x b) f ∙ h)
     (subst (λ (x : Standing). IsRow u rows used number x) (is ∙ ap (λ x. after t x b) (sym f) ∙ ap (λ x. after x m b) (sym e)) row)
+    (λ line. absurd (other line))
+
+-- behind the newline the first row follows
+pub tells_line : (t : Tree) (rows : List Standing) (used : ℕ) (n : Standing) → AreRows t rows used → is_left_before t n 10 ≡ false → Tells t rows used n 10 0
+tells_line t rows used n given h = next h (record { whole = refl; in_use = omega (arith, given.some); same = given.first }) (λ line. refl)
 
 same_everywhere : (n k : ℕ) (x : Standing) → get_or (replicate n x) k x ≡ x
 same_everywhere n k x =
@@ -73,12 +78,12 @@ known_tells t rows used row b cell (known lt told) other = told
 pub told_found : (t : Tree) (rows : List Standing) (used b number : ℕ) (n : Standing) → used ≤ 254 → Tells t rows used n b number → number ≡ found_number →
     is_left_before t n b ≡ true
 told_found t rows used b number n few (found is h) e = h
-told_found t rows used b number n few (next h row) e = absurd (omega (arith, row_stays t rows used number (after t n b) few row))
+told_found t rows used b number n few (next h row line) e = absurd (omega (arith, row_stays t rows used number (after t n b) few row))
 
 pub told_next : (t : Tree) (rows : List Standing) (used b number : ℕ) (n : Standing) → Tells t rows used n b number → (number ≡ found_number → ⊥) →
     (is_left_before t n b ≡ false) × IsRow t rows used number (after t n b)
 told_next t rows used b number n (found is h) e = absurd (e is)
-told_next t rows used b number n (next h row) e = (h, row)
+told_next t rows used b number n (next h row line) e = (h, row)
 
 -- at first each row is at the start of a line
 pub new_rows : (t : Tree) (rows : List Standing) → rows ≡ replicate 254 (start (places t)) → AreRows t rows 1

@@ -26,10 +26,11 @@ pub record IsRow (t : Tree) (rows : List Standing) (used number : ℕ) (standing
   pub same : standing_of t rows number ≡ standing
 
 -- what a number says of a standing and the byte b that follows: the tree can be left before it; or it cannot, and this
--- is the row of the standing after it
+-- is the row of the standing after it, which is the first row behind a newline
 pub data Tells (t : Tree) (rows : List Standing) (used : ℕ) (standing : Standing) (b number : ℕ) : Type 0 where
   found : number ≡ found_number → is_left_before t standing b ≡ true → Tells t rows used standing b number
-  next : is_left_before t standing b ≡ false → IsRow t rows used number (after t standing b) → Tells t rows used standing b number
+  next : is_left_before t standing b ≡ false → IsRow t rows used number (after t standing b) →
+      (b ≡ 10 → number ≡ 0) → Tells t rows used standing b number
 
 -- a cell of a row tells of its standing and its byte, or is unknown
 pub data IsCell (t : Tree) (rows : List Standing) (used row b cell : ℕ) : Type 0 where

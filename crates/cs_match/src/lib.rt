@@ -5,10 +5,12 @@
 #![tactic(auto)]
 
 mod around;
+mod chains;
 mod compiler;
 pub mod laws;
 mod marks;
 mod matcher;
+mod pause;
 mod program;
 mod standing;
 mod table;

@@ -1,7 +1,12 @@
-// Matchers: programs with the room that their runs write in.
-ghost use Rattle.std.specs.Prelude.{◌≡◌, ◌↔◌, IsTrue, IfOk};
+// Matchers: programs with what their runs remember.
+ghost use Rattle.std.specs.Prelude.{◌≡◌, ◌≤◌, ◌-◌, ◌↔◌, ℕ, Bool, List, IsTrue, IfOk, length, take, drop};
 ghost use Rattle.cs_syntax.specs.Matching.{Found};
+ghost use Rattle.cs_match.specs.Finding.{Decides};
+ghost use Rattle.cs_match.specs.Lines.{ended_lines};
+ghost use Rattle.cs_match.specs.Skipping.{AreWhole, NoneFound, ArePassed};
 
+use crate::chains::{GROUP, cut, line_end, pass_quiet};
+use crate::pause::Pause;
 use crate::program::Program;
 use crate::table::Table;
 use memchr::memchr;
@@ -12,6 +17,7 @@ use std::marker::Model;
 #[derive(Drop)]
 pub struct Matcher<'a> {
     table: Table<'a>,
+    pause: Pause,
 }
 
 impl<'a> Model for Matcher<'a> {
@@ -35,7 +41,10 @@ impl<'a> Matcher<'a> {
         ensures { IfOk result (λ matcher. matcher ≡ program.now) }
     {
         let table = Table::new(alloc, program)?;
-        Ok(Matcher { table })
+        Ok(Matcher {
+            table,
+            pause: Pause::new(),
+        })
     }
 
     /// Whether the program takes some part of the line, whatever lines were asked before. It takes
@@ -48,6 +57,78 @@ impl<'a> Matcher<'a> {
         match memchr(b'\n', line) {
             Some(_) => self.table.search(line),
             None => self.table.is_match(line),
+        }
+    }
+    /// A line's start from `from` on, such that nothing is found in the lines before it. The block is whole lines.
+    pub fn skip(&mut self, block: &[u8], from: usize) -> usize
+        requires within { from ≤ length block.now }
+        requires whole { AreWhole (drop from block.now) }
+        ensures low { from ≤ result }
+        ensures high { result ≤ length block.now }
+        ensures whole { AreWhole (take (result - from) (drop from block.now)) }
+        ensures none { (finds : List ℕ → Bool) → Decides finds self.old →
+            NoneFound finds (ended_lines (take (result - from) (drop from block.now))) }
+        ensures same { self.new ≡ self.old }
+    {
+        if self.pauses() {
+            return from;
+        }
+        let mut at = from;
+        'parts: while at < block.len() {
+            let noisy = self.pass_quiet(block, at);
+            let end = cut(block, noisy);
+            let hit = noisy + self.first_hit(&block[noisy..end]);
+            self.note(noisy - at, hit < end);
+            if hit < end {
+                return hit;
+            }
+            at = end;
+        }
+        at
+    }
+
+    /// Passes parts by the cells that are known.
+    fn pass_quiet(&self, block: &[u8], from: usize) -> usize
+        requires within { from ≤ length block.now }
+        requires whole { AreWhole (drop from block.now) }
+        ensures { ArePassed (λ finds. Decides finds self.now) block.now from result }
+    {
+        pass_quiet(&self.table.cells, block, from)
+    }
+
+    /// The start of the first line of a part in which something is found, or the part's end.
+    fn first_hit(&mut self, part: &[u8]) -> usize
+        requires { AreWhole part.now }
+        ensures passed { ArePassed (λ finds. Decides finds self.old) part.now 0 result }
+        ensures same { self.new ≡ self.old }
+    {
+        let mut at = 0;
+        'lines: while at < part.len() {
+            let end = line_end(part, at);
+            if self.is_match(&part[at..end]) {
+                return at;
+            }
+            at = end + 1;
+        }
+        at
+    }
+
+    /// Whether this call is not worth the chains.
+    fn pauses(&mut self) -> bool
+        ensures { self.new ≡ self.old }
+    {
+        self.pause.takes_one()
+    }
+
+    /// Notes how many bytes were quiet before a part, and whether something was found in the part.
+    fn note(&mut self, quiet: usize, found: bool)
+        ensures { self.new ≡ self.old }
+    {
+        if quiet >= GROUP {
+            self.pause.forget();
+        }
+        if found {
+            self.pause.begin();
         }
     }
 }

@@ -1,5 +1,5 @@
 // Remembered standings, and the next one for each byte.
-ghost use Rattle.std.specs.Prelude.{◌≡◌, ◌↔◌, ◌+◌, ◌<◌, ◌≤◌, ◌*◌, ◌/◌, ℕ, IfOk, IsTrue, MatchOption, EachIndex, length, vec_len, replicate, slice_index, slice_index_or, slice_set, true, false};
+ghost use Rattle.std.specs.Prelude.{◌≡◌, ◌≢◌, ◌↔◌, ◌+◌, ◌<◌, ◌≤◌, ◌*◌, ◌/◌, ℕ, IfOk, IsTrue, MatchOption, EachIndex, length, vec_len, replicate, slice_index, slice_index_or, slice_set, true, false};
 ghost use Rattle.cs_syntax.specs.Node.{tree_of};
 ghost use Rattle.cs_syntax.specs.Matching.{Found};
 ghost use Rattle.cs_match.specs.Places.{places, repeats, IsLooped};
@@ -195,13 +195,18 @@ impl<'a> Table<'a> {
             self.put(from, byte, FOUND);
             return FOUND;
         }
+        if byte == b'\n' {
+            self.put(from, byte, 0);
+            return 0;
+        }
         self.next_row(from, byte)
     }
 
-    /// The row of what a run has come to from a row over a byte, before which the tree could not be left.
+    /// The row of what a run has come to from a row over a byte of a line, before which the tree could not be left.
     fn next_row(&mut self, from: u16, byte: u8) -> u16
         requires right { IsRight self.old }
         requires row { HasRow self.old from (standing_in self.old from) }
+        requires within { byte ≢ 10 }
         requires stays { is_left_before (tree_in self.old) (standing_in self.old from) byte ≡ false }
         requires now { self.old.now ≡ after (tree_in self.old) (standing_in self.old from) byte }
         ensures told { Tells self.new (standing_in self.old from) byte result }

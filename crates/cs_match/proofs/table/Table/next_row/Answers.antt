@@ -10,7 +10,7 @@ put-requires-2-clause-told c =
     let new = c.add-next.new.self in
     let kept = c.add-next.ensures.kept c.args.from (standing_in old c.args.from) c.requires.row in
     tells_next (tree_in old) (tree_in new) new.rows.items new.used c.add-next.result (standing_in old c.args.from) (standing_in new c.args.from) old.now c.args.byte
-    c.add-next.ensures.same kept.same c.requires.stays c.requires.now c.add-next.ensures.row
+    c.add-next.ensures.same kept.same c.requires.within c.requires.stays c.requires.now c.add-next.ensures.row
 
 pub returns-clause-told : goal.returns-clause-told
 returns-clause-told c =

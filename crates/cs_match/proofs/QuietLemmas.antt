@@ -1,0 +1,122 @@
+-- Where a run over a line by the cells of a table is quiet, nothing is found in the line.
+use Rattle.std.proofs.Common.{◌≡◌, ℕ, zero, suc, ◌+◌, ◌-◌, ◌/◌, ◌<◌, ◌≤◌, Bool, true, false, List, [], ◌∷◌, ◌++◌, take, length, get_or, refl, sym, ap, subst, ◌∙◌, arith, inl, inr}
+use Rattle.std.specs.Prelude.{IsTrue, ◌↔◌, bit_or, slice_index, ◌≢◌}
+use Rattle.std.proofs.lemmas.Bool.{both_ways, cases_lt, eqb-false}
+use Rattle.std.proofs.lemmas.List.Elements.{All-nil, All-cons, All-head, All-tail, All-append}
+use Rattle.cs_syntax.specs.Matching.{Tree, Found}
+use Rattle.cs_match.specs.declared.standing.Standing.{Standing}
+use Rattle.cs_match.specs.Finding.{Decides}
+use Rattle.cs_match.specs.Lines.{newline, IsPart}
+use Rattle.cs_match.specs.Places.{places, exit_at, IsLooped}
+use Rattle.cs_match.specs.Standings.{start, moved, moved_all, after, is_left_before}
+use Rattle.cs_match.specs.Table.{found_number, unknown_number, IsRow, found, next, IsCell, unknown, known, AreRows, AreCells}
+use Rattle.cs_match.specs.Chains.{row_after, first_noisy, Absorbs, AreBytes, TellsLines}
+use Rattle.cs_match.proofs.TableLemmas.{cell_place}
+use Rattle.cs_match.proofs.StandingLemmas.{left_in_line, left_at_end}
+use Rattle.cs_match.proofs.MarksLemmas.{found_where_left}
+
+abbrev IsByte : ℕ → Type 0
+IsByte b = b < 256
+
+-- the tree cannot be left before any byte of the line, nor at its end
+abbrev NeverLeft : Tree → Standing → List ℕ → Type 0
+NeverLeft t n [] = is_left_before t n newline ≡ false
+NeverLeft t n (b ∷ line) = (is_left_before t n b ≡ false) × NeverLeft t (moved t n b) line
+
+never_at : (t : Tree) (n : Standing) (line : List ℕ) → NeverLeft t n line → (i : ℕ) → i < length line → is_left_before t (moved_all t n (take i line)) (slice_index line i) ≡ false
+never_at t n [] never i low = absurd (omega arith)
+never_at t n (b ∷ line) never zero low = never.0
+never_at t n (b ∷ line) never (suc i) low = never_at t (moved t n b) line never.1 i (omega arith)
+
+never_ends : (t : Tree) (n : Standing) (line : List ℕ) → NeverLeft t n line → is_left_before t (moved_all t n line) newline ≡ false
+never_ends t n [] never = never
+never_ends t n (b ∷ line) never = never_ends t (moved t n b) line never.1
+
+part_at : (line : List ℕ) → IsPart line → (i : ℕ) → i < length line → slice_index line i ≢ newline
+part_at [] part i low = absurd (omega arith)
+part_at (b ∷ line) part zero low = eqb-false b newline part.0
+part_at (b ∷ line) part (suc i) low = part_at line part.1 i (omega arith)
+
+never_found : (t : Tree) (line : List ℕ) → IsLooped t → IsPart line → NeverLeft t (start (places t)) line → Found t line → ⊥
+never_found t line looped part never found_it =
+    let w = (found_where_left t line looped).0 found_it in
+    elim (cases_lt w.0 (length line)) [
+      | inl low ↦ both_ways (exit_at line t (λ _. true) w.0) (sym (left_in_line t line w.0 low (part_at line part w.0 low)) ∙ never_at t (start (places t)) line never w.0 low) w.2
+      | inr high ↦
+          let e : length line ≡ w.0 = omega (arith, w.1) in
+          both_ways (exit_at line t (λ _. true) (length line)) (sym (left_at_end t line) ∙ never_ends t (start (places t)) line never) (ap (exit_at line t (λ _. true)) e ∙ w.2)
+    ]
+
+is_false : {P : Type 0} (b : Bool) → IsTrue b ↔ P → (P → ⊥) → b ≡ false
+is_false true h never = absurd (never (h.0 refl))
+is_false false h never = refl
+
+module _ (t : Tree) (rows : List Standing) (used : ℕ) (cells : List ℕ) (few : used ≤ 254) (given : AreCells t rows used cells) where
+  -- the two numbers that no row has lead back to themselves
+  from_found : (text : List ℕ) → AreBytes text → row_after cells found_number text ≡ found_number
+  unfolding row_after
+  from_found [] bytes = refl
+  from_found (b ∷ text) bytes =
+      let byte = All-head IsByte b text bytes in
+      ap (λ row. row_after cells row text) (ap (λ k. get_or cells k 0) (cell_place found_number b refl byte) ∙ given.found b byte)
+      ∙ from_found text (All-tail IsByte b text bytes)
+
+  from_unknown : (text : List ℕ) → AreBytes text → row_after cells unknown_number text ≡ unknown_number
+  unfolding row_after
+  from_unknown [] bytes = refl
+  from_unknown (b ∷ text) bytes =
+      let byte = All-head IsByte b text bytes in
+      ap (λ row. row_after cells row text) (ap (λ k. get_or cells k 0) (cell_place unknown_number b refl byte) ∙ given.unknown b byte)
+      ∙ from_unknown text (All-tail IsByte b text bytes)
+
+  pub absorbs : Absorbs cells
+  absorbs at low high =
+      elim (cases_lt at unknown_number) [
+        | inl less ↦
+            let e : found_number + (at - found_number) ≡ at = omega arith in
+            let is = sym (ap (λ k. get_or cells k 0) e) ∙ given.found (at - found_number) (omega arith) in omega (arith, is)
+        | inr more ↦
+            let e : unknown_number + (at - unknown_number) ≡ at = omega arith in
+            let is = sym (ap (λ k. get_or cells k 0) e) ∙ given.unknown (at - unknown_number) (omega arith) in omega (arith, is)
+      ]
+
+  -- what a cell tells, where the run over the rest of the text is quiet
+  told_here : (n : Standing) (b cell : ℕ) (text : List ℕ) → AreBytes text → (row : ℕ) → get_or rows row (start (places t)) ≡ n → IsCell t rows used row b cell → row_after cells cell text < first_noisy →
+      (is_left_before t n b ≡ false) × IsRow t rows used cell (after t n b) × (b ≡ 10 → cell ≡ 0)
+  told_here n b cell text bytes row same (unknown is) quiet = absurd (omega (arith, quiet, ap (λ c. row_after cells c text) is ∙ from_unknown text bytes))
+  told_here n b cell text bytes row same (known low (found is h)) quiet = absurd (omega (arith, quiet, ap (λ c. row_after cells c text) is ∙ from_found text bytes))
+  told_here n b cell text bytes row same (known low (next h there line)) quiet =
+      (sym (ap (λ m. is_left_before t m b) same) ∙ h, subst (λ (m : Standing). IsRow t rows used cell (after t m b)) same there, line)
+
+  quiet_step : (n : Standing) (number b : ℕ) (text : List ℕ) → b < 256 → AreBytes text → IsRow t rows used number n → row_after cells (get_or cells (bit_or number b) 0) text < first_noisy →
+      (is_left_before t n b ≡ false) × IsRow t rows used (get_or cells (bit_or number b) 0) (after t n b) × (b ≡ 10 → get_or cells (bit_or number b) 0 ≡ 0)
+  quiet_step n number b text byte bytes row quiet =
+      let place = cell_place number b row.whole byte in
+      let right : IsCell t rows used (number / 256) b (get_or cells (bit_or number b) 0) = subst (λ k. IsCell t rows used (number / 256) b (get_or cells k 0)) (sym place) (given.right (number / 256) b (omega (arith, row.in_use)) byte) in
+      told_here n b (get_or cells (bit_or number b) 0) text bytes (number / 256) row.same right quiet
+
+  -- a quiet run over a line and its newline
+  quiet_line : (n : Standing) (number : ℕ) (line : List ℕ) → AreBytes (line ++ newline ∷ []) → IsPart line → IsRow t rows used number n → row_after cells number (line ++ newline ∷ []) < first_noisy →
+      (row_after cells number (line ++ newline ∷ []) ≡ 0) × NeverLeft t n line
+  unfolding row_after
+  quiet_line n number [] bytes part row quiet =
+      let step = quiet_step n number newline [] (omega arith) (All-nil IsByte) row quiet in
+      (step.2 refl, step.0)
+  quiet_line n number (b ∷ line) bytes part row quiet =
+      let step = quiet_step n number b (line ++ newline ∷ []) (All-head IsByte b (line ++ newline ∷ []) bytes) (All-tail IsByte b (line ++ newline ∷ []) bytes) row quiet in
+      let moves : after t n b ≡ moved t n b = rw part.0 refl in
+      let rest = quiet_line (moved t n b) (get_or cells (bit_or number b) 0) line (All-tail IsByte b (line ++ newline ∷ []) bytes) part.1
+          (subst (λ (m : Standing). IsRow t rows used (get_or cells (bit_or number b) 0) m) moves step.1) quiet in
+      (rest.0, (step.0, rest.1))
+
+  -- the cells tell of each line where the tree finds nothing in it
+  pub table_tells : AreRows t rows used → IsLooped t → (finds : List ℕ → Bool) → Decides finds t → TellsLines finds cells
+  table_tells right looped finds decides =
+      let first : IsRow t rows used 0 (start (places t)) = record { whole = refl; in_use = omega (arith, right.some); same = right.first } in
+      let ended = λ (line : List ℕ) (bytes : AreBytes line). All-append IsByte line (newline ∷ []) bytes (All-cons IsByte newline [] (omega arith) (All-nil IsByte)) in
+      record {
+        absorbs = absorbs;
+        back = λ line bytes part quiet. (quiet_line (start (places t)) 0 line (ended line bytes) part first quiet).0;
+        none = λ line bytes part quiet.
+            is_false (finds line) (decides line) (never_found t line looped part (quiet_line (start (places t)) 0 line (ended line bytes) part first quiet).1);
+      }

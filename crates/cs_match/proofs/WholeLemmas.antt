@@ -1,0 +1,118 @@
+-- Texts of whole lines.
+use Rattle.std.proofs.Common.{◌≡◌, ℕ, zero, suc, ◌+◌, ◌<◌, true, false, Bool, cond, nat_eq, List, [], ◌∷◌, ◌++◌, ◌-◌, ◌≤◌, length, take, drop, refl, sym, ap, subst, ◌∙◌, arith, length-drop}
+use Rattle.std.proofs.lemmas.Bool.{false≢true}
+use Rattle.std.proofs.Math.Seq.{take-add}
+use Rattle.std.proofs.lemmas.List.{drop-drop, take_rest}
+use Rattle.std.proofs.lemmas.List.Elements.{All-append}
+use Rattle.cs_match.proofs.LinesLemmas.{ended_lines-line}
+use Rattle.cs_match.specs.Lines.{newline, ended_lines, with_byte_in_line, IsPart}
+use Rattle.cs_match.specs.Skipping.{AreWhole, NoneFound}
+
+-- what ends in a newline is whole
+pub whole_ended : (part : List ℕ) → AreWhole (part ++ newline ∷ [])
+unfolding AreWhole
+whole_ended [] = refl
+whole_ended (b ∷ []) = refl
+whole_ended (b ∷ c ∷ part) = whole_ended (c ∷ part)
+
+pub whole_append : (a b : List ℕ) → AreWhole a → AreWhole b → AreWhole (a ++ b)
+unfolding AreWhole
+whole_append [] b p q = q
+whole_append (x ∷ []) [] p q = p
+whole_append (x ∷ []) (y ∷ b) p q = q
+whole_append (x ∷ y ∷ a) b p q = whole_append (y ∷ a) b p q
+
+pub whole_tail : (b : ℕ) (text : List ℕ) → AreWhole (b ∷ text) → AreWhole text
+unfolding AreWhole
+whole_tail b [] p = tt
+whole_tail b (c ∷ text) p = p
+
+pub whole_drop : (n : ℕ) (text : List ℕ) → AreWhole text → AreWhole (drop n text)
+whole_drop zero text p = p
+whole_drop (suc n) [] p = p
+whole_drop (suc n) (b ∷ text) p = whole_drop n text (whole_tail b text p)
+
+-- a part that is whole is empty
+pub whole_part : (b : ℕ) (text : List ℕ) → AreWhole (b ∷ text) → IsPart (b ∷ text) → ⊥
+unfolding AreWhole
+whole_part b [] w p = false≢true (sym (subst (λ c. nat_eq c newline ≡ false) w p.0))
+whole_part b (c ∷ text) w p = whole_part c text w p.1
+
+-- the lines of whole lines and more
+module _ (ys : List ℕ) where
+  first_line : (b : ℕ) (text : List ℕ) → AreWhole (b ∷ text) → (line : List ℕ) × (rest : List (List ℕ)) × (ended_lines (b ∷ text) ≡ line ∷ rest)
+  unfolding ended_lines AreWhole
+  first_line b [] w = ([], [], rw w refl)
+  first_line b (c ∷ text) w =
+      let h = first_line c text w in
+      elim (nat_eq b newline) as (λ t. (line : List ℕ) × (rest : List (List ℕ)) × (cond t ([] ∷ ended_lines (c ∷ text)) (with_byte_in_line b (ended_lines (c ∷ text))) ≡ line ∷ rest)) [
+        | true ↦ ([], ended_lines (c ∷ text), refl)
+        | false ↦ (b ∷ h.0, h.1, rw h.2 refl)
+      ]
+
+  one_more : (b : ℕ) (t : Bool) (ls all more : List (List ℕ)) (line : List ℕ) (rest : List (List ℕ)) → ls ≡ line ∷ rest → all ≡ ls ++ more → cond t ([] ∷ all) (with_byte_in_line b all) ≡ cond t ([] ∷ ls) (with_byte_in_line b ls) ++ more
+  one_more b true ls all more line rest e h = ap (λ (w : List (List ℕ)). [] ∷ w) h
+  one_more b false ls all more line rest e h = rw (h, e) refl
+
+  pub ended_lines-whole : (xs : List ℕ) → AreWhole xs → ended_lines (xs ++ ys) ≡ ended_lines xs ++ ended_lines ys
+  unfolding ended_lines AreWhole
+  ended_lines-whole [] w = refl
+  ended_lines-whole (b ∷ []) w = rw w refl
+  ended_lines-whole (b ∷ c ∷ xs) w =
+      let h = first_line c xs w in
+      one_more b (nat_eq b newline) (ended_lines (c ∷ xs)) (ended_lines ((c ∷ xs) ++ ys)) (ended_lines ys) h.0 h.1 h.2 (ended_lines-whole (c ∷ xs) w)
+
+-- from one place to another, by way of a third
+between_by : (block : List ℕ) (from middle to : ℕ) → from ≤ middle → middle ≤ to → take (to - from) (drop from block) ≡ take (middle - from) (drop from block) ++ take (to - middle) (drop middle block)
+between_by block from middle to low high =
+    let size : to - from ≡ middle - from + (to - middle) = omega arith in
+    let at : from + (middle - from) ≡ middle = omega arith in
+    ap (λ n. take n (drop from block)) size
+    ∙ take-add (middle - from) (to - middle) (drop from block)
+    ∙ ap (λ rest. take (middle - from) (drop from block) ++ take (to - middle) rest) (drop-drop (middle - from) from block ∙ ap (λ i. drop i block) at)
+
+pub whole_between : (block : List ℕ) (from middle to : ℕ) → from ≤ middle → middle ≤ to → AreWhole (take (middle - from) (drop from block)) → AreWhole (take (to - middle) (drop middle block)) → AreWhole (take (to - from) (drop from block))
+whole_between block from middle to low high p q =
+    subst AreWhole (sym (between_by block from middle to low high)) (whole_append (take (middle - from) (drop from block)) (take (to - middle) (drop middle block)) p q)
+
+pub none_between : (finds : List ℕ → Bool) (block : List ℕ) (from middle to : ℕ) → from ≤ middle → middle ≤ to → AreWhole (take (middle - from) (drop from block)) → NoneFound finds (ended_lines (take (middle - from) (drop from block))) → NoneFound finds (ended_lines (take (to - middle) (drop middle block))) → NoneFound finds (ended_lines (take (to - from) (drop from block)))
+none_between finds block from middle to low high whole p q =
+    let a = take (middle - from) (drop from block) in
+    let b = take (to - middle) (drop middle block) in
+    subst (λ text. NoneFound finds (ended_lines text)) (sym (between_by block from middle to low high))
+    (subst (NoneFound finds) (sym (ended_lines-whole b a whole))
+    (All-append (λ line. finds line ≡ false) (ended_lines a) (ended_lines b) p q))
+
+-- from one place to behind a newline
+line_between : (block : List ℕ) (from at : ℕ) → from ≤ at → drop at block ≡ newline ∷ drop (at + 1) block → take (at + 1 - from) (drop from block) ≡ take (at - from) (drop from block) ++ newline ∷ []
+line_between block from at low here =
+    let one : at + 1 - at ≡ 1 = omega arith in
+    between_by block from at (at + 1) low (omega arith)
+    ∙ ap (λ n. take (at - from) (drop from block) ++ take n (drop at block)) one
+    ∙ ap (λ rest. take (at - from) (drop from block) ++ take 1 rest) here
+
+pub whole_line : (block : List ℕ) (from at : ℕ) → from ≤ at → drop at block ≡ newline ∷ drop (at + 1) block → AreWhole (take (at + 1 - from) (drop from block))
+whole_line block from at low here =
+    subst AreWhole (sym (line_between block from at low here)) (whole_ended (take (at - from) (drop from block)))
+
+pub ended_line : (block : List ℕ) (from at : ℕ) → from ≤ at → IsPart (take (at - from) (drop from block)) → drop at block ≡ newline ∷ drop (at + 1) block → ended_lines (take (at + 1 - from) (drop from block)) ≡ take (at - from) (drop from block) ∷ []
+unfolding ended_lines
+ended_line block from at low part here =
+    ap ended_lines (line_between block from at low here) ∙ ended_lines-line (take (at - from) (drop from block)) [] part
+
+-- whole lines end where they end
+pub whole_rest : (block : List ℕ) (from : ℕ) → AreWhole (drop from block) → AreWhole (take (length block - from) (drop from block))
+whole_rest block from whole = subst AreWhole (sym (take_rest block from)) whole
+
+pub whole_from : (block : List ℕ) (from to : ℕ) → from ≤ to → AreWhole (drop from block) → AreWhole (drop to block)
+whole_from block from to low whole =
+    let at : from + (to - from) ≡ to = omega arith in
+    subst AreWhole (drop-drop (to - from) from block ∙ ap (λ i. drop i block) at) (whole_drop (to - from) (drop from block) whole)
+
+-- whole lines that are not empty have a newline
+pub whole_has_newline : (block : List ℕ) (from : ℕ) → from < length block → AreWhole (drop from block) → IsPart (drop from block) → ⊥
+whole_has_newline block from low whole part = none_of (drop from block) (omega (arith, length-drop from block)) whole part
+  where
+    none_of : (text : List ℕ) → 0 < length text → AreWhole text → IsPart text → ⊥
+    none_of [] low whole part = omega arith
+    none_of (b ∷ text) low whole part = whole_part b text whole part

@@ -1,0 +1,24 @@
+use Rattle.std.proofs.Common.{◌+◌, ◌-◌, arith, take, drop, subst, sym, refl, ◌∙◌}
+use Rattle.cs_match.specs.Finding.{Decides}
+use Rattle.cs_match.proofs.WholeLemmas.{whole_from}
+use Rattle.cs_match.proofs.ChainLemmas.{passed_none, passed_append, passed_line, not_found}
+use Rattle.cs_match.proofs.matcher.Matcher.first_hit.Goals as goal
+
+pub lines-init : goal.lines-init
+lines-init c = record { passed = passed_none (λ finds. Decides finds c.args.self.now) c.args.part.now 0 (omega arith); same = refl }
+
+pub line_end-end-requires-clause-whole : goal.line_end-end-requires-clause-whole
+line_end-end-requires-clause-whole c = whole_from c.args.part.now 0 c.lines.at (omega arith) c.requires
+
+pub lines-preserved : goal.lines-preserved
+lines-preserved c =
+    let part = c.args.part.now in
+    let at = c.lines.at in
+    let end = c.line_end-end.result in
+    let e = c.line_end-end.ensures in
+    record {
+      passed = passed_append (λ finds. Decides finds c.args.self.now) part 0 at (end + 1) c.lines.invariant.passed
+          (passed_line (λ finds. Decides finds c.args.self.now) part at end e.low e.high e.part e.newline
+          (λ finds decides. not_found c.is_match.result (finds (take (end - at) (drop at part))) c.is_match.ensures.found (subst (Decides finds) (sym c.lines.invariant.same) decides (take (end - at) (drop at part))) c.if-is_match.false));
+      same = c.is_match.ensures.same ∙ c.lines.invariant.same;
+    }

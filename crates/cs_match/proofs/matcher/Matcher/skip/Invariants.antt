@@ -1,0 +1,13 @@
+use Rattle.std.proofs.Common.{◌-◌, ◌≡◌, length}
+use Rattle.cs_match.specs.Finding.{Decides}
+use Rattle.cs_match.specs.Skipping.{ArePassed}
+use Rattle.cs_match.proofs.matcher.Matcher.skip.Given as goal
+
+abbrev pub invariant-parts : goal.invariant-parts
+invariant-parts l = record {
+  passed : ArePassed (λ finds. Decides finds l.fn.self) l.block l.from l.at;
+  same : l.self ≡ l.fn.self;
+}
+
+abbrev pub decreases-parts : goal.decreases-parts
+decreases-parts l = length l.block - l.at

@@ -1,0 +1,34 @@
+-- Runs over a table of cells. A row is 256 cells, one for each byte, and goes by the place of its first cell. A run
+-- stands in a row, and the cell of the next byte is the row that it goes on in. At the start of a line it stands in
+-- row 0.
+use Rattle.std.specs.Prelude.{ℕ, ◌≡◌, ◌<◌, ◌≤◌, Bool, false, List, [], ◌∷◌, ◌++◌, All, slice_index, bit_or}
+use Rattle.cs_match.specs.Lines.{newline, IsPart}
+
+-- the row that a run over the text comes to from a row
+unfoldable pub row_after : List ℕ → ℕ → List ℕ → ℕ
+row_after cells row [] = row
+row_after cells row (b ∷ text) = row_after cells (slice_index cells (bit_or row b)) text
+
+-- the first of two rows that are no sets of places: of a line in which something is found, and of one of which
+-- nothing is known
+abbrev pub first_noisy : ℕ
+first_noisy = 65024
+
+-- the run over the text, from the start of a line, comes to neither
+abbrev pub IsQuiet : List ℕ → List ℕ → Type 0
+IsQuiet cells text = row_after cells 0 text < first_noisy
+
+-- no cell of the two rows leads out of them
+abbrev pub Absorbs : List ℕ → Type 0
+Absorbs cells = (at : ℕ) → first_noisy ≤ at → at < 65536 → first_noisy ≤ slice_index cells at
+
+abbrev pub AreBytes : List ℕ → Type 0
+AreBytes text = All (λ b. b < 256) text
+
+-- Where the run over a line and its newline is quiet, nothing is found in the line, and the next line may begin.
+pub record TellsLines (finds : List ℕ → Bool) (cells : List ℕ) : Type 0 where
+  pub absorbs : Absorbs cells
+  pub back : (line : List ℕ) → AreBytes line → IsPart line → IsQuiet cells (line ++ newline ∷ []) →
+      row_after cells 0 (line ++ newline ∷ []) ≡ 0
+  pub none : (line : List ℕ) → AreBytes line → IsPart line → IsQuiet cells (line ++ newline ∷ []) →
+      finds line ≡ false

@@ -11,7 +11,7 @@ use std::marker::Model;
 /// A program with what its runs remember. Contracts see it as the program's tree.
 #[derive(Drop)]
 pub struct Matcher<'a> {
-    table: Table<'a>,
+    pub(crate) table: Table<'a>,
 }
 
 impl<'a> Model for Matcher<'a> {

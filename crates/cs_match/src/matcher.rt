@@ -16,7 +16,7 @@ use std::marker::Model;
 /// A program with what its runs remember. Contracts see it as the program's tree.
 #[derive(Drop)]
 pub struct Matcher<'a> {
-    table: Table<'a>,
+    pub(crate) table: Table<'a>,
     pause: Pause,
 }
 

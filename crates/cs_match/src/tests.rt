@@ -74,6 +74,31 @@ fn lines_one_after_another(rt: HostRuntime) -> Result<(), Fail> {
     Ok(())
 }
 
+/// Eleven letters, each of them `a` or `b`.
+fn letters(number: usize) -> [u8; 11] {
+    let mut line = [b'a'; 11];
+    for k in 0..11 {
+        if (number >> (10 - k)) & 1 == 1 {
+            line[k] = b'b';
+        }
+    }
+    line
+}
+
+/// More sets than the table has rows for, in ascending order and in descending order.
+#[test]
+fn more_sets_than_rows(rt: HostRuntime) -> Result<(), Fail> {
+    let pattern = parse(rt.alloc(), "a(a|b){9}$", false).ok().ok_or("pattern")?;
+    let program = Program::compile(rt.alloc(), &pattern)?;
+    let mut matcher = Matcher::new(rt.alloc(), &program)?;
+    for i in 0..4096usize {
+        let line = letters(if i < 2048 { i } else { 4095 - i });
+        assert_eq!(rt; matcher.is_match(&line), line[1] == b'a', "line {i}");
+        assert!(rt; matcher.table.used > 1 && matcher.table.used <= 256);
+    }
+    Ok(())
+}
+
 fn repeated(
     rt: &HostRuntime,
     before: &str,

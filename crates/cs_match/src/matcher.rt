@@ -12,8 +12,8 @@ use cs_syntax::Node;
 use std::alloc::{AllocError, Global};
 use std::marker::Model;
 
-/// A program with a mark for each of its places, and an entry for each of its repeats. Contracts see
-/// it as the program's tree.
+/// A program with a mark for each of its places and a note for each of its repeats. Contracts see it
+/// as the program's tree.
 #[derive(Drop)]
 pub struct Matcher<'a> {
     program: &'a Program,

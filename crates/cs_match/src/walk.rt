@@ -1,5 +1,6 @@
-// The walks over a tree, with the marks of its places: from the leaves, to find out what can be left here, and then
-// down again, to move the marks over a byte.
+// The walks over a tree, with the marks of its places. Each visits a node once, whatever nests in what: the first comes
+// up from the leaves and finds out what can be left here, noted of each repeat; the second goes down and moves the marks
+// over a byte. Cursors count the places and the repeats that were passed.
 ghost use Rattle.std.specs.Prelude.{◌≡◌, ℕ, ◌+◌, ◌<◌, ◌≤◌, ◌^◌, ◌&&◌, ◌||◌, length, take, drop, min, Bool, true, false, nat_eq, ◌++◌, ◌∷◌, slice_index_or, slice_set};
 ghost use Rattle.std.proofs.Math.Seq.{sets};
 ghost use Rattle.cs_syntax.specs.Node.{tree_of, trees_of};
@@ -171,7 +172,7 @@ fn note_loops(root: &Node, marks: &Marks, loops: &mut [bool], here: Around)
     }
 }
 
-/// Whether the tree can be left here, noted of each of its repeats too, as far as `loops` goes.
+/// Where the tree can be left here. Of each repeat in it that is noted too, as far as `loops` goes.
 #[cycle(leave)]
 fn leave(node: &Node, marks: &Marks, loops: &mut [bool], here: Around, at: &mut Cursor) -> Ends
     requires room { at.old.place + places (tree_of node.now) ≤ length marks.now }
@@ -215,14 +216,14 @@ fn get_mark(marks: &Marks, at: &mut Cursor) -> bool
     ensures place { at.new.place ≡ at.old.place + 1 }
     ensures repeat { at.new.repeat ≡ at.old.repeat }
 {
-    // So no step of the cursor wraps.
+    // There is a place here, so one more does not wrap.
     prove!(at.place < marks.len());
     let place = at.place;
     at.place += 1;
     marks.get(place)
 }
 
-/// Goes past a repeat, and answers which one it is. What lies past the last one has no number.
+/// Goes past a repeat, and answers which one it is. All those for which there is no entry are one.
 fn next_repeat(most: usize, at: &mut Cursor) -> usize
     requires { at.old.repeat ≤ most }
     ensures is { result ≡ at.old.repeat }
@@ -236,7 +237,7 @@ fn next_repeat(most: usize, at: &mut Cursor) -> usize
     own
 }
 
-/// Notes of a repeat that it is left, where it has an entry.
+/// Notes of a repeat whether what is repeated can be left, where it has an entry.
 fn note(loops: &mut [bool], at: usize, left: bool)
     ensures { loops.new ≡ slice_set loops.old at left }
 {
@@ -255,7 +256,8 @@ fn leave_all(
 ) -> Ends
     requires room { at.old.place + places_of (trees_of parts.now) ≤ length marks.now }
     requires within { at.old.repeat ≤ length loops.old }
-    ensures left { result.left ≡ leaves_all (trees_of parts.now) (drop at.old.place marks.now) here }
+    ensures left { result.left
+        ≡ leaves_all (trees_of parts.now) (drop at.old.place marks.now) here }
     ensures nullable { result.nullable ≡ nullable_all (trees_of parts.now) here }
     ensures noted { loops.new ≡ sets loops.old at.old.repeat
         (round_ends_of (trees_of parts.now) (drop at.old.place marks.now) here) }
@@ -281,7 +283,8 @@ fn leave_some(
 ) -> Ends
     requires room { at.old.place + places_of (trees_of parts.now) ≤ length marks.now }
     requires within { at.old.repeat ≤ length loops.old }
-    ensures left { result.left ≡ leaves_some (trees_of parts.now) (drop at.old.place marks.now) here }
+    ensures left { result.left
+        ≡ leaves_some (trees_of parts.now) (drop at.old.place marks.now) here }
     ensures nullable { result.nullable ≡ nullable_some (trees_of parts.now) here }
     ensures noted { loops.new ≡ sets loops.old at.old.repeat
         (round_ends_of (trees_of parts.now) (drop at.old.place marks.now) here) }
@@ -297,8 +300,8 @@ fn leave_some(
     some
 }
 
-/// Moves the marks of the tree over a byte, where `enter` says whether it can be entered here, and answers whether it
-/// could be left before.
+/// Moves the tree's own marks over a byte, where `enter` says whether it can be entered here, and
+/// answers whether it could be left before.
 #[cycle(advance)]
 fn advance(
     node: &Node,
@@ -341,7 +344,8 @@ fn advance(
 fn put_mark(marks: &mut Marks, on: bool, at: &mut Cursor) -> bool
     requires { at.old.place < length marks.old }
     ensures was { result ≡ slice_index_or marks.old at.old.place false }
-    ensures now { marks.new ≡ take at.old.place marks.old ++ on ∷ drop (at.old.place + 1) marks.old }
+    ensures now { marks.new
+        ≡ take at.old.place marks.old ++ on ∷ drop (at.old.place + 1) marks.old }
     ensures place { at.new.place ≡ at.old.place + 1 }
     ensures repeat { at.new.repeat ≡ at.old.repeat }
 {
@@ -364,7 +368,8 @@ fn advance_all(
     requires room { at.old.place + places_of (trees_of parts.now) ≤ length marks.old }
     requires noted { take (repeats_of (trees_of parts.now)) (drop at.old.repeat loops.now)
         ≡ round_ends_of (trees_of parts.now) (drop at.old.place marks.old) here }
-    ensures left { result ≡ exits (cat (trees_of parts.now)) enter (drop at.old.place marks.old) here }
+    ensures left { result
+        ≡ exits (cat (trees_of parts.now)) enter (drop at.old.place marks.old) here }
     ensures marks { marks.new ≡ take at.old.place marks.old
         ++ (step_all (trees_of parts.now) enter (drop at.old.place marks.old) here byte
         ++ drop (at.old.place + places_of (trees_of parts.now)) marks.old) }
@@ -391,7 +396,8 @@ fn advance_each(
     requires room { at.old.place + places_of (trees_of parts.now) ≤ length marks.old }
     requires noted { take (repeats_of (trees_of parts.now)) (drop at.old.repeat loops.now)
         ≡ round_ends_of (trees_of parts.now) (drop at.old.place marks.old) here }
-    ensures left { result ≡ exits (alt (trees_of parts.now)) enter (drop at.old.place marks.old) here }
+    ensures left { result
+        ≡ exits (alt (trees_of parts.now)) enter (drop at.old.place marks.old) here }
     ensures marks { marks.new ≡ take at.old.place marks.old
         ++ (step_each (trees_of parts.now) enter (drop at.old.place marks.old) here byte
         ++ drop (at.old.place + places_of (trees_of parts.now)) marks.old) }

@@ -81,7 +81,7 @@ module _ (finds : List ℕ → Bool) (cells : List ℕ) (fits : (at : ℕ) → F
       → (after cells 0 text < first_noisy → NoneFound finds (ended_lines text)) → NoneFound finds (ended_lines (part ++ b ∷ text))
   line b text part p low more e quiet behind =
       let here : after cells (after cells 0 (part ++ newline ∷ [])) text < first_noisy =
-          subst (λ row. after cells row text < first_noisy) (sym (one_more part newline)) (opened part newline text (subst (λ c. after cells (after cells 0 part) (c ∷ text) < first_noisy) e quiet)) in
+      subst (λ row. after cells row text < first_noisy) (sym (one_more part newline)) (opened part newline text (subst (λ c. after cells (after cells 0 part) (c ∷ text) < first_noisy) e quiet)) in
       let ended = quiet_before part text more here in
       subst (λ c. NoneFound finds (ended_lines (part ++ c ∷ text))) (sym e)
       (subst (NoneFound finds) (sym (ended_lines-line part text p))
@@ -153,7 +153,7 @@ module _ (IsKind : (List ℕ → Bool) → Type 0) (block : List ℕ) where
       let part = take (end - from) (drop from block) in
       let size : to ≤ end - from = omega (arith, p.high, length-take (end - from) (drop from block)) in
       let is : take (to - 0) part ≡ take (from + to - from) (drop from block) =
-          ap (λ n. take n part) (zero_less to) ∙ take-take to (end - from) (drop from block) size ∙ ap (λ n. take n (drop from block)) (back from to) in
+      ap (λ n. take n part) (zero_less to) ∙ take-take to (end - from) (drop from block) size ∙ ap (λ n. take n (drop from block)) (back from to) in
       record {
         low = omega arith;
         high = omega (arith, size, low, high);

@@ -154,7 +154,7 @@ module _ (IsKind : (List ℕ → Bool) → Type 0) (block : List ℕ) where
       let part = take (end - from) (drop from block) in
       let size : to ≤ end - from = omega (arith, p.high, length-take (end - from) (drop from block)) in
       let is : take (to - 0) part ≡ take (from + to - from) (drop from block) =
-          ap (λ n. take n part) (zero_less to) ∙ take-take to (end - from) (drop from block) size ∙ ap (λ n. take n (drop from block)) (back from to) in
+      ap (λ n. take n part) (zero_less to) ∙ take-take to (end - from) (drop from block) size ∙ ap (λ n. take n (drop from block)) (back from to) in
       record {
         low = omega arith;
         high = omega (arith, size, low, high);

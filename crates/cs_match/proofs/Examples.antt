@@ -6,6 +6,8 @@ use Rattle.cs_match.specs.declared.around.Around.{Around}
 use Rattle.cs_match.specs.Lines.{lines, ended_lines}
 use Rattle.cs_match.specs.Marks.{marks_of, is_marked}
 use Rattle.cs_match.specs.Places.{repeats, round_ends}
+use Rattle.cs_match.specs.Skipping.{AreWhole}
+use Rattle.cs_match.specs.Chains.{row_after}
 
 lines_of_two : lines (codes "ab\ncd\n") ≡ codes "ab" ∷ codes "cd" ∷ []
 unfolding lines
@@ -48,3 +50,13 @@ repeats_that_nest :
     × (round_ends nested (true ∷ false ∷ []) inside ≡ false ∷ true ∷ [])
     × (round_ends nested (false ∷ true ∷ []) inside ≡ true ∷ false ∷ [])
 repeats_that_nest = (refl, refl, refl)
+
+-- a line with its newline is whole, and so is an empty one
+whole_of_two : AreWhole (97 ∷ 10 ∷ 10 ∷ [])
+unfolding AreWhole
+whole_of_two = refl
+
+-- by the bytes 1 and 0: from row 0 to row 2, and from there to row 5
+after_of_two : row_after (0 ∷ 2 ∷ 5 ∷ []) 0 (1 ∷ 0 ∷ []) ≡ 5
+unfolding row_after
+after_of_two = refl

@@ -1,5 +1,5 @@
-// Chains: runs over a table of cells, six side by side, that pass lines in which nothing is found. They know nothing of
-// patterns. `specs/Chains.antt` says what a run comes to, and what a table has to tell.
+// Chains: runs over a table of cells, six side by side, that pass lines in which nothing is found. They know nothing
+// of patterns. `specs/Chains.antt` says what a run comes to, and what a table has to tell.
 ghost use Rattle.std.specs.Prelude.{◌≡◌, ◌≤◌, ◌<◌, ◌+◌, ◌-◌, ◌∷◌, ℕ, Bool, List, [], map, true, length, slice_index, take, drop};
 ghost use Rattle.cs_match.specs.Lines.{newline, ended_lines, IsPart};
 ghost use Rattle.cs_match.specs.Skipping.{AreWhole, NoneFound, ArePassed};
@@ -44,7 +44,8 @@ pub(crate) fn line_end(block: &[u8], from: usize) -> usize
     }
 }
 
-/// Where a part that begins at a place of whole lines is cut: behind the first newline from 512 bytes on, or at the end.
+/// Where a part of whole lines is cut that begins at a place: behind the first newline from 512 bytes on, or at the
+/// end.
 pub(crate) fn cut(block: &[u8], from: usize) -> usize
     requires within { from ≤ length block.now }
     requires whole { AreWhole (drop from block.now) }
@@ -67,7 +68,13 @@ fn six(cells: &[u16], a: &[u8], b: &[u8], c: &[u8], d: &[u8], e: &[u8], f: &[u8]
     ensures { result ≡ map (row_after cells.now 0)
         (a.now ∷ b.now ∷ c.now ∷ d.now ∷ e.now ∷ f.now ∷ []) }
 {
-    let n = a.len().min(b.len()).min(c.len()).min(d.len()).min(e.len()).min(f.len());
+    let n = a
+        .len()
+        .min(b.len())
+        .min(c.len())
+        .min(d.len())
+        .min(e.len())
+        .min(f.len());
     let mut s = 0u16;
     let mut t = 0u16;
     let mut u = 0u16;
@@ -104,7 +111,8 @@ fn quiet_front(rows: &[u16]) -> usize
     rows.len()
 }
 
-/// What the runs over a group of six parts show: up to where its parts are quiet, from the first on, and whether all are.
+/// What the runs over a group of six parts show: up to where its parts are quiet, from the first on, and whether all
+/// are.
 #[derive(Clone, Copy)]
 struct Passed {
     to: usize,
@@ -125,7 +133,15 @@ fn pass_group(cells: &[u16], block: &[u8], from: usize) -> Passed
     let d = cut(block, c);
     let e = cut(block, d);
     let f = cut(block, e);
-    let rows = six(cells, &block[from..a], &block[a..b], &block[b..c], &block[c..d], &block[d..e], &block[e..f]);
+    let rows = six(
+        cells,
+        &block[from..a],
+        &block[a..b],
+        &block[b..c],
+        &block[c..d],
+        &block[d..e],
+        &block[e..f],
+    );
     let quiet = quiet_front(&rows);
     let ends = [from, a, b, c, d, e, f];
     Passed {

@@ -1,7 +1,9 @@
 //! Tells whether a pattern takes some part of a line: a pattern is compiled to a program, and a
-//! matcher runs it over one line after another. What a tree takes is said in `specs/Matching.antt`
-//! of `cs_syntax`. Read `specs/Finding.antt` first, and `specs/Lines.antt`, which says what the lines
-//! of a text are; `specs/Places.antt` and `specs/Expansion.antt` say what goes on inside.
+//! matcher runs it over one line after another, or passes over many lines at once. What a tree
+//! takes is said in `specs/Matching.antt` of `cs_syntax`. Read `specs/Finding.antt` first, then
+//! `specs/Lines.antt`, which says what the lines of a text are, and `specs/Skipping.antt`. What goes
+//! on inside is said by `specs/Places.antt`, `specs/Standings.antt`, `specs/Table.antt`,
+//! `specs/Chains.antt` and `specs/Expansion.antt`.
 #![tactic(auto)]
 
 mod around;

@@ -147,3 +147,17 @@ fn large_patterns(rt: HostRuntime) -> Result<(), Fail> {
     );
     Ok(())
 }
+
+/// The first call stops at a hit, the second is passed by after it, and the third comes to the end.
+#[test]
+#[tactic(auto, unfolding(crate::specs::Skipping::AreWhole))]
+fn skips_lines(rt: HostRuntime) -> Result<(), Fail> {
+    let pattern = parse(rt.alloc(), "^b", false).ok().ok_or("pattern")?;
+    let program = Program::compile(rt.alloc(), &pattern)?;
+    let mut matcher = Matcher::new(rt.alloc(), &program)?;
+    let block = b"a\nab\nb\na\n";
+    assert_eq!(rt; matcher.skip(block, 0), 5);
+    assert_eq!(rt; matcher.skip(block, 7), 7);
+    assert_eq!(rt; matcher.skip(block, 7), 9);
+    Ok(())
+}

@@ -8,7 +8,10 @@ mod around;
 mod compiler;
 pub mod laws;
 mod matcher;
+mod needle;
 mod program;
+mod rarity;
+mod runs;
 mod walk;
 
 pub use matcher::Matcher;

@@ -3,8 +3,10 @@ ghost use Rattle.std.specs.Prelude.{◌≡◌, ◌↔◌, ℕ, List, IfOk};
 ghost use Rattle.cs_syntax.specs.Matching.{Found};
 ghost use Rattle.cs_syntax.specs.Node.{tree_of};
 ghost use Rattle.cs_match.specs.Places.{places, IsLooped};
+ghost use Rattle.cs_match.specs.Needle.{IsNeeded};
 
 use crate::compiler::write_out;
+use crate::needle::needle;
 use crate::walk::count;
 use cs_syntax::{Node, Pattern};
 use std::alloc::{AllocError, Global};
@@ -16,6 +18,7 @@ use std::marker::Model;
 pub struct Program {
     root: Node,
     count: usize,
+    needle: Vec<u8>,
 }
 
 impl Model for Program {
@@ -28,10 +31,12 @@ impl Model for Program {
 
     ghost use Rattle.cs_syntax.specs.Node.{tree_of};
     ghost use Rattle.cs_match.specs.Places.{IsProgram};
+    ghost use Rattle.cs_match.specs.Needle.{IsNeeded};
 
     ghost view = { λ program. tree_of program.root };
 
-    ghost invariant = { λ program. IsProgram (tree_of program.root) program.count };
+    ghost invariant = { λ program. IsProgram (tree_of program.root) program.count
+        × IsNeeded (tree_of program.root) program.needle.items };
 }
 
 impl Program {
@@ -43,7 +48,12 @@ impl Program {
     {
         let root = write_out(alloc, pattern.tree())?;
         let count = count(&root);
-        Ok(Program { root, count })
+        let needle = needle(alloc, &root)?;
+        Ok(Program {
+            root,
+            count,
+            needle,
+        })
     }
 
     /// The tree that is walked over.
@@ -59,5 +69,13 @@ impl Program {
         ensures { result ≡ places self.now }
     {
         self.count
+    }
+
+    /// A word that stands in each line in which the program finds something. The empty word stands
+    /// for none.
+    pub(crate) fn needle(&self) -> &[u8]
+        ensures { IsNeeded self.now result.now }
+    {
+        &self.needle
     }
 }

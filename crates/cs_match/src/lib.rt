@@ -6,6 +6,7 @@
 
 mod around;
 mod compiler;
+mod finding;
 pub mod laws;
 mod matcher;
 mod needle;

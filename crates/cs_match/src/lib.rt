@@ -9,11 +9,15 @@
 mod around;
 mod chains;
 mod compiler;
+mod finding;
 pub mod laws;
 mod marks;
 mod matcher;
+mod needle;
 mod pause;
 mod program;
+mod rarity;
+mod runs;
 mod standing;
 mod table;
 mod walk;

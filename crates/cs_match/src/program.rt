@@ -3,8 +3,10 @@ ghost use Rattle.std.specs.Prelude.{◌≡◌, ◌↔◌, ℕ, List, IfOk};
 ghost use Rattle.cs_syntax.specs.Matching.{Found};
 ghost use Rattle.cs_syntax.specs.Node.{tree_of};
 ghost use Rattle.cs_match.specs.Places.{places, repeats, IsLooped};
+ghost use Rattle.cs_match.specs.Needle.{IsNeeded};
 
 use crate::compiler::write_out;
+use crate::needle::needle;
 use crate::walk::{count, count_repeats};
 use cs_syntax::{Node, Pattern};
 use std::alloc::{AllocError, Global};
@@ -17,6 +19,7 @@ pub struct Program {
     root: Node,
     count: usize,
     repeats: usize,
+    needle: Vec<u8>,
 }
 
 impl Model for Program {
@@ -29,10 +32,12 @@ impl Model for Program {
 
     ghost use Rattle.cs_syntax.specs.Node.{tree_of};
     ghost use Rattle.cs_match.specs.Places.{IsProgram};
+    ghost use Rattle.cs_match.specs.Needle.{IsNeeded};
 
     ghost view = { λ program. tree_of program.root };
 
-    ghost invariant = { λ program. IsProgram (tree_of program.root) program.count program.repeats };
+    ghost invariant = { λ program. IsProgram (tree_of program.root) program.count program.repeats
+        × IsNeeded (tree_of program.root) program.needle.items };
 }
 
 impl Program {
@@ -45,10 +50,12 @@ impl Program {
         let root = write_out(alloc, pattern.tree())?;
         let count = count(&root);
         let repeats = count_repeats(&root);
+        let needle = needle(alloc, &root)?;
         Ok(Program {
             root,
             count,
             repeats,
+            needle,
         })
     }
 
@@ -72,5 +79,13 @@ impl Program {
         ensures { result ≡ repeats self.now }
     {
         self.repeats
+    }
+
+    /// A word that stands in each line in which the program finds something. The empty word stands
+    /// for none.
+    pub(crate) fn needle(&self) -> &[u8]
+        ensures { IsNeeded self.now result.now }
+    {
+        &self.needle
     }
 }

@@ -1,0 +1,196 @@
+-- Runs of single bytes that a tree takes, and words that stand in each line in which it finds something.
+use Rattle.std.proofs.Common.{◌≡◌, ℕ, zero, suc, ◌+◌, ◌<◌, ◌≤◌, ◌⊎◌, inl, inr, Bool, true, List, [], ◌∷◌, ◌++◌, length, drop, get_or, refl, sym, ap, subst, ◌∙◌, arith, length-append, drop_of_length-le}
+use Rattle.std.specs.Prelude.{Option, Result, Ok, Err, OnOk, max, slice_index, vec_len}
+use Rattle.std.proofs.lemmas.Bool.{cases_lt}
+use Rattle.std.proofs.lemmas.List.{drop-append-le, get_or_append_left}
+use Rattle.std.proofs.Math.Seq.{get_or-append_seam, drop-length}
+use Rattle.memchr.specs.Find.{OccursAt}
+use Rattle.cs_syntax.specs.Matching.{Tree, Trees, empty, one_of, cat, alt, rep, line_start, line_end, word_edge, not_word_edge, none, more}
+use Rattle.cs_syntax.specs.Matching.{Chain, Takes, TakesAll, TakesSome}
+use Rattle.cs_syntax.specs.Members.{IsOnly}
+use Rattle.cs_syntax.specs.Node.{tree_of}
+use Rattle.cs_syntax.specs.declared.node.Node.{Node}
+use Rattle.cs_syntax.specs.declared.node.Node.TheVariants.{Empty, LineStart, LineEnd, WordEdge, NotWordEdge}
+use Rattle.cs_syntax.proofs.NodeLemmas.{tree_of-Empty, tree_of-LineStart, tree_of-LineEnd, tree_of-WordEdge, tree_of-NotWordEdge}
+use Rattle.cs_match.specs.Needle.{Has, IsNeeded, EndsAt}
+use Rattle.cs_match.specs.Runs.{run_from, run_of, Follow}
+use Rattle.cs_match.specs.declared.runs.Runs.{Runs}
+
+-- what a tree takes from within the line ends within it
+module _ (s : List ℕ) where
+  chain_within : (R : ℕ → ℕ → Type 0) → ((i j : ℕ) → R i j → i ≤ length s → j ≤ length s) → (k i j : ℕ) → Chain R k i j → i ≤ length s → j ≤ length s
+  chain_within R each zero i j h le = omega (arith, h)
+  chain_within R each (suc k) i j h le = chain_within R each k h.0 j h.2 (each i h.0 h.1 le)
+
+  mutual
+    pub within : (t : Tree) (i j : ℕ) → Takes s t i j → i ≤ length s → j ≤ length s
+    within empty i j h le = omega (arith, h)
+    within (one_of set) i j h le = omega (arith, h.0, h.2)
+    within (cat ts) i j h le = within_all ts i j h le
+    within (alt ts) i j h le = within_some ts i j h le
+    within (rep x n m) i j h le = chain_within (Takes s x) (within x) h.0 i j h.3 le
+    within line_start i j h le = omega (arith, h.1)
+    within line_end i j h le = omega (arith, h.1)
+    within word_edge i j h le = omega (arith, h.0)
+    within not_word_edge i j h le = omega (arith, h.0)
+
+    within_all : (ts : Trees) (i j : ℕ) → TakesAll s ts i j → i ≤ length s → j ≤ length s
+    within_all none i j h le = omega (arith, h)
+    within_all (more t ts) i j h le = within_all ts h.0 j h.2 (within t i h.0 h.1 le)
+
+    within_some : (ts : Trees) (i j : ℕ) → TakesSome s ts i j → i ≤ length s → j ≤ length s
+    within_some none i j h le = absurd h
+    within_some (more t ts) i j h le = elim h [ inl a ↦ within t i j a le | inr b ↦ within_some ts i j b le ]
+
+  -- the last of some rounds begins within the line
+  last_round : (x : Tree) (k i j : ℕ) → Chain (Takes s x) (suc k) i j → i ≤ length s → (l : ℕ) × (l ≤ length s) × Takes s x l j
+  last_round x zero i j h le = (i, le, subst (Takes s x i) h.2 h.1)
+  last_round x (suc k) i j h le = last_round x k h.0 j h.2 (within x i h.0 h.1 le)
+
+  ends_empty : (i : ℕ) → i ≤ length s → EndsAt s [] i
+  ends_empty i le = (i, omega arith, record { fits = omega arith; reads = λ j lt. absurd (omega arith) })
+
+  ends_more : (w : List ℕ) (b i j : ℕ) → EndsAt s w i → i < length s → slice_index s i ≡ b → j ≡ suc i → EndsAt s (w ++ b ∷ []) j
+  ends_more w b i j h lt is next =
+      let long : length (w ++ b ∷ []) ≡ suc (length w) = omega (arith, length-append w (b ∷ [])) in (
+        h.0,
+        omega (arith, h.1),
+        record {
+          fits = omega (arith, h.1);
+          reads = λ k low. elim (cases_lt k (length w)) [
+            | inl before ↦ h.2.reads k before ∙ sym (get_or_append_left w (b ∷ []) 0 k before)
+            | inr after ↦
+                let last : k ≡ length w = omega arith in
+                let at : h.0 + k ≡ i = omega (arith, h.1) in
+                ap (slice_index s) at ∙ is ∙ sym (get_or-append_seam w b [] 0) ∙ ap (slice_index (w ++ b ∷ [])) (sym last)
+          ];
+        },
+      )
+
+  ends_has : (w : List ℕ) (i : ℕ) → EndsAt s w i → Has s w
+  ends_has w i h = (h.0, h.2)
+
+  ends_same : (v w : List ℕ) (i j : ℕ) → v ≡ w → i ≡ j → EndsAt s v i → EndsAt s w j
+  ends_same v w i j same at h = subst (λ l. EndsAt s w l) at (subst (λ u. EndsAt s u i) same h)
+
+-- nothing is taken
+pub follow_none : (T : List ℕ → ℕ → ℕ → Type 0) → ((line : List ℕ) (i j : ℕ) → T line i j → i ≡ j) → (runs : Runs) → Follow T runs runs
+follow_none T still runs = record {
+  rises = omega arith;
+  grows = omega arith;
+  ends = λ from low high line i j h ends.
+      let to : from ≡ max from runs.start = omega arith in
+      ends_same line _ _ i j (ap (λ n. run_from n runs) to) (still line i j h) ends;
+  best = λ line i j h ends has. has;
+}
+
+-- a byte more
+pub follow_byte : (set : List Bool) (b : ℕ) (old new : Runs) → IsOnly set b → new.bytes.items ≡ old.bytes.items ++ b ∷ [] → new.start ≡ old.start → new.best.items ≡ old.best.items →
+    Follow (λ line i j. Takes line (one_of set) i j) old new
+follow_byte set b old new only bytes start best = record {
+  rises = omega (arith, start);
+  grows = omega (arith, ap length bytes, length-append old.bytes.items (b ∷ []));
+  ends = λ from low high line i j h ends.
+      let to : from ≡ max from new.start = omega arith in
+      let is : run_from from old ++ b ∷ [] ≡ run_from (max from new.start) new =
+      sym (drop-append-le from old.bytes.items (b ∷ []) high) ∙ ap (drop from) (sym bytes) ∙ ap (λ n. run_from n new) to in
+      ends_same line _ _ j j is refl (ends_more line (run_from from old) b i j ends h.0 (only.1 _ h.1) h.2);
+  best = λ line i j h ends has. subst (Has line) (sym best) has;
+}
+
+abbrev pub IsKept : Runs → Runs → Type 0
+IsKept old new = (new.best.items ≡ old.best.items) ⊎ (new.best.items ≡ run_of old)
+
+kept : (old new : Runs) → IsKept old new → (line : List ℕ) (i : ℕ) → EndsAt line (run_of old) i → Has line old.best.items → Has line new.best.items
+kept old new best line i ends has = elim best [
+  | inl same ↦ subst (Has line) (sym same) has
+  | inr run ↦ subst (Has line) (sym run) (ends_has line (run_of old) i ends)
+]
+
+-- the run ends, and nothing is known of what is taken
+pub follow_cut : (t : Tree) (old new : Runs) → new.bytes.items ≡ old.bytes.items → new.start ≡ vec_len old.bytes → IsKept old new →
+    Follow (λ line i j. Takes line t i j) old new
+follow_cut t old new bytes start best = record {
+  rises = omega (arith, start, old.within);
+  grows = omega (arith, ap length bytes);
+  ends = λ from low high line i j h ends.
+      let to : length old.bytes.items ≡ max from new.start = omega (arith, start) in
+      let is : [] ≡ run_from (max from new.start) new = sym (drop-length old.bytes.items) ∙ ap (drop (length old.bytes.items)) (sym bytes) ∙ ap (λ n. run_from n new) to in
+      let here : i ≤ length line = omega (arith, ends.1, ends.2.fits) in
+      ends_same line _ _ j j is refl (ends_empty line j (within line t i j h here));
+  best = λ line i j h ends has. kept old new best line i ends has;
+}
+
+-- the run at hand ends where the tree's part ends
+run_ends : (T : List ℕ → ℕ → ℕ → Type 0) (old new : Runs) → Follow T old new → (line : List ℕ) (i j : ℕ) → T line i j → EndsAt line (run_of old) i → EndsAt line (run_of new) j
+run_ends T old new f line i j h ends =
+    let to : max old.start new.start ≡ new.start = omega (arith, f.rises) in
+    ends_same line _ _ j j (ap (λ n. run_from n new) to) refl (f.ends old.start (omega arith) (omega (arith, old.within)) line i j h ends)
+
+-- one after another
+pub follow_more : (t : Tree) (ts : Trees) (first next last : Runs) → Follow (λ line i j. Takes line t i j) first next → Follow (λ line i j. TakesAll line ts i j) next last →
+    Follow (λ line i j. TakesAll line (more t ts) i j) first last
+follow_more t ts first next last f g = record {
+  rises = omega (arith, f.rises, g.rises);
+  grows = omega (arith, f.grows, g.grows);
+  ends = λ from low high line i j h ends.
+      let to : max (max from next.start) last.start ≡ max from last.start = omega (arith, g.rises) in
+      let mid = f.ends from low high line i h.0 h.1 ends in
+      ends_same line _ _ j j (ap (λ n. run_from n last) to) refl (g.ends (max from next.start) (omega arith) (omega (arith, f.grows, next.within)) line h.0 j h.2 mid);
+  best = λ line i j h ends has.
+      g.best line h.0 j h.2 (run_ends _ first next f line i h.0 h.1 ends) (f.best line i h.0 h.1 ends has);
+}
+
+-- at least one round
+pub follow_rounds : (x : Tree) (n at : ℕ) (m : Option ℕ) (first next last : Runs) → 0 < n → at ≡ vec_len first.bytes → Follow (λ line i j. Takes line x i j) first next →
+    last.bytes.items ≡ next.bytes.items → last.start ≡ max next.start at → IsKept next last →
+    Follow (λ line i j. Takes line (rep x n m) i j) first last
+follow_rounds x n at m first next last some behind f bytes start best = record {
+  rises = omega (arith, f.rises, start);
+  grows = omega (arith, f.grows, ap length bytes);
+  ends = λ from low high line i j h ends.
+      let here : i ≤ length line = omega (arith, ends.1, ends.2.fits) in
+      let to : max at next.start ≡ max from last.start = omega (arith, start, behind) in
+      let is : run_from (max at next.start) next ≡ run_from (max from last.start) last =
+      ap (drop (max at next.start)) (sym bytes) ∙ ap (λ k. run_from k last) to in
+      let round = rounds line i j h here in
+      let none_yet = ends_same line _ _ round.0 round.0 (sym (drop_of_length-le first.bytes.items {i = at} (omega (arith, behind)))) refl (ends_empty line round.0 round.1) in
+      ends_same line _ _ j j is refl (f.ends at (omega (arith, behind, first.within)) (omega (arith, behind)) line round.0 j round.2 none_yet);
+  best = λ line i j h ends has.
+      let round = first_round line i j h in
+      kept next last best line round.0 (run_ends _ first next f line i round.0 round.1 ends) (f.best line i round.0 round.1 ends has);
+}
+  where
+    rounds : (line : List ℕ) (i j : ℕ) → Takes line (rep x n m) i j → i ≤ length line → (l : ℕ) × (l ≤ length line) × Takes line x l j
+    rounds line i j (zero, le, most, chain) here = absurd (omega arith)
+    rounds line i j (suc k, le, most, chain) here = last_round line x k i j chain here
+
+    first_round : (line : List ℕ) (i j : ℕ) → Takes line (rep x n m) i j → (l : ℕ) × Takes line x i l
+    first_round line i j (zero, le, most, chain) = absurd (omega arith)
+    first_round line i j (suc k, le, most, chain) = (chain.0, chain.1)
+
+-- from nothing
+pub needed : (t : Tree) (first next last : Runs) → first.bytes.items ≡ [] → first.best.items ≡ [] → Follow (λ line i j. Takes line t i j) first next → IsKept next last → IsNeeded t last.best.items
+needed t first next last bytes best f k line found =
+    let i = found.0 in
+    let empty_run : [] ≡ run_of first = sym (drop_of_length-le first.bytes.items {i = first.start} (omega (arith, ap length bytes))) in
+    let start : EndsAt line (run_of first) i = ends_same line _ _ i i empty_run refl (ends_empty line i (omega (arith, found.2, found.3))) in
+    let none_yet : Has line first.best.items = subst (Has line) (sym best) (0, record { fits = omega arith; reads = λ j lt. absurd (omega arith) }) in
+    kept next last k line found.1 (run_ends _ first next f line i found.1 found.4 start) (f.best line i found.1 found.4 start none_yet)
+
+-- the same of a tree that is known by another name
+pub follow_same : (t u : Tree) (old new : Runs) → t ≡ u → Follow (λ line i j. Takes line u i j) old new → Follow (λ line i j. Takes line t i j) old new
+follow_same t u old new e f = subst (λ (v : Tree). Follow (λ line i j. Takes line v i j) old new) (sym e) f
+
+pub follow_still : (node : Node) (runs : Runs) → (node ≡ Empty) ⊎ ((node ≡ LineStart) ⊎ ((node ≡ LineEnd) ⊎ ((node ≡ WordEdge) ⊎ (node ≡ NotWordEdge)))) → Follow (λ line i j. Takes line (tree_of node) i j) runs runs
+follow_still node runs is = elim is [
+  | inl e ↦ follow_same _ _ runs runs (ap tree_of e ∙ tree_of-Empty) (follow_none _ (λ line i j h. h) runs)
+  | inr (inl e) ↦ follow_same _ _ runs runs (ap tree_of e ∙ tree_of-LineStart) (follow_none _ (λ line i j h. h.0 ∙ sym h.1) runs)
+  | inr (inr (inl e)) ↦ follow_same _ _ runs runs (ap tree_of e ∙ tree_of-LineEnd) (follow_none _ (λ line i j h. h.0 ∙ sym h.1) runs)
+  | inr (inr (inr (inl e))) ↦ follow_same _ _ runs runs (ap tree_of e ∙ tree_of-WordEdge) (follow_none _ (λ line i j h. h.0) runs)
+  | inr (inr (inr (inr e))) ↦ follow_same _ _ runs runs (ap tree_of e ∙ tree_of-NotWordEdge) (follow_none _ (λ line i j h. h.0) runs)
+]
+
+pub on_ok_both : {T E A B C : Type 0} (r : Result T E) → (A → B → C) → OnOk r A → OnOk r B → OnOk r C
+on_ok_both (Ok x) f a b = f a b
+on_ok_both (Err e) f a b = tt

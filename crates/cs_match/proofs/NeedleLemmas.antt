@@ -1,10 +1,9 @@
 -- Runs of single bytes that a tree takes, and words that stand in each line in which it finds something.
-use Rattle.std.proofs.Common.{◌≡◌, ℕ, zero, suc, ◌+◌, ◌<◌, ◌≤◌, ◌⊎◌, inl, inr, Bool, true, List, [], ◌∷◌, ◌++◌, length, drop, get_or, refl, sym, ap, subst, ◌∙◌, arith, length-append, drop_of_length-le}
+use Rattle.std.proofs.Common.{◌≡◌, ℕ, zero, suc, ◌+◌, ◌<◌, ◌≤◌, ◌⊎◌, inl, inr, Bool, List, [], ◌∷◌, ◌++◌, length, drop, refl, sym, ap, subst, ◌∙◌, arith, length-append, drop_of_length-le}
 use Rattle.std.specs.Prelude.{Option, Result, Ok, Err, OnOk, max, slice_index, vec_len}
 use Rattle.std.proofs.lemmas.Bool.{cases_lt}
 use Rattle.std.proofs.lemmas.List.{drop-append-le, get_or_append_left}
 use Rattle.std.proofs.Math.Seq.{get_or-append_seam, drop-length}
-use Rattle.memchr.specs.Find.{OccursAt}
 use Rattle.cs_syntax.specs.Matching.{Tree, Trees, empty, one_of, cat, alt, rep, line_start, line_end, word_edge, not_word_edge, none, more}
 use Rattle.cs_syntax.specs.Matching.{Chain, Takes, TakesAll, TakesSome}
 use Rattle.cs_syntax.specs.Members.{IsOnly}

@@ -1,11 +1,12 @@
 -- Tables whose rows and cells are right, and what stays so from one to the next.
-use Rattle.std.specs.Prelude.{ℕ, ◌≡◌, length, vec_len}
+use Rattle.std.specs.Prelude.{ℕ, List, ◌≡◌, length, vec_len}
 use Rattle.cs_syntax.specs.Matching.{Tree}
 use Rattle.cs_syntax.specs.Node.{tree_of}
 use Rattle.cs_match.specs.declared.standing.Standing.{Standing}
 use Rattle.cs_match.specs.declared.table.Table.{Table}
 use Rattle.cs_match.specs.Places.{places, repeats, IsLooped}
 use Rattle.cs_match.specs.Table as table
+use Rattle.cs_match.specs.Needle.{IsNeeded}
 
 -- the tree that the table is of
 abbrev pub tree_in : Table → Tree
@@ -18,6 +19,11 @@ pub record IsRight (t : Table) : Type 0 where
   pub cells : table.AreCells (tree_in t) t.rows.items t.used t.cells.items
   pub room : length t.now.marks ≡ places (tree_in t)
   pub loops : vec_len t.loops ≡ repeats (tree_in t)
+
+-- the table is right, and its tree needs the word
+pub record HasNeedle (t : Table) (word : List ℕ) : Type 0 where
+  pub right : IsRight t
+  pub needed : IsNeeded (tree_in t) word
 
 -- the standing of the row with this number
 abbrev pub standing_in : Table → ℕ → Standing

@@ -6,10 +6,13 @@ ghost use Rattle.cs_match.specs.Lines.{ended_lines};
 ghost use Rattle.cs_match.specs.Skipping.{AreWhole, NoneFound, ArePassed};
 
 use crate::chains::{GROUP, cut, line_end, pass_quiet};
+use crate::finding::skip_to_needle;
 use crate::pause::Pause;
 use crate::program::Program;
+use crate::rarity::is_worth;
 use crate::table::Table;
 use memchr::memchr;
+use memchr::memmem::Finder;
 use std::alloc::{AllocError, Global};
 use std::marker::Model;
 
@@ -17,6 +20,9 @@ use std::marker::Model;
 #[derive(Drop)]
 pub struct Matcher<'a> {
     pub(crate) table: Table<'a>,
+    finder: Finder<'a>,
+    /// Whether the finder passes lines faster than the table.
+    seeks: bool,
     pause: Pause,
 }
 
@@ -28,11 +34,11 @@ impl<'a> Model for Matcher<'a> {
 
     ghost coded = { tree_code };
 
-    ghost use Rattle.cs_match.specs.Remembering.{IsRight, tree_in};
+    ghost use Rattle.cs_match.specs.Remembering.{HasNeedle, tree_in};
 
     ghost view = { λ matcher. tree_in matcher.table };
 
-    ghost invariant = { λ matcher. IsRight matcher.table };
+    ghost invariant = { λ matcher. HasNeedle matcher.table matcher.finder };
 }
 
 impl<'a> Matcher<'a> {
@@ -41,8 +47,11 @@ impl<'a> Matcher<'a> {
         ensures { IfOk result (λ matcher. matcher ≡ program.now) }
     {
         let table = Table::new(alloc, program)?;
+        let needle = program.needle();
         Ok(Matcher {
             table,
+            finder: Finder::new(needle),
+            seeks: is_worth(needle),
             pause: Pause::new(),
         })
     }
@@ -70,6 +79,9 @@ impl<'a> Matcher<'a> {
             NoneFound finds (ended_lines (take (result - from) (drop from block.now))) }
         ensures same { self.new ≡ self.old }
     {
+        if self.seeks {
+            return self.seek(block, from);
+        }
         if self.pauses() {
             return from;
         }
@@ -85,6 +97,15 @@ impl<'a> Matcher<'a> {
             at = end;
         }
         at
+    }
+
+    /// Passes the lines that do not have the needle.
+    fn seek(&self, block: &[u8], from: usize) -> usize
+        requires within { from ≤ length block.now }
+        requires whole { AreWhole (drop from block.now) }
+        ensures { ArePassed (λ finds. Decides finds self.now) block.now from result }
+    {
+        skip_to_needle(&self.finder, block, from)
     }
 
     /// Passes parts by the cells that are known.

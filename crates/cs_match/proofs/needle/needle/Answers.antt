@@ -1,4 +1,3 @@
-use Rattle.std.proofs.Common.{◌≡◌}
 use Rattle.cs_syntax.specs.Node.{tree_of}
 use Rattle.cs_match.proofs.NeedleLemmas.{needed}
 use Rattle.cs_match.proofs.needle.needle.Goals as goal

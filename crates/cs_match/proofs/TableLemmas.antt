@@ -31,7 +31,7 @@ module _ (t : Tree) (rows : List Standing) (used : ℕ) (cells : List ℕ) (give
             let one : row ≡ r = omega arith in
             let two : b ≡ c = omega arith in
             let written : get_or (set cells (256 * row + b) number) (256 * r + c) 0 ≡ number =
-                ap (λ k. get_or (set cells (256 * row + b) number) k 0) same ∙ get_or-set_same cells (256 * row + b) number 0 (omega (arith, given.all)) in
+            ap (λ k. get_or (set cells (256 * row + b) number) k 0) same ∙ get_or-set_same cells (256 * row + b) number 0 (omega (arith, given.all)) in
             let P : ℕ → Type 0 = λ x. Tells t rows used (get_or rows x (start (places t))) c number in
             let Q : ℕ → Type 0 = λ x. Tells t rows used (get_or rows row (start (places t))) x number in
             rw written (known (omega arith) (subst P one (subst Q two told)))

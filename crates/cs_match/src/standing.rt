@@ -64,7 +64,9 @@ impl Standing {
     /// A number that tells most standings apart.
     pub(crate) fn print(&self) -> u32 {
         let print = self.marks.print();
-        print.wrapping_mul(4).wrapping_add(u32::from(self.first) * 2 + u32::from(self.word))
+        print
+            .wrapping_mul(4)
+            .wrapping_add(u32::from(self.first) * 2 + u32::from(self.word))
     }
 
     /// Whether the tree takes some part of the line, byte by byte.

@@ -71,7 +71,13 @@ fn blank(alloc: Global) -> Result<Vec<u16>, AllocError>
 }
 
 /// The place of a row in use that has come to the same, where one is found.
-fn find(rows: &[Standing], used: usize, prints: &[u32; 256], print: u32, now: &Standing) -> Option<usize>
+fn find(
+    rows: &[Standing],
+    used: usize,
+    prints: &[u32; 256],
+    print: u32,
+    now: &Standing,
+) -> Option<usize>
     requires few { used ≤ 254 }
     requires all { length rows.now ≡ 254 }
     ensures { MatchOption result (Unit {0})
@@ -123,13 +129,15 @@ impl<'a> Table<'a> {
         let places = program.places();
         let rows = starts(alloc, places)?;
         let now = Standing::new(alloc, places)?;
+        let mut prints = [0; 256];
+        prints[0] = now.print();
         let loops = vec![in alloc; false; program.repeats()]?;
         let cells = blank(alloc)?;
         Ok(Table {
             root: program.root(),
             cells,
             rows,
-            prints: [0; 256],
+            prints,
             used: 1,
             now,
             loops,
@@ -191,7 +199,14 @@ impl<'a> Table<'a> {
         ensures right { IsRight self.new }
         ensures same { tree_in self.new ≡ tree_in self.old }
     {
-        if pass_from(self.root, &self.rows, from, &mut self.now, &mut self.loops, byte) {
+        if pass_from(
+            self.root,
+            &self.rows,
+            from,
+            &mut self.now,
+            &mut self.loops,
+            byte,
+        ) {
             self.put(from, byte, FOUND);
             return FOUND;
         }

@@ -88,7 +88,9 @@ fn letters(number: usize) -> [u8; 11] {
 /// More sets than the table has rows for, in ascending order and in descending order.
 #[test]
 fn more_sets_than_rows(rt: HostRuntime) -> Result<(), Fail> {
-    let pattern = parse(rt.alloc(), "a(a|b){9}$", false).ok().ok_or("pattern")?;
+    let pattern = parse(rt.alloc(), "a(a|b){9}$", false)
+        .ok()
+        .ok_or("pattern")?;
     let program = Program::compile(rt.alloc(), &pattern)?;
     let mut matcher = Matcher::new(rt.alloc(), &program)?;
     for i in 0..4096usize {

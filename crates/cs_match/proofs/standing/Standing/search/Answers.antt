@@ -24,7 +24,7 @@ returns-then-move_over-clause-found c =
     let i = c.loop-b.b-index in
     let byte = get_or line i 0 in
     let left : exit_at line t (λ _. true) i ≡ true =
-        sym (left_ahead t line i (omega arith)) ∙ ap (λ (n : Standing). exits t true n.marks (ahead n byte)) (sym c.loop-b.invariant.here) ∙ sym c.move_over.ensures.left ∙ c.if-move_over.true in
+    sym (left_ahead t line i (omega arith)) ∙ ap (λ (n : Standing). exits t true n.marks (ahead n byte)) (sym c.loop-b.invariant.here) ∙ sym c.move_over.ensures.left ∙ c.if-move_over.true in
     let f = found_at t line c.requires.looped i (omega arith) left in
     (λ _. f, λ _. refl)
 

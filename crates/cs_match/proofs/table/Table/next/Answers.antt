@@ -11,11 +11,11 @@ returns-else-next-clause-told c =
     let s = c.args.self.now in
     let row = c.args.from / 256 in
     let place : bit_or c.args.from c.from.result ≡ 256 * row + c.args.byte =
-        ap (bit_or c.args.from) c.from.ensures ∙ cell_place c.args.from c.args.byte c.requires.row.whole (omega arith) in
+    ap (bit_or c.args.from) c.from.ensures ∙ cell_place c.args.from c.args.byte c.requires.row.whole (omega arith) in
     let cell = s.cells.items in
     let here : c.index-next.result.now ≡ get_or cell (256 * row + c.args.byte) 0 =
-        get_or_read cell (bit_or c.args.from c.from.result) c.index-next.result.now (omega (arith, place, c.requires.right.cells.all)) c.index-next.ensures 0
-        ∙ ap (λ k. get_or cell k 0) place in
+    get_or_read cell (bit_or c.args.from c.from.result) c.index-next.result.now (omega (arith, place, c.requires.right.cells.all)) c.index-next.ensures 0
+    ∙ ap (λ k. get_or cell k 0) place in
     let few : row < 254 = omega (arith, c.requires.row.in_use, c.requires.right.rows.few) in
     let told = c.requires.right.cells.right row c.args.byte few (omega arith) in
     let P : ℕ → Type 0 = λ x. IsCell (tree_in s) s.rows.items s.used row c.args.byte x in

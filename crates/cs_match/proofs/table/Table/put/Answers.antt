@@ -10,7 +10,7 @@ pub returns-clause-right : goal.returns-clause-right
 returns-clause-right c =
     let s = c.args.self.now in
     let place : bit_or c.args.from c.from.result ≡ 256 * (c.args.from / 256) + c.args.byte =
-        ap (bit_or c.args.from) c.from.ensures ∙ cell_place c.args.from c.args.byte c.requires.row.whole (omega arith) in
+    ap (bit_or c.args.from) c.from.ensures ∙ cell_place c.args.from c.args.byte c.requires.row.whole (omega arith) in
     let P : ℕ → Type 0 = λ k. AreCells (tree_in s) s.rows.items s.used (set s.cells.items k c.args.next) in
     record {
       looped = c.requires.right.looped;

@@ -1,4 +1,6 @@
 // Worked rows, byte for byte, over trees in memory.
+ghost use Rattle.std.specs.Prelude.{◌≡◌, length};
+
 use crate::fixtures::{strings, tree_of};
 use crate::indexing::job_of;
 use cs_cindex::cindex;
@@ -12,31 +14,34 @@ use std::test::Fail;
 const EMPTY: &[u8] =
     b"csearch index 1\n/v\0\0\0\xff\xff\xff\0\0\0\0\0\0\0\0\x10\0\0\0\x14\0\0\0\x15\0\0\0\x19\0\0\0\x1d\ncsearch trailr\n";
 
-/// A job without an index, over the tree: the index after it, and its reply.
-fn index_of<T: Tree + Drop, E: Sink>(
+/// A job without an index, over the one tree: the index after it, and its reply.
+fn index_of<T: Tree, E: Sink>(
     alloc: Global,
-    tree: T,
+    trees: &mut [T],
     words: &[&str],
     err: &mut E,
-) -> Result<(Option<Vec<u8>>, Reply), Fail> {
+) -> Result<(Option<Vec<u8>>, Reply), Fail>
+    requires { length trees.old ≡ 1 }
+{
     let jobs = [job_of(alloc, words)?];
-    let mut trees = [tree];
     let mut replies = [Reply::Done];
     let mut out = MemSink::new(alloc, 1000);
-    let index = cindex(alloc, None, &jobs, &mut trees, &mut replies, &mut out, err);
+    let index = cindex(alloc, None, &jobs, trees, &mut replies, &mut out, err);
     Ok((index, replies[0]))
 }
 
 /// The index of a job that is done, and the lines.
-fn expect<T: Tree + Drop>(
+fn expect<T: Tree>(
     rt: &impl Abort,
     alloc: Global,
-    tree: T,
+    trees: &mut [T],
     words: &[&str],
     wanted: (&[u8], &str),
-) -> Result<(), Fail> {
+) -> Result<(), Fail>
+    requires { length trees.old ≡ 1 }
+{
     let mut err = MemSink::new(alloc, 1000);
-    let (index, _reply) = index_of(alloc, tree, words, &mut err)?;
+    let (index, _reply) = index_of(alloc, trees, words, &mut err)?;
     let index = index.ok_or("no index")?;
     assert_eq!(rt; index.as_slice(), wanted.0, "of {words:?}");
     assert_eq!(rt; err.bytes(), wanted.1.as_bytes(), "of {words:?}");
@@ -52,15 +57,22 @@ fn the_faults_of_the_walk_come_first(rt: HostRuntime) -> Result<(), Fail> {
     tree.put("/v/d", Item::Other).ok().ok_or("put")?;
     let lines =
         "cindex: /v/b: permission denied\ncindex: /v/a: not indexed: NUL byte\ncindex: /v/c: cannot be read\n";
-    expect(&rt, rt.alloc(), tree, &["-logskip", "/v"], (EMPTY, lines))?;
+    let mut trees = [tree];
+    expect(
+        &rt,
+        rt.alloc(),
+        &mut trees,
+        &["-logskip", "/v"],
+        (EMPTY, lines),
+    )?;
     Ok(())
 }
 
 #[test]
 fn a_line_that_is_not_taken(rt: HostRuntime) -> Result<(), Fail> {
-    let tree = MemTree::new(rt.alloc(), 4)?;
+    let mut trees = [MemTree::new(rt.alloc(), 4)?];
     let mut err = MemSink::new(rt.alloc(), 10);
-    let (_index, reply) = index_of(rt.alloc(), tree, &["/v"], &mut err)?;
+    let (_index, reply) = index_of(rt.alloc(), &mut trees, &["/v"], &mut err)?;
     assert_eq!(rt; reply, Reply::Refused(CindexFault::Write));
     assert_eq!(rt; err.bytes(), b"cindex: /v".as_slice());
     assert_eq!(rt; err.failures(), 1);
@@ -108,6 +120,7 @@ impl Tree for OddTree {
 #[test]
 fn a_name_that_no_index_holds(rt: HostRuntime) -> Result<(), Fail> {
     let line = "cindex: /v/a\0b: name is not text\n";
-    expect(&rt, rt.alloc(), OddTree, &["/v"], (EMPTY, line))?;
+    let mut trees = [OddTree];
+    expect(&rt, rt.alloc(), &mut trees, &["/v"], (EMPTY, line))?;
     Ok(())
 }

@@ -82,7 +82,7 @@ module _ (finds : List ℕ → Bool) (cells : List ℕ) (fits : (at : ℕ) → F
       → (row_after cells 0 text < first_noisy → NoneFound finds (ended_lines text)) → NoneFound finds (ended_lines (part ++ b ∷ text))
   line b text part p low more e quiet behind =
       let here : row_after cells (row_after cells 0 (part ++ newline ∷ [])) text < first_noisy =
-          subst (λ row. row_after cells row text < first_noisy) (sym (one_more part newline)) (opened part newline text (subst (λ c. row_after cells (row_after cells 0 part) (c ∷ text) < first_noisy) e quiet)) in
+      subst (λ row. row_after cells row text < first_noisy) (sym (one_more part newline)) (opened part newline text (subst (λ c. row_after cells (row_after cells 0 part) (c ∷ text) < first_noisy) e quiet)) in
       let ended = quiet_before part text more here in
       subst (λ c. NoneFound finds (ended_lines (part ++ c ∷ text))) (sym e)
       (subst (NoneFound finds) (sym (ended_lines-line part text p))

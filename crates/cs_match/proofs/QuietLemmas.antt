@@ -106,7 +106,7 @@ module _ (t : Tree) (rows : List Standing) (used : ℕ) (cells : List ℕ) (few 
       let step = quiet_step n number b (line ++ newline ∷ []) (All-head IsByte b (line ++ newline ∷ []) bytes) (All-tail IsByte b (line ++ newline ∷ []) bytes) row quiet in
       let moves : after t n b ≡ moved t n b = rw part.0 refl in
       let rest = quiet_line (moved t n b) (get_or cells (bit_or number b) 0) line (All-tail IsByte b (line ++ newline ∷ []) bytes) part.1
-          (subst (λ (m : Standing). IsRow t rows used (get_or cells (bit_or number b) 0) m) moves step.1) quiet in
+      (subst (λ (m : Standing). IsRow t rows used (get_or cells (bit_or number b) 0) m) moves step.1) quiet in
       (rest.0, (step.0, rest.1))
 
   -- the cells tell of each line where the tree finds nothing in it

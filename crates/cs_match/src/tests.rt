@@ -2,6 +2,12 @@ use crate::{Matcher, Program, laws};
 use cs_syntax::parse;
 use std::test::Fail;
 
+fn needle(rt: &HostRuntime, pattern: &str) -> Result<Vec<u8>, Fail> {
+    let pattern = parse(rt.alloc(), pattern, false).ok().ok_or("pattern")?;
+    let program = Program::compile(rt.alloc(), &pattern)?;
+    Ok(Vec::from_slice(rt.alloc(), program.needle())?)
+}
+
 fn found(rt: &HostRuntime, pattern: &str, line: &[u8]) -> Result<bool, Fail> {
     let pattern = parse(rt.alloc(), pattern, false).ok().ok_or("pattern")?;
     let program = Program::compile(rt.alloc(), &pattern)?;
@@ -120,5 +126,36 @@ fn large_patterns(rt: HostRuntime) -> Result<(), Fail> {
             repeated(&rt, "ab", 200, "", "cc")?.as_bytes()
         )?
     );
+    Ok(())
+}
+
+// No clause says which of its needles a program has.
+#[test]
+fn needles_of_patterns(rt: HostRuntime) -> Result<(), Fail> {
+    for (pattern, want) in [
+        ("", ""),
+        ("return", "return"),
+        ("^#include", "#include"),
+        ("static.*struct", "struct"),
+        ("\\binline\\b", "inline"),
+        ("a(b(cd)e)f", "abcdef"),
+        ("alpha|beta", ""),
+        ("(alpha|beta)gamma", "gamma"),
+        ("(?i)copyright", ""),
+        ("(a|b)*c.*d$", "c"),
+        ("ab+c", "bc"),
+        ("e(qz)+e", "eqz"),
+        ("(eq)+z", "eqz"),
+        ("x(.q)+z", "qz"),
+        ("ab*c", "a"),
+        ("ab?c", "a"),
+        ("(ab){3}", "ababab"),
+        ("a{2,}b", "aa"),
+        ("[0-9]{3}-[0-9]{4}", "-"),
+        ("q$z^\\b\\Bj", "qzj"),
+    ] {
+        let word = needle(&rt, pattern)?;
+        assert_eq!(rt; word.as_slice(), want.as_bytes(), "{pattern:?}");
+    }
     Ok(())
 }

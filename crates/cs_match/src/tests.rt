@@ -2,6 +2,12 @@ use crate::{Matcher, Program, laws};
 use cs_syntax::parse;
 use std::test::Fail;
 
+fn needle(rt: &HostRuntime, pattern: &str) -> Result<Vec<u8>, Fail> {
+    let pattern = parse(rt.alloc(), pattern, false).ok().ok_or("pattern")?;
+    let program = Program::compile(rt.alloc(), &pattern)?;
+    Ok(Vec::from_slice(rt.alloc(), program.needle())?)
+}
+
 fn found(rt: &HostRuntime, pattern: &str, line: &[u8]) -> Result<bool, Fail> {
     let pattern = parse(rt.alloc(), pattern, false).ok().ok_or("pattern")?;
     let program = Program::compile(rt.alloc(), &pattern)?;
@@ -161,5 +167,36 @@ fn skips_lines(rt: HostRuntime) -> Result<(), Fail> {
     assert_eq!(rt; matcher.skip(block, 0), 5);
     assert_eq!(rt; matcher.skip(block, 7), 7);
     assert_eq!(rt; matcher.skip(block, 7), 9);
+    Ok(())
+}
+
+// No clause says which of its needles a program has.
+#[test]
+fn needles_of_patterns(rt: HostRuntime) -> Result<(), Fail> {
+    for (pattern, want) in [
+        ("", ""),
+        ("return", "return"),
+        ("^#include", "#include"),
+        ("static.*struct", "struct"),
+        ("\\binline\\b", "inline"),
+        ("a(b(cd)e)f", "abcdef"),
+        ("alpha|beta", ""),
+        ("(alpha|beta)gamma", "gamma"),
+        ("(?i)copyright", ""),
+        ("(a|b)*c.*d$", "c"),
+        ("ab+c", "bc"),
+        ("e(qz)+e", "eqz"),
+        ("(eq)+z", "eqz"),
+        ("x(.q)+z", "qz"),
+        ("ab*c", "c"),
+        ("ab?c", "c"),
+        ("(ab){3}", "ababab"),
+        ("a{2,}b", "ab"),
+        ("[0-9]{3}-[0-9]{4}", "-"),
+        ("q$z^\\b\\Bj", "qzj"),
+    ] {
+        let word = needle(&rt, pattern)?;
+        assert_eq!(rt; word.as_slice(), want.as_bytes(), "{pattern:?}");
+    }
     Ok(())
 }

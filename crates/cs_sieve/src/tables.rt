@@ -1,0 +1,139 @@
+// Tables by the halves of a byte, in which a bit stands for a group of windows.
+ghost use Rattle.std.specs.Prelude.{◌≡◌, ℕ, ◌+◌, ◌<◌, ◌≤◌, length, slice_index, true, IsTrue, All};
+ghost use Rattle.cs_syntax.specs.Matching.{member};
+ghost use Rattle.cs_sieve.specs.Lanes.{HasLanes};
+ghost use Rattle.cs_sieve.specs.Codes.{groups, code, code_at, IsIn, HasGroupsOf, HasCodesOf, IsOfGroup, HasGroup, NoCode};
+
+use crate::lanes::{both, by_high_half, by_low_half, load, nonzero};
+use crate::window::Window;
+use cs_syntax::ByteSet;
+use std::simd::prelude::*;
+
+/// How many groups there are: a bit of a cell for each.
+const GROUPS: usize = 8;
+
+/// How many places are looked at side by side.
+const PLACES: usize = 32;
+
+/// For one place of a window, the groups that a byte may be of: those that both of its halves are of.
+#[derive(Clone, Copy, Drop)]
+pub(crate) struct Halves {
+    low: [u8; 16],
+    high: [u8; 16],
+}
+
+impl Halves {
+    /// No byte is of any group.
+    fn new() -> Halves {
+        Halves {
+            low: [0; 16],
+            high: [0; 16],
+        }
+    }
+
+    /// The byte is of the group too.
+    fn add_byte(&mut self, byte: u8, group: usize)
+        requires { group < 8 }
+        ensures has { IsIn self.new byte group }
+        ensures keeps { HasGroupsOf self.old self.new }
+    {
+        let bit = 1u8 << group;
+        self.low[(byte % 16) as usize] |= bit;
+        self.high[(byte / 16) as usize] |= bit;
+    }
+
+    /// The bytes of the set are of the group too.
+    fn add(&mut self, set: &ByteSet, group: usize)
+        requires { group < 8 }
+        ensures has { (b : ℕ) → b < 256 → member set.now b ≡ true → IsIn self.new b group }
+        ensures keeps { HasGroupsOf self.old self.new }
+    {
+        for byte in 0..=255u8 {
+            if set.contains(byte) {
+                self.add_byte(byte, group);
+            }
+        }
+    }
+
+    /// The groups that 32 bytes may be of.
+    #[inline(always)]
+    fn lanes(&self, bytes: u8x32) -> u8x32
+        ensures { HasLanes result (λ k. groups self.now (slice_index bytes k)) }
+    {
+        both(
+            by_low_half(&self.low, bytes),
+            by_high_half(&self.high, bytes),
+        )
+    }
+}
+
+/// For each place of a window, the groups that a byte may be of.
+#[derive(Clone, Copy, Drop)]
+pub(crate) struct Tables {
+    first: Halves,
+    second: Halves,
+    third: Halves,
+}
+
+impl Tables {
+    /// Neighbours of the list are put into one group.
+    pub(crate) fn new(windows: &[Window]) -> Tables
+        ensures { All (HasGroup result) windows.now }
+    {
+        let mut tables = Tables {
+            first: Halves::new(),
+            second: Halves::new(),
+            third: Halves::new(),
+        };
+        for (i, window) in windows.iter().enumerate() {
+            tables.add(window, i.wrapping_mul(GROUPS) / windows.len() % GROUPS);
+        }
+        tables
+    }
+
+    /// The window is of the group too.
+    fn add(&mut self, window: &Window, group: usize)
+        requires { group < 8 }
+        ensures has { IsOfGroup self.new window.now group }
+        ensures keeps { HasCodesOf self.old self.new }
+    {
+        self.first.add(&window.first, group);
+        self.second.add(&window.second, group);
+        self.third.add(&window.third, group);
+    }
+
+    /// The groups that the windows at 32 places may be of.
+    #[inline(always)]
+    fn codes(&self, text: &[u8], at: usize) -> u8x32
+        requires { at + PLACES + 2 ≤ length text.now }
+        ensures { HasLanes result (λ k. code_at self.now text.now (at + k)) }
+    {
+        let first = self.first.lanes(load(text, at));
+        let second = self.second.lanes(load(text, at + 1));
+        let third = self.third.lanes(load(text, at + 2));
+        both(both(first, second), third)
+    }
+
+    /// Whether no window begins at the next 32 places.
+    #[inline(always)]
+    fn is_clear(&self, text: &[u8], at: usize) -> bool
+        requires { at + PLACES + 2 ≤ length text.now }
+        ensures { IsTrue result → NoCode self.now text.now at (at + PLACES) }
+    {
+        nonzero(self.codes(text, at)) == 0
+    }
+
+    /// A place from `from` on before which no window begins. Near the end of the text nothing is passed.
+    pub(crate) fn skip(&self, text: &[u8], from: usize) -> usize
+        requires { from ≤ length text.now }
+        ensures low { from ≤ result }
+        ensures high { result ≤ length text.now }
+        ensures none { NoCode self.now text.now from result }
+    {
+        let mut at = from;
+        'places: while text.len() - at >= PLACES + 2 && self.is_clear(text, at) {
+            at += PLACES;
+        }
+        at
+    }
+}

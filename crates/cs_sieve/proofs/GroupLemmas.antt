@@ -64,15 +64,15 @@ module _ (low high : List ℕ) (at_low at_high group : ℕ) (in_low : at_low < l
 pub code_of_groups : (tables : Tables) (a b c g : ℕ) → IsIn tables.first a g → IsIn tables.second b g → IsIn tables.third c g
     → bit_at (code tables a b c) g ≡ 1
 unfolding code
-code_of_groups tables a b c g one two three = in_both _ _ g (in_both _ _ g one two) three
+code_of_groups tables a b c g one two three = in_both _ _ g one (in_both _ _ g two three)
 
 -- each table that keeps its groups, so do the three
 pub HasCodesOf-each : (old new : Tables) → HasGroupsOf old.first new.first → HasGroupsOf old.second new.second
     → HasGroupsOf old.third new.third → HasCodesOf old new
 unfolding code
 HasCodesOf-each old new one two three a b c g h =
-    let two_of = in_left _ _ g h in
-    in_both _ _ g (in_both _ _ g (one a g (in_left _ _ g two_of)) (two b g (in_right _ _ g two_of))) (three c g (in_right _ _ g h))
+    let later = in_right _ _ g h in
+    in_both _ _ g (one a g (in_left _ _ g h)) (in_both _ _ g (two b g (in_left _ _ g later)) (three c g (in_right _ _ g later)))
 
 -- a window stays of its group
 pub HasGroup-kept : (old new : Tables) → HasCodesOf old new → (window : Window) → HasGroup old window → HasGroup new window

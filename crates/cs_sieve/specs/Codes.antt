@@ -21,7 +21,7 @@ HasGroupsOf old new = (b group : ℕ) → IsIn old b group → IsIn new b group
 -- the groups that all three bytes are of, each at its place
 unfoldable pub code : Tables → ℕ → ℕ → ℕ → ℕ
 code tables a b c =
-    bit_and (bit_and (groups tables.first a) (groups tables.second b)) (groups tables.third c)
+    bit_and (groups tables.first a) (bit_and (groups tables.second b) (groups tables.third c))
 
 -- the same of the three bytes from place k on
 abbrev pub code_at : Tables → List ℕ → ℕ → ℕ

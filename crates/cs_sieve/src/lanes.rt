@@ -49,10 +49,24 @@ fn in_each_half(table: &[u8; 16]) -> u8x32
     ])
 }
 
+/// Each lane is what the next one was, and the last is 0.
+#[inline(always)]
+pub(crate) fn next(v: u8x32) -> u8x32
+    ensures { HasLanes result (λ k. slice_index v (k + 1)) }
+{
+    v.shuffle(
+        u8x32::splat(0),
+        [
+            1, 2, 3, 4, 5, 6, 7, 8, 9, 10, 11, 12, 13, 14, 15, 16, 17, 18, 19, 20, 21, 22, 23, 24,
+            25, 26, 27, 28, 29, 30, 31, 32,
+        ],
+    )
+}
+
 /// A bit for each lane, which is set where the lane is not 0.
 #[inline(always)]
 pub(crate) fn nonzero(v: u8x32) -> u64
-    ensures { (k : ℕ) → k < 32 → (bit_at result k ≡ 1) ↔ (slice_index v k ≢ 0) }
+    ensures { (k : ℕ) → (bit_at result k ≡ 1) ↔ (slice_index v k ≢ 0) }
 {
     v.simd_ne(u8x32::splat(0)).to_bitmask()
 }

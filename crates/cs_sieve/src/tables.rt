@@ -1,10 +1,11 @@
 // Tables by the halves of a byte, in which a bit stands for a group of windows.
-ghost use Rattle.std.specs.Prelude.{◌≡◌, ℕ, ◌+◌, ◌<◌, ◌≤◌, length, slice_index, true, IsTrue, All};
+ghost use Rattle.std.specs.Prelude.{◌≡◌, ◌≢◌, ◌↔◌, ℕ, ◌+◌, ◌<◌, ◌≤◌, length, slice_index, true, IsTrue, All};
+ghost use Rattle.std.specs.Int.{bit_at};
 ghost use Rattle.cs_syntax.specs.Matching.{member};
 ghost use Rattle.cs_sieve.specs.Lanes.{HasLanes};
 ghost use Rattle.cs_sieve.specs.Codes.{groups, code, code_at, IsIn, HasGroupsOf, HasCodesOf, IsOfGroup, HasGroup, NoCode};
 
-use crate::lanes::{both, by_high_half, by_low_half, load, nonzero};
+use crate::lanes::{both, by_high_half, by_low_half, load, next, nonzero};
 use crate::window::Window;
 use cs_syntax::ByteSet;
 use std::simd::prelude::*;
@@ -12,8 +13,11 @@ use std::simd::prelude::*;
 /// How many groups there are: a bit of a cell for each.
 const GROUPS: usize = 8;
 
-/// How many places are looked at side by side.
-const PLACES: usize = 32;
+/// How many bytes are looked up side by side.
+const LANES: usize = 32;
+
+/// How many places these are enough for: a window has three bytes.
+const PLACES: usize = 30;
 
 /// For one place of a window, the groups that a byte may be of: those that both of its halves are of.
 #[derive(Clone, Copy, Drop)]
@@ -102,28 +106,31 @@ impl Tables {
         self.third.add(&window.third, group);
     }
 
-    /// The groups that the windows at 32 places may be of.
+    /// The groups of the windows that may begin at the next places.
     #[inline(always)]
     fn codes(&self, text: &[u8], at: usize) -> u8x32
-        requires { at + PLACES + 2 ≤ length text.now }
-        ensures { HasLanes result (λ k. code_at self.now text.now (at + k)) }
+        requires { at + LANES ≤ length text.now }
+        ensures places { (k : ℕ) → k < PLACES
+            → slice_index result k ≡ code_at self.now text.now (at + k) }
+        ensures rest { (k : ℕ) → PLACES ≤ k → slice_index result k ≡ 0 }
     {
-        let first = self.first.lanes(load(text, at));
-        let second = self.second.lanes(load(text, at + 1));
-        let third = self.third.lanes(load(text, at + 2));
-        both(both(first, second), third)
+        let bytes = load(text, at);
+        let later = both(self.second.lanes(bytes), next(self.third.lanes(bytes)));
+        both(self.first.lanes(bytes), next(later))
     }
 
-    /// Whether no window begins at the next 32 places.
+    /// A bit for each of the next places, which is set where a window may begin.
     #[inline(always)]
-    fn is_clear(&self, text: &[u8], at: usize) -> bool
-        requires { at + PLACES + 2 ≤ length text.now }
-        ensures { IsTrue result → NoCode self.now text.now at (at + PLACES) }
+    fn marks(&self, text: &[u8], at: usize) -> u64
+        requires { at + LANES ≤ length text.now }
+        ensures places { (k : ℕ) → k < PLACES
+            → (bit_at result k ≡ 1) ↔ (code_at self.now text.now (at + k) ≢ 0) }
+        ensures rest { (k : ℕ) → bit_at result k ≡ 1 → k < PLACES }
     {
-        nonzero(self.codes(text, at)) == 0
+        nonzero(self.codes(text, at))
     }
 
-    /// A place from `from` on before which no window begins. Near the end of the text nothing is passed.
+    /// A place from `from` on before which no window begins: the first at which one may, but near the end of the text.
     pub(crate) fn skip(&self, text: &[u8], from: usize) -> usize
         requires { from ≤ length text.now }
         ensures low { from ≤ result }
@@ -131,7 +138,11 @@ impl Tables {
         ensures none { NoCode self.now text.now from result }
     {
         let mut at = from;
-        'places: while text.len() - at >= PLACES + 2 && self.is_clear(text, at) {
+        'places: while text.len() - at >= LANES {
+            let marks = self.marks(text, at);
+            if marks != 0 {
+                return at + marks.trailing_zeros() as usize;
+            }
             at += PLACES;
         }
         at

@@ -110,9 +110,8 @@ impl Tables {
     #[inline(always)]
     fn codes(&self, text: &[u8], at: usize) -> u8x32
         requires { at + LANES ≤ length text.now }
-        ensures places { (k : ℕ) → k < PLACES
+        ensures { (k : ℕ) → k < PLACES
             → slice_index result k ≡ code_at self.now text.now (at + k) }
-        ensures rest { (k : ℕ) → PLACES ≤ k → slice_index result k ≡ 0 }
     {
         let bytes = load(text, at);
         let later = both(self.second.lanes(bytes), next(self.third.lanes(bytes)));
@@ -123,11 +122,31 @@ impl Tables {
     #[inline(always)]
     fn marks(&self, text: &[u8], at: usize) -> u64
         requires { at + LANES ≤ length text.now }
-        ensures places { (k : ℕ) → k < PLACES
+        ensures { (k : ℕ) → k < PLACES
             → (bit_at result k ≡ 1) ↔ (code_at self.now text.now (at + k) ≢ 0) }
-        ensures rest { (k : ℕ) → bit_at result k ≡ 1 → k < PLACES }
     {
         nonzero(self.codes(text, at))
+    }
+
+    /// Whether no window begins at the next places.
+    #[inline(always)]
+    fn is_clear(&self, text: &[u8], at: usize) -> bool
+        requires { at + LANES ≤ length text.now }
+        ensures { IsTrue result → NoCode self.now text.now at (at + PLACES) }
+    {
+        self.marks(text, at) == 0
+    }
+
+    /// How many of the next places come before the first at which a window may begin. It is kept out of the loop that
+    /// asks for it, which then need not make a mask of the lanes.
+    #[cold]
+    #[inline(never)]
+    fn clear_places(&self, text: &[u8], at: usize) -> usize
+        requires { at + LANES ≤ length text.now }
+        ensures within { result ≤ PLACES }
+        ensures none { NoCode self.now text.now at (at + result) }
+    {
+        (self.marks(text, at).trailing_zeros() as usize).min(PLACES)
     }
 
     /// A place from `from` on before which no window begins: the first at which one may, but near the end of the text.
@@ -139,9 +158,8 @@ impl Tables {
     {
         let mut at = from;
         'places: while text.len() - at >= LANES {
-            let marks = self.marks(text, at);
-            if marks != 0 {
-                return at + marks.trailing_zeros() as usize;
+            if !self.is_clear(text, at) {
+                return at + self.clear_places(text, at);
             }
             at += PLACES;
         }

@@ -137,10 +137,8 @@ impl Tables {
         self.marks(text, at) == 0
     }
 
-    /// How many of the next places come before the first at which a window may begin. It is kept out of the loop that
-    /// asks for it, which then need not make a mask of the lanes.
-    #[cold]
-    #[inline(never)]
+    /// How many of the next places come before the first at which a window may begin.
+    #[inline(always)]
     fn clear_places(&self, text: &[u8], at: usize) -> usize
         requires { at + LANES ≤ length text.now }
         ensures within { result ≤ PLACES }

@@ -25,7 +25,7 @@ fn sieve(rt: &HostRuntime, patterns: &[&str]) -> Result<Sieve, Fail> {
     Ok(Sieve::new(windows))
 }
 
-/// No window is passed, wherever it stands, and what comes long before one is.
+/// A window is stopped at, wherever it stands; in the last 32 bytes nothing is passed.
 #[test]
 fn a_window_at_each_place(rt: HostRuntime) -> Result<(), Fail> {
     let sieve = sieve(&rt, &["[xX][0-9]z", "q.[[:digit:]]"])?;
@@ -33,18 +33,13 @@ fn a_window_at_each_place(rt: HostRuntime) -> Result<(), Fail> {
         for place in 0..70 {
             let mut text = [b'-'; 80];
             text[place..place + 3].copy_from_slice(word);
-            let stop = sieve.skip(&text, 0);
-            assert!(rt; stop <= place, "at {place}");
-            assert!(rt;
-                place < stop + 32 || stop + 34 > 80,
-                "at {place}, from {stop}"
-            );
+            assert_eq!(rt; sieve.skip(&text, 0), place.min(60), "at {place}");
         }
     }
     Ok(())
 }
 
-/// Of twelve windows, more than there are groups, each stops it, and only near a text's end does nothing.
+/// Each of twelve windows is stopped at, which is more than there are groups. Behind it nothing stops but the end.
 #[test]
 fn each_of_many_windows(rt: HostRuntime) -> Result<(), Fail> {
     let words = [
@@ -54,8 +49,8 @@ fn each_of_many_windows(rt: HostRuntime) -> Result<(), Fail> {
     for word in words {
         let mut text = [b' '; 100];
         text[40..43].copy_from_slice(word.as_bytes());
-        assert_eq!(rt; sieve.skip(&text, 0), 32, "{word}");
-        assert_eq!(rt; sieve.skip(&text, 41), 73, "{word}");
+        assert_eq!(rt; sieve.skip(&text, 0), 40, "{word}");
+        assert_eq!(rt; sieve.skip(&text, 41), 71, "{word}");
     }
     Ok(())
 }

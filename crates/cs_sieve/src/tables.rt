@@ -37,7 +37,7 @@ impl Halves {
 
     /// The byte is of the group too.
     fn add_byte(&mut self, byte: u8, group: usize)
-        requires { group < 8 }
+        requires { group < GROUPS }
         ensures has { IsIn self.new byte group }
         ensures keeps { HasGroupsOf self.old self.new }
     {
@@ -48,7 +48,7 @@ impl Halves {
 
     /// The bytes of the set are of the group too.
     fn add(&mut self, set: &ByteSet, group: usize)
-        requires { group < 8 }
+        requires { group < GROUPS }
         ensures has { (b : ℕ) → b < 256 → member set.now b ≡ true → IsIn self.new b group }
         ensures keeps { HasGroupsOf self.old self.new }
     {
@@ -97,7 +97,7 @@ impl Tables {
 
     /// The window is of the group too.
     fn add(&mut self, window: &Window, group: usize)
-        requires { group < 8 }
+        requires { group < GROUPS }
         ensures has { IsOfGroup self.new window.now group }
         ensures keeps { HasCodesOf self.old self.new }
     {

@@ -23,7 +23,11 @@ unfolding groups halves cell
 b_is_of_none = refl
 
 tables : Tables
-tables = record { first = halves; second = record { low = cell 2 4; high = cell 6 255 }; third = record { low = cell 3 6; high = cell 6 255 } }
+tables = record {
+  first = halves;
+  second = record { low = cell 2 4; high = cell 6 255 };
+  third = record { low = cell 3 6; high = cell 6 255 };
+}
 
 abc_is_of_one_group : code tables 97 98 99 ≡ 4
 unfolding code groups tables halves cell

@@ -1,0 +1,4 @@
+pub mod Examples
+pub mod GroupLemmas
+pub mod LaneLemmas
+pub mod MarkLemmas

@@ -1,12 +1,13 @@
 -- Texts of whole lines.
-use Rattle.std.proofs.Common.{◌≡◌, ℕ, zero, suc, ◌+◌, ◌<◌, true, false, Bool, cond, nat_eq, List, [], ◌∷◌, ◌++◌, ◌-◌, ◌≤◌, length, take, drop, refl, sym, ap, subst, ◌∙◌, arith, length-drop}
-use Rattle.std.proofs.lemmas.Bool.{false≢true}
+use Rattle.std.proofs.Common.{◌≡◌, ℕ, zero, suc, ◌+◌, ◌<◌, true, false, Bool, cond, nat_eq, List, [], ◌∷◌, ◌++◌, ◌-◌, ◌≤◌, length, take, drop, refl, sym, ap, subst, ◌∙◌, arith, length-drop, ◌↔◌}
+use Rattle.std.proofs.lemmas.Bool.{false≢true, eqb-true}
 use Rattle.std.proofs.Math.Seq.{take-add}
 use Rattle.std.proofs.lemmas.List.{drop-drop, take_rest}
 use Rattle.std.proofs.lemmas.List.Elements.{All-append}
 use Rattle.cs_match.proofs.LinesLemmas.{ended_lines-line}
 use Rattle.cs_match.specs.Lines.{newline, ended_lines, with_byte_in_line, IsPart}
 use Rattle.cs_match.specs.Skipping.{AreWhole, NoneFound}
+use Rattle.cs_match.specs.Unended.{unended, unless_ended}
 
 -- what ends in a newline is whole
 pub whole_ended : (part : List ℕ) → AreWhole (part ++ newline ∷ [])
@@ -61,6 +62,37 @@ module _ (ys : List ℕ) where
   ended_lines-whole (b ∷ c ∷ xs) w =
       let h = first_line c xs w in
       one_more b (nat_eq b newline) (ended_lines (c ∷ xs)) (ended_lines ((c ∷ xs) ++ ys)) (ended_lines ys) h.0 h.1 h.2 (ended_lines-whole (c ∷ xs) w)
+
+-- a text is whole lines where nothing stands after its last newline
+ended_by : (b : ℕ) (t : Bool) (ls : List (List ℕ)) (rest : List ℕ) → cond t rest (unless_ended b ls rest) ≡ [] → rest ≡ []
+ended_by b true ls rest e = e
+ended_by b false [] rest e = cc
+ended_by b false (l ∷ ls) rest e = e
+
+ends_it : (b : ℕ) (t : Bool) → nat_eq b newline ≡ t → cond t [] (b ∷ []) ≡ [] → b ≡ newline
+ends_it b true is e = eqb-true b newline is
+ends_it b false is e = cc
+
+unended_whole : (text : List ℕ) → AreWhole text → unended text ≡ []
+unfolding unended ended_lines AreWhole
+unended_whole [] w = refl
+unended_whole (b ∷ []) w = rw w refl
+unended_whole (b ∷ c ∷ text) w =
+    let h = first_line [] c text w in
+    let rest : unended (c ∷ text) ≡ [] = unended_whole (c ∷ text) w in
+    elim (nat_eq b newline) as (λ t. cond t (unended (c ∷ text)) (unless_ended b (ended_lines (c ∷ text)) (unended (c ∷ text))) ≡ []) [
+      | true ↦ rest
+      | false ↦ ap (λ ls. unless_ended b ls (unended (c ∷ text))) h.2 ∙ rest
+    ]
+
+whole_unended : (text : List ℕ) → unended text ≡ [] → AreWhole text
+unfolding unended ended_lines AreWhole
+whole_unended [] e = tt
+whole_unended (b ∷ []) e = ends_it b (nat_eq b newline) refl e
+whole_unended (b ∷ c ∷ text) e = whole_unended (c ∷ text) (ended_by b (nat_eq b newline) (ended_lines (c ∷ text)) (unended (c ∷ text)) e)
+
+pub whole_is_ended : (text : List ℕ) → AreWhole text ↔ unended text ≡ []
+whole_is_ended text = (unended_whole text, whole_unended text)
 
 -- from one place to another, by way of a third
 between_by : (block : List ℕ) (from middle to : ℕ) → from ≤ middle → middle ≤ to → take (to - from) (drop from block) ≡ take (middle - from) (drop from block) ++ take (to - middle) (drop middle block)

@@ -1,84 +1,69 @@
 -- Lines of a block, from their places.
-use Rattle.std.proofs.Common.{◌≡◌, ℕ, ◌+◌, ◌-◌, ◌<◌, ◌≤◌, List, [], ◌∷◌, ◌++◌, length, take, drop, refl, sym, ap, subst, ◌∙◌, arith, length-take}
-use Rattle.std.proofs.lemmas.List.{take-append-drop, drop-drop}
+use Rattle.std.proofs.Common.{◌≡◌, ℕ, ◌+◌, ◌-◌, ◌<◌, ◌≤◌, true, nat_eq, List, [], ◌∷◌, ◌++◌, length, take, drop, get_or, sym, ap, subst, ◌∙◌, arith, append-nil, length-take, length-drop}
+use Rattle.std.proofs.lemmas.Bool.{eqb-true}
+use Rattle.std.proofs.lemmas.List.{take-append-drop, take_more, take_rest, get_or-drop}
+use Rattle.memchr.specs.Find.{Nowhere, NoneAfter, Passes, is_byte}
 use Rattle.cs_tree.proofs.Growing.{take_on}
-use Rattle.cs_match.specs.Lines.{newline, ended_lines, IsPart}
+use Rattle.cs_match.specs.Lines.{ended_lines, IsPart}
+use Rattle.cs_match.specs.Skipping.{AreWhole}
 use Rattle.cs_match.specs.Unended.{unended}
-use Rattle.cs_match.proofs.LinesLemmas.{lines_within, ended_lines-append, unended-append, ended_lines-part, unended-part, ended_lines-line, unended-line, IsPart-append}
+use Rattle.cs_match.proofs.LinesLemmas.{lines_within, unended-append, ended_lines-part, unended-part, IsPart-append, IsPart-searched}
+use Rattle.cs_match.proofs.NewlineLemmas.{next_none}
+use Rattle.cs_match.proofs.WholeLemmas.{whole_ended, whole_append, whole_is_ended, ended_lines-whole}
 
-module _ (block : List ℕ) (start from : ℕ) (rising : start ≤ from) (before : unended (take start block) ≡ []) (clean : IsPart (take (from - start) (drop start block))) where
-  -- the bytes from `start` are a part up to `from`, and what follows it
-  from_start : drop start block ≡ take (from - start) (drop start block) ++ drop from block
-  from_start =
-      let at : start + (from - start) ≡ from = omega arith in
-      sym (take-append-drop (from - start) (drop start block))
-      ∙ ap (λ rest. take (from - start) (drop start block) ++ rest) (drop-drop (from - start) start block ∙ ap (λ i. drop i block) (omega arith))
+-- what a search for the last newline says of a block whose first bytes have none
+module _ (block : List ℕ) (clean : ℕ) where
+  pub part_searched : IsPart (take clean block) → Nowhere (Passes (is_byte 10) (take (length block - clean) (drop clean block))) 0 (length (take (length block - clean) (drop clean block))) → IsPart block
+  part_searched front h = subst IsPart (take-append-drop clean block) (IsPart-append _ _ front (next_none block clean h))
 
-  -- no newline is left
-  module _ (rest : IsPart (drop from block)) where
-    part : IsPart (drop start block)
-    part = subst IsPart (sym from_start) (IsPart-append _ _ clean rest)
+  module _ (at : ℕ) (found : NoneAfter (Passes (is_byte 10) (take (length block - clean) (drop clean block))) 0 (length (take (length block - clean) (drop clean block))) at × Passes (is_byte 10) (take (length block - clean) (drop clean block)) at) where
+    last : NoneAfter (Passes (is_byte 10) (drop clean block)) 0 (length (drop clean block)) at × Passes (is_byte 10) (drop clean block) at
+    last = subst (λ (hay : List ℕ). NoneAfter (Passes (is_byte 10) hay) 0 (length hay) at × Passes (is_byte 10) hay at) (take_rest block clean) found
 
-    whole : block ≡ take start block ++ drop start block
-    whole = sym (take-append-drop start block)
+    pub last_within : clean + at < length block
+    last_within = omega (arith, last.0.high, length-drop clean block)
 
-    pub ended_none : ended_lines block ≡ ended_lines (take start block)
-    ended_none =
-        ap ended_lines whole ∙ ended_lines-append (take start block) (drop start block)
-        ∙ ap (λ u. ended_lines (take start block) ++ ended_lines (u ++ drop start block)) before
-        ∙ ap (λ ls. ended_lines (take start block) ++ ls) (ended_lines-part (drop start block) part)
-        ∙ append_nil_of (ended_lines (take start block))
-      where
-        append_nil_of : (ls : List (List ℕ)) → ls ++ [] ≡ ls
-        append_nil_of [] = refl
-        append_nil_of (l ∷ ls) = ap (λ (w : List (List ℕ)). l ∷ w) (append_nil_of ls)
+    pub whole_last : AreWhole (take (clean + at + 1) block)
+    whole_last =
+        let here : get_or block (clean + at) 0 ≡ 10 = sym (get_or-drop clean block at 0) ∙ eqb-true (get_or (drop clean block) at 0) 10 last.1 in
+        subst AreWhole (sym (take_more block (clean + at) 0 last_within ∙ ap (λ b. take (clean + at) block ++ b ∷ []) here))
+        (whole_ended (take (clean + at) block))
 
-    pub unended_none : unended block ≡ drop start block
-    unended_none =
-        ap unended whole ∙ unended-append (take start block) (drop start block)
-        ∙ ap (λ u. unended (u ++ drop start block)) before
-        ∙ unended-part (drop start block) part
+    pub part_last : IsPart (drop (clean + at + 1) block)
+    part_last =
+        let size = length-drop (clean + at + 1) block in
+        IsPart-searched (drop (clean + at + 1) block) (λ k low e.
+        let there : get_or (drop (clean + at + 1) block) k 0 ≡ get_or (drop clean block) (at + 1 + k) 0 = get_or-drop (clean + at + 1) block k 0 ∙ ap (λ i. get_or block i 0) (omega arith) ∙ sym (get_or-drop clean block (at + 1 + k) 0) in
+        last.0.after (at + 1 + k) (omega arith) (omega (arith, low, size, length-drop clean block, last_within)) (subst (λ b. nat_eq b 10 ≡ true) there e))
 
-  -- the next newline stands at `end`
-  module _ (end : ℕ) (later : from ≤ end) (within : end < length block) (more : IsPart (take (end - from) (drop from block))) (here : drop end block ≡ newline ∷ drop (end + 1) block) where
-    line_is : take (end - start) (drop start block) ≡ take (from - start) (drop start block) ++ take (end - from) (drop from block)
-    line_is =
-        ap (λ n. take n (drop start block)) (omega arith)
-        ∙ take_on (from - start) (end - from) (drop start block)
-        ∙ ap (λ r. take (from - start) (drop start block) ++ take (end - from) r) (drop-drop (from - start) start block ∙ ap (λ i. drop i block) (omega arith))
+-- a block is whole lines, and then a part
+module _ (block : List ℕ) (stop : ℕ) (whole : AreWhole (take stop block)) where
+  pub ended_front : ended_lines block ≡ ended_lines (take stop block) ++ ended_lines (drop stop block)
+  ended_front = ap ended_lines (sym (take-append-drop stop block)) ∙ ended_lines-whole (drop stop block) (take stop block) whole
 
-    pub IsPart-line : IsPart (take (end - start) (drop start block))
-    IsPart-line = subst IsPart (sym line_is) (IsPart-append _ _ clean more)
+  pub ended_all : IsPart (drop stop block) → ended_lines block ≡ ended_lines (take stop block)
+  ended_all part =
+      ended_front ∙ ap (λ ls. ended_lines (take stop block) ++ ls) (ended_lines-part (drop stop block) part)
+      ∙ append-nil (ended_lines (take stop block))
 
-    front_is : take (end + 1) block ≡ take start block ++ (take (end - start) (drop start block) ++ newline ∷ [])
-    front_is =
-        ap (λ n. take n block) (omega arith)
-        ∙ take_on start (end - start + 1) block
-        ∙ ap (λ r. take start block ++ r) (
-        take_on (end - start) 1 (drop start block)
-        ∙ ap (λ r. take (end - start) (drop start block) ++ take 1 r) (drop-drop (end - start) start block ∙ ap (λ i. drop i block) (omega arith) ∙ here))
+  pub unended_rest : IsPart (drop stop block) → drop stop block ≡ unended block
+  unended_rest part =
+      sym (ap unended (sym (take-append-drop stop block)) ∙ unended-append (take stop block) (drop stop block)
+      ∙ ap (λ u. unended (u ++ drop stop block)) ((whole_is_ended (take stop block)).0 whole)
+      ∙ unended-part (drop stop block) part)
 
-    pub ended_more : ended_lines (take (end + 1) block) ≡ ended_lines (take start block) ++ take (end - start) (drop start block) ∷ []
-    unfolding ended_lines
-    ended_more =
-        ap ended_lines front_is
-        ∙ ended_lines-append (take start block) (take (end - start) (drop start block) ++ newline ∷ [])
-        ∙ ap (λ u. ended_lines (take start block) ++ ended_lines (u ++ (take (end - start) (drop start block) ++ newline ∷ []))) before
-        ∙ ap (λ ls. ended_lines (take start block) ++ ls) (ended_lines-line (take (end - start) (drop start block)) [] IsPart-line)
+-- whole lines up to one place, and on to another
+module _ (block : List ℕ) (from to : ℕ) (rising : from ≤ to) (before : AreWhole (take from block)) where
+  front_is : take to block ≡ take from block ++ take (to - from) (drop from block)
+  front_is =
+      let at : to ≡ from + (to - from) = omega arith in
+      ap (λ n. take n block) at ∙ take_on from (to - from) block
 
-    pub unended_more : unended (take (end + 1) block) ≡ []
-    unfolding unended
-    unended_more =
-        ap unended front_is
-        ∙ unended-append (take start block) (take (end - start) (drop start block) ++ newline ∷ [])
-        ∙ ap (λ u. unended (u ++ (take (end - start) (drop start block) ++ newline ∷ []))) before
-        ∙ unended-line (take (end - start) (drop start block)) [] IsPart-line
+  pub lines_on : ended_lines (take to block) ≡ ended_lines (take from block) ++ ended_lines (take (to - from) (drop from block))
+  lines_on = ap ended_lines front_is ∙ ended_lines-whole (take (to - from) (drop from block)) (take from block) before
 
--- the lines of a block, from a front that ends a line
-pub ended_front : (block : List ℕ) (i : ℕ) → unended (take i block) ≡ [] → ended_lines block ≡ ended_lines (take i block) ++ ended_lines (drop i block)
-ended_front block i e =
-    ap ended_lines (sym (take-append-drop i block)) ∙ ended_lines-append (take i block) (drop i block)
-    ∙ ap (λ u. ended_lines (take i block) ++ ended_lines (u ++ drop i block)) e
+  pub whole_on : AreWhole (take (to - from) (drop from block)) → AreWhole (take to block)
+  whole_on w = subst AreWhole (sym front_is) (whole_append _ _ before w)
 
-pub counted_within : (block : List ℕ) (i : ℕ) → length (ended_lines (take i block)) ≤ i
-counted_within block i = omega (arith, lines_within (take i block), length-take i block)
+pub counted_within : (text : List ℕ) (n : ℕ) → length (ended_lines (take n text)) ≤ n
+counted_within text n = omega (arith, lines_within (take n text), length-take n text)

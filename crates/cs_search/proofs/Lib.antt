@@ -4,7 +4,6 @@ pub mod BlockLemmas
 pub mod BufferLemmas
 pub mod CgrepLemmas
 pub mod CsearchLemmas
-pub mod NewlineLemmas
 pub mod HitLemmas
 pub mod Printing
 pub mod PromiseLemmas

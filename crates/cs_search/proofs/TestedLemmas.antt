@@ -4,15 +4,17 @@ use Rattle.std.specs.Prelude.{IsTrue, ◌↔◌}
 use Rattle.std.specs.List.{flat_map}
 use Rattle.std.proofs.lemmas.List.{nil_from_length}
 use Rattle.std.proofs.lemmas.List.Concat.{flat_map-append}
+use Rattle.std.proofs.lemmas.List.Elements.{recursion_from_All}
 use Rattle.cs_tree.specs.Told.{Grows}
 use Rattle.cs_tree.proofs.Growing.{Grows-chain}
 use Rattle.cs_match.specs.Lines.{newline}
+use Rattle.cs_match.specs.Skipping.{NoneFound}
 use Rattle.cs_words.specs.declared.jobs.Style.{Style}
 use Rattle.cs_search.specs.declared.tally.Tally.{Tally}
 use Rattle.cs_search.specs.Report.{Hit, hits_from, some_hit}
 use Rattle.cs_search.specs.TestedLines.{shown, Tests, IsListed}
 use Rattle.cs_search.proofs.Printing.{Grows-same}
-use Rattle.cs_search.proofs.ReportLemmas.{hits_from-append, hits_from-one, some_hit-append}
+use Rattle.cs_search.proofs.ReportLemmas.{hits_from-append, hits_from-none, hits_from-one, some_hit-append}
 
 -- tests that tell the same thing answer alike
 pub decided_alike : {P : Type 0} (a b : Bool) → IsTrue a ↔ P → IsTrue b ↔ P → b ≡ a
@@ -51,6 +53,15 @@ module _ (style : Style) (name : List ℕ) (finds : List ℕ → Bool) where
   pub Tests-none : (before : Tally) (taken : Option (List ℕ)) → Tests style name finds [] before before taken taken
   unfolding hits_from
   Tests-none before taken = record { hits = omega arith; written = Grows-same taken }
+
+  -- nothing is found in the lines
+  pub Tests-passed : (lines : List (List ℕ)) (before after : Tally) (taken : Option (List ℕ)) → NoneFound finds lines → after.hits ≡ before.hits → Tests style name finds lines before after taken taken
+  Tests-passed lines before after taken none same =
+      let nothing : hits_from (before.lines + 1) finds lines ≡ [] = hits_from-none finds (before.lines + 1) lines (recursion_from_All (λ line. finds line ≡ false) lines none) in
+      record {
+        hits = omega (arith, same, ap (λ (hs : List Hit). length hs) nothing);
+        written = subst (λ (hs : List Hit). Grows taken taken (flat_map (shown style name) hs)) (sym nothing) (Grows-same taken);
+      }
 
   -- lines, and then lines
   pub Tests-more : (a b : List (List ℕ)) (before mid after : Tally) (taken now later : Option (List ℕ)) → mid.lines ≡ before.lines + length a → Tests style name finds a before mid taken now → Tests style name finds b mid after now later → Tests style name finds (a ++ b) before after taken later

@@ -1,18 +1,19 @@
 // Searches of lines, and of blocks of lines.
-ghost use Rattle.std.specs.Prelude.{◌≡◌, ◌≤◌, ◌<◌, ◌+◌, ◌-◌, ◌^◌, ◌∷◌, [], ℕ, Bool, true, List, OnOk, IfOk, IfSome, MatchOption, length, take, drop};
+ghost use Rattle.std.specs.Prelude.{◌≡◌, ◌≤◌, ◌<◌, ◌+◌, ◌-◌, ◌^◌, ◌∷◌, [], ℕ, Bool, true, false, List, OnOk, IfOk, IfSome, MatchBool, MatchOption, length, take, drop};
 ghost use Rattle.cs_search.specs.GrepFaults.{is_grep_failure};
 ghost use Rattle.cs_tree.specs.Failures.{count_after};
 ghost use Rattle.cs_match.specs.Finding.{Decides};
 ghost use Rattle.cs_match.specs.Lines.{newline, ended_lines, IsPart};
+ghost use Rattle.cs_match.specs.Skipping.{AreWhole, NoneFound};
 ghost use Rattle.cs_match.specs.Unended.{unended};
 ghost use Rattle.cs_search.specs.TestedLines.{Tests, IsListed};
 
 use crate::form::Form;
 use crate::grep_fault::GrepFault;
-use crate::tally::Tally;
+use crate::tally::{Tally, newlines};
 use cs_match::Matcher;
 use cs_tree::Sink;
-use memchr::memchr;
+use memchr::{memchr, memrchr};
 
 /// Tests the next line, and prints what is asked where something is found.
 pub(crate) fn search_line<O: Sink>(
@@ -52,6 +53,76 @@ fn next_newline(block: &[u8], from: usize) -> Option<usize>
     }
 }
 
+/// Where the last line of a block that has ended ends. The block's first `clean` bytes have no newline.
+fn ended_len(block: &[u8], clean: usize) -> usize
+    requires within { clean ≤ length block.now }
+    requires clean { IsPart (take clean block.now) }
+    ensures within { result ≤ length block.now }
+    ensures whole { AreWhole (take result block.now) }
+    ensures rest { IsPart (drop result block.now) }
+{
+    match memrchr(b'\n', &block[clean..]) {
+        None => 0,
+        Some(at) => clean + at + 1,
+    }
+}
+
+/// Counts lines from a place on in which nothing is found, and answers where the line after them begins. The block is
+/// whole lines.
+fn pass_lines(tally: &mut Tally, block: &[u8], from: usize, matcher: &mut Matcher<'_>) -> usize
+    requires within { from ≤ length block.now }
+    requires whole { AreWhole (drop from block.now) }
+    requires room { tally.old.lines + (length block.now - from) < 2 ^ 64 }
+    ensures low { from ≤ result }
+    ensures high { result ≤ length block.now }
+    ensures whole { AreWhole (take (result - from) (drop from block.now)) }
+    ensures none { (finds : List ℕ → Bool) → Decides finds matcher.old →
+        NoneFound finds (ended_lines (take (result - from) (drop from block.now))) }
+    ensures lines { tally.new.lines ≡
+        tally.old.lines + length (ended_lines (take (result - from) (drop from block.now))) }
+    ensures hits { tally.new.hits ≡ tally.old.hits }
+    ensures same { matcher.new ≡ matcher.old }
+{
+    let next = matcher.skip(block, from);
+    tally.lines += newlines(&block[from..next]);
+    next
+}
+
+/// Tests the lines of a block of whole lines. Under `-l` the first hit ends the search, and the answer is true.
+fn search_lines<O: Sink>(
+    form: &Form<'_>,
+    tally: &mut Tally,
+    block: &[u8],
+    matcher: &mut Matcher<'_>,
+    out: &mut O,
+) -> Result<bool, GrepFault>
+    requires whole { AreWhole block.now }
+    requires room { tally.old.lines + length block.now < 2 ^ 64 }
+    requires unlisted { form.now.style.list ≡ true → tally.old.hits ≡ 0 }
+    ensures lines { IfOk result (λ listed. listed ≡ false →
+        tally.new.lines ≡ tally.old.lines + length (ended_lines block.now)) }
+    ensures tests { IfOk result (λ listed. (finds : List ℕ → Bool) → Decides finds matcher.old →
+        MatchBool listed
+        (IsListed form.now.style form.now.name.now finds (ended_lines block.now)
+        (tally.old.lines + 1) tally.new (O.taken out.old) (O.taken out.new))
+        (Tests form.now.style form.now.name.now finds (ended_lines block.now)
+        tally.old tally.new (O.taken out.old) (O.taken out.new))) }
+    ensures unlisted { IfOk result (λ listed. listed ≡ false →
+        form.now.style.list ≡ true → tally.new.hits ≡ 0) }
+    ensures same { matcher.new ≡ matcher.old }
+    ensures failed { O.failed out.new ≡ count_after is_grep_failure result (O.failed out.old) }
+{
+    let mut at = pass_lines(tally, block, 0, matcher);
+    'lines: while let Some(end) = next_newline(block, at) {
+        search_line(form, tally, &block[at..end], matcher, out)?;
+        if form.style.list && tally.hits > 0 {
+            return Ok(true);
+        }
+        at = pass_lines(tally, block, end + 1, matcher);
+    }
+    Ok(false)
+}
+
 /// Tests the lines of a block that have ended, and answers where the rest of it begins. Its first `clean` bytes have no
 /// newline. Under `-l` the first hit ends the search, and the answer is None.
 pub(crate) fn search_block<O: Sink>(
@@ -81,15 +152,9 @@ pub(crate) fn search_block<O: Sink>(
     ensures same { matcher.new ≡ matcher.old }
     ensures failed { O.failed out.new ≡ count_after is_grep_failure result (O.failed out.old) }
 {
-    let mut start = 0;
-    let mut from = clean;
-    'lines: while let Some(end) = next_newline(block, from) {
-        search_line(form, tally, &block[start..end], matcher, out)?;
-        start = end + 1;
-        from = start;
-        if form.style.list && tally.hits > 0 {
-            return Ok(None);
-        }
+    let stop = ended_len(block, clean);
+    if search_lines(form, tally, &block[..stop], matcher, out)? {
+        return Ok(None);
     }
-    Ok(Some(start))
+    Ok(Some(stop))
 }

@@ -1,4 +1,4 @@
-use Rattle.cs_search.proofs.NewlineLemmas.{next_none, next_some}
+use Rattle.cs_match.proofs.NewlineLemmas.{next_none, next_some}
 use Rattle.cs_search.proofs.blocks.next_newline.Goals as goal
 
 pub returns-in-None : goal.returns-in-None

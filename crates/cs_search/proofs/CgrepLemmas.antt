@@ -16,7 +16,8 @@ use Rattle.cs_words.specs.declared.jobs.GrepJob.{GrepJob}
 use Rattle.cs_search.specs.declared.status.Status.{Status}
 use Rattle.cs_search.specs.Printed.{Printed, PrintsStatus, status_of, input_printed, file_printed, all_printed}
 use Rattle.cs_search.specs.Searcher.{Prints}
-use Rattle.cs_search.specs.Cgrep.{cgrep_printed, searched_by_cgrep, standard_name, PatternFirst}
+use Rattle.cs_search.specs.Cgrep.{cgrep_printed, searched_by_cgrep, standard_name, PatternFirst, TellsFaultsOf}
+use Rattle.cs_search.proofs.PrintedLemmas.{Tells-more}
 use Rattle.cs_words.specs.Faults.{pattern_fault, pattern_fault_at}
 
 module _ (most : ℕ) (job : GrepJob) (finds : List ℕ → Bool) (snapshot : Option Snapshot) (input : Option Told) where
@@ -44,6 +45,12 @@ PrintsStatus-flushed (Some printed) out now later err err-now err-later matched 
   subst (Grows err err-later) (append-nil printed.errors) (Grows-chain err err-now err-later printed.errors [] p.1 flushed-err),
   is ∙ ap status_of p.2,
 )
+
+pub TellsFaultsOf-flushed : (standard : Bool) (tree tree-now input input-now : ℕ) (err err-now err-later : Option (List ℕ)) → TellsFaultsOf standard tree tree-now input input-now err err-now → Grows err-now err-later [] → TellsFaultsOf standard tree tree-now input input-now err err-later
+TellsFaultsOf-flushed true tree tree-now input input-now err err-now err-later told flushed =
+    (told.0, Tells-more Cgrep input input-now input-now err err-now err-later told.1 ([], refl, flushed))
+TellsFaultsOf-flushed false tree tree-now input input-now err err-now err-later told flushed =
+    (told.0, Tells-more Cgrep tree tree-now tree-now err err-now err-later told.1 ([], refl, flushed))
 
 -- the tree that a text reads as
 pub read_once : (text : List ℕ) (fold : Bool) (t u : Tree) → Reads text fold t → Reads text fold u → t ≡ u

@@ -28,7 +28,7 @@ use Rattle.cs_trigram.specs.declared.queries.Query.{Query}
 use Rattle.cs_index.specs.Image.{Entry, Posting}
 use Rattle.cs_index.specs.Opening.{Parts, lists_in, files_read}
 use Rattle.cs_index.specs.Candidates.{candidates_of, is_answerable}
-use Rattle.cs_search.specs.Refusals.{IsAccepted}
+use Rattle.cs_search.specs.Refusals.{IsAccepted, QuietAtRefusal}
 use Rattle.cs_search.specs.Searcher.{IsSearchFault, Prints, IsPrinted}
 use Rattle.cs_search.specs.Csearch.{names_meeting, OpensWith, IsQueryOf, Asks, file_text, Keeps, csearch_printed, IsFileAccepted, AreAccepted, IsReady, RefusedInOrder}
 use Rattle.cs_search.specs.declared.status.Status.{Status}
@@ -176,6 +176,12 @@ module _ (job : SearchJob) (index : Option (List ℕ)) where
   search_last Write accepted ready is = (accepted, ready)
   search_last Memory accepted ready is = tt
   search_last fault accepted ready is = absurd is
+
+-- what a search is refused for may come behind output
+pub search_quiet : (Quiet : Type 0) (fault : ToolFault) → IsSearchFault {A = Status} (Err fault) → QuietAtRefusal {A = Status} (Err fault) Quiet
+search_quiet Quiet Write is = tt
+search_quiet Quiet Memory is = tt
+search_quiet Quiet fault is = absurd is
 
 -- ---- what is chosen
 

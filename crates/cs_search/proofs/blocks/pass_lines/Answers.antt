@@ -1,4 +1,4 @@
-use Rattle.std.proofs.Common.{◌-◌, length, take, drop, arith, length-drop}
+use Rattle.std.proofs.Common.{◌-◌, drop, arith}
 use Rattle.cs_search.proofs.BlockLemmas.{counted_within}
 use Rattle.cs_search.proofs.blocks.pass_lines.Goals as goal
 

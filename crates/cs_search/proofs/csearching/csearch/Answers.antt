@@ -1,4 +1,4 @@
-use Rattle.std.proofs.Common.{[], sym, subst, ◌∙◌, refl, Option}
+use Rattle.std.proofs.Common.{[], sym, subst, ◌∙◌, refl, Option, Err}
 use Rattle.std.specs.Prelude.{option_map, option_copied, string_bytes, filter}
 use Rattle.std.proofs.lemmas.Result.{err_from_is_err_and}
 use Rattle.cs_syntax.specs.Refusal.{IsRefused}
@@ -10,9 +10,12 @@ use Rattle.cs_search.specs.Csearch.{file_text}
 use Rattle.cs_search.specs.IndexSearch.{names_at, DecidesNames}
 use Rattle.cs_search.specs.Printed.{Printed, PrintsStatus, all_printed, file_printed, TellsFaults}
 use Rattle.cs_search.specs.Searcher.{Prints}
+use Rattle.cs_search.specs.Refusals.{has_write_failed}
+use Rattle.cs_search.specs.declared.status.Status.{Status}
+use Rattle.cs_tree.specs.Failures.{CountsOne}
 use Rattle.cs_search.proofs.CgrepLemmas.{PrintsStatus-flushed, read_once, Decides-program}
 use Rattle.cs_search.proofs.PrintedLemmas.{Tells-more}
-use Rattle.cs_search.proofs.CsearchLemmas.{pattern_first, lists_fourth, search_last, reads_job, accepted_both, asked, names_decided, chosen}
+use Rattle.cs_search.proofs.CsearchLemmas.{pattern_first, lists_fourth, search_last, reads_job, search_quiet, accepted_both, asked, names_decided, chosen}
 use Rattle.cs_search.proofs.PromiseLemmas.{like_cgrep, as_promised}
 use Rattle.cs_search.proofs.csearching.csearch.Goals as goal
 
@@ -103,3 +106,30 @@ returns-clause-promised g c =
     as_promised c.args.job.now (option_copied c.args.index) (g.T.Tree.snapshot c.args.tree.now)
     (λ (printed : Option Printed). PrintsStatus printed (g.O.Sink.taken c.args.out.now) (g.O.Sink.taken c.finish.new.out) (g.E.Sink.taken c.args.err.now) (g.E.Sink.taken c.finish.new.err) c.in_ok-status.status)
     (returns-clause-prints g c)
+
+pub returns-in_err-matched-clause-quiet : goal.returns-in_err-matched-clause-quiet
+returns-in_err-matched-clause-quiet g c =
+    let p = err_from_is_err_and c.from_residual-in_err-matched.result c.from_residual-in_err-matched.ensures.1 in
+    rw (p.1, p.2) (search_quiet _ c.in_err-matched.field-0.0 c.in_err-matched.ensures.only)
+
+pub returns-in_err-matched-clause-writes : goal.returns-in_err-matched-clause-writes
+returns-in_err-matched-clause-writes g c =
+    let p = err_from_is_err_and c.from_residual-in_err-matched.result c.from_residual-in_err-matched.ensures.1 in
+    rw (p.1, p.2) c.in_err-matched.ensures.writes
+
+pub returns-in_err-status-clause-quiet : goal.returns-in_err-status-clause-quiet
+returns-in_err-status-clause-quiet g c =
+    let p = err_from_is_err_and c.from_residual-in_err-status.result c.from_residual-in_err-status.ensures.1 in
+    rw (p.1, p.2) (search_quiet _ c.in_err-status.field-0.0 c.in_err-status.ensures.only)
+
+pub returns-in_err-status-clause-writes : goal.returns-in_err-status-clause-writes
+returns-in_err-status-clause-writes g c =
+    let p = err_from_is_err_and c.from_residual-in_err-status.result c.from_residual-in_err-status.ensures.1 in
+    let fails = has_write_failed {A = Status} (Err c.in_err-status.field-0.0) in
+    let before = g.O.Sink.failed c.search_ids.new.out in
+    let now = g.O.Sink.failed c.finish.new.out in
+    let now-err = g.E.Sink.failed c.finish.new.err in
+    let same = c.in_ok-matched.ensures.writes in
+    rw (p.1, p.2)
+    (subst (λ n. CountsOne fails n now (g.E.Sink.failed c.args.err.now) now-err) same.0
+    (subst (λ n. CountsOne fails before now n now-err) same.1 c.in_err-status.ensures.writes))

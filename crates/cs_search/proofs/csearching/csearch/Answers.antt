@@ -133,3 +133,18 @@ returns-in_err-status-clause-writes g c =
     rw (p.1, p.2)
     (subst (λ n. CountsOne fails n now (g.E.Sink.failed c.args.err.now) now-err) same.0
     (subst (λ n. CountsOne fails before now n now-err) same.1 c.in_err-status.ensures.writes))
+
+pub returns-in_err-kept-clause-refused : goal.returns-in_err-kept-clause-refused
+returns-in_err-kept-clause-refused g c =
+    let p = err_from_is_err_and c.from_residual-in_err-kept.result c.from_residual-in_err-kept.ensures.1 in
+    rw (p.1, p.2) tt
+
+pub returns-in_err-kept-clause-quiet : goal.returns-in_err-kept-clause-quiet
+returns-in_err-kept-clause-quiet g c =
+    let p = err_from_is_err_and c.from_residual-in_err-kept.result c.from_residual-in_err-kept.ensures.1 in
+    rw (p.1, p.2) tt
+
+pub returns-in_err-kept-clause-writes : goal.returns-in_err-kept-clause-writes
+returns-in_err-kept-clause-writes g c =
+    let p = err_from_is_err_and c.from_residual-in_err-kept.result c.from_residual-in_err-kept.ensures.1 in
+    rw (p.1, p.2) (refl, refl)

@@ -10,6 +10,7 @@ use Rattle.cs_tree.specs.declared.mem_tree.PutFault.TheVariants.{BadPath}
 use Rattle.std.specs.FinMap as map
 use Rattle.cs_tree.specs.Cover.{covers}
 use Rattle.cs_tree.specs.Reached.{elements_under}
+use Rattle.cs_tree.specs.Store.{part_of}
 
 dots_go : clean_path (codes "/w") (codes "a/./b/../c/") ≡ codes "/w/a/c"
 dots_go = refl
@@ -52,3 +53,9 @@ elements_below_the_root = refl
 
 elements_below_a_path : elements_under (codes "/a") (codes "/a/b/c") ≡ codes "b" ∷ codes "c" ∷ []
 elements_below_a_path = refl
+
+a_part_begins_at_its_position : part_of (codes "abcde") 1 3 ≡ codes "bcd"
+a_part_begins_at_its_position = refl
+
+a_part_ends_with_the_bytes : part_of (codes "abc") 2 5 ≡ codes "c"
+a_part_ends_with_the_bytes = refl

@@ -1,22 +1,22 @@
 -- What a walk has gathered from all of its paths, put in order, is what it finds.
 use Rattle.std.proofs.Common.{◌≡◌, ℕ, ◌+◌, ◌<◌, length, take, slice_index_or, Bool, true, false, ◌&&◌, ◌||◌, cond, List, [], ◌∷◌, ◌++◌, map, refl, sym, ap, subst, ◌∙◌, inl, inr, arith, Option, Some, None}
 use Rattle.cs_tree.specs.NameOrder.{are_ascending, bytes_cmp}
-use Rattle.std.proofs.lemmas.Bool.{cases_Bool}
+use Rattle.std.proofs.lemmas.Bool.{true≢false, cases_Bool, or_left, or_right}
 use Rattle.std.proofs.lemmas.List.{take_more, map-append}
 use Rattle.std.specs.Prelude.{is_some, Contains, String, string_bytes}
 use Rattle.std.specs.Cmp.{both_ways as same_tests}
 use Rattle.std.specs.Cmp.Lexicographic.{bytes_decides, nat_list_cmp_total}
 use Rattle.std.specs.FinMap as map'
 use Rattle.std.specs.FinMap.{find}
-use Rattle.std.specs.List.{list_any}
+use Rattle.std.specs.List.{list_any, AllByRecursion}
 use Rattle.std.specs.Ordering.{eq_by_cmp}
 use Rattle.std.specs.declared.alloc.Global.{Global}
 use Rattle.cs_tree.specs.PathSet as set
-use Rattle.cs_tree.specs.Cover.{same}
+use Rattle.cs_tree.specs.Cover.{same, covers, is_covered}
 use Rattle.cs_tree.specs.Snapshot.{Snapshot, item_at}
 use Rattle.cs_tree.specs.Reached.{reaches, is_reached}
 use Rattle.cs_tree.specs.Walks.{Left, trouble_at, is_among, fault_among, left_paths, names_walked, faults_walked, Finds, FindsIn, CountsFaults}
-use Rattle.cs_tree.specs.Visits.{reaches_by, is_taken, is_left, AreRight, Gathers, GathersIn, KeepsCounts}
+use Rattle.cs_tree.specs.Visits.{KeepsTo, covered_by, reaches_by, is_taken, is_left, AreRight, Gathers, GathersIn, KeepsCounts}
 use Rattle.cs_tree.specs.declared.walking.Walked.{Walked}
 use Rattle.cs_tree.specs.declared.walking.WalkFault.{WalkFault}
 use Rattle.cs_tree.proofs.InOrder.{all_kept}
@@ -93,3 +93,29 @@ finds_in (Some tree) ps old gathered names faults no_names no_faults h order = �
 pub counts_in_order : (count later : ℕ) (old gathered : Walked) (names : List (List ℕ)) (faults : List Left) → faults_walked old ≡ [] → KeepsCounts count later old gathered → InOrder gathered names faults → CountsFaults faults count later
 counts_in_order count later old gathered names faults no_faults h order =
     all_kept _ (faults_walked gathered) faults order.kept (h count (omega arith) (subst (λ fs. CountsFaults fs count count) (sym no_faults) tt))
+
+-- ---- under the paths
+
+pub names_under : (ps : List (List ℕ)) (old gathered : Walked) (names : List (List ℕ)) → names_walked old ≡ [] → KeepsTo (covered_by ps) old gathered → ((q : List ℕ) → is_among names q ≡ is_among (names_walked gathered) q) → AllByRecursion (λ name. is_covered (set.from_list ps) name ≡ true) names
+names_under ps old gathered names no_names keeps alike = each names (λ name member. at name (names_walked gathered) all (sym (alike name) ∙ member))
+  where
+    test : List ℕ → Bool
+    test name = is_covered (set.from_list ps) name
+
+    from_paths : (name : List ℕ) → covered_by ps name ≡ true → test name ≡ true
+    from_paths name h = let some = some_item (λ p. covers p name) ps h in member_passes (set.from_list ps) (λ p. covers p name) some.0 (contains-from_list ps some.0 ∙ some.1) some.2
+
+    all : AllByRecursion (λ name. test name ≡ true) (names_walked gathered)
+    all = keeps test from_paths (subst (AllByRecursion (λ name. test name ≡ true)) (sym no_names) tt)
+
+    at : (name : List ℕ) (xs : List (List ℕ)) → AllByRecursion (λ x. test x ≡ true) xs → is_among xs name ≡ true → test name ≡ true
+    at name [] all h = absurd (true≢false (sym h))
+    at name (x ∷ xs) all h =
+        elim (cases_Bool (same x name)) [
+          | inl here ↦ subst (λ m. test m ≡ true) ((bytes_decides x name).0 here) all.0
+          | inr apart ↦ at name xs all.1 (sym (ap (λ b. b || is_among xs name) apart) ∙ h)
+        ]
+
+    each : (ns : List (List ℕ)) → ((name : List ℕ) → is_among ns name ≡ true → test name ≡ true) → AllByRecursion (λ name. test name ≡ true) ns
+    each [] g = tt
+    each (n ∷ ns) g = (g n (or_left (same n n) _ ((bytes_decides n n).1 refl)), each ns (λ m member. g m (or_right (same n m) _ member)))

@@ -50,6 +50,17 @@ abbrev pub GathersIn : Option Snapshot → (Snapshot → List ℕ → Bool) → 
 GathersIn None come old new = Unit {0}
 GathersIn (Some tree) come old new = IsTree tree → Gathers tree (come tree) old new
 
+-- what holds of the old names, and of all names that pass, holds of the new ones
+abbrev pub KeepsTo : (List ℕ → Bool) → Walked → Walked → Type 0
+KeepsTo passes old new =
+    (test : List ℕ → Bool) → ((name : List ℕ) → passes name ≡ true → test name ≡ true)
+    → AllByRecursion (λ name. test name ≡ true) (names_walked old)
+    → AllByRecursion (λ name. test name ≡ true) (names_walked new)
+
+-- whether one of the paths covers the name
+abbrev pub covered_by : List (List ℕ) → List ℕ → Bool
+covered_by paths name = list_any (λ path. covers path name) paths
+
 -- where each fault was counted from a start on, each is still
 abbrev pub KeepsCounts : ℕ → ℕ → Walked → Walked → Type 0
 KeepsCounts count later old new = (start : ℕ) → start ≤ count → CountsFaults (faults_walked old) start count → CountsFaults (faults_walked new) start later
@@ -124,3 +135,7 @@ left_if (Some fault) path = (path, fault) ∷ []
 -- each path is longer than one that is short enough
 abbrev pub AreDeeper : List ℕ → List (List ℕ) → Type 0
 AreDeeper path paths = AllByRecursion (λ deeper. (length path ≤ longest_path) × (length path < length deeper)) paths
+
+-- each path lies below the first one
+abbrev pub AreBelow : List ℕ → List (List ℕ) → Type 0
+AreBelow path paths = AllByRecursion (λ below. covers path below ≡ true) paths

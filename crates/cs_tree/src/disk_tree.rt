@@ -2,12 +2,16 @@
 ghost use Rattle.std.specs.Prelude.{◌≡◌, ◌≤◌, ℕ, IfOk, length, map, string_bytes, None};
 ghost use Rattle.cs_tree.specs.NameOrder.{bytes_cmp};
 ghost use Rattle.std.specs.List.Sorted.{IsStrictlySortedBy};
+ghost use Rattle.cs_tree.specs.Failures.{count_after};
+ghost use Rattle.cs_tree.specs.Trees.{is_tree_failure};
 
+use crate::disk_store::DiskStore;
 use crate::fault::{TreeFault, counted_answer};
 use crate::tree::{Kind, Listing, Tree};
 use std::alloc::Global;
 use std::fs::{Metadata, OpenFile};
 use std::io::{ErrorKind, Read};
+use std::os::unix::fs::FileExt;
 use std::rt::Files;
 use std::{fs, io};
 
@@ -30,6 +34,21 @@ impl<R: Files + AllocGlobal + Clone + Drop> DiskTree<R> {
             opened: None,
             failed: 0,
         }
+    }
+
+    /// Opens a file to be read by position, beside the one that is open. Follows links. A pipe or a
+    /// device is opened like a file, and then refused.
+    pub fn open_store(&mut self, path: &str) -> Result<DiskStore<R::File>, TreeFault>
+    where
+        R::File: FileExt,
+        ensures failed { ⟦<DiskTree<R> as Tree>⟧.failed self.new
+            ≡ count_after is_tree_failure result (⟦<DiskTree<R> as Tree>⟧.failed self.old) }
+    {
+        let answer = match fs::open(&self.rt, path) {
+            Ok(file) => DiskStore::new(file),
+            Err(error) => Err(fault_of(error.kind())),
+        };
+        counted_answer(&mut self.failed, answer)
     }
 }
 
@@ -86,7 +105,7 @@ fn kind_of(metadata: &Metadata) -> Kind {
 }
 
 /// The system's errors as faults of a tree.
-fn fault_of(kind: ErrorKind) -> TreeFault {
+pub(crate) fn fault_of(kind: ErrorKind) -> TreeFault {
     match kind {
         ErrorKind::NotFound | ErrorKind::NotADirectory => TreeFault::Missing,
         ErrorKind::PermissionDenied => TreeFault::Denied,

@@ -1,5 +1,5 @@
 // The system's readers and writers, by std's `Read` and `Write`.
-ghost use Rattle.std.specs.Prelude.{◌≡◌, ◌≢◌, ◌≤◌, ◌<◌, ℕ, List, [], Option, None, Err, IfOk, length};
+ghost use Rattle.std.specs.Prelude.{◌≡◌, ◌≢◌, ◌≤◌, ◌<◌, ℕ, List, [], Option, None, Ok, Err, IfOk, MatchResult, length};
 ghost use Rattle.cs_tree.specs.Transfers.{ReadGives, Writes, is_io_failure};
 ghost use Rattle.cs_tree.specs.Failures.{count_after};
 ghost use Rattle.cs_tree.specs.Told.{Told, Grows};
@@ -7,7 +7,18 @@ ghost use Rattle.cs_tree.specs.Told.{Told, Grows};
 use crate::fault::{IoFault, io_failure};
 use crate::sink::Sink;
 use crate::source::Source;
-use std::io::{Read, Write};
+use std::io::{self, Read, Write};
+
+/// The system's answer to a read: each error has failed, and is counted.
+pub(crate) fn counted_read(failed: &mut u64, answer: io::Result<usize>) -> Result<usize, IoFault>
+    ensures answer { MatchResult answer (λ n. result ≡ Ok n) (λ _. result ≡ Err IoFault.Failed) }
+    ensures failed { failed.new ≡ count_after is_io_failure result failed.old }
+{
+    match answer {
+        Ok(n) => Ok(n),
+        Err(_) => Err(io_failure(failed)),
+    }
+}
 
 /// A reader of std as a source. It tells nothing, and each of the reader's errors is `Failed`.
 #[derive(Drop)]
@@ -37,10 +48,8 @@ impl<R: Read + Drop> Source for StdSource<R> {
             ≡ count_after is_io_failure result (⟦<StdSource<R> as Source>⟧.failed self.old) }
         ensures no_memory { result ≢ Err IoFault.Memory }
     {
-        match self.inner.read(buf) {
-            Ok(n) => Ok(n),
-            Err(_) => Err(io_failure(&mut self.failed)),
-        }
+        let answer = self.inner.read(buf);
+        counted_read(&mut self.failed, answer)
     }
 
     fn failures(&self) -> u64 {

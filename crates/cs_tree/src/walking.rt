@@ -1,11 +1,15 @@
 // What stands below paths.
 ghost use Rattle.std.specs.Prelude.{◌≡◌, ◌≢◌, ◌≤◌, ◌++◌, ℕ, List, true, map, string_bytes, OnOk, IfOk, MatchResult, Contains};
 ghost use Rattle.cs_tree.specs.Folders.{child, name_of};
+ghost use Rattle.cs_tree.specs.Clean.{longest_path};
 ghost use Rattle.cs_tree.specs.NameOrder.{are_ascending};
+ghost use Rattle.cs_tree.specs.Trees.{AsksWithin};
 ghost use Rattle.cs_tree.specs.PathSet as set;
 ghost use Rattle.cs_tree.specs.Reached.{reaches, is_left_out as is_left_out', ends_in_tilde as ends_in_tilde'};
 ghost use Rattle.cs_tree.specs.Walks.{FindsIn, Left, CountsFaults, is_among, left_entry, left_paths, names_walked, faults_walked};
-ghost use Rattle.cs_tree.specs.Visits.{GathersIn, KeepsCounts, ShowsIn, CountsSight, IsEntered, comes, reaches_by, is_file_seen, fault_seen, names_seen, children, named_if, left_if, is_walked as is_walked'};
+ghost use Rattle.std.specs.List.{AllByRecursion};
+ghost use Rattle.cs_tree.specs.Cover.{covers, is_covered};
+ghost use Rattle.cs_tree.specs.Visits.{covered_by, GathersIn, KeepsCounts, KeepsTo, ShowsIn, CountsSight, IsEntered, comes, reaches_by, is_file_seen, fault_seen, names_seen, children, named_if, left_if, is_walked as is_walked'};
 
 use crate::cleaning::LONGEST_PATH;
 use crate::fault::TreeFault;
@@ -47,16 +51,20 @@ enum Sight {
 /// names that folders list and that are not left out. A name is left out where it begins with `.`,
 /// `#` or `~`, or ends with `~`. The paths may be in any order, and may cover each other. `kind` is
 /// asked once at each path that is come to, and each folder is listed once, for each path that covers
-/// it. Refused for want of memory alone, the tree's too.
+/// it. No path of more than 4095 bytes is asked for. Refused for want of memory alone, the tree's too.
 pub fn walk<T: Tree>(alloc: Global, tree: &mut T, paths: &[String]) -> Result<Walked, AllocError>
     ensures finds { IfOk result (λ walked. FindsIn (T.snapshot tree.old)
         (set.from_list (map string_bytes paths.now)) (names_walked walked) (faults_walked walked)) }
+    ensures under { IfOk result (λ walked. AllByRecursion
+        (λ name. is_covered (set.from_list (map string_bytes paths.now)) name ≡ true)
+        (names_walked walked)) }
     ensures names_ascend { IfOk result (λ walked. are_ascending (names_walked walked) ≡ true) }
     ensures faults_ascend { IfOk result
         (λ walked. are_ascending (left_paths (faults_walked walked)) ≡ true) }
     ensures counted { IfOk result
         (λ walked. CountsFaults (faults_walked walked) (T.failed tree.old) (T.failed tree.new)) }
     ensures rises { T.failed tree.old ≤ T.failed tree.new }
+    ensures asked { AsksWithin longest_path (T.longest_asked tree.old) (T.longest_asked tree.new) }
     ensures keeps { T.snapshot tree.new ≡ T.snapshot tree.old }
 {
     let mut walked = Walked {
@@ -78,9 +86,12 @@ fn visit_all<T: Tree>(
 ) -> Result<(), AllocError>
     ensures gathers { OnOk result (GathersIn (T.snapshot tree.old)
         (λ told. reaches_by told (map string_bytes paths.now)) walked.old walked.new) }
+    ensures under { OnOk result
+        (KeepsTo (covered_by (map string_bytes paths.now)) walked.old walked.new) }
     ensures counted { OnOk result
         (KeepsCounts (T.failed tree.old) (T.failed tree.new) walked.old walked.new) }
     ensures rises { T.failed tree.old ≤ T.failed tree.new }
+    ensures asked { AsksWithin longest_path (T.longest_asked tree.old) (T.longest_asked tree.new) }
     ensures keeps { T.snapshot tree.new ≡ T.snapshot tree.old }
 {
     'paths: for path in paths {
@@ -98,9 +109,11 @@ fn visit_named<T: Tree>(
 ) -> Result<(), AllocError>
     ensures gathers { OnOk result (GathersIn (T.snapshot tree.old)
         (λ told. reaches told path.now) walked.old walked.new) }
+    ensures under { OnOk result (KeepsTo (covers path.now) walked.old walked.new) }
     ensures counted { OnOk result
         (KeepsCounts (T.failed tree.old) (T.failed tree.new) walked.old walked.new) }
     ensures rises { T.failed tree.old ≤ T.failed tree.new }
+    ensures asked { AsksWithin longest_path (T.longest_asked tree.old) (T.longest_asked tree.new) }
     ensures keeps { T.snapshot tree.new ≡ T.snapshot tree.old }
 {
     if is_left_out(last_element(path)) {
@@ -118,9 +131,11 @@ fn visit<T: Tree>(
 ) -> Result<(), AllocError>
     ensures gathers { OnOk result (GathersIn (T.snapshot tree.old)
         (λ told. comes told (string_bytes path)) walked.old walked.new) }
+    ensures under { OnOk result (KeepsTo (covers (string_bytes path)) walked.old walked.new) }
     ensures counted { OnOk result
         (KeepsCounts (T.failed tree.old) (T.failed tree.new) walked.old walked.new) }
     ensures rises { T.failed tree.old ≤ T.failed tree.new }
+    ensures asked { AsksWithin longest_path (T.longest_asked tree.old) (T.longest_asked tree.new) }
     ensures keeps { T.snapshot tree.new ≡ T.snapshot tree.old }
 {
     let sight = look(alloc, tree, path.as_str())?;
@@ -138,6 +153,7 @@ fn look<T: Tree>(alloc: Global, tree: &mut T, path: &str) -> Result<Sight, Alloc
     ensures counted { IfOk result
         (λ sight. CountsSight sight (T.failed tree.old) (T.failed tree.new)) }
     ensures rises { T.failed tree.old ≤ T.failed tree.new }
+    ensures asked { AsksWithin longest_path (T.longest_asked tree.old) (T.longest_asked tree.new) }
     ensures keeps { T.snapshot tree.new ≡ T.snapshot tree.old }
 {
     if path.len() > LONGEST_PATH {

@@ -1,7 +1,12 @@
 use Rattle.std.proofs.Common.{map, take, refl, arith, sym, subst, ◌∙◌}
 use Rattle.std.specs.Prelude.{string_bytes}
+use Rattle.std.proofs.lemmas.List.{take_all}
+use Rattle.cs_tree.specs.Clean.{longest_path}
+use Rattle.cs_tree.proofs.Asking.{asks_nothing, asks_on}
 use Rattle.cs_tree.specs.Reached.{reaches}
-use Rattle.cs_tree.specs.Visits.{GathersIn, reaches_by}
+use Rattle.cs_tree.specs.Visits.{GathersIn, KeepsTo, covered_by, reaches_by}
+use Rattle.cs_tree.specs.Cover.{covers}
+use Rattle.cs_tree.proofs.Under.{keeps_more}
 use Rattle.cs_tree.proofs.Gathering.{more_in, none_in, counts_chain}
 use Rattle.cs_tree.proofs.Finding.{named_more}
 use Rattle.cs_tree.proofs.walking.visit_all.Goals as goal
@@ -9,8 +14,10 @@ use Rattle.cs_tree.proofs.walking.visit_all.Goals as goal
 pub paths-init : goal.paths-init
 paths-init g c = record {
   gathers = none_in (g.T.Tree.snapshot c.args.tree.now) c.args.walked.now;
+  under = λ test h all. all;
   counted = λ start below all. all;
   rises = omega arith;
+  asked = asks_nothing longest_path (g.T.Tree.longest_asked c.args.tree.now);
   keeps = refl;
 }
 
@@ -21,7 +28,17 @@ paths-preserved g c = record {
       (sym (named_more c.args.paths.now c.paths.path-index c.path-item.result c.paths-test.true c.path-item.is))
       (more_in reaches (g.T.Tree.snapshot c.args.tree.now) (g.T.Tree.snapshot c.paths.tree) (map string_bytes (take c.paths.path-index c.args.paths.now)) (string_bytes c.path-item.result) c.args.walked.now c.paths.walked c.visit_named.new.walked c.paths.invariant.keeps c.paths.invariant.gathers
       (subst (λ path. GathersIn (g.T.Tree.snapshot c.paths.tree) (λ told. reaches told path) c.paths.walked c.visit_named.new.walked) c.as_str.ensures.value c.in_ok-visit_named.ensures.gathers));
+  under =
+      subst (λ paths. KeepsTo (covered_by paths) c.args.walked.now c.visit_named.new.walked)
+      (sym (named_more c.args.paths.now c.paths.path-index c.path-item.result c.paths-test.true c.path-item.is))
+      (keeps_more (map string_bytes (take c.paths.path-index c.args.paths.now)) (string_bytes c.path-item.result) c.args.walked.now c.paths.walked c.visit_named.new.walked c.paths.invariant.under
+      (subst (λ path. KeepsTo (covers path) c.paths.walked c.visit_named.new.walked) c.as_str.ensures.value c.in_ok-visit_named.ensures.under));
   counted = counts_chain (g.T.Tree.failed c.args.tree.now) (g.T.Tree.failed c.paths.tree) (g.T.Tree.failed c.visit_named.new.tree) c.args.walked.now c.paths.walked c.visit_named.new.walked c.paths.invariant.rises c.paths.invariant.counted c.in_ok-visit_named.ensures.counted;
   rises = omega (arith, c.paths.invariant.rises, c.visit_named.ensures.rises);
+  asked = asks_on longest_path (g.T.Tree.longest_asked c.args.tree.now) (g.T.Tree.longest_asked c.paths.tree) (g.T.Tree.longest_asked c.visit_named.new.tree) c.paths.invariant.asked c.visit_named.ensures.asked;
   keeps = c.visit_named.ensures.keeps ∙ c.paths.invariant.keeps;
 }
+
+pub returns-clause-under : goal.returns-clause-under
+returns-clause-under g c =
+    subst (λ paths. KeepsTo (covered_by (map string_bytes paths)) c.args.walked.now c.paths.walked) (take_all c.paths.path-index c.args.paths.now c.paths-test.false) c.paths.invariant.under

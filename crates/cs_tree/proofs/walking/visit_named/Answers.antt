@@ -1,6 +1,7 @@
 use Rattle.std.proofs.Common.{sym, ap, subst, ◌∙◌}
 use Rattle.cs_tree.specs.Reached.{is_left_out}
-use Rattle.cs_tree.specs.Visits.{GathersIn, comes}
+use Rattle.cs_tree.specs.Visits.{GathersIn, KeepsTo, comes}
+use Rattle.cs_tree.specs.Cover.{covers}
 use Rattle.cs_tree.proofs.CleanLemmas.{on_ok}
 use Rattle.cs_tree.proofs.Gathering.{skipped_in, kept_in}
 use Rattle.cs_tree.proofs.walking.visit_named.Goals as goal
@@ -17,3 +18,12 @@ returns-clause-gathers g c =
     (sym (c.is_left_out.ensures ∙ ap is_left_out c.last_element.ensures) ∙ c.if-is_left_out.false)
     (subst (λ path. GathersIn (g.T.Tree.snapshot c.args.tree.now) (λ told. comes told path) c.args.walked.now c.visit.new.walked) c.in_ok-from_str.ensures.ok h))
     c.visit.ensures.gathers
+
+pub returns-then-is_left_out-clause-under : goal.returns-then-is_left_out-clause-under
+returns-then-is_left_out-clause-under g c = λ test h all. all
+
+pub returns-clause-under : goal.returns-clause-under
+returns-clause-under g c =
+    on_ok c.visit.result
+    (λ h. subst (λ path. KeepsTo (covers path) c.args.walked.now c.visit.new.walked) c.in_ok-from_str.ensures.ok h)
+    c.visit.ensures.under

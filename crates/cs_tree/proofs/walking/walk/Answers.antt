@@ -2,7 +2,7 @@ use Rattle.std.proofs.Common.{map, ap}
 use Rattle.std.specs.Prelude.{string_bytes}
 use Rattle.cs_tree.specs.Walks.{names_walked, faults_walked, left_entry}
 use Rattle.cs_tree.specs.declared.walking.Walked.{Walked}
-use Rattle.cs_tree.proofs.Finding.{finds_in, counts_in_order}
+use Rattle.cs_tree.proofs.Finding.{finds_in, counts_in_order, names_under}
 use Rattle.cs_tree.proofs.walking.walk.Goals as goal
 
 pub returns-clause-finds : goal.returns-clause-finds
@@ -32,3 +32,10 @@ returns-clause-counted g c =
       faults_same = c.order_faults.ensures.same;
       kept = c.order_faults.ensures.kept;
     })
+
+pub returns-clause-under : goal.returns-clause-under
+returns-clause-under g c =
+    let nothing : Walked = record { names = c.new.result; faults = c.new-2.result } in
+    let found : Walked = record { names = c.order_names.new.names; faults = c.order_faults.new.faults } in
+    names_under (map string_bytes c.args.paths.now) nothing c.visit_all.new.walked (names_walked found)
+    (ap (map string_bytes) c.new.ensures.items) c.in_ok-visit_all.ensures.under c.order_names.ensures.same

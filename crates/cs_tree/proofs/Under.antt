@@ -1,0 +1,51 @@
+-- What a walk has gathered lies under its paths.
+use Rattle.std.proofs.Common.{◌≡◌, ℕ, Bool, true, false, cond, List, [], ◌∷◌, ◌++◌, sym, subst, ◌∙◌}
+use Rattle.std.proofs.lemmas.Bool.{or_left, or_right}
+use Rattle.std.proofs.lemmas.List.Folds.{list_any-append}
+use Rattle.std.specs.Prelude.{filter, map}
+use Rattle.std.specs.List.{AllByRecursion}
+use Rattle.cs_tree.specs.Folders.{child}
+use Rattle.cs_tree.specs.Cover.{covers}
+use Rattle.cs_tree.specs.Walks.{names_walked}
+use Rattle.cs_tree.specs.Visits.{AreBelow, KeepsTo, covered_by, children, is_walked, named_if}
+use Rattle.cs_tree.specs.declared.walking.Walked.{Walked}
+use Rattle.cs_tree.proofs.Covering.{covers_itself, covers_chain}
+use Rattle.cs_tree.proofs.NameLemmas.{folder_covers_child}
+
+keeps_wider : (p q : List ℕ → Bool) (old new : Walked) → ((name : List ℕ) → p name ≡ true → q name ≡ true) → KeepsTo p old new → KeepsTo q old new
+keeps_wider p q old new wider keeps = λ test h all. keeps test (λ name is. h name (wider name is)) all
+
+-- ---- below one path
+
+pub below_children : (path : List ℕ) (names : List (List ℕ)) → AreBelow path (children path names)
+below_children path [] = tt
+below_children path (name ∷ names) =
+    elim (is_walked name) as (λ b. AreBelow path (map (child path) (cond b (name ∷ filter is_walked names) (filter is_walked names)))) [
+      | true ↦ (folder_covers_child path name, below_children path names)
+      | false ↦ below_children path names
+    ]
+
+pub keeps_deeper : (path deeper : List ℕ) (old mid new : Walked) → covers path deeper ≡ true → KeepsTo (covers path) old mid → KeepsTo (covers deeper) mid new → KeepsTo (covers path) old new
+keeps_deeper path deeper old mid new below first second = λ test h all.
+    keeps_wider (covers deeper) (covers path) mid new (λ name is. covers_chain path deeper name below is) second test h (first test h all)
+
+pub keeps_path : (path : List ℕ) (named : Bool) (old mid new : Walked) → names_walked mid ≡ names_walked old ++ named_if named path → KeepsTo (covers path) mid new → KeepsTo (covers path) old new
+keeps_path path named old mid new e keeps = λ test h all.
+    keeps test h (subst (AllByRecursion (λ name. test name ≡ true)) (sym e) (append test (names_walked old) (named_if named path) all (one test named h)))
+  where
+    append : (test : List ℕ → Bool) (xs ys : List (List ℕ)) → AllByRecursion (λ name. test name ≡ true) xs → AllByRecursion (λ name. test name ≡ true) ys → AllByRecursion (λ name. test name ≡ true) (xs ++ ys)
+    append test [] ys h k = k
+    append test (x ∷ xs) ys h k = (h.0, append test xs ys h.1 k)
+
+    one : (test : List ℕ → Bool) (b : Bool) → ((name : List ℕ) → covers path name ≡ true → test name ≡ true) → AllByRecursion (λ name. test name ≡ true) (named_if b path)
+    one test true h = (h path (covers_itself path), tt)
+    one test false h = tt
+
+-- ---- under all of them
+
+pub keeps_more : (paths : List (List ℕ)) (path : List ℕ) (old mid new : Walked) → KeepsTo (covered_by paths) old mid → KeepsTo (covers path) mid new → KeepsTo (covered_by (paths ++ path ∷ [])) old new
+keeps_more paths path old mid new first second = λ test h all.
+    let split = λ (name : List ℕ). list_any-append (λ one. covers one name) paths (path ∷ []) in
+    let wide = λ (name : List ℕ) (is : covered_by paths name ≡ true). h name (split name ∙ or_left (covered_by paths name) _ is) in
+    let last = λ (name : List ℕ) (is : covers path name ≡ true). h name (split name ∙ or_right (covered_by paths name) _ (or_left (covers path name) false is)) in
+    second test last (first test wide all)

@@ -1,7 +1,9 @@
 pub mod PlaceLemmas
 pub mod SetLemmas
-pub mod NextByteLemmas
+pub mod BlockLemmas
+pub mod PartsLemmas
 pub mod MarkLemmas
+pub mod FoundLemmas
 pub mod SortLemmas
 pub mod TextLemmas
 pub mod ScanLemmas

@@ -1,14 +1,19 @@
 -- What a number more changes of what is kept.
-use Rattle.std.proofs.Common.{◌≡◌, ◌≢◌, ◌≤◌, ◌<◌, ℕ, zero, suc, ◌+◌, ◌-◌, ◌*◌, ◌/◌, ◌%◌, ◌^◌, min, Bool, true, false, ◌||◌, eqb, List, [], ◌∷◌, ◌++◌, length, take, get_or, set, refl, sym, ap, subst, ◌∙◌, inl, inr, ◌⊎◌, arith, length-append, length-take-le, drop, get_or-set_same, get_or-set_other, replicate, w64, bit_or}
+use Rattle.std.proofs.Common.{◌≡◌, ◌≢◌, ◌≤◌, ◌<◌, ℕ, zero, suc, ◌+◌, ◌-◌, ◌*◌, ◌/◌, ◌%◌, ◌^◌, Bool, true, false, ◌||◌, eqb, List, [], ◌∷◌, ◌++◌, length, take, get_or, set, refl, sym, ap, subst, ◌∙◌, inl, inr, ◌⊎◌, arith, length-append, drop, get_or-set_same, get_or-set_other, replicate, w64, bit_or, bit_and, not}
+use Rattle.std.proofs.lemmas.List.{append_assoc, append-nil}
+use Rattle.std.proofs.lemmas.Nat.{one_shl}
+use Rattle.std.proofs.lemmas.Nat.Bits.{and_pow}
+use Rattle.std.specs.Int.Bits.{or_add_and}
+use mir.Val.{bool_byte}
 use Rattle.std.proofs.lemmas.Bool.{false≢true, cases_eq, cases_lt, eq-eqb, ne_eqb}
 use Rattle.std.proofs.lemmas.Nat.Bits.{bit_at_set_same, bit_at_set_other, bit_at-lt, bit_at-zero}
 use Rattle.std.proofs.lemmas.List.{take-set-le, take_more_set, get_or-replicate, length-replicate, get_or_past, drop_all, drop_more}
 use Rattle.std.proofs.lemmas.List.Folds.{list_any_at}
 use Rattle.std.specs.Int.{bit_at}
 use Rattle.std.specs.List.{AllByRecursion}
-use Rattle.cs_trigram.specs.Trigram.{Ascends, with_number, has}
-use Rattle.cs_trigram.specs.Marks.{bit_of, as_bit, Marks, Holds, Gathers}
-use Rattle.cs_trigram.proofs.SetLemmas.{has-append, has-set_of_numbers, ascends_set, set_of_numbers-push, with_number-member, length-with_number, length-with_number-ge}
+use Rattle.cs_trigram.specs.Trigram.{Ascends, with_number, set_of_numbers, has}
+use Rattle.cs_trigram.specs.Marks.{bit_of, as_bit, Marks, Holds, Collects, CollectsOn}
+use Rattle.cs_trigram.proofs.SetLemmas.{has-append, has-set_of_numbers, ascends_set, set_of_numbers-push, with_number-member, length-with_number}
 
 -- the cells with one more bit set
 abbrev pub marked : List ℕ → ℕ → List ℕ
@@ -99,39 +104,60 @@ Holds-new cells numbers set w within holds none =
     )
 
 -- A number put in: it is written behind the list, and the list grows where its bit was not set.
-pub Gathers-push : (most : ℕ) (cells list : List ℕ) (len : ℕ) (members : List ℕ) (w : ℕ) → w / 64 < length cells → len < length list → Gathers most cells list len members → Gathers most (marked cells w) (set list len w) (min (len + (1 - bit_of cells w)) (most + 1)) (with_number w members)
-Gathers-push most cells list len members w within room gathers = record {
-  bound = omega arith;
-  within = λ fits. at_within fits (cases_eq (bit_of cells w) 1);
-  beyond = λ full. at_beyond full (cases_lt most len) (cases_eq (bit_of cells w) 1);
-}
+pub Collects-push : (cells list : List ℕ) (len w : ℕ) → w / 64 < length cells → len < length list →
+    CollectsOn cells list len (marked cells w) (set list len w) (len + (1 - bit_of cells w)) (w ∷ [])
+Collects-push cells list len w within room numbers holds = at (cases_eq (bit_of cells w) 1)
   where
-    bit_small : bit_of cells w < 2
-    bit_small = bit_at-lt (get_or cells (w / 64) 0) (w % 64)
-
     next : ℕ
-    next = min (len + (1 - bit_of cells w)) (most + 1)
+    next = len + (1 - bit_of cells w)
 
-    at_within : next ≤ most → ((bit_of cells w ≡ 1) ⊎ (bit_of cells w ≡ 1 → ⊥)) → Holds (marked cells w) (take next (set list len w)) (with_number w members)
-    at_within fits (inl one) =
-        let stays : next ≡ len = omega (arith, fits, one) in
-        let numbers : take next (set list len w) ≡ take len list = ap (λ n. take n (set list len w)) stays ∙ take-set-le len list len w (omega arith) in
-        rw numbers (Holds-again cells (take len list) members w within (gathers.within (omega (arith, fits, stays))) one)
-    at_within fits (inr not_one) =
-        let none : bit_of cells w ≡ 0 = omega (arith, not_one, bit_small) in
-        let longer : next ≡ len + 1 = omega (arith, fits, none) in
-        let numbers : take next (set list len w) ≡ take len list ++ w ∷ [] = ap (λ n. take n (set list len w)) longer ∙ take_more_set list len w room in
-        rw numbers (Holds-new cells (take len list) members w within (gathers.within (omega (arith, fits, longer))) none).0
+    members : List ℕ
+    members = set_of_numbers numbers
 
-    at_beyond : most < next → ((most < len) ⊎ (len ≤ most)) → ((bit_of cells w ≡ 1) ⊎ (bit_of cells w ≡ 1 → ⊥)) → most < length (with_number w members)
-    at_beyond full (inl over) bit = omega (arith, gathers.beyond over, length-with_number-ge w members)
-    at_beyond full (inr under) (inl one) = absurd (omega (arith, full, under, one))
-    at_beyond full (inr under) (inr not_one) =
-        let none : bit_of cells w ≡ 0 = omega (arith, not_one, bit_small) in
-        let holds : Holds cells (take len list) members = gathers.within under in
-        let more : length (with_number w members) ≡ length members + 1 = (Holds-new cells (take len list) members w within holds none).1 in
-        let count : length (take len list) ≡ len = length-take-le len list (omega (arith, room)) in
-        omega (arith, more, holds.once, count, full, none)
+    pushed : set_of_numbers (numbers ++ w ∷ []) ≡ with_number w members
+    pushed = set_of_numbers-push numbers w
+
+    at : ((bit_of cells w ≡ 1) ⊎ (bit_of cells w ≡ 1 → ⊥)) → Holds (marked cells w) (take next (set list len w)) (set_of_numbers (numbers ++ w ∷ []))
+    at (inl one) =
+        let stays : next ≡ len = omega (arith, one) in
+        let same : take next (set list len w) ≡ take len list = ap (λ n. take n (set list len w)) stays ∙ take-set-le len list len w (omega arith) in
+        rw (same, pushed) (Holds-again cells (take len list) members w within holds one)
+    at (inr not_one) =
+        let none : bit_of cells w ≡ 0 = omega (arith, not_one, bit_at-lt (get_or cells (w / 64) 0) (w % 64)) in
+        let longer : next ≡ len + 1 = omega (arith, none) in
+        let same : take next (set list len w) ≡ take len list ++ w ∷ [] = ap (λ n. take n (set list len w)) longer ∙ take_more_set list len w room in
+        rw (same, pushed) (Holds-new cells (take len list) members w within holds none).0
+
+-- the cell is changed exactly where the bit was not set
+pub changed : (cell k : ℕ) → k < 64 → bool_byte (not (eqb cell (bit_or cell (1 * 2 ^ k % 2 ^ 64)))) ≡ 1 - bit_at cell k
+changed cell k low = at (cases_eq (bit_at cell k) 1)
+  where
+    with : ℕ
+    with = bit_or cell (1 * 2 ^ k % 2 ^ 64)
+
+    at : ((bit_at cell k ≡ 1) ⊎ (bit_at cell k ≡ 1 → ⊥)) → bool_byte (not (eqb cell with)) ≡ 1 - bit_at cell k
+    at (inl one) =
+        let power : 1 * 2 ^ k % 2 ^ 64 ≡ 2 ^ k = one_shl k 64 low in
+        let sum = or_add_and cell (2 ^ k) in
+        let meet : bit_and cell (2 ^ k) ≡ 1 * 2 ^ k = and_pow cell k ∙ ap (λ b. b * 2 ^ k) one in
+        let stays : bit_or cell (2 ^ k) ≡ cell = omega (arith, sum, meet) in
+        let is : cell ≡ with = sym stays ∙ ap (bit_or cell) (sym power) in
+        ap (λ b. bool_byte (not b)) (eq-eqb cell with is) ∙ ap (λ b. 1 - b) (sym one)
+    at (inr not_one) =
+        let none : bit_at cell k ≡ 0 = omega (arith, not_one, bit_at-lt cell k) in
+        let apart : cell ≢ with = λ e. not_one (ap (λ n. bit_at n k) e ∙ bit_at_set_same w64 cell k low) in
+        ap (λ b. bool_byte (not b)) (ne_eqb cell with apart) ∙ ap (λ b. 1 - b) (sym none)
+
+-- one collection more, and another behind it
+pub Collects-chain : (cells list : List ℕ) (len : ℕ) (mid_cells mid_list : List ℕ) (mid_len : ℕ) (more_cells more_list : List ℕ) (more_len : ℕ) (xs ys : List ℕ) →
+    CollectsOn cells list len mid_cells mid_list mid_len xs → CollectsOn mid_cells mid_list mid_len more_cells more_list more_len ys →
+    CollectsOn cells list len more_cells more_list more_len (xs ++ ys)
+Collects-chain cells list len mid_cells mid_list mid_len more_cells more_list more_len xs ys one two numbers holds =
+    subst (Collects more_cells more_list more_len) (append_assoc numbers xs ys) (two (numbers ++ xs) (one numbers holds))
+
+-- nothing more
+pub Collects-nothing : (cells list : List ℕ) (len : ℕ) → CollectsOn cells list len cells list len []
+Collects-nothing cells list len numbers holds = subst (Collects cells list len) (sym (append-nil numbers)) holds
 
 -- ---- no bit is set
 

@@ -1,32 +1,36 @@
 -- The trigrams of the bytes that a scanner has gone through.
 use Rattle.std.specs.Prelude.{◌≡◌, ℕ, ◌+◌, ◌<◌, ◌≤◌, ◌++◌, ◌↔◌, Bool, IsTrue, List, length, take}
 use Rattle.cs_trigram.specs.declared.found.Found.{Found}
-use Rattle.cs_trigram.specs.Trigram.{set_of_numbers, tri}
-use Rattle.cs_trigram.specs.Marks.{Holds, Gathers, EndsWith}
+use Rattle.cs_trigram.specs.Trigram.{set_of_numbers, trigram_sequence}
+use Rattle.cs_trigram.specs.Marks.{Holds, Collects}
+use Rattle.cs_trigram.specs.Parts.{Remembers, IsLast}
 
--- what is kept of these bytes, with room for so many trigrams
-pub record Knows (most : ℕ) (found : Found) (front : List ℕ) : Type 0 where
-  pub room : length found.list.items ≡ most + 2
-  pub ends : EndsWith found.tail.recent front
-  pub gathers : Gathers most found.cells.items found.list.items found.tail.len (tri front)
+-- the trigrams that are found, in the order in which they were
+abbrev pub numbers_of : Found → List ℕ
+numbers_of found = take found.len found.list.items
 
--- the list is not full, and so it has all
-abbrev pub HasAll : Found → Type 0
-HasAll found = found.tail.len + 1 < length found.list.items
-
--- where the list has all, exactly the bits of its numbers are set, and no two of them are equal
+-- exactly the bits of these are set, no two of them are equal, and no part is remembered of a later file
 abbrev pub IsSound : Found → Type 0
 IsSound found =
-    HasAll found → Holds found.cells.items (take found.tail.len found.list.items) (set_of_numbers (take found.tail.len found.list.items))
+    Holds found.cells.items (numbers_of found) (set_of_numbers (numbers_of found)) × IsLast found.parts.file found.parts.tags.items
 
--- what is known of some bytes is known of them and these others, of which they are the first so many
-abbrev pub KnowsOn : Found → Found → ℕ → List ℕ → Type 0
-KnowsOn old found count bytes = (most : ℕ) (front : List ℕ) → count ≡ length front → Knows most old front → Knows most found (front ++ bytes)
+-- What is kept of some bytes, of which these are the trigrams from left to right, with room for so many: their set,
+-- and which parts they have; and where there are more, only that.
+pub record Keeps (most : ℕ) (found : Found) (trigrams : List ℕ) : Type 0 where
+  pub room : length found.list.items ≡ most + 65538
+  pub sound : IsSound found
+  pub within : found.len ≤ most →
+      Collects found.cells.items found.list.items found.len trigrams × Remembers found.parts.file found.parts.tags.items trigrams
+  pub beyond : most < found.len → most < length (set_of_numbers trigrams)
+
+-- what is kept of these bytes
+abbrev pub Knows : ℕ → Found → List ℕ → Type 0
+Knows most found front = Keeps most found (trigram_sequence front)
+
+-- what is kept of some trigrams is kept of them with these behind them
+abbrev pub KeepsOn : Found → Found → List ℕ → Type 0
+KeepsOn old found more = (most : ℕ) (trigrams : List ℕ) → Keeps most old trigrams → Keeps most found (trigrams ++ more)
 
 -- there are more trigrams than there is room for
 abbrev pub IsOver : Found → Bool → Type 0
-IsOver found over = (most : ℕ) (front : List ℕ) → Knows most found front → IsTrue over ↔ (most < length (tri front))
-
--- these are the trigrams, where there are not too many
-abbrev pub AreFound : Found → List ℕ → Type 0
-AreFound found trigrams = (most : ℕ) (front : List ℕ) → Knows most found front → length (tri front) ≤ most → trigrams ≡ tri front
+IsOver found over = (most : ℕ) (trigrams : List ℕ) → Keeps most found trigrams → IsTrue over ↔ (most < length (set_of_numbers trigrams))

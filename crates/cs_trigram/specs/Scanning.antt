@@ -1,13 +1,16 @@
--- A scan on its way, and when it stops.
-use Rattle.std.specs.Prelude.{ℕ, ◌<◌, [], length, Vec}
-use Rattle.std.specs.declared.alloc.Global.{Global}
+-- When a scanner is ready for a file: there is room for a block, and what is kept of the last file can be forgotten.
+use Rattle.std.specs.Prelude.{◌≡◌, ◌+◌, length}
 use Rattle.cs_trigram.specs.declared.limits.Limits.{Limits}
-use Rattle.cs_trigram.specs.declared.found.Found.{Found}
+use Rattle.cs_trigram.specs.declared.gatherer.Gatherer.{Gatherer}
 use Rattle.cs_trigram.specs.Small.{IsSmall}
-use Rattle.cs_trigram.specs.Found.{Knows}
+use Rattle.cs_trigram.specs.Found.{IsSound}
 
--- nothing is found yet, and there is room for what comes
-pub record IsReady (most : Limits) (buffer : Vec ℕ Global) (found : Found) : Type 0 where
-  pub small : IsSmall most
-  pub room : 0 < length buffer.items
-  pub empty : Knows most.trigrams found []
+pub record IsReady (gatherer : Gatherer) : Type 0 where
+  pub small : IsSmall gatherer.limits
+  pub block : length gatherer.buffer.items ≡ 65538
+  pub list : length gatherer.found.list.items ≡ gatherer.limits.trigrams + 65538
+  pub sound : IsSound gatherer.found
+
+-- it is ready, and has these limits
+abbrev pub IsReadyFor : Limits → Gatherer → Type 0
+IsReadyFor most gatherer = (gatherer.limits ≡ most) × IsReady gatherer

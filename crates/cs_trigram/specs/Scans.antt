@@ -8,7 +8,9 @@ use Rattle.cs_trigram.specs.declared.scan.Scan.{Scan}
 use Rattle.cs_trigram.specs.declared.scan.Scan.TheVariants as answer
 use Rattle.cs_trigram.specs.declared.scan.ScanFault.{ScanFault}
 use Rattle.cs_trigram.specs.declared.scan.ScanFault.TheVariants as fault
-use Rattle.cs_trigram.specs.Trigram.{tri, IsTrigramSet}
+use Rattle.cs_trigram.specs.declared.scan.Gathered.{Gathered}
+use Rattle.cs_trigram.specs.declared.scan.Gathered.TheVariants as gathered
+use Rattle.cs_trigram.specs.Trigram.{tri, set_of_numbers, IsTrigramSet}
 use Rattle.cs_trigram.specs.Text.{first_broken, skip}
 
 -- a text, with its trigrams and how many bytes it has; why a file is left out; or that a read failed
@@ -46,6 +48,26 @@ IsRight most (Some told) answer = Says answer (finding most told)
 abbrev pub HasTrigramSet : Scan → Type 0
 HasTrigramSet (answer.Text trigrams bytes) = IsTrigramSet trigrams.items
 HasTrigramSet (answer.Skip reason) = Unit {0}
+
+-- the numbers of a set of trigrams, each once, in any order
+abbrev pub AreTrigramsOnce : List ℕ → Type 0
+AreTrigramsOnce numbers = IsTrigramSet (set_of_numbers numbers) × (length numbers ≡ length (set_of_numbers numbers))
+
+-- the same of an answer that lends its trigrams in any order: their set is that of the text
+abbrev pub SaysInAnyOrder : Result Gathered ScanFault → Finding → Type 0
+SaysInAnyOrder (Ok (gathered.Text trigrams bytes)) found = text (set_of_numbers trigrams.now) bytes ≡ found
+SaysInAnyOrder (Ok (gathered.Skip reason)) found = left_out reason ≡ found
+SaysInAnyOrder (Err fault.Read) found = unread ≡ found
+SaysInAnyOrder (Err fault.Memory) found = Unit {0}
+
+abbrev pub IsRightGathering : Limits → Option Told → Result Gathered ScanFault → Type 0
+IsRightGathering most None answer = Unit {0}
+IsRightGathering most (Some told) answer = SaysInAnyOrder answer (finding most told)
+
+-- no two of the trigrams that are lent are equal, and none is ff ff ff, whatever the source was
+abbrev pub GathersOnce : Gathered → Type 0
+GathersOnce (gathered.Text trigrams bytes) = AreTrigramsOnce trigrams.now
+GathersOnce (gathered.Skip reason) = Unit {0}
 
 -- which faults are failures of the source
 abbrev pub is_scan_failure : ScanFault → Bool

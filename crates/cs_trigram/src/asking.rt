@@ -12,7 +12,7 @@ use crate::words::Word;
 use std::alloc::{AllocError, Global};
 
 /// The number of three bytes.
-fn trigram(a: u8, b: u8, c: u8) -> u32
+pub(crate) fn trigram(a: u8, b: u8, c: u8) -> u32
     ensures number { result ≡ trigram a b c }
     ensures below { result < trigram_count }
 {

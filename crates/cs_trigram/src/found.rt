@@ -1,112 +1,111 @@
 // The trigrams that were found in a file.
-ghost use Rattle.std.specs.Prelude.{◌≡◌, ◌+◌, ◌-◌, ◌<◌, ◌≤◌, ◌^◌, ℕ, List, [], ◌++◌, length, vec_len, IfOk, IsTrue, ◌↔◌};
-ghost use Rattle.std.specs.List.{AllByRecursion};
-ghost use Rattle.cs_trigram.specs.Trigram.{trigram_count, set_of_numbers, with_number, tri};
-ghost use Rattle.cs_trigram.specs.Marks.{Marks, Gathers, EndsWith};
+ghost use Rattle.std.specs.Prelude.{◌≡◌, ◌+◌, ◌*◌, ◌-◌, ◌<◌, ◌≤◌, ◌^◌, ℕ, List, [], ◌∷◌, ◌++◌, length, vec_len, IfOk, IsTrue, ◌↔◌, nat_lt};
+ghost use Rattle.cs_trigram.specs.Trigram.{trigram_count, trigram_sequence};
+ghost use Rattle.cs_trigram.specs.Marks.{Marks, Collects, CollectsOn};
+ghost use Rattle.cs_trigram.specs.Parts.{part_trigrams, parts_trigrams};
 
-use crate::sorter::Sorter;
+use crate::asking::trigram;
+use crate::parts::Parts;
 use std::alloc::{AllocError, Global};
+
+/// So many bytes are read at a time, at most.
+pub(crate) const BLOCK: usize = 65_536;
+
+/// The bytes of a block, and the two before it.
+const WITH_TWO: usize = BLOCK + 2;
 
 /// Puts a number in, and answers how long the list is then.
 #[inline(always)]
 fn put(cells: &mut [u64], list: &mut [u32], len: usize, number: u32) -> usize
     requires cells { length cells.old ≡ 262144 }
-    requires room { 2 ≤ length list.old }
-    requires len { len < length list.old }
+    requires room { len < length list.old }
     requires number { number < trigram_count }
-    ensures gathers { (members : List ℕ) →
-        Gathers (length list.old - 2) cells.old list.old len members →
-        Gathers (length list.old - 2) cells.new list.new result (with_number number members) }
-    ensures within { result < length list.old }
+    ensures collects { CollectsOn cells.old list.old len cells.new list.new result (number ∷ []) }
+    ensures counted { result ≤ len + 1 }
 {
     let place = (number / 64) as usize;
     let cell = cells[place];
-    let bit = number % 64;
-    cells[place] = cell | (1u64 << bit);
+    let with = cell | (1u64 << (number % 64));
+    cells[place] = with;
     list[len] = number;
-    (len + (1 - ((cell >> bit) % 2) as usize)).min(list.len() - 1)
+    len + (cell != with) as usize
 }
 
-/// The end of the bytes that were gone through: their last two bytes in the low bytes of `recent`,
-/// with zeros where there are none, and how long the list of numbers is.
-#[derive(Clone, Copy, Debug, PartialEq, Eq)]
-struct Tail {
-    recent: u32,
-    len: usize,
-}
-
-/// Goes through bytes that stand behind two others or more, where there are any.
-fn put_trigrams(cells: &mut [u64], list: &mut [u32], tail: Tail, bytes: &[u8]) -> Tail
+/// Puts the four trigrams of a part in.
+#[inline(always)]
+fn put_part(cells: &mut [u64], list: &mut [u32], len: usize, part: u64) -> usize
     requires cells { length cells.old ≡ 262144 }
-    requires room { 2 ≤ length list.old }
-    requires len { tail.len < length list.old }
-    ensures ends { (front : List ℕ) → EndsWith tail.recent front →
-        EndsWith result.recent (front ++ bytes.now) }
-    ensures gathers { (front : List ℕ) → (0 < length bytes.now → 2 ≤ length front) →
-        EndsWith tail.recent front →
-        Gathers (length list.old - 2) cells.old list.old tail.len (tri front) →
-        Gathers (length list.old - 2) cells.new list.new result.len (tri (front ++ bytes.now)) }
-    ensures within { result.len < length list.old }
+    requires room { len + 4 ≤ length list.old }
+    ensures collects { CollectsOn cells.old list.old len cells.new list.new result (part_trigrams part) }
+    ensures counted { result ≤ len + 4 }
 {
-    let mut recent = tail.recent;
-    let mut len = tail.len;
-    for byte in bytes {
-        recent = recent % 65_536 * 256 + u32::from(*byte);
-        len = put(cells, list, len, recent);
-    }
-    Tail { recent, len }
+    let mut len = len;
+    len = put(cells, list, len, ((part >> 24) % 0x100_0000) as u32);
+    len = put(cells, list, len, ((part >> 16) % 0x100_0000) as u32);
+    len = put(cells, list, len, ((part >> 8) % 0x100_0000) as u32);
+    put(cells, list, len, (part % 0x100_0000) as u32)
 }
 
-/// The last two bytes behind some more bytes.
-fn recent_behind(recent: u32, bytes: &[u8]) -> u32
-    ensures { (front : List ℕ) → EndsWith recent front → EndsWith result (front ++ bytes.now) }
-{
-    let mut recent = recent;
-    for byte in bytes {
-        recent = recent % 65_536 * 256 + u32::from(*byte);
-    }
-    recent
-}
-
-/// Goes through bytes that stand behind `count` others.
-fn put_bytes(cells: &mut [u64], list: &mut [u32], tail: Tail, count: u64, bytes: &[u8]) -> Tail
+/// Puts the trigrams of some parts in.
+fn put_parts(cells: &mut [u64], list: &mut [u32], len: usize, parts: &[u64]) -> usize
     requires cells { length cells.old ≡ 262144 }
-    requires room { 2 ≤ length list.old }
-    requires len { tail.len < length list.old }
-    ensures ends { (front : List ℕ) → EndsWith tail.recent front →
-        EndsWith result.recent (front ++ bytes.now) }
-    ensures gathers { (front : List ℕ) → count ≡ length front → EndsWith tail.recent front →
-        Gathers (length list.old - 2) cells.old list.old tail.len (tri front) →
-        Gathers (length list.old - 2) cells.new list.new result.len (tri (front ++ bytes.now)) }
-    ensures within { result.len < length list.old }
+    requires room { len + 4 * length parts.now ≤ length list.old }
+    ensures collects { CollectsOn cells.old list.old len cells.new list.new result (parts_trigrams parts.now) }
+    ensures counted { result ≤ len + 4 * length parts.now }
 {
-    // The first trigram ends with the third byte of the file.
-    let before = 2u64.saturating_sub(count) as usize;
-    let (head, rest) = bytes.split_at(before.min(bytes.len()));
-    let recent = recent_behind(tail.recent, head);
-    put_trigrams(
-        cells,
-        list,
-        Tail {
-            recent,
-            len: tail.len,
-        },
-        rest,
-    )
+    let mut len = len;
+    for part in parts {
+        len = put_part(cells, list, len, *part);
+    }
+    len
+}
+
+/// Puts the trigrams of some bytes in, one after the other.
+fn put_bytes(cells: &mut [u64], list: &mut [u32], len: usize, bytes: &[u8]) -> usize
+    requires cells { length cells.old ≡ 262144 }
+    requires room { len + length bytes.now ≤ length list.old }
+    ensures collects { CollectsOn cells.old list.old len cells.new list.new result (trigram_sequence bytes.now) }
+    ensures counted { result ≤ len + length bytes.now }
+{
+    let mut len = len;
+    let mut at = 0;
+    'trigrams: while bytes.len() - at > 2 {
+        len = put(
+            cells,
+            list,
+            len,
+            trigram(bytes[at], bytes[at + 1], bytes[at + 2]),
+        );
+        at += 1;
+    }
+    len
+}
+
+/// Puts the trigrams of some parts in, and then those of some bytes.
+fn put_split(cells: &mut [u64], list: &mut [u32], len: usize, parts: &[u64], bytes: &[u8]) -> usize
+    requires cells { length cells.old ≡ 262144 }
+    requires room { len + 4 * length parts.now + length bytes.now ≤ length list.old }
+    ensures collects { CollectsOn cells.old list.old len cells.new list.new result
+        (parts_trigrams parts.now ++ trigram_sequence bytes.now) }
+    ensures counted { result ≤ length list.old }
+{
+    let len = put_parts(cells, list, len, parts);
+    put_bytes(cells, list, len, bytes)
 }
 
 /// The trigrams of the bytes so far. Each has a bit among `cells`, and the first `len` numbers of
-/// `list` are those whose bit is set. Where there are more than `list` takes, all but two, no more
-/// is known than that.
+/// `list` are those whose bit is set, in the order in which they were found. Where there are more
+/// than `list` has room for beside those of one block, no more is known than that.
 #[derive(Drop)]
 pub(crate) struct Found {
     cells: Vec<u64>,
     list: Vec<u32>,
-    tail: Tail,
+    len: usize,
+    parts: Parts,
     ghost all_numbers: { vec_len cells ≡ 262144 },
-    ghost room: { 2 ≤ vec_len list },
-    ghost within: { tail.len < vec_len list },
-    ghost fits: { vec_len list < 2 ^ 32 + 2 },
+    ghost room: { 65538 ≤ vec_len list },
+    ghost within: { len ≤ vec_len list },
+    ghost fits: { vec_len list < 2 ^ 33 },
 }
 
 /// So many cells without a bit set.
@@ -114,13 +113,6 @@ fn clear_cells(alloc: Global, count: usize) -> Result<Vec<u64>, AllocError>
     ensures { IfOk result (λ cells. (length cells.items ≡ count) × Marks cells.items []) }
 {
     Ok(vec![in alloc; 0u64; count]?)
-}
-
-/// Takes away all bits.
-fn unmark_all(cells: &mut [u64])
-    ensures { Marks cells.new [] }
-{
-    cells.fill(0);
 }
 
 /// Takes away the bits of these numbers, where no other bit is set.
@@ -133,20 +125,8 @@ fn unmark(cells: &mut [u64], numbers: &[u32])
     }
 }
 
-/// The set of some numbers, of which no two are equal.
-fn set_of(alloc: Global, sorter: &mut Sorter, numbers: &[u32]) -> Result<Vec<u32>, AllocError>
-    requires fits { length numbers.now < 2 ^ 32 }
-    requires below { AllByRecursion (λ n. n < trigram_count) numbers.now }
-    requires once { length numbers.now ≡ length (set_of_numbers numbers.now) }
-    ensures { IfOk result (λ set. set.items ≡ set_of_numbers numbers.now) }
-{
-    let mut set = Vec::from_slice(alloc, numbers)?;
-    sorter.sort(&mut set);
-    Ok(set)
-}
-
 impl Found {
-    ghost use Rattle.cs_trigram.specs.Found.{Knows, HasAll, IsSound, KnowsOn, IsOver, AreFound};
+    ghost use Rattle.cs_trigram.specs.Found.{Knows, KeepsOn, IsSound, IsOver, numbers_of};
 
     /// None yet, with room for `most`.
     pub(crate) fn new(alloc: Global, most: usize) -> Result<Found, AllocError>
@@ -155,49 +135,48 @@ impl Found {
     {
         Ok(Found {
             cells: clear_cells(alloc, 262_144)?,
-            list: vec![in alloc; 0u32; most + 2]?,
-            tail: Tail { recent: 0, len: 0 },
+            list: vec![in alloc; 0u32; most + WITH_TWO]?,
+            len: 0,
+            parts: Parts::new(alloc)?,
         })
     }
 
-    /// Takes the bytes that stand behind `count` others.
-    pub(crate) fn take(&mut self, count: u64, bytes: &[u8])
-        ensures { KnowsOn self.old self.new count bytes.now }
+    /// Takes the bytes of a block, and the last two before it.
+    pub(crate) fn take(&mut self, bytes: &[u8])
+        requires { length bytes.now ≤ 65538 }
+        ensures { KeepsOn self.old self.new (trigram_sequence bytes.now) }
     {
-        self.tail = put_bytes(&mut self.cells, &mut self.list, self.tail, count, bytes);
+        if self.is_over() {
+            return;
+        }
+        let split = self.parts.split(bytes);
+        let fresh = self.parts.fresh(split.count);
+        let rest = &bytes[split.at..];
+        self.len = put_split(&mut self.cells, &mut self.list, self.len, fresh, rest);
     }
 
     /// Whether there are more than there is room for.
     pub(crate) fn is_over(&self) -> bool
         ensures over { IsOver self.now result }
-        ensures all { ¬ IsTrue result → HasAll self.now }
+        ensures room { result ≡ nat_lt (length self.now.list.items) (self.now.len + 65538) }
     {
-        self.list.len() <= self.tail.len + 1
+        self.list.len() < self.len + WITH_TWO
     }
 
-    /// The trigrams, ascending, where there are not too many.
-    pub(crate) fn trigrams(
-        &self,
-        alloc: Global,
-        sorter: &mut Sorter,
-    ) -> Result<Vec<u32>, AllocError>
-        requires all { HasAll self.now }
-        requires sound { IsSound self.now }
-        ensures { IfOk result (λ trigrams. AreFound self.now trigrams.items) }
+    /// The trigrams in the order in which they were found, where there are not too many.
+    pub(crate) fn numbers(&self) -> &[u32]
+        ensures { result.now ≡ numbers_of self.now }
     {
-        set_of(alloc, sorter, &self.list[..self.tail.len])
+        &self.list[..self.len]
     }
 
     /// Forgets all.
     pub(crate) fn clear(&mut self)
         requires { IsSound self.old }
-        ensures { (most : ℕ) → length self.old.list.items ≡ most + 2 → Knows most self.new [] }
+        ensures { (most : ℕ) → length self.old.list.items ≡ most + 65538 → Knows most self.new [] }
     {
-        if self.tail.len + 1 < self.list.len() {
-            unmark(&mut self.cells, &self.list[..self.tail.len]);
-        } else {
-            unmark_all(&mut self.cells);
-        }
-        self.tail = Tail { recent: 0, len: 0 };
+        unmark(&mut self.cells, &self.list[..self.len]);
+        self.len = 0;
+        self.parts.begin();
     }
 }

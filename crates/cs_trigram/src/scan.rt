@@ -31,6 +31,16 @@ pub enum Scan {
     Skip(Reason),
 }
 
+/// What a file is, of which the trigrams are lent by the scanner.
+#[derive(Clone, Copy, Debug, PartialEq, Eq)]
+pub enum Gathered<'a> {
+    /// A text: its trigrams, each once, in the order in which they were found, and how many bytes it
+    /// has.
+    Text { trigrams: &'a [u32], bytes: u64 },
+    /// It is left out.
+    Skip(Reason),
+}
+
 /// Why a scan was given up.
 #[derive(Clone, Copy, Debug, PartialEq, Eq, Error)]
 pub enum ScanFault {

@@ -1,13 +1,14 @@
 // The scanner of files that are indexed.
 ghost use Rattle.std.specs.Prelude.{◌≡◌, ◌+◌, IfOk};
 ghost use Rattle.cs_tree.specs.Transfers.{LosesAtMost};
-ghost use Rattle.cs_trigram.specs.Scans.{IsRight, HasTrigramSet, is_scan_failure};
+ghost use Rattle.cs_trigram.specs.Scans.{IsRight, HasTrigramSet, IsRightGathering, GathersOnce, is_scan_failure};
 ghost use Rattle.cs_tree.specs.Failures.{count_after};
 ghost use Rattle.cs_trigram.specs.Text.{limits};
 
-use crate::bounded::BoundedScanner;
+use crate::gatherer::Gatherer;
 use crate::limits::LIMITS;
-use crate::scan::{Scan, ScanFault};
+use crate::scan::{Gathered, Scan, ScanFault};
+use crate::sorter::Sorter;
 use cs_tree::Source;
 use std::alloc::{AllocError, Global};
 use std::marker::Model;
@@ -16,27 +17,31 @@ use std::marker::Model;
 /// nothing is kept of it, so that a contract sees nothing of a scanner.
 #[derive(Drop)]
 pub struct Scanner {
-    bounded: BoundedScanner,
+    alloc: Global,
+    sorter: Sorter,
+    gatherer: Gatherer,
 }
 
 impl Model for Scanner {
-    ghost use Rattle.std.specs.Prelude.{◌≡◌};
     ghost use Rattle.cs_trigram.specs.Text.{limits};
+    ghost use Rattle.cs_trigram.specs.Scanning.{IsReadyFor};
 
     ghost Value = { Unit {0} };
 
     ghost view = { λ _. tt };
 
-    ghost invariant = { λ s. s.bounded ≡ limits };
+    ghost invariant = { λ s. IsReadyFor limits s.gatherer };
 }
 
 impl Scanner {
-    /// A scanner with its buffer and its table, about 2.2 MB.
+    /// A scanner with its buffer and its table, about 2.6 MB.
     pub fn new(alloc: Global) -> Result<Scanner, AllocError>
         ensures { IfOk result (λ scanner. scanner ≡ tt) }
     {
         Ok(Scanner {
-            bounded: BoundedScanner::new(alloc, LIMITS)?,
+            alloc,
+            sorter: Sorter::new(alloc, LIMITS.trigrams)?,
+            gatherer: Gatherer::new(alloc, LIMITS)?,
         })
     }
 
@@ -56,6 +61,24 @@ impl Scanner {
         ensures keeps { R.Keeps source.old source.new }
         ensures same { self.new ≡ self.old }
     {
-        self.bounded.scan(source)
+        self.gatherer.scan(self.alloc, &mut self.sorter, source)
+    }
+
+    /// Reads a file as `scan` does, and lends its trigrams in the order in which they were found. No
+    /// memory is asked for, and nothing is put in order.
+    ///
+    /// # Errors
+    ///
+    /// As those of `scan`.
+    pub fn gather<R: Source>(&mut self, source: &mut R) -> Result<Gathered<'_>, ScanFault>
+        ensures told { IsRightGathering limits (R.told source.old) result }
+        ensures trigrams { IfOk result GathersOnce }
+        ensures failed { R.failed source.new ≡
+            count_after is_scan_failure result (R.failed source.old) }
+        ensures bounded { LosesAtMost (limits.bytes + 1) (R.told source.old) (R.told source.new) }
+        ensures keeps { R.Keeps source.old source.new }
+    {
+        let ended = self.gatherer.read(source)?;
+        Ok(self.gatherer.gathered(ended))
     }
 }

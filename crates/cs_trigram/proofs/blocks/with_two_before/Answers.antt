@@ -1,0 +1,11 @@
+use Rattle.std.proofs.Common.{◌≡◌, ◌+◌, ◌-◌, ◌++◌, take, drop, length, arith, ap, ◌∙◌}
+use Rattle.cs_trigram.proofs.BlockLemmas.{with-two}
+use Rattle.cs_trigram.proofs.blocks.with_two_before.Goals as goal
+
+pub returns-clause-bytes : goal.returns-clause-bytes
+returns-clause-bytes c = λ front count carries.
+    let buffer = c.args.buffer.now in
+    let len = c.args.len in
+    let from : c.saturating_sub-from.result ≡ 2 - length front = omega (arith, c.saturating_sub-from.ensures, count) in
+    ap (λ n. take (len + 2 - n) (drop n buffer)) from ∙ with-two (2 - length front) len buffer (omega arith) c.requires
+    ∙ ap (λ xs. xs ++ take len (drop 2 buffer)) carries

@@ -1,6 +1,6 @@
 // A sieve for windows of three neighbouring bytes.
-ghost use Rattle.std.specs.Prelude.{◌≡◌, ◌≤◌, length};
-ghost use Rattle.cs_sieve.specs.Standing.{NoneStands};
+ghost use Rattle.std.specs.Prelude.{◌≡◌, ◌≤◌, ◌<◌, ◌+◌, ◌↔◌, length, Any, IsTrue};
+ghost use Rattle.cs_sieve.specs.Standing.{NoneStands, Stands};
 
 use crate::tables::Tables;
 use crate::window::Window;
@@ -34,13 +34,39 @@ impl Sieve {
         Sieve { windows, tables }
     }
 
-    /// A place from `from` on before which no window begins. Near the end of the text nothing is passed.
+    /// The first place from `from` on at which a window begins, or the end of the text.
     pub fn skip(&self, text: &[u8], from: usize) -> usize
+        requires { from ≤ length text.now }
+        ensures low { from ≤ result }
+        ensures high { result ≤ length text.now }
+        ensures none { NoneStands self.now text.now from result }
+        ensures stops { result < length text.now → Any (Stands text.now result) self.now }
+    {
+        let mut at = self.next(text, from);
+        'places: while text.len() - at > 2 {
+            if self.stands(text, at) {
+                return at;
+            }
+            at = self.next(text, at + 1);
+        }
+        text.len()
+    }
+
+    /// A place from `from` on before which no window begins. Near the end of the text nothing is passed.
+    fn next(&self, text: &[u8], from: usize) -> usize
         requires { from ≤ length text.now }
         ensures low { from ≤ result }
         ensures high { result ≤ length text.now }
         ensures none { NoneStands self.now text.now from result }
     {
         self.tables.skip(text, from)
+    }
+
+    /// Whether a window stands at the place.
+    fn stands(&self, text: &[u8], at: usize) -> bool
+        requires { at + 2 < length text.now }
+        ensures { IsTrue result ↔ Any (Stands text.now at) self.now }
+    {
+        self.windows.iter().any(|window| window.stands(text, at))
     }
 }

@@ -25,15 +25,15 @@ fn sieve(rt: &HostRuntime, patterns: &[&str]) -> Result<Sieve, Fail> {
     Ok(Sieve::new(windows))
 }
 
-/// A window is stopped at, wherever it stands; in the last 32 bytes nothing is passed.
+/// A window is stopped at, wherever it stands.
 #[test]
 fn a_window_at_each_place(rt: HostRuntime) -> Result<(), Fail> {
     let sieve = sieve(&rt, &["[xX][0-9]z", "q.[[:digit:]]"])?;
     for word in [b"x7z", b"X0z", b"qz5"] {
-        for place in 0..70 {
+        for place in 0..78 {
             let mut text = [b'-'; 80];
             text[place..place + 3].copy_from_slice(word);
-            assert_eq!(rt; sieve.skip(&text, 0), place.min(60), "at {place}");
+            assert_eq!(rt; sieve.skip(&text, 0), place, "at {place}");
         }
     }
     Ok(())
@@ -50,7 +50,7 @@ fn each_of_many_windows(rt: HostRuntime) -> Result<(), Fail> {
         let mut text = [b' '; 100];
         text[40..43].copy_from_slice(word.as_bytes());
         assert_eq!(rt; sieve.skip(&text, 0), 40, "{word}");
-        assert_eq!(rt; sieve.skip(&text, 41), 71, "{word}");
+        assert_eq!(rt; sieve.skip(&text, 41), 100, "{word}");
     }
     Ok(())
 }

@@ -1,7 +1,8 @@
 -- Worked rows of the definitions, computed.
-use Rattle.std.proofs.Common.{◌≡◌, true, false, [], ◌∷◌, refl, codes}
-use Rattle.std.specs.Prelude.{None}
-use Rattle.cs_syntax.specs.Matching.{Tree, one_of, cat, rep, none, more, word_edge, line_end}
+use Rattle.std.proofs.Common.{◌≡◌, ◌+◌, true, false, [], ◌∷◌, refl, sym, ◌∙◌, ap, arith, codes}
+use Rattle.std.specs.Prelude.{None, slice_index}
+use Rattle.cs_sieve.specs.declared.window.Window.{Window}
+use Rattle.cs_syntax.specs.Matching.{Tree, one_of, cat, rep, none, more, word_edge, line_end, member}
 use Rattle.cs_match.specs.declared.around.Around.{Around}
 use Rattle.cs_match.specs.Lines.{lines, ended_lines}
 use Rattle.cs_match.specs.Marks.{marks_of, is_marked}
@@ -10,6 +11,7 @@ use Rattle.cs_match.specs.Skipping.{AreWhole}
 use Rattle.cs_match.specs.Standings.{standing, is_left_before}
 use Rattle.cs_match.specs.Table.{blank_cell}
 use Rattle.cs_match.specs.Chains.{row_after}
+use Rattle.cs_match.specs.Windows.{HasOne, AreNeeded}
 
 lines_of_two : lines (codes "ab\ncd\n") ≡ codes "ab" ∷ codes "cd" ∷ []
 unfolding lines
@@ -93,3 +95,38 @@ last_cell_of_the_rows = refl
 
 first_cell_of_what_is_found : blank_cell 65024 ≡ 65024
 first_cell_of_what_is_found = refl
+
+-- the window of the bytes 2, 0 and 1, and the tree that takes them
+window : Window
+window = record { first = false ∷ false ∷ true ∷ []; second = true ∷ []; third = false ∷ true ∷ [] }
+
+three : Tree
+three = cat (more (one_of window.first) (more (one_of window.second) (more (one_of window.third) none)))
+
+window_in_a_line : HasOne (window ∷ []) (7 ∷ 2 ∷ 0 ∷ 1 ∷ [])
+unfolding window
+window_in_a_line = (1, (0, window, omega arith, refl, record { within = omega arith; first = refl; second = refl; third = refl }))
+
+window_of_three_bytes : AreNeeded three (window ∷ [])
+unfolding three
+window_of_three_bytes line found =
+    let at = found.0 in
+    let a = found.4.1 in
+    let b = found.4.2.1 in
+    let c = found.4.2.2.1 in
+    let second : at + 1 ≡ found.4.0 = omega (arith, a.2) in
+    let third : at + 2 ≡ found.4.2.0 = omega (arith, a.2, b.2) in (
+      at,
+      (
+        0,
+        window,
+        omega arith,
+        refl,
+        record {
+          within = omega (arith, third, c.0);
+          first = a.1;
+          second = ap (λ k. member window.second (slice_index line k)) second ∙ b.1;
+          third = ap (λ k. member window.third (slice_index line k)) third ∙ c.1;
+        },
+      ),
+    )

@@ -41,10 +41,18 @@ module _ (s : List ℕ) where
     within_some none i j h le = absurd h
     within_some (more t ts) i j h le = elim h [ inl a ↦ within t i j a le | inr b ↦ within_some ts i j b le ]
 
+  chain_last : (x : Tree) (k i j : ℕ) → Chain (Takes s x) (suc k) i j → i ≤ length s → (l : ℕ) × (l ≤ length s) × Takes s x l j
+  chain_last x zero i j h le = (i, le, subst (Takes s x i) h.2 h.1)
+  chain_last x (suc k) i j h le = chain_last x k h.0 j h.2 (within x i h.0 h.1 le)
+
   -- the last of some rounds begins within the line
-  last_round : (x : Tree) (k i j : ℕ) → Chain (Takes s x) (suc k) i j → i ≤ length s → (l : ℕ) × (l ≤ length s) × Takes s x l j
-  last_round x zero i j h le = (i, le, subst (Takes s x i) h.2 h.1)
-  last_round x (suc k) i j h le = last_round x k h.0 j h.2 (within x i h.0 h.1 le)
+  pub last_round : (x : Tree) (n : ℕ) (m : Option ℕ) (i j : ℕ) → 0 < n → Takes s (rep x n m) i j → i ≤ length s → (l : ℕ) × (l ≤ length s) × Takes s x l j
+  last_round x n m i j some (zero, le, most, chain) here = absurd (omega arith)
+  last_round x n m i j some (suc k, le, most, chain) here = chain_last x k i j chain here
+
+  pub first_round : (x : Tree) (n : ℕ) (m : Option ℕ) (i j : ℕ) → 0 < n → Takes s (rep x n m) i j → (l : ℕ) × Takes s x i l
+  first_round x n m i j some (zero, le, most, chain) = absurd (omega arith)
+  first_round x n m i j some (suc k, le, most, chain) = (chain.0, chain.1)
 
   ends_empty : (i : ℕ) → i ≤ length s → EndsAt s [] i
   ends_empty i le = (i, omega arith, record { fits = omega arith; reads = λ j lt. absurd (omega arith) })
@@ -152,21 +160,13 @@ follow_rounds x n at m first next last some behind f bytes start best = record {
       let to : max at next.start ≡ max from last.start = omega (arith, start, behind) in
       let is : run_from (max at next.start) next ≡ run_from (max from last.start) last =
       ap (drop (max at next.start)) (sym bytes) ∙ ap (λ k. run_from k last) to in
-      let round = rounds line i j h here in
+      let round = last_round line x n m i j some h here in
       let none_yet = ends_same line _ _ round.0 round.0 (sym (drop_of_length-le first.bytes.items {i = at} (omega (arith, behind)))) refl (ends_empty line round.0 round.1) in
       ends_same line _ _ j j is refl (f.ends at (omega (arith, behind, first.within)) (omega (arith, behind)) line round.0 j round.2 none_yet);
   best = λ line i j h ends has.
-      let round = first_round line i j h in
+      let round = first_round line x n m i j some h in
       kept next last best line round.0 (run_ends _ first next f line i round.0 round.1 ends) (f.best line i round.0 round.1 ends has);
 }
-  where
-    rounds : (line : List ℕ) (i j : ℕ) → Takes line (rep x n m) i j → i ≤ length line → (l : ℕ) × (l ≤ length line) × Takes line x l j
-    rounds line i j (zero, le, most, chain) here = absurd (omega arith)
-    rounds line i j (suc k, le, most, chain) here = last_round line x k i j chain here
-
-    first_round : (line : List ℕ) (i j : ℕ) → Takes line (rep x n m) i j → (l : ℕ) × Takes line x i l
-    first_round line i j (zero, le, most, chain) = absurd (omega arith)
-    first_round line i j (suc k, le, most, chain) = (chain.0, chain.1)
 
 -- from nothing
 pub needed : (t : Tree) (first next last : Runs) → first.bytes.items ≡ [] → first.best.items ≡ [] → Follow (λ line i j. Takes line t i j) first next → IsKept next last → IsNeeded t last.best.items
@@ -181,14 +181,22 @@ needed t first next last bytes best f k line found =
 pub follow_same : (t u : Tree) (old new : Runs) → t ≡ u → Follow (λ line i j. Takes line u i j) old new → Follow (λ line i j. Takes line t i j) old new
 follow_same t u old new e f = subst (λ (v : Tree). Follow (λ line i j. Takes line v i j) old new) (sym e) f
 
-pub follow_still : (node : Node) (runs : Runs) → (node ≡ Empty) ⊎ ((node ≡ LineStart) ⊎ ((node ≡ LineEnd) ⊎ ((node ≡ WordEdge) ⊎ (node ≡ NotWordEdge)))) → Follow (λ line i j. Takes line (tree_of node) i j) runs runs
-follow_still node runs is = elim is [
-  | inl e ↦ follow_same _ _ runs runs (ap tree_of e ∙ tree_of-Empty) (follow_none _ (λ line i j h. h) runs)
-  | inr (inl e) ↦ follow_same _ _ runs runs (ap tree_of e ∙ tree_of-LineStart) (follow_none _ (λ line i j h. h.0 ∙ sym h.1) runs)
-  | inr (inr (inl e)) ↦ follow_same _ _ runs runs (ap tree_of e ∙ tree_of-LineEnd) (follow_none _ (λ line i j h. h.0 ∙ sym h.1) runs)
-  | inr (inr (inr (inl e))) ↦ follow_same _ _ runs runs (ap tree_of e ∙ tree_of-WordEdge) (follow_none _ (λ line i j h. h.0) runs)
-  | inr (inr (inr (inr e))) ↦ follow_same _ _ runs runs (ap tree_of e ∙ tree_of-NotWordEdge) (follow_none _ (λ line i j h. h.0) runs)
+-- what takes no byte
+pub still : (s : List ℕ) (node : Node) → (node ≡ Empty) ⊎ ((node ≡ LineStart) ⊎ ((node ≡ LineEnd) ⊎ ((node ≡ WordEdge) ⊎ (node ≡ NotWordEdge)))) →
+    (i j : ℕ) → Takes s (tree_of node) i j → i ≡ j
+still s node is i j h = elim is [
+  | inl e ↦ taken empty (ap tree_of e ∙ tree_of-Empty)
+  | inr (inl e) ↦ let k = taken line_start (ap tree_of e ∙ tree_of-LineStart) in k.0 ∙ sym k.1
+  | inr (inr (inl e)) ↦ let k = taken line_end (ap tree_of e ∙ tree_of-LineEnd) in k.0 ∙ sym k.1
+  | inr (inr (inr (inl e))) ↦ let k = taken word_edge (ap tree_of e ∙ tree_of-WordEdge) in k.0
+  | inr (inr (inr (inr e))) ↦ let k = taken not_word_edge (ap tree_of e ∙ tree_of-NotWordEdge) in k.0
 ]
+  where
+    taken : (t : Tree) → tree_of node ≡ t → Takes s t i j
+    taken t e = subst (λ (u : Tree). Takes s u i j) e h
+
+pub follow_still : (node : Node) (runs : Runs) → (node ≡ Empty) ⊎ ((node ≡ LineStart) ⊎ ((node ≡ LineEnd) ⊎ ((node ≡ WordEdge) ⊎ (node ≡ NotWordEdge)))) → Follow (λ line i j. Takes line (tree_of node) i j) runs runs
+follow_still node runs is = follow_none _ (λ line i j h. still line node is i j h) runs
 
 pub on_ok_both : {T E A B C : Type 0} (r : Result T E) → (A → B → C) → OnOk r A → OnOk r B → OnOk r C
 on_ok_both (Ok x) f a b = f a b

@@ -1,30 +1,61 @@
--- Words that stand in no line of a text.
+-- Words and windows that stand in no line of a text.
 use Rattle.std.proofs.Common.{◌≡◌, ℕ, zero, suc, ◌+◌, ◌<◌, ◌≤◌, inl, inr, Bool, true, false, cond, nat_eq, List, [], ◌∷◌, ◌++◌, length, take, drop, get_or, refl, sym, ap, subst, ◌∙◌, arith, length-append}
 use Rattle.std.proofs.lemmas.Bool.{eqb-true, cases_Bool}
 use Rattle.std.proofs.lemmas.List.{get_or_append_left, length-take-le, take_more, take-append-drop}
 use Rattle.std.proofs.lemmas.List.Elements.{All-nil, All-cons, All-tail}
 use Rattle.memchr.specs.Find.{OccursAt}
 use Rattle.cs_match.specs.Lines.{newline, ended_lines, with_byte_in_line}
-use Rattle.cs_syntax.specs.Matching.{Tree}
+use Rattle.std.specs.Prelude.{All, Any}
+use Rattle.cs_sieve.specs.declared.window.Window.{Window}
+use Rattle.cs_sieve.specs.Standing.{Stands}
+use Rattle.cs_syntax.specs.Matching.{Tree, Found, member}
 use Rattle.cs_match.specs.Finding.{Decides}
-use Rattle.cs_match.specs.Needle.{Has, IsNeeded, AreWithout}
 use Rattle.cs_match.specs.Skipping.{AreWhole, NoneFound}
 
--- what stands in a front of a text stands in the text
-pub occurs_front : (line rest word : List ℕ) (k : ℕ) → OccursAt line word k → OccursAt (line ++ rest) word k
-occurs_front line rest word k h = record {
-  fits = omega (arith, h.fits, length-append line rest);
-  reads = λ j low. get_or_append_left line rest 0 (k + j) (omega (arith, h.fits)) ∙ h.reads j low;
+-- what stands at places of a text: behind more bytes, and before more bytes, it still stands
+pub record IsPlaced (Stands : List ℕ → ℕ → Type 0) : Type 0 where
+  pub within : (text : List ℕ) (k : ℕ) → Stands text k → k ≤ length text
+  pub front : (line rest : List ℕ) (k : ℕ) → Stands line k → Stands (line ++ rest) k
+  pub later : (b : ℕ) (text : List ℕ) (k : ℕ) → Stands text k → Stands (b ∷ text) (suc k)
+
+pub word_placed : (word : List ℕ) → IsPlaced (λ text k. OccursAt text word k)
+word_placed word = record {
+  within = λ text k h. omega (arith, h.fits);
+  front = λ line rest k h. record {
+    fits = omega (arith, h.fits, length-append line rest);
+    reads = λ j low. get_or_append_left line rest 0 (k + j) (omega (arith, h.fits)) ∙ h.reads j low;
+  };
+  later = λ b text k h. record {
+    fits = omega (arith, h.fits);
+    reads = λ j low. let next : suc k + j ≡ suc (k + j) = omega arith in ap (λ i. get_or (b ∷ text) i 0) next ∙ h.reads j low;
+  };
 }
 
-occurs_later : (b : ℕ) (text word : List ℕ) (k : ℕ) → OccursAt text word k → OccursAt (b ∷ text) word (suc k)
-occurs_later b text word k h = record {
-  fits = omega (arith, h.fits);
-  reads = λ j low. let next : suc k + j ≡ suc (k + j) = omega arith in ap (λ i. get_or (b ∷ text) i 0) next ∙ h.reads j low;
+pub windows_placed : (windows : List Window) → IsPlaced (λ text k. Any (Stands text k) windows)
+windows_placed windows = record {
+  within = λ text k h. let w = h.4.within in omega (arith, w);
+  front = λ line rest k h. (h.0, h.1, h.2, h.3, window_front line rest k h.1 h.4);
+  later = λ b text k h. (h.0, h.1, h.2, h.3, window_later b text k h.1 h.4);
 }
+  where
+    window_front : (line rest : List ℕ) (k : ℕ) (w : Window) → Stands line k w → Stands (line ++ rest) k w
+    window_front line rest k w h = record {
+      within = omega (arith, h.within, length-append line rest);
+      first = ap (member w.first) (get_or_append_left line rest 0 k (omega (arith, h.within))) ∙ h.first;
+      second = ap (member w.second) (get_or_append_left line rest 0 (k + 1) (omega (arith, h.within))) ∙ h.second;
+      third = ap (member w.third) (get_or_append_left line rest 0 (k + 2) (omega (arith, h.within))) ∙ h.third;
+    }
 
-abbrev Nowhere : List ℕ → List ℕ → Type 0
-Nowhere word text = (k : ℕ) → k < length text → ¬ OccursAt text word k
+    window_later : (b : ℕ) (text : List ℕ) (k : ℕ) (w : Window) → Stands text k w → Stands (b ∷ text) (suc k) w
+    window_later b text k w h =
+        let next : suc k + 1 ≡ suc (k + 1) = omega arith in
+        let last : suc k + 2 ≡ suc (k + 2) = omega arith in
+        record {
+          within = omega (arith, h.within);
+          first = h.first;
+          second = ap (λ i. member w.second (get_or (b ∷ text) i 0)) next ∙ h.second;
+          third = ap (λ i. member w.third (get_or (b ∷ text) i 0)) last ∙ h.third;
+        }
 
 -- the first of the lines is what the text begins with
 abbrev Begins : List ℕ → List (List ℕ) → Type 0
@@ -42,35 +73,43 @@ unfolding ended_lines
 begins [] = tt
 begins (b ∷ text) = begins_more b text (nat_eq b newline) refl (ended_lines text) (begins text)
 
-module _ (word : List ℕ) where
-  first_without : (text line after : List ℕ) → text ≡ line ++ newline ∷ after → Nowhere word text → ¬ Has line word
-  first_without text line after e none has =
-      none has.0 (omega (arith, has.1.fits, ap length e, length-append line (newline ∷ after)))
-      (subst (λ (xs : List ℕ). OccursAt xs word has.0) (sym e) (occurs_front line (newline ∷ after) word has.0 has.1))
+module _ (Stands : List ℕ → ℕ → Type 0) (placed : IsPlaced Stands) where
+  abbrev Nowhere : List ℕ → Type 0
+  Nowhere text = (k : ℕ) → k < length text → ¬ Stands text k
 
-  without_more : (b : ℕ) (text : List ℕ) (t : Bool) (lines : List (List ℕ)) → Begins (b ∷ text) (cond t ([] ∷ lines) (with_byte_in_line b lines)) → Nowhere word (b ∷ text) → AreWithout word lines →
-      AreWithout word (cond t ([] ∷ lines) (with_byte_in_line b lines))
-  without_more b text true lines first none h = All-cons (λ line. ¬ Has line word) [] lines (first_without (b ∷ text) [] first.0 first.1 none) h
+  -- it stands nowhere in the line
+  abbrev IsFree : List ℕ → Type 0
+  IsFree line = ¬ ((at : ℕ) × Stands line at)
+
+  first_without : (text line after : List ℕ) → text ≡ line ++ newline ∷ after → Nowhere text → IsFree line
+  first_without text line after e none has =
+      let w = placed.within line has.0 has.1 in
+      none has.0 (omega (arith, w, ap length e, length-append line (newline ∷ after)))
+      (subst (λ (xs : List ℕ). Stands xs has.0) (sym e) (placed.front line (newline ∷ after) has.0 has.1))
+
+  without_more : (b : ℕ) (text : List ℕ) (t : Bool) (lines : List (List ℕ)) → Begins (b ∷ text) (cond t ([] ∷ lines) (with_byte_in_line b lines)) → Nowhere (b ∷ text) → All IsFree lines →
+      All IsFree (cond t ([] ∷ lines) (with_byte_in_line b lines))
+  without_more b text true lines first none h = All-cons IsFree [] lines (first_without (b ∷ text) [] first.0 first.1 none) h
   without_more b text false [] first none h = h
   without_more b text false (line ∷ lines) first none h =
-      All-cons (λ line. ¬ Has line word) (b ∷ line) lines (first_without (b ∷ text) (b ∷ line) first.0 first.1 none) (All-tail (λ line. ¬ Has line word) line lines h)
+      All-cons IsFree (b ∷ line) lines (first_without (b ∷ text) (b ∷ line) first.0 first.1 none) (All-tail IsFree line lines h)
 
-  -- a word that nowhere stands in a text stands in no line that ends there
-  pub without : (text : List ℕ) → Nowhere word text → AreWithout word (ended_lines text)
+  -- what nowhere stands in a text stands in no line that ends there
+  pub without : (text : List ℕ) → Nowhere text → All IsFree (ended_lines text)
   unfolding ended_lines
-  without [] none = All-nil (λ line. ¬ Has line word)
+  without [] none = All-nil IsFree
   without (b ∷ text) none =
-      let later : Nowhere word text = λ k low h. none (suc k) (omega arith) (occurs_later b text word k h) in
+      let later : Nowhere text = λ k low h. none (suc k) (omega arith) (placed.later b text k h) in
       without_more b text (nat_eq b newline) (ended_lines text)
       (begins_more b text (nat_eq b newline) refl (ended_lines text) (begins text)) none (without text later)
 
-  -- the lines before the first place of a word
-  pub without_before : (text : List ℕ) (at n : ℕ) → n ≤ at → at ≤ length text → ((k : ℕ) → k < at → ¬ OccursAt text word k) → AreWithout word (ended_lines (take n text))
+  -- the lines before the first place at which it stands
+  pub without_before : (text : List ℕ) (at n : ℕ) → n ≤ at → at ≤ length text → ((k : ℕ) → k < at → ¬ Stands text k) → All IsFree (ended_lines (take n text))
   without_before text at n le within none =
       without (take n text) (λ k low h.
       let long = length-take-le n text (omega arith) in
       let whole : take n text ++ drop n text ≡ text = take-append-drop n text in
-      none k (omega (arith, long)) (subst (λ (xs : List ℕ). OccursAt xs word k) whole (occurs_front (take n text) (drop n text) word k h)))
+      none k (omega (arith, long)) (subst (λ (xs : List ℕ). Stands xs k) whole (placed.front (take n text) (drop n text) k h)))
 
 -- what ends in a newline is whole
 whole_ended : (part : List ℕ) → AreWhole (part ++ newline ∷ [])
@@ -98,9 +137,10 @@ pub whole_none : AreWhole []
 unfolding AreWhole
 whole_none = tt
 
--- a needle that a tree needs stands in none of the lines: nothing is found in them
-pub none_found : (tree : Tree) (word : List ℕ) (finds : List ℕ → Bool) (lines : List (List ℕ)) → IsNeeded tree word → Decides finds tree → AreWithout word lines → NoneFound finds lines
-none_found tree word finds lines needed decides lack k d low =
+-- what stands in each line in which a tree finds something stands in none of these: nothing is found in them
+pub none_found : (tree : Tree) (Has : List ℕ → Type 0) (finds : List ℕ → Bool) (lines : List (List ℕ)) → ((line : List ℕ) → Found tree line → Has line) → Decides finds tree →
+    All (λ line. ¬ Has line) lines → NoneFound finds lines
+none_found tree Has finds lines needed decides lack k d low =
     let line = get_or lines k d in
     elim (cases_Bool (finds line)) [
       | inl hit ↦ absurd (lack k d low (needed line ((decides line).0 hit)))

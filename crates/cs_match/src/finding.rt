@@ -1,9 +1,11 @@
-// Lines that are passed over, since a word does not stand in them.
+// Lines that are passed over, since a word or windows do not stand in them.
 ghost use Rattle.std.specs.Prelude.{◌≡◌, ◌≤◌, ◌-◌, take, drop, length};
 ghost use Rattle.cs_match.specs.Lines.{ended_lines};
 ghost use Rattle.cs_match.specs.Needle.{AreWithout};
 ghost use Rattle.cs_match.specs.Skipping.{AreWhole};
+ghost use Rattle.cs_match.specs.Windows.{HaveNone};
 
+use cs_sieve::Sieve;
 use memchr::memmem::Finder;
 use memchr::memrchr;
 
@@ -22,6 +24,20 @@ pub(crate) fn skip_to_needle(finder: &Finder<'_>, block: &[u8], from: usize) -> 
     from + lines_without(finder, &block[from..])
 }
 
+/// A line's start from `from` on, such that no line before it has one of the sieve's windows. The
+/// block is whole lines.
+pub(crate) fn skip_to_window(sieve: &Sieve, block: &[u8], from: usize) -> usize
+    requires within { from ≤ length block.now }
+    requires whole { AreWhole (drop from block.now) }
+    ensures low { from ≤ result }
+    ensures high { result ≤ length block.now }
+    ensures whole { AreWhole (take (result - from) (drop from block.now)) }
+    ensures none { HaveNone sieve.now
+        (ended_lines (take (result - from) (drop from block.now))) }
+{
+    from + lines_without_window(sieve, &block[from..])
+}
+
 /// The length of the lines before the first that has the word.
 fn lines_without(finder: &Finder<'_>, text: &[u8]) -> usize
     requires { AreWhole text.now }
@@ -35,8 +51,17 @@ fn lines_without(finder: &Finder<'_>, text: &[u8]) -> usize
     }
 }
 
+/// The length of the lines before the first that may have one of the windows.
+fn lines_without_window(sieve: &Sieve, text: &[u8]) -> usize
+    ensures within { result ≤ length text.now }
+    ensures whole { AreWhole (take result text.now) }
+    ensures none { HaveNone sieve.now (ended_lines (take result text.now)) }
+{
+    whole_lines(&text[..sieve.skip(text, 0)])
+}
+
 /// The length of the lines that end in the text.
-fn whole_lines(text: &[u8]) -> usize
+pub(crate) fn whole_lines(text: &[u8]) -> usize
     ensures within { result ≤ length text.now }
     ensures whole { AreWhole (take result text.now) }
 {

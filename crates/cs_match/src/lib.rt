@@ -3,11 +3,12 @@
 //! takes is said in `specs/Matching.antt` of `cs_syntax`. Read `specs/Finding.antt` first, then
 //! `specs/Lines.antt`, which says what the lines of a text are, and `specs/Skipping.antt`. What goes
 //! on inside is said by `specs/Places.antt`, `specs/Standings.antt`, `specs/Table.antt`,
-//! `specs/Chains.antt` and `specs/Expansion.antt`.
+//! `specs/Chains.antt`, `specs/Expansion.antt`, `specs/Needle.antt` and `specs/Windows.antt`.
 #![tactic(auto)]
 
 mod around;
 mod chains;
+mod choice;
 mod compiler;
 mod finding;
 pub mod laws;
@@ -20,7 +21,9 @@ mod rarity;
 mod runs;
 mod standing;
 mod table;
+mod trail;
 mod walk;
+mod windows;
 
 pub use matcher::Matcher;
 pub use program::Program;

@@ -1,20 +1,27 @@
 // Matchers: programs with what their runs remember.
-ghost use Rattle.std.specs.Prelude.{◌≡◌, ◌≤◌, ◌-◌, ◌↔◌, ℕ, Bool, List, IsTrue, IfOk, length, take, drop};
+ghost use Rattle.std.specs.Prelude.{◌≡◌, ◌≤◌, ◌-◌, ◌↔◌, ℕ, Bool, List, IsTrue, IfOk, IfSome, length, take, drop};
 ghost use Rattle.cs_syntax.specs.Matching.{Found};
 ghost use Rattle.cs_match.specs.Finding.{Decides};
 ghost use Rattle.cs_match.specs.Lines.{ended_lines};
 ghost use Rattle.cs_match.specs.Skipping.{AreWhole, NoneFound, ArePassed};
 
 use crate::chains::{GROUP, cut, line_end, pass_quiet};
-use crate::finding::skip_to_needle;
+use crate::finding::{skip_to_needle, skip_to_window};
 use crate::pause::Pause;
 use crate::program::Program;
 use crate::rarity::is_worth;
 use crate::table::Table;
+use cs_sieve::Sieve;
 use memchr::memchr;
 use memchr::memmem::Finder;
 use std::alloc::{AllocError, Global};
 use std::marker::Model;
+
+/// Where needles or windows stand in vain closer to one another than so many bytes, the table passes lines faster.
+const NEAR: usize = 256;
+
+/// More of them in a row than these are no chance.
+const MOST_MISSES: usize = 16;
 
 /// A program with what its runs remember. Contracts see it as the program's tree.
 #[derive(Drop)]
@@ -22,8 +29,19 @@ pub struct Matcher<'a> {
     pub(crate) table: Table<'a>,
     finder: Finder<'a>,
     /// Whether the finder passes lines faster than the table.
-    seeks: bool,
+    pub(crate) seeks: bool,
+    /// What else passes lines faster than the table.
+    pub(crate) sieve: Option<&'a Sieve>,
+    /// The calls of `skip` that pass nothing.
     pause: Pause,
+    /// The calls of `skip` that look for no needle and no windows.
+    rest: Pause,
+    /// Whether the last search for them stopped close to where it began.
+    near: bool,
+    /// How many such searches in a row stopped in vain.
+    misses: usize,
+    /// Whether nothing was found in the line that was asked about last.
+    missed: bool,
 }
 
 impl<'a> Model for Matcher<'a> {
@@ -34,11 +52,14 @@ impl<'a> Model for Matcher<'a> {
 
     ghost coded = { tree_code };
 
+    ghost use Rattle.std.specs.Prelude.{IfSome};
     ghost use Rattle.cs_match.specs.Remembering.{HasNeedle, tree_in};
+    ghost use Rattle.cs_match.specs.Windows.{AreNeeded};
 
     ghost view = { λ matcher. tree_in matcher.table };
 
-    ghost invariant = { λ matcher. HasNeedle matcher.table matcher.finder };
+    ghost invariant = { λ matcher. HasNeedle matcher.table matcher.finder
+        × IfSome matcher.sieve (λ sieve. AreNeeded (tree_in matcher.table) sieve.now) };
 }
 
 impl<'a> Matcher<'a> {
@@ -48,11 +69,17 @@ impl<'a> Matcher<'a> {
     {
         let table = Table::new(alloc, program)?;
         let needle = program.needle();
+        let sieve = program.sieve();
         Ok(Matcher {
             table,
             finder: Finder::new(needle),
-            seeks: is_worth(needle),
+            seeks: is_worth(needle, sieve.is_some()),
+            sieve,
             pause: Pause::new(),
+            rest: Pause::new(),
+            near: false,
+            misses: 0,
+            missed: false,
         })
     }
 
@@ -62,12 +89,23 @@ impl<'a> Matcher<'a> {
         ensures found { IsTrue result ↔ Found self.old line.now }
         ensures same { self.new ≡ self.old }
     {
+        let found = self.finds_in(line);
+        self.missed = !found;
+        found
+    }
+
+    /// Whether something is found in the line.
+    fn finds_in(&mut self, line: &[u8]) -> bool
+        ensures found { IsTrue result ↔ Found self.old line.now }
+        ensures same { self.new ≡ self.old }
+    {
         // To the table a newline is the end of the line.
         match memchr(b'\n', line) {
             Some(_) => self.table.search(line),
             None => self.table.is_match(line),
         }
     }
+
     /// A line's start from `from` on, such that nothing is found in the lines before it. The block is whole lines.
     pub fn skip(&mut self, block: &[u8], from: usize) -> usize
         requires within { from ≤ length block.now }
@@ -79,8 +117,11 @@ impl<'a> Matcher<'a> {
             NoneFound finds (ended_lines (take (result - from) (drop from block.now))) }
         ensures same { self.new ≡ self.old }
     {
-        if self.seeks {
-            return self.seek(block, from);
+        if !self.rests() {
+            if let Some(to) = self.seek(block, from) {
+                self.note_sought(to - from);
+                return to;
+            }
         }
         if self.pauses() {
             return from;
@@ -99,13 +140,20 @@ impl<'a> Matcher<'a> {
         at
     }
 
-    /// Passes the lines that do not have the needle.
-    fn seek(&self, block: &[u8], from: usize) -> usize
+    /// Passes the lines that do not have the needle, or none of the windows, where that is faster
+    /// than the table.
+    fn seek(&self, block: &[u8], from: usize) -> Option<usize>
         requires within { from ≤ length block.now }
         requires whole { AreWhole (drop from block.now) }
-        ensures { ArePassed (λ finds. Decides finds self.now) block.now from result }
+        ensures { IfSome result (ArePassed (λ finds. Decides finds self.now) block.now from) }
     {
-        skip_to_needle(&self.finder, block, from)
+        if self.seeks {
+            return Some(skip_to_needle(&self.finder, block, from));
+        }
+        match self.sieve {
+            Some(sieve) => Some(skip_to_window(sieve, block, from)),
+            None => None,
+        }
     }
 
     /// Passes parts by the cells that are known.
@@ -132,6 +180,32 @@ impl<'a> Matcher<'a> {
             at = end + 1;
         }
         at
+    }
+
+    /// Whether this call is not worth a search for the needle or the windows: of late they stood close to one another
+    /// in lines that have nothing.
+    fn rests(&mut self) -> bool
+        ensures { self.new ≡ self.old }
+    {
+        if self.near && self.missed {
+            self.misses = self.misses.saturating_add(1);
+            if self.misses > MOST_MISSES {
+                self.rest.begin();
+            }
+        }
+        self.near = false;
+        self.rest.takes_one()
+    }
+
+    /// Notes how many bytes a search for the needle or the windows passed.
+    fn note_sought(&mut self, passed: usize)
+        ensures { self.new ≡ self.old }
+    {
+        self.near = passed < NEAR;
+        if !self.near {
+            self.misses = 0;
+            self.rest.forget();
+        }
     }
 
     /// Whether this call is not worth the chains.

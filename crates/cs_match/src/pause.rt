@@ -1,7 +1,7 @@
-// When to look at lines one by one at once. No contract hangs on it.
+// When a way to pass lines is not worth its while. No contract hangs on it.
 
-/// The most calls that are passed by after a hit.
-const MOST: usize = 64;
+/// The most calls that are passed by.
+const MOST: usize = 512;
 
 /// How many calls to come are passed by: after hits that stand close to one another 1, 2, 4 and so on.
 #[derive(Clone, Copy, Drop)]

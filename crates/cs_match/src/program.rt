@@ -1,13 +1,16 @@
 // Programs: what a pattern is compiled to.
-ghost use Rattle.std.specs.Prelude.{◌≡◌, ◌↔◌, ℕ, List, IfOk};
+ghost use Rattle.std.specs.Prelude.{◌≡◌, ◌↔◌, ℕ, List, IfOk, IfSome};
 ghost use Rattle.cs_syntax.specs.Matching.{Found};
 ghost use Rattle.cs_syntax.specs.Node.{tree_of};
 ghost use Rattle.cs_match.specs.Places.{places, repeats, IsLooped};
 ghost use Rattle.cs_match.specs.Needle.{IsNeeded};
+ghost use Rattle.cs_match.specs.Windows.{AreNeeded};
 
 use crate::compiler::write_out;
 use crate::needle::needle;
 use crate::walk::{count, count_repeats};
+use crate::windows::sieve;
+use cs_sieve::Sieve;
 use cs_syntax::{Node, Pattern};
 use std::alloc::{AllocError, Global};
 use std::marker::Model;
@@ -20,9 +23,11 @@ pub struct Program {
     count: usize,
     repeats: usize,
     needle: Vec<u8>,
+    sieve: Option<Sieve>,
 }
 
 impl Model for Program {
+    ghost use Rattle.std.specs.Prelude.{IfSome};
     ghost use Rattle.cs_syntax.specs.Matching.{Tree};
     ghost use Rattle.cs_syntax.specs.TreeCode.{tree_code};
 
@@ -33,11 +38,13 @@ impl Model for Program {
     ghost use Rattle.cs_syntax.specs.Node.{tree_of};
     ghost use Rattle.cs_match.specs.Places.{IsProgram};
     ghost use Rattle.cs_match.specs.Needle.{IsNeeded};
+    ghost use Rattle.cs_match.specs.Windows.{AreNeeded};
 
     ghost view = { λ program. tree_of program.root };
 
     ghost invariant = { λ program. IsProgram (tree_of program.root) program.count program.repeats
-        × IsNeeded (tree_of program.root) program.needle.items };
+        × IsNeeded (tree_of program.root) program.needle.items
+        × IfSome program.sieve (AreNeeded (tree_of program.root)) };
 }
 
 impl Program {
@@ -51,11 +58,13 @@ impl Program {
         let count = count(&root);
         let repeats = count_repeats(&root);
         let needle = needle(alloc, &root)?;
+        let sieve = sieve(alloc, &root)?;
         Ok(Program {
             root,
             count,
             repeats,
             needle,
+            sieve,
         })
     }
 
@@ -87,5 +96,13 @@ impl Program {
         ensures { IsNeeded self.now result.now }
     {
         &self.needle
+    }
+
+    /// A sieve for windows of which one stands in each line in which the program finds something,
+    /// where some are known that stand at few places of a text.
+    pub(crate) fn sieve(&self) -> Option<&Sieve>
+        ensures { IfSome result (λ sieve. AreNeeded self.now sieve.now) }
+    {
+        self.sieve.as_ref()
     }
 }

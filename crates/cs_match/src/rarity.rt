@@ -1,4 +1,6 @@
-// How rare words are in source text. Nothing rests on these numbers but speed.
+// How rare words and windows are in source text. Nothing rests on these numbers but speed.
+use cs_sieve::Window;
+use cs_syntax::ByteSet;
 
 /// How often a byte stands in source text, of 10,000 bytes.
 fn weight(byte: u8) -> u64 {
@@ -41,7 +43,36 @@ pub(crate) fn share(word: &[u8]) -> u64 {
 }
 
 /// Whether a search for the word passes most places: its rarest bytes stand at less than one place
-/// of a hundred.
-pub(crate) fn is_worth(word: &[u8]) -> bool {
-    share(word) < 10_000_000_000
+/// of a hundred, or of a thousand where there are windows to look for instead.
+pub(crate) fn is_worth(word: &[u8], has_windows: bool) -> bool {
+    let most = if has_windows {
+        1_000_000_000
+    } else {
+        10_000_000_000
+    };
+    share(word) < most
+}
+
+/// How often a byte of the set stands in source text, of 10,000 bytes.
+fn set_weight(set: &ByteSet) -> u64 {
+    let mut sum = 0u64;
+    for byte in 0..=255u8 {
+        if set.contains(byte) {
+            sum = sum.saturating_add(weight(byte));
+        }
+    }
+    sum.min(10000)
+}
+
+/// The share of the places of a text at which the window stands, of 10^12.
+pub(crate) fn window_share(window: &Window) -> u64 {
+    set_weight(&window.first)
+        .saturating_mul(set_weight(&window.second))
+        .saturating_mul(set_weight(&window.third))
+}
+
+/// Whether a search for windows of this share passes most places: they stand at less than one place
+/// of two hundred.
+pub(crate) fn are_worth(share: u64) -> bool {
+    share < 5_000_000_000
 }

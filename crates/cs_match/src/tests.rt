@@ -1,3 +1,9 @@
+ghost use Rattle.std.specs.Prelude.{◌≤◌, drop, length};
+ghost use Rattle.cs_match.specs.Skipping.{AreWhole};
+
+use crate::chains::line_end;
+use crate::finding::whole_lines;
+use crate::windows::best;
 use crate::{Matcher, Program, laws};
 use cs_syntax::parse;
 use std::test::Fail;
@@ -197,6 +203,142 @@ fn needles_of_patterns(rt: HostRuntime) -> Result<(), Fail> {
     ] {
         let word = needle(&rt, pattern)?;
         assert_eq!(rt; word.as_slice(), want.as_bytes(), "{pattern:?}");
+    }
+    Ok(())
+}
+
+/// The line to look at next, where lines are passed over or each is looked at.
+fn next_line(matcher: &mut Matcher<'_>, block: &[u8], from: usize, skips: bool) -> usize
+    requires within { from ≤ length block.now }
+    requires whole { AreWhole (drop from block.now) }
+    ensures low { from ≤ result }
+    ensures high { result ≤ length block.now }
+{
+    if skips {
+        matcher.skip(block, from)
+    } else {
+        from
+    }
+}
+
+/// The starts of the lines in which something is found, as one number, where lines are passed over
+/// or each is looked at.
+fn hits(matcher: &mut Matcher<'_>, block: &[u8], skips: bool) -> usize
+    requires { AreWhole block.now }
+{
+    let mut sum = 0usize;
+    let mut at = 0;
+    'lines: while at < block.len() {
+        let next = next_line(matcher, block, at, skips);
+        if next == block.len() {
+            return sum;
+        }
+        let end = line_end(block, next);
+        if matcher.is_match(&block[next..end]) {
+            sum = sum.wrapping_mul(1031).wrapping_add(next + 1);
+        }
+        at = end + 1;
+    }
+    sum
+}
+
+/// Twice a line of so many bytes, with the part in it, each before a line that has the part alone.
+fn lines_with(rt: &HostRuntime, part: &str, len: usize) -> Result<Vec<u8>, Fail> {
+    let mut text = Vec::new(rt.alloc());
+    for round in 0..2usize {
+        for _k in 0..len / 2 {
+            text.push(b' ')?;
+        }
+        text.extend_from_slice(part.as_bytes())?;
+        for _k in 0..len - len / 2 {
+            text.push(b' ')?;
+        }
+        text.push(b'\n')?;
+        text.extend_from_slice(part.as_bytes())?;
+        text.push(b'\n')?;
+    }
+    Ok(text)
+}
+
+/// What is found where no line is passed, and where lines are passed by the needle, by the windows, and by the table.
+fn each_way(rt: &HostRuntime, pattern: &str, text: &[u8]) -> Result<[usize; 4], Fail> {
+    let pattern = parse(rt.alloc(), pattern, false).ok().ok_or("pattern")?;
+    let program = Program::compile(rt.alloc(), &pattern)?;
+    let mut matcher = Matcher::new(rt.alloc(), &program)?;
+    let block = &text[..whole_lines(text)];
+    let each = hits(&mut matcher, block, false);
+    matcher.seeks = true;
+    let needle = hits(&mut matcher, block, true);
+    matcher.seeks = false;
+    let windows = hits(&mut matcher, block, true);
+    matcher.sieve = None;
+    let table = hits(&mut matcher, block, true);
+    Ok([each, needle, windows, table])
+}
+
+#[test]
+fn ways_to_pass_lines(rt: HostRuntime) -> Result<(), Fail> {
+    for (pattern, part) in [
+        ("[0-9]{3}-[0-9]{4}", "123-4567"),
+        ("[0-9]{3}-[0-9]{4}", "123-456"),
+        ("(?i)copyright", "copyRight"),
+        ("alpha|beta|gamma", "beta"),
+        ("alpha|be?ta|gamma$", "gamma"),
+        ("(ab|cd)x*[0-9]+ef", "cd17ef"),
+        ("^(ab+c|qz.)$", "abbbc"),
+        ("\\bq(xy|wz)+\\b", "qxywz"),
+        ("", ""),
+    ] {
+        for len in [
+            0, 1, 29, 30, 31, 62, 63, 64, 65, 66, 67, 68, 69, 70, 510, 511, 512, 513, 514,
+        ] {
+            let text = lines_with(&rt, part, len)?;
+            let found = each_way(&rt, pattern, &text)?;
+            assert_eq!(rt; found, [found[0]; 4], "{pattern} in lines of {len} bytes");
+        }
+    }
+    Ok(())
+}
+
+/// The sets of the windows of a pattern, one after another: the byte where it is the only one, else a
+/// point.
+fn windows(rt: &HostRuntime, pattern: &str) -> Result<Vec<u8>, Fail> {
+    let pattern = parse(rt.alloc(), pattern, false).ok().ok_or("pattern")?;
+    let program = Program::compile(rt.alloc(), &pattern)?;
+    let mut sets = Vec::new(rt.alloc());
+    if let Some(choice) = best(rt.alloc(), program.root())? {
+        for window in choice.windows.iter() {
+            sets.push(window.first.single().unwrap_or(b'.'))?;
+            sets.push(window.second.single().unwrap_or(b'.'))?;
+            sets.push(window.third.single().unwrap_or(b'.'))?;
+        }
+    }
+    Ok(sets)
+}
+
+// No clause says which of its windows a program has.
+#[test]
+fn windows_of_patterns(rt: HostRuntime) -> Result<(), Fail> {
+    for (pattern, want) in [
+        ("", ""),
+        ("ab", ""),
+        ("[0-9]{3}-[0-9]{4}", "..-"),
+        ("(?i)zeal", "..."),
+        ("alpha|beta|gamma", "lphbetgam"),
+        ("alpha|be", ""),
+        ("(abc|def)x", "abcdef"),
+        ("(abc|def)zqj", "zqj"),
+        ("a(b|c)def", "def"),
+        ("^a\\bb$c", "abc"),
+        ("a(b(cd)e)f", "bcd"),
+        ("x(ab)+z", "abz"),
+        ("x(ab)+c", "xab"),
+        ("ab+cd", "bcd"),
+        ("ab*cde", "cde"),
+        ("ab?cde", "cde"),
+    ] {
+        let sets = windows(&rt, pattern)?;
+        assert_eq!(rt; sets.as_slice(), want.as_bytes(), "{pattern:?}");
     }
     Ok(())
 }

@@ -9,7 +9,7 @@ pub returns : goal.returns
 returns c =
     let h = c.pass_quiet.ensures in
     let table = c.self.inside.table in
-    let right = c.self.invariant.right in
+    let right = c.self.invariant.0.right in
     record {
       low = h.low;
       high = h.high;

@@ -1,4 +1,4 @@
-use Rattle.std.proofs.Common.{◌≡◌, ◌≤◌, ◌-◌, ◌+◌, ℕ, Bool, List, length, length-take, arith, take, drop, subst, ◌∙◌}
+use Rattle.std.proofs.Common.{◌≡◌, ◌≤◌, ◌-◌, ◌+◌, ℕ, Bool, List, length, length-take, arith, take, drop, subst, sym, ◌∙◌}
 use Rattle.cs_syntax.specs.Matching.{Tree}
 use Rattle.cs_match.specs.Finding.{Decides}
 use Rattle.cs_match.specs.Skipping.{ArePassed}
@@ -14,13 +14,16 @@ behind tree now block from at noisy end hit same p q low high r =
     (passed_append K block from at noisy p (subst (λ t. ArePassed (λ finds. Decides finds t) block at noisy) same q))
     (passed_within K block noisy end hit low high (subst (λ t. ArePassed (λ finds. Decides finds t) (take (end - noisy) (drop noisy block)) 0 hit) same r))
 
+pub returns-in-Some-clause-none : goal.returns-in-Some-clause-none
+returns-in-Some-clause-none c finds decides = c.in-Some.ensures.none finds (subst (Decides finds) (sym c.rests.ensures) decides)
+
 pub returns-then-pauses : goal.returns-then-pauses
 returns-then-pauses c =
     let p = passed_none (λ finds. Decides finds c.args.self.now) c.args.block.now c.args.from c.requires.within in
-    record { low = p.low; high = p.high; whole = p.whole; none = p.none; same = c.pauses.ensures }
+    record { low = p.low; high = p.high; whole = p.whole; none = p.none; same = c.pauses.ensures ∙ c.rests.ensures }
 
 pub parts-init : goal.parts-init
-parts-init c = record { passed = passed_none (λ finds. Decides finds c.args.self.now) c.args.block.now c.args.from c.requires.within; same = c.pauses.ensures }
+parts-init c = record { passed = passed_none (λ finds. Decides finds c.args.self.now) c.args.block.now c.args.from c.requires.within; same = c.pauses.ensures ∙ c.rests.ensures }
 
 pub pass_quiet-noisy-requires-clause-whole : goal.pass_quiet-noisy-requires-clause-whole
 pass_quiet-noisy-requires-clause-whole c = whole_from c.args.block.now c.args.from c.parts.at c.parts.invariant.passed.low c.requires.whole

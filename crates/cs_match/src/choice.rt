@@ -1,0 +1,57 @@
+// Choices: lists of windows, some of which stands in each line that is looked for.
+ghost use Rattle.std.specs.Prelude.{◌≡◌, ◌++◌, ◌≤◌, ℕ, List, IfOk, OnOk, length, []};
+ghost use Rattle.cs_match.specs.Windows.{EndAt, HasChosen};
+
+use crate::rarity::window_share;
+use cs_sieve::Window;
+use cs_syntax::ByteSet;
+use std::alloc::{AllocError, Global};
+
+/// Windows, and the share of the places of a text at which one of them stands, of 10^12.
+#[derive(Drop)]
+pub(crate) struct Choice {
+    pub(crate) windows: Vec<Window>,
+    pub(crate) share: u64,
+}
+
+impl Choice {
+    /// No window.
+    pub(crate) fn none(alloc: Global) -> Choice
+        ensures { result.windows.items ≡ [] }
+    {
+        Choice {
+            windows: Vec::new(alloc),
+            share: 0,
+        }
+    }
+
+    /// The window of the last three sets of a run, where it has as many.
+    pub(crate) fn last_of(alloc: Global, run: &[ByteSet]) -> Result<Option<Choice>, AllocError>
+        ensures { IfOk result (λ choice. (line : List ℕ) (j : ℕ) →
+            EndAt line run.now j → HasChosen line choice) }
+    {
+        if run.len() < 3 {
+            return Ok(None);
+        }
+        let at = run.len() - 3;
+        let window = Window {
+            first: run[at],
+            second: run[at + 1],
+            third: run[at + 2],
+        };
+        let mut choice = Choice::none(alloc);
+        choice.windows.push(window)?;
+        choice.share = window_share(&window);
+        Ok(Some(choice))
+    }
+
+    /// The windows of the other too.
+    pub(crate) fn join(&mut self, other: &Choice) -> Result<(), AllocError>
+        ensures { OnOk result
+            (self.new.windows.items ≡ self.old.windows.items ++ other.now.windows.items) }
+    {
+        self.windows.extend_from_slice(&other.windows)?;
+        self.share = self.share.saturating_add(other.share);
+        Ok(())
+    }
+}

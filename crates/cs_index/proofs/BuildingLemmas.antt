@@ -1,12 +1,11 @@
 -- What a builder holds, and one name more.
-use Rattle.std.proofs.Common.{◌≡◌, ℕ, ◌+◌, ◌-◌, ◌<◌, ◌≤◌, Bool, true, ◌&&◌, List, [], ◌∷◌, ◌++◌, length, drop, Option, refl, sym, ap, subst, ◌∙◌, arith}
+use Rattle.std.proofs.Common.{◌≡◌, ℕ, ◌+◌, ◌<◌, ◌≤◌, Bool, true, ◌&&◌, List, [], ◌∷◌, ◌++◌, length, Option, refl, sym, ap, subst, ◌∙◌, arith}
 use Rattle.cs_tree.specs.NameOrder.{bytes_cmp}
 use Rattle.cs_index.specs.Rising.{RiseWithin, IsPosting}
 use Rattle.cs_index.specs.PostingLists.{entries_of}
 use Rattle.cs_trigram.specs.Trigram.{Ascends}
 use Rattle.std.proofs.lemmas.Bool.{and_parts, and_from}
 use Rattle.std.proofs.lemmas.List.{length_push}
-use Rattle.std.proofs.Math.Seq.{drop-length}
 use Rattle.std.specs.List.{AllByRecursion}
 use Rattle.std.specs.Option.{option_map_or}
 use Rattle.std.specs.Ordering.{is_lt}
@@ -16,8 +15,6 @@ use Rattle.std.specs.declared.cmp.Ordering.TheVariants.{Less, Equal, Greater}
 use Rattle.std.specs.FinMap as map'
 use Rattle.cs_index.specs.Image.{Entry, Posting, names_of, IsString}
 use Rattle.cs_index.specs.IdStream.{next_after}
-use Rattle.cs_index.specs.Gathering.{ids_of, with_id_at_each, ordered_lists, AreWaiting}
-use Rattle.cs_index.proofs.BuiltLemmas.{entries_added, ids_rise_within}
 use Rattle.cs_index.specs.Built.{Built, IsBuilt, with_name, is_above}
 use Rattle.cs_index.proofs.StringLemmas.{last_of, last_is}
 
@@ -94,41 +91,10 @@ rise_further : (names next : ℕ) (ids : List ℕ) → RiseWithin names next ids
 rise_further names next [] up = tt
 rise_further names next (id ∷ ids) up = (up.0, omega (arith, up.1), rise_further names (id + 1) ids up.2)
 
-rise_next : (names next : ℕ) (ids : List ℕ) → RiseWithin names next ids → next ≤ names → next_after next ids ≤ names
+pub rise_next : (names next : ℕ) (ids : List ℕ) → RiseWithin names next ids → next ≤ names → next_after next ids ≤ names
 rise_next names next [] up h = h
 rise_next names next (id ∷ ids) up h = rise_next names (id + 1) ids up.2 (omega (arith, up.1))
 
-each_further : (names : ℕ) (lists : List Posting) → AllByRecursion (IsPosting names) lists → AllByRecursion (IsPosting (names + 1)) lists
+pub each_further : (names : ℕ) (lists : List Posting) → AllByRecursion (IsPosting names) lists → AllByRecursion (IsPosting (names + 1)) lists
 each_further names [] all = tt
 each_further names (p ∷ lists) all = ((all.0.0, rise_further names 0 p.1 all.0.1), each_further names lists all.1)
-
-all_of : (P : ℕ → Type 0) (ns : List ℕ) → ((n : ℕ) → P n) → AllByRecursion P ns
-all_of P [] h = tt
-all_of P (n ∷ ns) h = (h n, all_of P ns h)
-
-pub record Later (names : List (List ℕ)) (name : List ℕ) (lists later : List Posting) (rest trigrams : List ℕ) : Type 0 where
-  pub waits : AreWaiting (length (names ++ name ∷ [])) later trigrams
-  pub entries : entries_of 0 (names ++ name ∷ []) (ordered_lists (with_id_at_each later (length (names ++ name ∷ []) - 1) trigrams)) ≡ entries_of 0 names (ordered_lists (with_id_at_each lists (length names - 1) rest)) ++ (name, trigrams) ∷ []
-
-pub added_later : (names : List (List ℕ)) (name : List ℕ) (lists later : List Posting) (rest trigrams : List ℕ) → AllByRecursion (IsPosting (length names)) later → later ≡ with_id_at_each lists (length names - 1) rest → Ascends trigrams → AllByRecursion (λ g. g < 16777215) trigrams → Later names name lists later rest trigrams
-added_later names name lists later rest trigrams each is up below =
-    let n : ℕ = length names in
-    let more : length (names ++ name ∷ []) ≡ n + 1 = length_push names name in
-    let id : length (names ++ name ∷ []) - 1 ≡ n = omega (arith, more) in
-    record {
-      waits = subst (λ m. AreWaiting m later trigrams) (sym more) (record {
-        each = each_further n later each;
-        ready = all_of (λ g. next_after 0 (ids_of later g) < n + 1) trigrams (λ g. let most = rise_next n 0 (ids_of later g) (ids_rise_within n later g each) (omega arith) in omega (arith, most));
-        ascend = up;
-        below = below;
-      });
-      entries = ap (λ k. entries_of 0 (names ++ name ∷ []) (ordered_lists (with_id_at_each later k trigrams))) id ∙ entries_added names name later trigrams each up ∙ ap (λ ps. entries_of 0 names (ordered_lists ps) ++ (name, trigrams) ∷ []) is;
-    }
-
--- when nothing waits any more
-pub settled_is : (lists later : List Posting) (waiting lent : List ℕ) (from to id names : ℕ) → to ≡ length lent → lent ≡ waiting → id ≡ names → with_id_at_each later (id - 1) (drop to lent) ≡ with_id_at_each lists (id - 1) (drop from lent) → later ≡ with_id_at_each lists (names - 1) (drop from waiting)
-settled_is lists later waiting lent from to id names done is at kept =
-    sym (ap (with_id_at_each later (id - 1)) (ap (λ k. drop k lent) done ∙ drop-length lent)) ∙ kept ∙ (λ i. with_id_at_each lists (at i - 1) (drop from (is i)))
-
-pub each_later : (id names : ℕ) (later : List Posting) (rest : List ℕ) → id ≡ names → AreWaiting id later rest → AllByRecursion (IsPosting names) later
-each_later id names later rest at await = subst (λ n. AllByRecursion (IsPosting n) later) at await.each

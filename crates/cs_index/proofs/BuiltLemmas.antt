@@ -1,18 +1,20 @@
 -- What lists give of each name, before they are in order and after.
-use Rattle.std.proofs.Common.{◌≡◌, ℕ, ◌+◌, ◌-◌, ◌<◌, ◌≤◌, Bool, true, false, cond, eqb, ◌||◌, ◌&&◌, List, [], ◌∷◌, ◌++◌, length, map, refl, sym, ap, subst, ◌∙◌, inl, inr, arith}
-use Rattle.cs_index.specs.Rising.{RiseWithin, IsPosting}
+use Rattle.std.proofs.Common.{◌≡◌, ℕ, ◌+◌, ◌<◌, ◌≤◌, Bool, true, false, cond, eqb, ◌||◌, ◌&&◌, List, [], ◌∷◌, ◌++◌, length, map, refl, sym, ap, subst, ◌∙◌, inl, inr, arith}
+use Rattle.std.specs.Prelude.{flat_map}
+use Rattle.cs_index.specs.Rising.{RiseWithin, IsPosting, ArePostings}
 use Rattle.cs_index.specs.PostingLists.{set_at, entries_of}
 use Rattle.cs_trigram.specs.Trigram.{has, set_of_numbers, Ascends}
 use Rattle.std.proofs.lemmas.Bool.{true≢false, cases_Bool, eqb-true, eq-eqb, ne_eqb, or_left, or_right}
 use Rattle.std.specs.List.{AllByRecursion}
-use Rattle.cs_index.specs.Image.{Posting, Entry, postings_of}
+use Rattle.cs_index.specs.Image.{Posting, Entry}
 use Rattle.cs_index.specs.IdStream.{next_after}
-use Rattle.cs_index.specs.Gathering.{keys, ids_of, with_id, with_id_at_each, ordered_lists, AreWaiting}
+use Rattle.cs_index.specs.Gathering.{keys, ids_of, with_id, ordered_lists, GiveSame}
 use Rattle.cs_index.proofs.TransposeLemmas.{has-set_at, ascends_set_at}
 use Rattle.cs_index.proofs.GatheringLemmas.{ids_new}
-use Rattle.cs_index.proofs.GatheredLemmas.{rise_beyond, postings_gathered}
+use Rattle.cs_index.proofs.GatheredLemmas.{keys_flat}
+use Rattle.cs_index.proofs.SpellingLemmas.{all_sets}
 use Rattle.std.proofs.Math.Bool.{or-false}
-use Rattle.cs_trigram.proofs.SetLemmas.{Above, ascends_tail, ascends_head, ascends_set, has-set_of_numbers, has-append, ascends_same}
+use Rattle.cs_trigram.proofs.SetLemmas.{ascends_set, has-set_of_numbers, has-append, all_member, ascends_same}
 
 -- ---- the ids of a trigram, after one more
 
@@ -50,7 +52,7 @@ ids_gathered (p ∷ lists) h id g =
           ]
     ]
 
-has_gathered : (lists : List Posting) (h id g k : ℕ) → has (ids_of (with_id lists h id) g) k ≡ (has (ids_of lists g) k || (eqb h g && eqb id k))
+pub has_gathered : (lists : List Posting) (h id g k : ℕ) → has (ids_of (with_id lists h id) g) k ≡ (has (ids_of lists g) k || (eqb h g && eqb id k))
 has_gathered lists h id g k =
     ap (λ ids. has ids k) (ids_gathered lists h id g)
     ∙ elim (cases_Bool (eqb g h)) [
@@ -62,21 +64,6 @@ has_gathered lists h id g k =
           ap (λ b. has (cond b (ids_of lists g ++ id ∷ []) (ids_of lists g)) k) apart
           ∙ sym (ap (λ b. has (ids_of lists g) k || (b && eqb id k)) (ne_eqb h g (λ e. true≢false (sym (eq-eqb g h (sym e)) ∙ apart))) ∙ or-false (has (ids_of lists g) k))
     ]
-
-pub has_all : (lists : List Posting) (id : ℕ) (gs : List ℕ) (g k : ℕ) → has (ids_of (with_id_at_each lists id gs) g) k ≡ (has (ids_of lists g) k || (has gs g && eqb id k))
-has_all lists id [] g k = sym (or-false (has (ids_of lists g) k))
-has_all lists id (h ∷ gs) g k =
-    has_all (with_id lists h id) id gs g k
-    ∙ ap (λ b. b || (has gs g && eqb id k)) (has_gathered lists h id g k)
-    ∙ regroup (has (ids_of lists g) k) (eqb h g) (has gs g) (eqb id k)
-  where
-    regroup : (a p q e : Bool) → ((a || (p && e)) || (q && e)) ≡ (a || ((p || q) && e))
-    regroup true p q e = refl
-    regroup false true true true = refl
-    regroup false true true false = refl
-    regroup false true false true = refl
-    regroup false true false false = refl
-    regroup false false q e = refl
 
 -- ---- the set of a name
 
@@ -110,11 +97,23 @@ ids_rise_within names lists g all =
       | inr absent ↦ subst (RiseWithin names 0) (sym (ids_new lists g absent)) tt
     ]
 
--- the sets of earlier names stay, and that of the last name is what waits
-set_earlier : (lists : List Posting) (id k : ℕ) (gs : List ℕ) → k < id → set_at k (ordered_lists (with_id_at_each lists id gs)) ≡ set_at k (ordered_lists lists)
-set_earlier lists id k gs less =
-    ascends_same _ _ (set_ascends (with_id_at_each lists id gs) k) (set_ascends lists k) (λ g.
-    has_set (with_id_at_each lists id gs) g k ∙ has_all lists id gs g k
+-- lists that give each trigram the same ids give each name the same trigrams
+set_given : (ps qs : List Posting) (k : ℕ) → GiveSame ps qs → set_at k (ordered_lists ps) ≡ set_at k (ordered_lists qs)
+set_given ps qs k same =
+    ascends_same _ _ (set_ascends ps k) (set_ascends qs k)
+    (λ g. has_set ps g k ∙ same g k ∙ sym (has_set qs g k))
+
+-- Some trigrams were given one more id, which no list had.
+pub record WereGiven (lists more : List Posting) (id : ℕ) (gs : List ℕ) : Type 0 where
+  pub ids : (g k : ℕ) → has (ids_of more g) k ≡ (has (ids_of lists g) k || (has gs g && eqb id k))
+  pub fresh : (g : ℕ) → has (ids_of lists g) id ≡ false
+
+-- the sets of earlier names stay, and that of the last name is what was given
+set_earlier : (lists more : List Posting) (id k : ℕ) (gs : List ℕ) → WereGiven lists more id gs → k < id →
+    set_at k (ordered_lists more) ≡ set_at k (ordered_lists lists)
+set_earlier lists more id k gs given less =
+    ascends_same _ _ (set_ascends more k) (set_ascends lists k) (λ g.
+    has_set more g k ∙ given.ids g k
     ∙ ap (λ b. has (ids_of lists g) k || (has gs g && b)) (ne_eqb id k (λ e. absurd (omega (arith, e, less))))
     ∙ dropped (has (ids_of lists g) k) (has gs g)
     ∙ sym (has_set lists g k))
@@ -124,13 +123,15 @@ set_earlier lists id k gs less =
     dropped false true = refl
     dropped false false = refl
 
-set_last : (lists : List Posting) (id : ℕ) (gs : List ℕ) → AllByRecursion (IsPosting id) lists → Ascends gs → set_at id (ordered_lists (with_id_at_each lists id gs)) ≡ gs
-set_last lists id gs all up =
-    ascends_same _ gs (set_ascends (with_id_at_each lists id gs) id) up (λ g.
-    has_set (with_id_at_each lists id gs) g id ∙ has_all lists id gs g id
-    ∙ ap (λ b. b || (has gs g && eqb id id)) (rise_beyond id 0 id (ids_of lists g) (omega arith) (ids_rise_within id lists g all))
+set_last : (lists more : List Posting) (id : ℕ) (gs : List ℕ) → WereGiven lists more id gs →
+    set_at id (ordered_lists more) ≡ set_of_numbers gs
+set_last lists more id gs given =
+    ascends_same _ (set_of_numbers gs) (set_ascends more id) (ascends_set gs) (λ g.
+    has_set more g id ∙ given.ids g id
+    ∙ ap (λ b. b || (has gs g && eqb id id)) (given.fresh g)
     ∙ ap (λ b. has gs g && b) (eq-eqb id id refl)
-    ∙ kept (has gs g))
+    ∙ kept (has gs g)
+    ∙ sym (has-set_of_numbers g gs))
   where
     kept : (a : Bool) → (a && true) ≡ a
     kept true = refl
@@ -151,13 +152,20 @@ entries_push first (n ∷ names) name ps =
     ap (λ (es : List Entry). (n, set_at first ps) ∷ es) (entries_push (first + 1) names name ps
     ∙ ap (λ k. entries_of (first + 1) names ps ++ (name, set_at k ps) ∷ []) (let z : first + 1 + length names ≡ first + length (n ∷ names) = omega arith in z))
 
+pub entries_given : (first : ℕ) (names : List (List ℕ)) (ps qs : List Posting) → GiveSame ps qs →
+    entries_of first names (ordered_lists ps) ≡ entries_of first names (ordered_lists qs)
+entries_given first names ps qs same =
+    entries_same first names (ordered_lists ps) (ordered_lists qs) (λ k h. set_given ps qs k same)
+
 -- one more name
-pub entries_added : (names : List (List ℕ)) (name : List ℕ) (lists : List Posting) (gs : List ℕ) → AllByRecursion (IsPosting (length names)) lists → Ascends gs → entries_of 0 (names ++ name ∷ []) (ordered_lists (with_id_at_each lists (length names) gs)) ≡ entries_of 0 names (ordered_lists lists) ++ (name, gs) ∷ []
-entries_added names name lists gs all up =
+pub entries_added : (names : List (List ℕ)) (name : List ℕ) (lists more : List Posting) (gs : List ℕ) →
+    WereGiven lists more (length names) gs →
+    entries_of 0 (names ++ name ∷ []) (ordered_lists more) ≡ entries_of 0 names (ordered_lists lists) ++ (name, set_of_numbers gs) ∷ []
+entries_added names name lists more gs given =
     let id : ℕ = length names in
-    let more : List Posting = ordered_lists (with_id_at_each lists id gs) in
-    entries_push 0 names name more
-    ∙ (λ i. entries_same 0 names more (ordered_lists lists) (λ k h. set_earlier lists id k gs (omega (arith, h))) i ++ (name, (ap (λ k. set_at k more) (let z : 0 + length names ≡ id = omega arith in z) ∙ set_last lists id gs all up) i) ∷ [])
+    entries_push 0 names name (ordered_lists more)
+    ∙ (λ i. entries_same 0 names (ordered_lists more) (ordered_lists lists) (λ k h. set_earlier lists more id k gs given (omega (arith, h))) i
+    ++ (name, (ap (λ k. set_at k (ordered_lists more)) (let z : 0 + length names ≡ id = omega arith in z) ∙ set_last lists more id gs given) i) ∷ [])
 
 -- ---- all lists
 
@@ -176,13 +184,20 @@ keys_pairs f (g ∷ gs) = ap (λ rest. g ∷ rest) (keys_pairs f gs)
 pub keys_in_order : (lists : List Posting) → AllByRecursion (λ g. has (keys lists) g ≡ true) (set_of_numbers (keys lists))
 keys_in_order lists = members_all (λ g. has (keys lists) g ≡ true) (set_of_numbers (keys lists)) (λ g e. sym (has-set_of_numbers g (keys lists)) ∙ e)
 
--- lists in order are those of the names that they give
-pub postings_in_order : (names : List (List ℕ)) (lists : List Posting) → AllByRecursion (IsPosting (length names)) lists → postings_of (entries_of 0 names (ordered_lists lists)) ≡ ordered_lists lists
-postings_in_order names lists all =
-    postings_gathered names (ordered_lists lists) (record {
-      ascend = subst Ascends (sym (keys_pairs (ids_of lists) (set_of_numbers (keys lists)))) (ascends_set (keys lists));
-      each = all_pairs (IsPosting (length names)) (ids_of lists) (set_of_numbers (keys lists)) (members_all (λ g. IsPosting (length names) (g, ids_of lists g)) (set_of_numbers (keys lists)) (λ g e. ids_posting (length names) lists g all (sym (has-set_of_numbers g (keys lists)) ∙ e)));
-    })
+-- lists in order are as an index has them
+ordered_are : (names : ℕ) (lists : List Posting) → AllByRecursion (IsPosting names) lists → ArePostings names (ordered_lists lists)
+ordered_are names lists all = record {
+  ascend = subst Ascends (sym (keys_pairs (ids_of lists) (set_of_numbers (keys lists)))) (ascends_set (keys lists));
+  each = all_pairs (IsPosting names) (ids_of lists) (set_of_numbers (keys lists)) (members_all (λ g. IsPosting names (g, ids_of lists g)) (set_of_numbers (keys lists)) (λ g e. ids_posting names lists g all (sym (has-set_of_numbers g (keys lists)) ∙ e)));
+}
+
+-- where the trigrams of the names are below a number, those of the lists are
+pub ordered_below : (most : ℕ) (names : List (List ℕ)) (lists : List Posting) → AllByRecursion (IsPosting (length names)) lists → AllByRecursion (λ (entry : Entry). AllByRecursion (λ g. g < most) entry.1) (entries_of 0 names (ordered_lists lists)) → AllByRecursion (λ g. g < most) (set_of_numbers (keys lists))
+ordered_below most names lists all sets =
+    members_all (λ g. g < most) (set_of_numbers (keys lists)) (λ g here.
+    all_member (λ h. h < most) (flat_map (λ (entry : Entry). entry.1) (entries_of 0 names (ordered_lists lists))) g
+    (all_sets (λ h. h < most) (entries_of 0 names (ordered_lists lists)) sets)
+    (keys_flat g names (ordered_lists lists) (ordered_are (length names) lists all) (ap (λ ks. has ks g) (keys_pairs (ids_of lists) (set_of_numbers (keys lists))) ∙ here)))
 
 -- ---- one trigram that waited
 
@@ -190,7 +205,7 @@ rise_end : (names next : ℕ) (ids : List ℕ) (id : ℕ) → RiseWithin names n
 rise_end names next [] id up h few = (h, few, tt)
 rise_end names next (x ∷ ids) id up h few = (up.0, up.1, rise_end names (x + 1) ids id up.2 h few)
 
-each_gathered : (names : ℕ) (lists : List Posting) (g id : ℕ) → AllByRecursion (IsPosting names) lists → next_after 0 (ids_of lists g) ≤ id → id < names → AllByRecursion (IsPosting names) (with_id lists g id)
+pub each_gathered : (names : ℕ) (lists : List Posting) (g id : ℕ) → AllByRecursion (IsPosting names) lists → next_after 0 (ids_of lists g) ≤ id → id < names → AllByRecursion (IsPosting names) (with_id lists g id)
 each_gathered names [] g id all above few = (((λ e. cc), (omega arith, few, tt)), tt)
 each_gathered names (p ∷ lists) g id all above few =
     elim (cases_Bool (eqb p.0 g)) [
@@ -207,21 +222,3 @@ each_gathered names (p ∷ lists) g id all above few =
     no_end : (ids : List ℕ) → ids ++ id ∷ [] ≡ [] → ⊥
     no_end [] e = cc
     no_end (x ∷ ids) e = cc
-
-ready_after : (names g id : ℕ) (lists : List Posting) (gs : List ℕ) → Above g gs → Ascends gs → AllByRecursion (λ h. next_after 0 (ids_of lists h) < names) gs → AllByRecursion (λ h. next_after 0 (ids_of (with_id lists g id) h) < names) gs
-ready_after names g id lists [] above up all = tt
-ready_after names g id lists (h ∷ gs) above up all =
-    let same : ids_of (with_id lists g id) h ≡ ids_of lists h = ids_gathered lists g id h ∙ ap (λ b. cond b (ids_of lists h ++ id ∷ []) (ids_of lists h)) (ne_eqb h g (λ e. absurd (omega (arith, e, above)))) in
-    (subst (λ ids. next_after 0 ids < names) (sym same) all.0, ready_after names g id lists gs (further gs (ascends_head h gs up)) (ascends_tail h gs up) all.1)
-  where
-    further : (ks : List ℕ) → Above h ks → Above g ks
-    further [] a = tt
-    further (k ∷ ks) a = omega (arith, above, a)
-
-pub await_after : (names g : ℕ) (lists : List Posting) (gs : List ℕ) → AreWaiting names lists (g ∷ gs) → AreWaiting names (with_id lists g (names - 1)) gs
-await_after names g lists gs await = record {
-  each = each_gathered names lists g (names - 1) await.each (omega (arith, await.ready.0)) (omega (arith, await.ready.0));
-  ready = ready_after names g (names - 1) lists gs (ascends_head g gs await.ascend) (ascends_tail g gs await.ascend) await.ready.1;
-  ascend = ascends_tail g gs await.ascend;
-  below = await.below.1;
-}

@@ -1,9 +1,12 @@
 -- Worked examples of the definitions.
-use Rattle.std.specs.Prelude.{◌≡◌, true, false, refl, List, [], ◌∷◌, ◌++◌, codes, length, flat_map}
+use Rattle.std.specs.Prelude.{◌≡◌, true, false, Some, refl, List, [], ◌∷◌, ◌++◌, codes, length, flat_map}
 use Rattle.cs_index.specs.PostingLists.{read_list}
 use Rattle.cs_index.specs.Image.{Entry, deltas_from, ids_from, image_of, posting_list, varint}
 use Rattle.cs_index.specs.Opening.{whole_ids}
 use Rattle.cs_index.specs.Built.{are_paths, is_above, is_storable}
+use Rattle.cs_index.specs.Ascending.{is_alone}
+use Rattle.cs_index.specs.Keys.{keys_of, with_keys}
+use Rattle.cs_index.specs.Laid.{Laid, entries_laid, last_ids, with_last_id, with_list}
 
 -- an empty folder at `/a`
 empty_folder : length (image_of (codes "/a" ∷ []) []) ≡ 65
@@ -78,3 +81,37 @@ equal_name = refl
 
 later_name : is_above (codes "/b" ∷ []) (codes "/c") ≡ true
 later_name = refl
+
+-- three names, a list of the first and the third, and a list that was begun and given no id
+three_laid : Laid
+three_laid = with_list (record {
+  paths = codes "/t" ∷ [];
+  names = codes "/t/0" ∷ codes "/t/1" ∷ codes "/t/2" ∷ [];
+  lists = (0x616263, 0 ∷ 2 ∷ []) ∷ [];
+  begun = Some 0x616263;
+}) 0x616264
+
+no_trace : entries_laid three_laid ≡
+    (codes "/t/0", 0x616263 ∷ []) ∷ (codes "/t/1", []) ∷ (codes "/t/2", 0x616263 ∷ []) ∷ []
+unfolding three_laid
+no_trace = refl
+
+no_ids : last_ids three_laid ≡ []
+unfolding three_laid
+no_ids = refl
+
+one_id : (with_last_id three_laid 1).lists ≡ (0x616263, 0 ∷ 2 ∷ []) ∷ (0x616264, 1 ∷ []) ∷ []
+unfolding three_laid
+one_id = refl
+
+-- another path stands between `/a` and what it covers
+covered_apart : is_alone (codes "/a" ∷ codes "/a-b" ∷ codes "/a/b" ∷ []) (codes "/a/b") ≡ false
+covered_apart = refl
+
+-- the keys of a file at the place 3 of its batch
+keys_of_two : keys_of 3 (7 ∷ 9 ∷ []) ≡ 1795 ∷ 2307 ∷ []
+keys_of_two = refl
+
+-- the batch begins with the id 5, so that the files at the places 0 and 3 have the ids 5 and 8
+keys_given : with_keys 5 [] (1792 ∷ 1795 ∷ 2307 ∷ []) ≡ (7, 5 ∷ 8 ∷ []) ∷ (9, 8 ∷ []) ∷ []
+keys_given = refl

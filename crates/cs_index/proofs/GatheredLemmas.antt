@@ -129,7 +129,7 @@ first_id : (names : ℕ) (ids : List ℕ) → ids ≢ [] → RiseWithin names 0 
 first_id names [] some up = absurd (some refl)
 first_id names (id ∷ ids) some up = (id, up.1, or_left (eqb id id) _ (eq-eqb id id refl))
 
-keys_flat : (g : ℕ) (names : List (List ℕ)) (ps : List Posting) → ArePostings (length names) ps → has (keys ps) g ≡ true → has (flat_map (λ (e : Entry). e.1) (entries_of 0 names ps)) g ≡ true
+pub keys_flat : (g : ℕ) (names : List (List ℕ)) (ps : List Posting) → ArePostings (length names) ps → has (keys ps) g ≡ true → has (flat_map (λ (e : Entry). e.1) (entries_of 0 names ps)) g ≡ true
 keys_flat g names ps are h =
     let found = key_among g ps h in
     let is = each_among (length names) found.0 ps are.each found.1 in

@@ -11,7 +11,7 @@ use Rattle.cs_index.specs.Image.{three_bytes, varint, concat, Posting, posting_l
 use Rattle.cs_index.proofs.VarintLemmas.{ids_read}
 use Rattle.cs_index.proofs.SpellingLemmas.{ids_rise}
 
-one_list : (front rest : List ℕ) (p : Posting) (names : ℕ) → names < 2 ^ 31 → RiseWithin names 0 p.1 → IsList (front ++ (posting_list p ++ rest)) names (record { trigram = p.0; count = length p.1; offset = length front }) p.1
+one_list : (front rest : List ℕ) (p : Posting) (names : ℕ) → names < 2 ^ 32 → RiseWithin names 0 p.1 → IsList (front ++ (posting_list p ++ rest)) names (record { trigram = p.0; count = length p.1; offset = length front }) p.1
 one_list front rest p names few up =
     let section : List ℕ = front ++ (posting_list p ++ rest) in
     let at : drop (length front) section ≡ posting_list p ++ rest = drop_at front (posting_list p ++ rest) (length front) refl in
@@ -22,7 +22,7 @@ one_list front rest p names few up =
     ∙ ap (read_ids names (length p.1) 0) after'
     ∙ ids_read names 0 p.1 rest few up
 
-pub lists_are : (front rest : List ℕ) (ps : List Posting) (names : ℕ) → names < 2 ^ 31 → AllByRecursion (λ (p : Posting). RiseWithin names 0 p.1) ps → AllZip (λ (e : ListEntry) (p : Posting). IsList (front ++ (concat (map posting_list ps) ++ rest)) names e p.1) (list_entries (length front) ps) ps
+pub lists_are : (front rest : List ℕ) (ps : List Posting) (names : ℕ) → names < 2 ^ 32 → AllByRecursion (λ (p : Posting). RiseWithin names 0 p.1) ps → AllZip (λ (e : ListEntry) (p : Posting). IsList (front ++ (concat (map posting_list ps) ++ rest)) names e p.1) (list_entries (length front) ps) ps
 lists_are front rest [] names few up = tt
 lists_are front rest (p ∷ ps) names few up =
     let more : List ℕ = concat (map posting_list ps) ++ rest in
@@ -40,4 +40,4 @@ all_rise names entries (g ∷ gs) h = (ids_rise names 0 g entries (omega (arith,
 
 -- each list of an image
 pub image_lists : (entries : List Entry) → length entries < 2 ^ 31 → AllZip (λ (e : ListEntry) (p : Posting). IsList (concat (map posting_list (postings_of entries)) ++ closing_list) (length entries) e p.1) (list_entries 0 (postings_of entries)) (postings_of entries)
-image_lists entries few = lists_are [] closing_list (postings_of entries) (length entries) few (all_rise (length entries) entries (trigrams_of entries) (omega arith))
+image_lists entries few = lists_are [] closing_list (postings_of entries) (length entries) (omega (arith, few)) (all_rise (length entries) entries (trigrams_of entries) (omega arith))

@@ -7,34 +7,33 @@ use Rattle.std.proofs.lemmas.List.{append-nil, length_push, take_more_set}
 use Rattle.std.proofs.Math.Nat.{mul-le-mul_right}
 use Rattle.std.specs.Prelude.{flat_map}
 use Rattle.cs_index.specs.Image.{varint, varint_within, deltas_from}
-use Rattle.cs_index.specs.Built.{most_names}
-use Rattle.cs_index.specs.IdStream.{next_after, stream_of, ids_in, IsStream}
+use Rattle.cs_index.specs.IdStream.{most_ids, next_after, stream_of, ids_in, IsStream}
 use Rattle.cs_index.proofs.VarintLemmas.{ids_read}
 
-written_push : (next : ℕ) (ids : List ℕ) (id : ℕ) → flat_map varint (deltas_from next (ids ++ id ∷ [])) ≡ flat_map varint (deltas_from next ids) ++ varint (id + 1 - next_after next ids)
+pub written_push : (next : ℕ) (ids : List ℕ) (id : ℕ) → flat_map varint (deltas_from next (ids ++ id ∷ [])) ≡ flat_map varint (deltas_from next ids) ++ varint (id + 1 - next_after next ids)
 written_push next [] id = append-nil (varint (id + 1 - next))
 written_push next (x ∷ ids) id = ap (λ rest. varint (x + 1 - next) ++ rest) (written_push (x + 1) ids id) ∙ sym (append_assoc (varint (x + 1 - next)) _ _)
 
-rise_push : (next : ℕ) (ids : List ℕ) (id : ℕ) → RiseWithin most_names next ids → next_after next ids ≤ id → id < most_names → RiseWithin most_names next (ids ++ id ∷ [])
+pub rise_push : (next : ℕ) (ids : List ℕ) (id : ℕ) → RiseWithin most_ids next ids → next_after next ids ≤ id → id < most_ids → RiseWithin most_ids next (ids ++ id ∷ [])
 rise_push next [] id up h few = (h, few, tt)
 rise_push next (x ∷ ids) id up h few = (up.0, up.1, rise_push (x + 1) ids id up.2 h few)
 
-next_push : (next : ℕ) (ids : List ℕ) (id : ℕ) → next_after next (ids ++ id ∷ []) ≡ id + 1
+pub next_push : (next : ℕ) (ids : List ℕ) (id : ℕ) → next_after next (ids ++ id ∷ []) ≡ id + 1
 next_push next [] id = refl
 next_push next (x ∷ ids) id = next_push (x + 1) ids id
 
-pub decoded-stream_of : (ids : List ℕ) → RiseWithin most_names 0 ids → ids_in (stream_of ids) (length ids) ≡ ids
+pub decoded-stream_of : (ids : List ℕ) → RiseWithin most_ids 0 ids → ids_in (stream_of ids) (length ids) ≡ ids
 unfolding ids_in
-decoded-stream_of ids up = ap (λ (r : Ids). r.ids) (ids_read most_names 0 ids [] (omega arith) up)
+decoded-stream_of ids up = ap (λ (r : Ids). r.ids) (ids_read most_ids 0 ids [] (omega arith) up)
 
 -- a stream that is written of ids
-pub stream_from : (ids : List ℕ) → RiseWithin most_names 0 ids → IsStream (stream_of ids) (length ids) (next_after 0 ids)
+pub stream_from : (ids : List ℕ) → RiseWithin most_ids 0 ids → IsStream (stream_of ids) (length ids) (next_after 0 ids)
 stream_from ids up =
     let is : ids_in (stream_of ids) (length ids) ≡ ids = decoded-stream_of ids up in
     record {
       written = ap stream_of (sym is);
       counted = ap length (sym is);
-      rise = subst (RiseWithin most_names 0) (sym is) up;
+      rise = subst (RiseWithin most_ids 0) (sym is) up;
       follows = ap (next_after 0) (sym is);
     }
 
@@ -42,10 +41,10 @@ pub record Pushed (stream : List ℕ) (count next id : ℕ) (more : List ℕ) : 
   pub is : IsStream (stream ++ more) (count + 1) (id + 1)
   pub ids : ids_in (stream ++ more) (count + 1) ≡ ids_in stream count ++ id ∷ []
 
-pub stream_push : (stream : List ℕ) (count next id : ℕ) → IsStream stream count next → next ≤ id → id < most_names → Pushed stream count next id (varint (id + 1 - next))
+pub stream_push : (stream : List ℕ) (count next id : ℕ) → IsStream stream count next → next ≤ id → id < most_ids → Pushed stream count next id (varint (id + 1 - next))
 stream_push stream count next id h above few =
     let ids : List ℕ = ids_in stream count in
-    let up : RiseWithin most_names 0 (ids ++ id ∷ []) = rise_push 0 ids id h.rise (subst (λ n. n ≤ id) h.follows above) few in
+    let up : RiseWithin most_ids 0 (ids ++ id ∷ []) = rise_push 0 ids id h.rise (subst (λ n. n ≤ id) h.follows above) few in
     let bytes : stream ++ varint (id + 1 - next) ≡ stream_of (ids ++ id ∷ []) = ap (λ n. stream ++ varint (id + 1 - n)) h.follows ∙ ap (λ s. s ++ varint (id + 1 - next_after 0 ids)) h.written ∙ sym (written_push 0 ids id) in
     let many : count + 1 ≡ length (ids ++ id ∷ []) = ap (λ n. n + 1) h.counted ∙ sym (length_push ids id) in
     let at : next_after 0 (ids ++ id ∷ []) ≡ id + 1 = next_push 0 ids id in
@@ -60,6 +59,10 @@ more_groups room n h = ap (λ b. cond b (n ∷ []) ((n % 128 + 128) ∷ varint_w
 
 last_group : (room n : ℕ) → n < 128 → varint_within (suc room) n ≡ n ∷ []
 last_group room n h = ap (λ b. cond b (n ∷ []) ((n % 128 + 128) ∷ varint_within room (n / 128))) (lt-ltb n 128 h)
+
+pub short_varint : (n : ℕ) → n < 128 → varint n ≡ n ∷ []
+unfolding varint
+short_varint n h = last_group 4 n h
 
 pub group_first : (n : ℕ) (bytes : List ℕ) → varint n ≡ take 0 bytes ++ varint_within (5 - 0) n
 unfolding varint
@@ -104,4 +107,4 @@ rise_length names next [] up = omega arith
 rise_length names next (id ∷ ids) up = let rest = rise_length names (id + 1) ids up.2 in omega (arith, rest, up.0)
 
 pub count_below : (stream : List ℕ) (count next id : ℕ) → IsStream stream count next → next ≤ id → count ≤ id
-count_below stream count next id h above = let most = rise_length most_names 0 (ids_in stream count) h.rise in omega (arith, most, h.counted, h.follows, above)
+count_below stream count next id h above = let most = rise_length most_ids 0 (ids_in stream count) h.rise in omega (arith, most, h.counted, h.follows, above)

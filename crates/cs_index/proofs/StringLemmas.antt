@@ -44,7 +44,7 @@ starts_push at (t ∷ texts) text =
     ap (λ rest. at ∷ rest) (starts_push (at + length (with_nul t)) texts text
     ∙ ap (λ n. starts_from (at + length (with_nul t)) (map with_nul texts) ++ n ∷ []) (let z : at + length (with_nul t) + length (concat (map with_nul texts)) ≡ at + length (with_nul t ++ concat (map with_nul texts)) = omega (arith, whole) in z))
 
-all_texts : (texts : List (List ℕ)) (text : List ℕ) → AllByRecursion IsString texts → IsString text → AllByRecursion IsString (texts ++ text ∷ [])
+pub all_texts : (texts : List (List ℕ)) (text : List ℕ) → AllByRecursion IsString texts → IsString text → AllByRecursion IsString (texts ++ text ∷ [])
 all_texts [] text all is = (is, tt)
 all_texts (t ∷ texts) text all is = (all.0, all_texts texts text all.1 is)
 

@@ -38,7 +38,7 @@ varint_read n rest h =
     ∙ ap (λ b. cond b (Some (n, rest)) None) (lt-ltb n 4294967296 h)
 
 -- a list that was written is read again, whole
-pub ids_read : (names next : ℕ) (ids rest : List ℕ) → names < 2 ^ 31 → RiseWithin names next ids → read_ids names (length ids) next (flat_map varint (deltas_from next ids) ++ 0 ∷ rest) ≡ record { ids = ids; whole = true }
+pub ids_read : (names next : ℕ) (ids rest : List ℕ) → names < 2 ^ 32 → RiseWithin names next ids → read_ids names (length ids) next (flat_map varint (deltas_from next ids) ++ 0 ∷ rest) ≡ record { ids = ids; whole = true }
 ids_read names next [] rest few up = refl
 ids_read names next (id ∷ ids) rest few up =
     let delta : ℕ = id + 1 - next in

@@ -19,7 +19,7 @@ image_opens paths entries h = opens_spelled (image_of paths entries) (parts_writ
 
 -- ---- lists
 
-lists_back : (section : List ℕ) (names offset : ℕ) (ps : List Posting) → AllZip (λ (e : ListEntry) (p : Posting). IsList section names e p.1) (list_entries offset ps) ps → map (λ (e : ListEntry). (e.trigram, whole_ids (read_list section names e))) (list_entries offset ps) ≡ ps
+pub lists_back : (section : List ℕ) (names offset : ℕ) (ps : List Posting) → AllZip (λ (e : ListEntry) (p : Posting). IsList section names e p.1) (list_entries offset ps) ps → map (λ (e : ListEntry). (e.trigram, whole_ids (read_list section names e))) (list_entries offset ps) ≡ ps
 lists_back section names offset [] all = refl
 lists_back section names offset (p ∷ ps) all =
     let rest = lists_back section names (offset + length (posting_list p)) ps all.1 in

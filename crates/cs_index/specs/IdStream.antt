@@ -1,9 +1,12 @@
 -- The ids of a list as a stream of varints.
 use Rattle.std.specs.Prelude.{◌≡◌, ℕ, ◌+◌, List, [], ◌∷◌, ◌++◌, length, flat_map}
-use Rattle.cs_index.specs.Built.{most_names}
 use Rattle.cs_index.specs.Rising.{RiseWithin}
 use Rattle.cs_index.specs.PostingLists.{read_ids}
 use Rattle.cs_index.specs.Image.{varint, deltas_from}
+
+-- each id is below this number: no index that fits has more names
+abbrev pub most_ids : ℕ
+most_ids = 2147483648
 
 -- one more than the last id, or the number given
 abbrev pub next_after : ℕ → List ℕ → ℕ
@@ -15,10 +18,10 @@ stream_of ids = flat_map varint (deltas_from 0 ids)
 
 -- the ids that a stream stands for
 unfoldable pub ids_in : List ℕ → ℕ → List ℕ
-ids_in stream count = (read_ids most_names count 0 (stream ++ 0 ∷ [])).ids
+ids_in stream count = (read_ids most_ids count 0 (stream ++ 0 ∷ [])).ids
 
 pub record IsStream (stream : List ℕ) (count next : ℕ) : Type 0 where
   pub written : stream ≡ stream_of (ids_in stream count)
   pub counted : count ≡ length (ids_in stream count)
-  pub rise : RiseWithin most_names 0 (ids_in stream count)
+  pub rise : RiseWithin most_ids 0 (ids_in stream count)
   pub follows : next ≡ next_after 0 (ids_in stream count)

@@ -1,14 +1,16 @@
 // The writer: a builder takes paths, and names with their trigrams, and lays out the index.
 
+mod batch;
 mod builder;
 mod laying;
 mod lists;
 mod numbers;
 mod paths;
+mod sections;
 mod slots;
 mod stream;
 mod strings;
 mod varint;
-mod waiting;
 
 pub use builder::Builder;
+pub use sections::Sections;

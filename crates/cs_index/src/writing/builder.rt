@@ -1,17 +1,20 @@
 // The writer of an index.
-ghost use Rattle.std.specs.Prelude.{◌≡◌, ◌≢◌, ◌<◌, ◌≤◌, ◌^◌, ◌⊎◌, ◌↔◌, ◌-◌, [], List, ℕ, true, false, length, drop, map, string_bytes, Ok, Err, IfOk, IfErr, OnOk, OnErr};
-ghost use Rattle.cs_trigram.specs.Trigram.{Ascends, closing_trigram};
+ghost use Rattle.std.specs.Prelude.{◌≡◌, ◌≢◌, ◌<◌, ◌≤◌, ◌^◌, ◌⊎◌, ◌↔◌, [], List, ℕ, true, false, length, map, string_bytes, Err, IfOk, IfErr, OnOk, OnErr};
+ghost use Rattle.cs_trigram.specs.Trigram.{set_of_numbers, Ascends, closing_trigram};
 ghost use Rattle.std.specs.List.{AllByRecursion};
-ghost use Rattle.cs_index.specs.Image.{image, image_of, names_of, IsString};
+ghost use Rattle.cs_index.specs.Image.{image, image_of, names_of};
+ghost use Rattle.cs_index.specs.Gathering.{lists_of, AreDistinct, HaveLists};
+ghost use Rattle.cs_index.specs.Laid.{with_postings};
+ghost use Rattle.cs_index.specs.Rising.{IsPosting};
 ghost use Rattle.cs_index.specs.Spelling.{IsIndexable};
 ghost use Rattle.cs_index.specs.Built.{with_name, are_paths, files_of, is_above, is_storable, IsBuilt, IsOneTooMany, IsOutOfOrder, most_names, paths_of};
 
 use crate::fault::BuildFault;
-use crate::writing::laying::lay;
+use crate::writing::batch::Batch;
 use crate::writing::lists::Lists;
 use crate::writing::paths::{are_listed, is_text};
-use crate::writing::strings::Strings;
-use crate::writing::waiting::move_waiting;
+use crate::writing::sections::Sections;
+use crate::writing::strings::{Strings, strings_of};
 use std::alloc::{AllocError, Global};
 use std::marker::Model;
 
@@ -19,16 +22,15 @@ use std::marker::Model;
 const MOST_NAMES: u32 = 1 << 30;
 
 /// The paths and the names of an index that is being built, and for each trigram the ids of the
-/// names that have it. The trigrams of the last name wait until the next call: so a refused one
-/// changes nothing.
+/// names that have it. The trigrams of the last names wait in a batch, so that each list is visited
+/// once for many of them.
 #[derive(Drop)]
 pub struct Builder {
     alloc: Global,
     paths: Strings,
     names: Strings,
     lists: Lists,
-    waiting: Vec<u32>,
-    moved: usize,
+    batch: Batch,
 }
 
 impl Model for Builder {
@@ -62,8 +64,7 @@ impl Builder {
             paths,
             names: Strings::new(alloc),
             lists: Lists::new(alloc),
-            waiting: Vec::new(alloc),
-            moved: 0,
+            batch: Batch::new(alloc),
         })
     }
 
@@ -109,16 +110,11 @@ impl Builder {
             (λ fault. (fault ≡ BuildFault.TooLarge) ⊎ (fault ≡ BuildFault.Memory)) }
     {
         let names = self.names.len() as u32;
-        move_waiting(&mut self.lists, &self.waiting, &mut self.moved, names)?;
+        self.batch.flush(&mut self.lists, names)?;
         let trigrams = self.lists.trigrams()?;
-        lay(
-            self.alloc,
-            &self.paths,
-            &self.names,
-            &self.lists,
-            &trigrams,
-            most,
-        )
+        let mut sections = Sections::of(self.alloc, self.paths, self.names);
+        lay_lists(&mut sections, &self.lists, &trigrams)?;
+        sections.finish_within(most)
     }
 
     /// Adds a name where there are fewer than a number of them: `add` with a limit of the caller's own.
@@ -164,34 +160,36 @@ impl Builder {
 
     /// Adds a name that may stand in an index and is above the last one.
     fn add_above(&mut self, name: &str, trigrams: &[u32]) -> Result<u32, AllocError>
-        requires ascending { Ascends trigrams.now }
+        requires distinct { AreDistinct trigrams.now }
         requires below { AllByRecursion (λ g. g < closing_trigram) trigrams.now }
         requires storable { is_storable name.now ≡ true }
         requires above { is_above (names_of self.old.entries) name.now ≡ true }
         requires few { length self.old.entries < most_names }
-        ensures ok { OnOk result (self.new ≡ with_name self.old name.now trigrams.now) }
+        ensures ok { OnOk result (self.new ≡ with_name self.old name.now (set_of_numbers trigrams.now)) }
         ensures id { IfOk result (λ id. id ≡ length self.old.entries) }
         ensures err { OnErr result (self.new ≡ self.old) }
     {
-        let waiting = Vec::from_slice(self.alloc, trigrams)?;
         let id = self.names.len() as u32;
-        move_waiting(&mut self.lists, &self.waiting, &mut self.moved, id)?;
+        self.batch.make_room(&mut self.lists, id)?;
+        self.batch.reserve(trigrams.len())?;
         self.names.push(name)?;
-        self.waiting = waiting;
-        self.moved = 0;
+        self.batch.push(trigrams, id);
         Ok(id)
     }
 }
 
-/// The paths as strings in a row.
-fn strings_of(alloc: Global, paths: &[String]) -> Result<Strings, AllocError>
-    requires { are_paths (map string_bytes paths.now) ≡ true }
-    ensures texts { IfOk result (λ texts. texts ≡ map string_bytes paths.now) }
-    ensures each { IfOk result (AllByRecursion IsString) }
+/// Lays the lists of ascending trigrams.
+fn lay_lists(sections: &mut Sections, lists: &Lists, trigrams: &[u32]) -> Result<(), AllocError>
+    requires present { HaveLists lists.now trigrams.now }
+    requires ascending { Ascends trigrams.now }
+    requires below { AllByRecursion (λ g. g < closing_trigram) trigrams.now }
+    requires each { AllByRecursion (IsPosting (length sections.old.names)) lists.now }
+    requires none { sections.old.lists ≡ [] }
+    ensures { OnOk result (sections.new ≡ with_postings sections.old (lists_of lists.now trigrams.now)) }
 {
-    let mut texts = Strings::new(alloc);
-    'paths: for path in paths {
-        texts.push(path.as_str())?;
+    'lists: for trigram in trigrams {
+        let ids = lists.ids(*trigram);
+        sections.begin(*trigram, ids.bytes(), ids.len(), ids.next())?;
     }
-    Ok(texts)
+    Ok(())
 }

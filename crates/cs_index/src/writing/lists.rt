@@ -1,8 +1,7 @@
 // Posting lists while an index is built.
 ghost use Rattle.std.specs.Prelude.{◌≡◌, ◌≢◌, ◌<◌, ◌≤◌, ◌+◌, ◌^◌, [], List, ℕ, true, false, length, IfOk, OnOk, OnErr, map};
 ghost use Rattle.cs_trigram.specs.Trigram.{has, set_of_numbers};
-ghost use Rattle.cs_index.specs.Built.{most_names};
-ghost use Rattle.cs_index.specs.IdStream.{next_after};
+ghost use Rattle.cs_index.specs.IdStream.{most_ids, next_after};
 ghost use Rattle.cs_index.specs.Gathering.{AreDistinct, with_id, ids_of, keys};
 
 use crate::writing::slots::Slots;
@@ -45,7 +44,7 @@ impl Lists {
     pub(crate) fn push(&mut self, trigram: u32, id: u32) -> Result<(), AllocError>
         requires trigram { trigram < 2 ^ 24 }
         requires above { next_after 0 (ids_of self.old trigram) ≤ id }
-        requires few { id < most_names }
+        requires few { id < most_ids }
         ensures ok { OnOk result (self.new ≡ with_id self.old trigram id) }
         ensures err { OnErr result (self.new ≡ self.old) }
     {
@@ -61,7 +60,7 @@ impl Lists {
     fn begin(&mut self, trigram: u32, id: u32) -> Result<(), AllocError>
         requires trigram { trigram < 2 ^ 24 }
         requires absent { has (keys self.old) trigram ≡ false }
-        requires few { id < most_names }
+        requires few { id < most_ids }
         ensures ok { OnOk result (self.new ≡ with_id self.old trigram id) }
         ensures err { OnErr result (self.new ≡ self.old) }
     {

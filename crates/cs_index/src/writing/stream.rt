@@ -1,7 +1,7 @@
 // The ids of one trigram, as a stream of varints.
 ghost use Rattle.std.specs.Prelude.{◌≡◌, ◌<◌, ◌≤◌, ◌+◌, ◌^◌, ◌++◌, ◌∷◌, [], List, ℕ, length, OnOk, OnErr};
-ghost use Rattle.cs_index.specs.Built.{most_names};
-ghost use Rattle.cs_index.specs.IdStream.{next_after, stream_of};
+ghost use Rattle.cs_index.specs.Rising.{RiseWithin};
+ghost use Rattle.cs_index.specs.IdStream.{most_ids, next_after, stream_of};
 
 use crate::writing::varint::push_varint;
 use std::alloc::{AllocError, Global};
@@ -43,6 +43,14 @@ impl IdStream {
         self.count
     }
 
+    /// One more than the last id, or 0.
+    pub(crate) fn next(&self) -> u32
+        ensures value { result ≡ next_after 0 self.now }
+        ensures rise { RiseWithin most_ids 0 self.now }
+    {
+        self.next
+    }
+
     /// The bytes of the ids as a posting list has them.
     pub(crate) fn bytes(&self) -> &[u8]
         ensures { result.now ≡ stream_of self.now }
@@ -53,7 +61,7 @@ impl IdStream {
     /// Adds an id. A refusal changes nothing.
     pub(crate) fn push(&mut self, id: u32) -> Result<(), AllocError>
         requires above { next_after 0 self.old ≤ id }
-        requires few { id < most_names }
+        requires few { id < most_ids }
         ensures ok { OnOk result (self.new ≡ self.old ++ id ∷ []) }
         ensures err { OnErr result (self.new ≡ self.old) }
     {

@@ -2,8 +2,9 @@
 ghost use Rattle.std.specs.Prelude.{◌≡◌, ◌<◌, ◌+◌, ◌-◌, ◌^◌, ◌++◌, ◌∷◌, [], List, ℕ, Option, length, OnOk, OnErr, slice_get, true, IsTrue, ◌↔◌, flat_map};
 ghost use Rattle.std.specs.Option.{option_copied};
 ghost use Rattle.cs_index.specs.Image.{strings_section, name_offsets, concat, with_nul, four_bytes, IsString};
-ghost use Rattle.cs_index.specs.Built.{is_above, is_storable};
-ghost use Rattle.std.specs.Prelude.{map, take, drop};
+ghost use Rattle.cs_index.specs.Built.{are_paths, is_above, is_storable};
+ghost use Rattle.std.specs.Prelude.{map, take, drop, string_bytes, IfOk};
+ghost use Rattle.std.specs.List.{AllByRecursion};
 
 use crate::writing::numbers::{lay_number, lay_numbers};
 use std::alloc::{AllocError, Global};
@@ -102,6 +103,19 @@ impl Strings {
         self.starts.push_reserved(start);
         Ok(())
     }
+}
+
+/// The paths as strings in a row.
+pub(crate) fn strings_of(alloc: Global, paths: &[String]) -> Result<Strings, AllocError>
+    requires { are_paths (map string_bytes paths.now) ≡ true }
+    ensures texts { IfOk result (λ texts. texts ≡ map string_bytes paths.now) }
+    ensures each { IfOk result (AllByRecursion IsString) }
+{
+    let mut texts = Strings::new(alloc);
+    'paths: for path in paths {
+        texts.push(path.as_str())?;
+    }
+    Ok(texts)
 }
 
 /// What lies before the NUL at the end.

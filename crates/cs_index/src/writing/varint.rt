@@ -1,13 +1,27 @@
 // Varints.
-ghost use Rattle.std.specs.Prelude.{◌≡◌, ◌<◌, ◌^◌, ◌++◌, OnOk, OnErr, suc, ◌+◌};
+ghost use Rattle.std.specs.Prelude.{◌≤◌, take, ◌≡◌, ◌<◌, ◌^◌, ◌++◌, OnOk, OnErr, suc, ◌+◌};
 ghost use Rattle.cs_index.specs.Image.{varint, varint_within};
 
 use std::alloc::AllocError;
 
 /// Appends a number, in as few bytes as possible. A refusal leaves the bytes.
+#[inline]
 pub(crate) fn push_varint(out: &mut Vec<u8>, n: u32) -> Result<(), AllocError>
     ensures ok { OnOk result (out.new.items ≡ out.old.items ++ varint n) }
     ensures err { OnErr result (out.new.items ≡ out.old.items) }
+{
+    if n < 128 {
+        out.push(n as u8)?;
+        return Ok(());
+    }
+    let (bytes, len) = groups_of(n);
+    out.extend_from_slice(&bytes[..len])
+}
+
+/// The bytes of a number, and how many they are.
+pub(crate) fn groups_of(n: u32) -> ([u8; 5], usize)
+    ensures groups { take result.1 result.0 ≡ varint n }
+    ensures within { result.1 ≤ 5 }
 {
     let mut bytes = [0u8; 5];
     let mut len = 0;
@@ -18,6 +32,5 @@ pub(crate) fn push_varint(out: &mut Vec<u8>, n: u32) -> Result<(), AllocError>
         len += 1;
     }
     bytes[len] = rest as u8;
-    out.extend_from_slice(&bytes[..len + 1])?;
-    Ok(())
+    (bytes, len + 1)
 }

@@ -1,12 +1,13 @@
-use Rattle.std.proofs.Common.{◌≡◌, ◌<◌, ◌+◌, ◌^◌, ◌++◌, drop, map, length, flat_map}
-use Rattle.cs_index.specs.Image.{concat, posting_list, entry_bytes, list_entries}
-use Rattle.cs_index.specs.Gathering.{HaveLists, lists_of}
+use Rattle.std.proofs.Common.{◌≡◌, ◌<◌, ◌≤◌, ◌^◌, ◌++◌, drop, map, flat_map}
+use Rattle.std.specs.List.{AllByRecursion}
+use Rattle.cs_index.specs.Image.{entry_bytes, ListEntry}
+use Rattle.cs_index.specs.Laying.{entry_from}
 use Rattle.cs_index.proofs.writing.laying.lay_entries.Given as goal
 
--- what is laid, and what the entries of the lists that are left will be
+-- what is laid, and what the entries that are left will be
 abbrev pub invariant-lists : goal.invariant-lists
 invariant-lists l = record {
-  laid : l.out.items ++ flat_map entry_bytes (list_entries l.offset (lists_of l.lists (drop l.trigram-index l.trigrams))) ≡ l.initial.out.items ++ flat_map entry_bytes (list_entries 0 (lists_of l.lists l.trigrams));
-  present : HaveLists l.lists (drop l.trigram-index l.trigrams);
-  short : l.offset + length (concat (map posting_list (lists_of l.lists (drop l.trigram-index l.trigrams)))) < 2 ^ 32;
+  laid : l.out.items ++ flat_map entry_bytes (map (entry_from l.start) (drop l.entry-index l.entries))
+      ≡ l.initial.out.items ++ flat_map entry_bytes (map (entry_from l.start) l.entries);
+  near : AllByRecursion (λ (e : ListEntry). (l.start ≤ e.offset) × (e.offset < 2 ^ 32)) (drop l.entry-index l.entries);
 }

@@ -1,0 +1,261 @@
+-- Keys, and the lists that they give their ids to.
+use Rattle.std.proofs.Common.{◌≡◌, ℕ, ◌+◌, ◌*◌, ◌<◌, ◌≤◌, Bool, true, false, cond, eqb, ◌||◌, ◌&&◌, List, [], ◌∷◌, ◌++◌, refl, sym, ap, subst, ◌∙◌, inl, inr, arith}
+use Rattle.std.proofs.Math.Bool.{or-false}
+use Rattle.std.proofs.lemmas.Bool.{true≢false, cases_Bool, eqb-true, eq-eqb, ne_eqb}
+use Rattle.std.proofs.lemmas.List.Sorted.{list_any-IsPermutation}
+use Rattle.std.specs.List.{AllByRecursion, list_any}
+use Rattle.std.specs.List.Sorted.{IsPermutation, IsSorted}
+use Rattle.std.specs.Ordering.{nat_cmp}
+use Rattle.cs_trigram.specs.Trigram.{has, set_of_numbers, Ascends, closing_trigram}
+use Rattle.cs_trigram.proofs.SetLemmas.{ascends_same, ascends_set, ascends_tail, ascends_head, all_above, all_member, below_none, has-append, has-set_of_numbers, members_all}
+use Rattle.cs_index.specs.Image.{Posting}
+use Rattle.cs_index.specs.IdStream.{next_after}
+use Rattle.cs_index.specs.Gathering.{ids_of, with_id, AreDistinct, GiveSame}
+use Rattle.cs_index.specs.Keys.{keys_of, trigram_of, id_of, with_keys, AreWaiting}
+use Rattle.cs_index.proofs.GatheredLemmas.{rise_beyond}
+use Rattle.cs_index.proofs.BuiltLemmas.{has_gathered, ids_gathered, ids_rise_within, each_gathered, WereGiven}
+use Rattle.cs_index.proofs.BuildingLemmas.{each_further, rise_next}
+use Rattle.cs_index.proofs.SortedLemmas.{sorted_is}
+
+-- ---- which ids keys give
+
+-- the key gives the trigram this id
+abbrev pub gives : ℕ → ℕ → ℕ → ℕ → Bool
+gives base g id key = eqb (trigram_of key) g && eqb (id_of base key) id
+
+pub has_keys : (base : ℕ) (lists : List Posting) (ks : List ℕ) (g id : ℕ) →
+    has (ids_of (with_keys base lists ks) g) id ≡ (has (ids_of lists g) id || list_any (gives base g id) ks)
+has_keys base lists [] g id = sym (or-false (has (ids_of lists g) id))
+has_keys base lists (k ∷ ks) g id =
+    has_keys base (with_id lists (trigram_of k) (id_of base k)) ks g id
+    ∙ ap (λ b. b || list_any (gives base g id) ks) (has_gathered lists (trigram_of k) (id_of base k) g id)
+    ∙ grouped (has (ids_of lists g) id) (gives base g id k) (list_any (gives base g id) ks)
+  where
+    grouped : (a b c : Bool) → ((a || b) || c) ≡ (a || (b || c))
+    grouped true b c = refl
+    grouped false b c = refl
+
+pub with_keys-append : (base : ℕ) (lists : List Posting) (xs ys : List ℕ) →
+    with_keys base lists (xs ++ ys) ≡ with_keys base (with_keys base lists xs) ys
+with_keys-append base lists [] ys = refl
+with_keys-append base lists (x ∷ xs) ys = with_keys-append base (with_id lists (trigram_of x) (id_of base x)) xs ys
+
+-- ---- the keys of one file
+
+trigram_back : (g place : ℕ) → place < 256 → trigram_of (g * 256 + place) ≡ g
+trigram_back g place small = omega (arith, small)
+
+id_back : (base g place : ℕ) → place < 256 → id_of base (g * 256 + place) ≡ base + place
+id_back base g place small = omega (arith, small)
+
+file_gives : (base place : ℕ) (gs : List ℕ) (g id : ℕ) → place < 256 →
+    list_any (gives base g id) (keys_of place gs) ≡ (has gs g && eqb (base + place) id)
+file_gives base place [] g id small = refl
+file_gives base place (h ∷ gs) g id small =
+    (λ i. (eqb (trigram_back h place small i) g && eqb (id_back base h place small i) id) || file_gives base place
+    gs g id small i)
+    ∙ grouped (eqb h g) (has gs g) (eqb (base + place) id)
+  where
+    grouped : (a b e : Bool) → ((a && e) || (b && e)) ≡ ((a || b) && e)
+    grouped true true true = refl
+    grouped true true false = refl
+    grouped true false true = refl
+    grouped true false false = refl
+    grouped false b e = refl
+
+-- no key gives an id that no name has yet
+none_gives : (base names : ℕ) (ks : List ℕ) (g : ℕ) → AllByRecursion (λ key. id_of base key < names) ks →
+    list_any (gives base g names) ks ≡ false
+none_gives base names [] g named = refl
+none_gives base names (k ∷ ks) g named =
+    ap (λ b. (eqb (trigram_of k) g && b) || list_any (gives base g names) ks) (ne_eqb (id_of base k) names (λ e.
+    absurd (omega (arith, e, named.0))))
+    ∙ neither (eqb (trigram_of k) g) (list_any (gives base g names) ks) (none_gives base names ks g named.1)
+  where
+    neither : (a b : Bool) → b ≡ false → ((a && false) || b) ≡ false
+    neither true b h = h
+    neither false b h = h
+
+-- the keys of a file after those of the files before it
+pub file_given : (names base place : ℕ) (lists : List Posting) (ks gs : List ℕ) → AreWaiting names base lists ks →
+    place < 256 → base + place ≡ names →
+    WereGiven (with_keys base lists ks) (with_keys base lists (ks ++ keys_of place gs)) names gs
+file_given names base place lists ks gs waits small at = record {
+  ids = λ g k.
+      ap (λ ps. has (ids_of ps g) k) (with_keys-append base lists ks (keys_of place gs))
+      ∙ has_keys base (with_keys base lists ks) (keys_of place gs) g k
+      ∙ ap (λ b. has (ids_of (with_keys base lists ks) g) k || b) (file_gives base place gs g k small
+      ∙ ap (λ id. has gs g && eqb id k) at);
+  fresh = λ g.
+      has_keys base lists ks g names
+      ∙ (λ i. rise_beyond names 0 names (ids_of lists g) (omega arith) (ids_rise_within names lists g waits.each) i
+      || none_gives base names ks g waits.named i);
+}
+
+-- ---- one file more
+
+all_append : (P : ℕ → Type 0) (xs ys : List ℕ) → AllByRecursion P xs → AllByRecursion P ys →
+    AllByRecursion P (xs ++ ys)
+all_append P [] ys all more = more
+all_append P (x ∷ xs) ys all more = (all.0, all_append P xs ys all.1 more)
+
+all_weaker : (P Q : ℕ → Type 0) (xs : List ℕ) → ((x : ℕ) → P x → Q x) → AllByRecursion P xs → AllByRecursion Q xs
+all_weaker P Q [] h all = tt
+all_weaker P Q (x ∷ xs) h all = (h x all.0, all_weaker P Q xs h all.1)
+
+-- what holds of each key of a file
+all_keys : (P : ℕ → Type 0) (place : ℕ) (gs : List ℕ) → ((g : ℕ) → P (g * 256 + place)) →
+    AllByRecursion P (keys_of place gs)
+all_keys P place [] h = tt
+all_keys P place (g ∷ gs) h = (h g, all_keys P place gs h)
+
+below_keys : (place : ℕ) (gs : List ℕ) → place < 256 → AllByRecursion (λ g. g < closing_trigram) gs →
+    AllByRecursion (λ key. trigram_of key < closing_trigram) (keys_of place gs)
+below_keys place [] small all = tt
+below_keys place (g ∷ gs) small all =
+    (subst (λ h. h < closing_trigram) (sym (trigram_back g place small)) all.0, below_keys place gs small all.1)
+
+has_file : (place : ℕ) (gs : List ℕ) (g : ℕ) → has (keys_of place gs) (g * 256 + place) ≡ has gs g
+has_file place [] g = refl
+has_file place (h ∷ gs) g = λ i. same i || has_file place gs g i
+  where
+    same : eqb (h * 256 + place) (g * 256 + place) ≡ eqb h g
+    same = elim (cases_Bool (eqb h g)) [
+      | inl here ↦ eq-eqb _ _ (ap (λ n. n * 256 + place) (eqb-true h g here)) ∙ sym here
+      | inr apart ↦ ne_eqb _ _ (λ e. true≢false (sym (eq-eqb h g (omega (arith, e))) ∙ apart)) ∙ sym apart
+    ]
+
+distinct_file : (place : ℕ) (gs : List ℕ) → AreDistinct gs → AreDistinct (keys_of place gs)
+distinct_file place [] up = tt
+distinct_file place (g ∷ gs) up = (has_file place gs g ∙ up.0, distinct_file place gs up.1)
+
+-- a key of an earlier file is none of a later one's
+none_later : (base place key : ℕ) (gs : List ℕ) → place < 256 → id_of base key < base + place →
+    has (keys_of place gs) key ≡ false
+none_later base place key [] small less = refl
+none_later base place key (g ∷ gs) small less =
+    ap (λ b. b || has (keys_of place gs) key) (ne_eqb (g * 256 + place) key (λ e. absurd (omega (
+      arith,
+      less,
+      id_back base g place small,
+      ap (id_of base) e,
+    ))))
+    ∙ none_later base place key gs small less
+
+distinct_append : (base place : ℕ) (ks gs : List ℕ) → place < 256 →
+    AllByRecursion (λ key. id_of base key < base + place) ks →
+    AreDistinct ks → AreDistinct (keys_of place gs) → AreDistinct (ks ++ keys_of place gs)
+distinct_append base place [] gs small earlier up more = more
+distinct_append base place (k ∷ ks) gs small earlier up more = (
+  has-append k ks (keys_of place gs) ∙ (λ i. up.0 i || none_later base place k gs small earlier.0 i),
+  distinct_append base place ks gs small earlier.1 up.1 more,
+)
+
+pub waiting_added : (names base place : ℕ) (lists : List Posting) (ks gs : List ℕ) → AreWaiting names base lists ks →
+    place < 256 → base + place ≡ names → AreDistinct gs → AllByRecursion (λ g. g < closing_trigram) gs →
+    AreWaiting (names + 1) base lists (ks ++ keys_of place gs)
+waiting_added names base place lists ks gs waits small at distinct below = record {
+  each = each_further names lists waits.each;
+  ready = all_append _ ks (keys_of place gs) waits.ready (all_keys _ place gs (λ g.
+      let last = rise_next names 0 (ids_of lists (trigram_of (g * 256 + place))) (ids_rise_within names lists
+      (trigram_of (g * 256 + place)) waits.each) (omega arith) in
+      omega (arith, last, at, id_back base g place small)));
+  named = all_append _ ks (keys_of place gs) (all_weaker _ _ ks (λ k h. omega (arith, h)) waits.named)
+      (all_keys _ place gs (λ g. omega (arith, at, id_back base g place small)));
+  distinct = distinct_append base place ks gs small (subst (λ n. AllByRecursion (λ key. id_of base key < n) ks) (sym
+      at) waits.named) waits.distinct (distinct_file place gs distinct);
+  below = all_append _ ks (keys_of place gs) waits.below (below_keys place gs small below);
+}
+
+pub ascends_distinct : (ns : List ℕ) → Ascends ns → AreDistinct ns
+ascends_distinct [] up = tt
+ascends_distinct (n ∷ ns) up = (
+  below_none n ns (ascends_head n ns up) (ascends_tail n ns up),
+  ascends_distinct ns
+      (ascends_tail n ns up),
+)
+
+-- ---- one key that waited
+
+next_push : (next : ℕ) (ids : List ℕ) (id : ℕ) → next_after next (ids ++ id ∷ []) ≡ id + 1
+next_push next [] id = refl
+next_push next (x ∷ ids) id = next_push (x + 1) ids id
+
+ready_one : (base key k : ℕ) (lists : List Posting) → key < k →
+    next_after 0 (ids_of lists (trigram_of k)) ≤ id_of base k →
+    next_after 0 (ids_of (with_id lists (trigram_of key) (id_of base key)) (trigram_of k)) ≤ id_of base k
+ready_one base key k lists less ready =
+    let is = ids_gathered lists (trigram_of key) (id_of base key) (trigram_of k) in
+    elim (cases_Bool (eqb (trigram_of k) (trigram_of key))) [
+      | inl here ↦
+          let same : trigram_of k ≡ trigram_of key = eqb-true _ _ here in
+          let after : next_after 0 (ids_of (with_id lists (trigram_of key) (id_of base key)) (trigram_of k)) ≡ id_of
+          base key + 1 =
+          ap (next_after 0) (is ∙ ap (λ b. cond b (ids_of lists (trigram_of k) ++ id_of base key ∷ []) (ids_of lists
+          (trigram_of k))) here)
+          ∙ next_push 0 (ids_of lists (trigram_of k)) (id_of base key) in
+          omega (arith, after, same, less)
+      | inr apart ↦
+          subst (λ ids. next_after 0 ids ≤ id_of base k)
+          (sym (is ∙ ap (λ b. cond b (ids_of lists (trigram_of k) ++ id_of base key ∷ []) (ids_of lists (trigram_of
+          k))) apart)) ready
+    ]
+
+ready_after : (base key : ℕ) (lists : List Posting) (ks : List ℕ) → AllByRecursion (λ k. key < k) ks →
+    AllByRecursion (λ k. next_after 0 (ids_of lists (trigram_of k)) ≤ id_of base k) ks →
+    AllByRecursion (λ k. next_after 0 (ids_of (with_id lists (trigram_of key) (id_of base key)) (trigram_of k)) ≤
+    id_of base k) ks
+ready_after base key lists [] above all = tt
+ready_after base key lists (k ∷ ks) above all =
+    (ready_one base key k lists above.0 all.0, ready_after base key lists ks above.1 all.1)
+
+pub waiting_after : (names base key : ℕ) (lists : List Posting) (ks : List ℕ) → Ascends (key ∷ ks) →
+    AreWaiting names base lists (key ∷ ks) →
+    AreWaiting names base (with_id lists (trigram_of key) (id_of base key)) ks
+waiting_after names base key lists ks up waits = record {
+  each = each_gathered names lists (trigram_of key) (id_of base key) waits.each waits.ready.0 waits.named.0;
+  ready = ready_after base key lists ks (all_above key ks up) waits.ready.1;
+  named = waits.named.1;
+  distinct = waits.distinct.1;
+  below = waits.below.1;
+}
+
+-- ---- keys put in order
+
+all_moved : (P : ℕ → Type 0) (ks ms : List ℕ) → IsPermutation ks ms → AllByRecursion P ks → AllByRecursion P ms
+all_moved P ks ms moved all =
+    members_all P ms (λ n h. all_member P ks n all (list_any-IsPermutation (λ m. eqb m n) ks ms moved ∙ h))
+
+-- Keys in order give what they gave.
+pub record AreOrdered (names base : ℕ) (lists : List Posting) (ks ms : List ℕ) : Type 0 where
+  pub ascend : Ascends ms
+  pub waits : AreWaiting names base lists ms
+  pub same : GiveSame (with_keys base lists ms) (with_keys base lists ks)
+
+pub keys_ordered : (names base : ℕ) (lists : List Posting) (ks ms : List ℕ) → AreWaiting names base lists ks →
+    IsPermutation ks ms → IsSorted nat_cmp ms → AreOrdered names base lists ks ms
+keys_ordered names base lists ks ms waits moved sorted =
+    let up : Ascends ms = subst Ascends (sym (sorted_is ks ms waits.distinct moved sorted)) (ascends_set ks) in
+    record {
+      ascend = up;
+      waits = record {
+        each = waits.each;
+        ready = all_moved _ ks ms moved waits.ready;
+        named = all_moved _ ks ms moved waits.named;
+        distinct = ascends_distinct ms up;
+        below = all_moved _ ks ms moved waits.below;
+      };
+      same = λ g id.
+          has_keys base lists ms g id
+          ∙ ap (λ b. has (ids_of lists g) id || b) (sym (list_any-IsPermutation (gives base g id) ks ms moved))
+          ∙ sym (has_keys base lists ks g id);
+    }
+
+-- what holds of each number holds of those of its set
+pub all_of_set : (P : ℕ → Type 0) (ns : List ℕ) → AllByRecursion P ns → AllByRecursion P (set_of_numbers ns)
+all_of_set P ns all = members_all P (set_of_numbers ns) (λ n h. all_member P ns n all (sym (has-set_of_numbers n ns)
+    ∙ h))
+
+-- the set of numbers that ascend is their list
+pub set_is : (ns : List ℕ) → Ascends ns → set_of_numbers ns ≡ ns
+set_is ns up = ascends_same (set_of_numbers ns) ns (ascends_set ns) up (λ g. has-set_of_numbers g ns)

@@ -1,0 +1,68 @@
+-- What `Sections` lays out as an index: paths, names, and lists of ids.
+-- docs/FORMAT.md, "The index as it is written".
+use Rattle.std.specs.Prelude.{◌≡◌, ℕ, ◌<◌, ◌≤◌, ◌^◌, List, [], ◌∷◌, ◌++◌, length, Option, None, Some}
+use Rattle.std.specs.List.{AllByRecursion}
+use Rattle.std.specs.Option.{option_map_or}
+use Rattle.cs_trigram.specs.Trigram.{closing_trigram}
+use Rattle.cs_index.specs.Image.{Entry, Posting, IsString}
+use Rattle.cs_index.specs.Gathering.{ids_of, with_id}
+use Rattle.cs_index.specs.PostingLists.{entries_of}
+use Rattle.cs_index.specs.Rising.{ArePostings}
+
+-- The paths, the names, each list that was given an id, and the trigram of the list that was begun last.
+pub record Laid : Type 0 where
+  pub paths : List (List ℕ)
+  pub names : List (List ℕ)
+  pub lists : List Posting
+  pub begun : Option ℕ
+
+-- each name with the trigrams whose list has its id
+abbrev pub entries_laid : Laid → List Entry
+entries_laid laid = entries_of 0 laid.names laid.lists
+
+-- the ids of the list that was begun last
+abbrev pub last_ids : Laid → List ℕ
+last_ids laid = option_map_or (ids_of laid.lists) laid.begun []
+
+-- with one more name
+abbrev pub with_laid_name : Laid → List ℕ → Laid
+with_laid_name laid name = record
+    { paths = laid.paths; names = laid.names ++ name ∷ []; lists = laid.lists; begun = laid.begun }
+
+-- with a list begun
+abbrev pub with_list : Laid → ℕ → Laid
+with_list laid trigram = record { paths = laid.paths; names = laid.names; lists = laid.lists; begun = Some trigram }
+
+-- with one more id in the list of a trigram
+abbrev pub with_laid_id : Laid → ℕ → ℕ → Laid
+with_laid_id laid trigram id = record
+    { paths = laid.paths; names = laid.names; lists = with_id laid.lists trigram id; begun = laid.begun }
+
+-- with one more id in the list that was begun last
+abbrev pub with_last_id : Laid → ℕ → Laid
+with_last_id laid id = option_map_or (λ trigram. with_laid_id laid trigram id) laid.begun laid
+
+-- with one more list, begun and given its ids
+abbrev pub with_posting : Laid → Posting → Laid
+with_posting laid p = record { paths = laid.paths; names = laid.names; lists = laid.lists ++ p ∷ []; begun = Some p.0 }
+
+abbrev pub with_postings : Laid → List Posting → Laid
+with_postings laid [] = laid
+with_postings laid (p ∷ ps) = with_postings (with_posting laid p) ps
+
+-- the trigrams of all lists are below this one
+abbrev pub AllBelow : List Posting → ℕ → Type 0
+AllBelow lists trigram = AllByRecursion (λ (p : Posting). p.0 < trigram) lists
+
+-- the list that was begun last comes after all lists but its own
+abbrev pub IsBegun : List Posting → Option ℕ → Type 0
+IsBegun lists None = lists ≡ []
+IsBegun lists (Some trigram) = (trigram < closing_trigram) × AllByRecursion (λ (p : Posting). p.0 ≤ trigram) lists
+
+-- What is true of whatever is laid out.
+pub record IsLaid (laid : Laid) : Type 0 where
+  pub each_path : AllByRecursion IsString laid.paths
+  pub each_name : AllByRecursion IsString laid.names
+  pub few : length laid.names ≤ 2 ^ 31
+  pub postings : ArePostings (length laid.names) laid.lists
+  pub last : IsBegun laid.lists laid.begun

@@ -1,5 +1,5 @@
 -- Which names are covered by the paths of an index.
-use Rattle.std.proofs.Common.{◌≡◌, ℕ, Bool, true, false, ◌&&◌, ◌||◌, List, [], ◌∷◌, ◌++◌, sym, ap, ◌∙◌, inl, inr}
+use Rattle.std.proofs.Common.{◌≡◌, ℕ, Bool, true, false, ◌&&◌, ◌||◌, List, [], ◌∷◌, ◌++◌, refl, sym, ap, ◌∙◌, inl, inr}
 use Rattle.cs_tree.specs.PathSet.{Paths}
 use Rattle.cs_tree.specs.NameOrder.{bytes_cmp}
 use Rattle.std.proofs.lemmas.Bool.{true≢false, or_cases, or_left, or_right}
@@ -11,7 +11,10 @@ use Rattle.std.specs.FinMap as map'
 use Rattle.std.specs.List.{AllByRecursion, list_all, list_any}
 use Rattle.std.specs.Ordering.{eq_by_cmp}
 use Rattle.cs_tree.specs.PathSet as set
-use Rattle.cs_tree.specs.Cover.{is_covered, covers, least}
+use Rattle.std.specs.List.Sorted.{IsStrictlySortedBy}
+use Rattle.cs_tree.specs.Cover.{begins, covers, is_among, is_covered, least, same, slash}
+use Rattle.cs_tree.specs.Reducing.{lies_below}
+use Rattle.cs_tree.proofs.ReduceLemmas.{items-from_list}
 use Rattle.cs_tree.proofs.Sets.{some_member, member_passes, tied_same, same_set, contains-union}
 use Rattle.cs_index.specs.Opening.{Parts}
 use Rattle.cs_merge.specs.Content.{paths_in}
@@ -59,6 +62,30 @@ any_first test rest later text e t = ap (list_any test) e ∙ or_left (test text
 
 pub all_first : (test : List ℕ → Bool) (rest later : List (List ℕ)) (text : List ℕ) → rest ≡ text ∷ later → test text ≡ false → list_all test rest ≡ false
 all_first test rest later text e t = ap (list_all test) e ∙ ap (λ b. b && list_all test later) t
+
+-- ---- the fronts of a name
+
+regroup : (a b c g x y z : Bool) → ((a || (b || (c && g))) || (x || (y || (g && z)))) ≡ ((a || x) || ((b || y) || (g && (c || z))))
+regroup true b c g x y z = refl
+regroup false true c g true y z = refl
+regroup false true c g false y z = refl
+regroup false false true true true y z = refl
+regroup false false true true false true z = refl
+regroup false false true true false false z = refl
+regroup false false true false true y z = refl
+regroup false false true false false true z = refl
+regroup false false true false false false z = refl
+regroup false false false g x y z = refl
+
+-- a path that covers the name is the name, a front of it, or the root
+fronts_cover : (name : List ℕ) (ps : List (List ℕ)) → list_any (λ path. covers path name) ps ≡ (is_among ps name || (list_any (lies_below name) ps || (begins (slash ∷ []) name && is_among ps (slash ∷ []))))
+fronts_cover name [] = elim (begins (slash ∷ []) name) as (λ b. false ≡ (b && false)) [ true ↦ refl | false ↦ refl ]
+fronts_cover name (path ∷ ps) =
+    ap (λ b. covers path name || b) (fronts_cover name ps)
+    ∙ regroup (same path name) (lies_below name path) (same path (slash ∷ [])) (begins (slash ∷ []) name) (is_among ps name) (list_any (lies_below name) ps) (is_among ps (slash ∷ []))
+
+pub searched : (name : List ℕ) (ps : List (List ℕ)) → IsStrictlySortedBy bytes_cmp ps → is_covered (set.from_list ps) name ≡ (is_among ps name || (list_any (lies_below name) ps || (begins (slash ∷ []) name && is_among ps (slash ∷ []))))
+searched name ps up = ap (list_any (λ path. covers path name)) (items-from_list ps up) ∙ fronts_cover name ps
 
 -- ---- the paths of both
 

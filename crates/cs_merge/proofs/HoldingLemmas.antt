@@ -53,7 +53,7 @@ marked_items q [] = refl
 marked_items q (p ∷ ps) = elim (eq_by_cmp bytes_cmp q p) as (λ t. is_some (cond t (Some tt) (find bytes_cmp q (set.with_units ps))) ≡ (t || list_any (eq_by_cmp bytes_cmp q) ps)) [ true ↦ refl | false ↦ marked_items q ps ]
 
 -- a set is made of its items, and a map of its entries
-set_of_items : (paths : Paths) → paths ≡ set.from_list (set.items paths)
+pub set_of_items : (paths : Paths) → paths ≡ set.from_list (set.items paths)
 set_of_items paths = same_set paths (set.from_list (set.items paths)) (λ q.
     map'.contains_key-keys paths q
     ∙ sym (marked_items q (set.items paths))

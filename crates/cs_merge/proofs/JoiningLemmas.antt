@@ -1,106 +1,15 @@
--- The index that is built of the files of both is that of what both have.
-use Rattle.std.proofs.Common.{◌≡◌, ℕ, ◌+◌, ◌<◌, ◌≤◌, ◌^◌, Bool, true, false, not, cond, List, [], ◌∷◌, length, Result, Ok, Err, sym, ap, subst, ◌∙◌, inl, inr, None, Vec, Global, arith}
-use Rattle.cs_tree.specs.PathSet.{Paths}
-use Rattle.cs_tree.specs.NameOrder.{bytes_cmp, are_ascending}
-use Rattle.std.proofs.lemmas.Bool.{true≢false, and_parts, and_from, cases_Bool}
-use Rattle.std.specs.Prelude.{T, IfOk, IfErr, MatchResult, ◌↔◌}
-use Rattle.std.specs.FinMap as map'
-use Rattle.std.specs.FinMap.Entries.{find, is_sorted}
-use Rattle.std.specs.Cmp.Lexicographic.{nat_list_cmp_total}
-use Rattle.std.specs.List.{AllByRecursion, list_all}
-use Rattle.cs_tree.specs.PathSet as set
-use Rattle.cs_tree.specs.Cover.{is_covered}
-use Rattle.cs_tree.proofs.Sets.{alike, entries_in_order, or_else}
-use Rattle.cs_index.specs.Image.{Entry, image, image_of}
-use Rattle.cs_index.specs.Opening.{Parts, are_whole, files_read, lists_in}
-use Rattle.cs_index.specs.Parts.{AreParts}
+-- What the joining of two indexes answers.
+use Rattle.std.proofs.Common.{◌≡◌, ℕ, ◌+◌, ◌<◌, ◌≤◌, ◌^◌, true, false, List, length, Result, Ok, Err, sym, ap, subst, ◌∙◌, Vec, Global, arith}
+use Rattle.std.proofs.lemmas.Bool.{true≢false, and_from}
+use Rattle.std.specs.Prelude.{IfOk, IfErr, MatchResult, ◌↔◌}
+use Rattle.cs_index.specs.Opening.{Parts, are_whole}
 use Rattle.cs_index.specs.declared.fault.IndexFault.{IndexFault}
 use Rattle.cs_index.specs.declared.fault.IndexFault.TheVariants.{BadList}
 use Rattle.cs_merge.specs.declared.fault.MergeFault.{MergeFault}
 use Rattle.cs_merge.specs.declared.fault.MergeFault.TheVariants.{Unsorted, Uncovered, Index, TooLarge}
-use Rattle.cs_merge.specs.Content.{files_in, paths_in}
-use Rattle.cs_merge.specs.Join.{join_files, join_paths}
 use Rattle.cs_merge.specs.Joinable.{are_covered, both_ascend, both_whole, joined_index, AreJoinable, AreTested}
-use Rattle.cs_merge.specs.Interleaving.{CanAdd, interleaving, uncovered_files}
-use Rattle.cs_merge.specs.Adding.{IsWithin, IsBuildFault, long as too_long, memory}
+use Rattle.cs_merge.specs.Building.{IsWithin, IsBuildFault, long as too_long, memory}
 use Rattle.cs_merge.specs.Joining.{IsJoined, IsJoinFault, unsorted, uncovered as outside, damaged, long, refused}
-use Rattle.cs_merge.proofs.JoinLemmas.{get-join_files, or_none}
-use Rattle.cs_merge.proofs.InterleavingLemmas.{Up, Pass, sorted_up, up_interleaved, all_interleaved, found_none, find_new, find_old, all_kept, up_kept, kept_fail, find_kept, each_named, up_named}
-use Rattle.cs_merge.proofs.ReadyLemmas.{files_can_add}
-
--- ---- what stands at each name
-
-found_joined : (paths : Paths) (files olds : List Entry) (name : List ℕ) → Pass (is_covered paths) files → find bytes_cmp name (interleaving files (uncovered_files paths olds)) ≡ or_else (find bytes_cmp name files) (cond (not (is_covered paths name)) (find bytes_cmp name olds) None)
-found_joined paths files olds name pass =
-    elim (cases_Bool (is_covered paths name)) [
-      | inl here ↦
-          find_new name files (uncovered_files paths olds) (found_none (is_covered paths) false name (uncovered_files paths olds) (kept_fail paths olds) (λ e. true≢false (sym here ∙ e)))
-          ∙ sym (ap (λ b. or_else (find bytes_cmp name files) (cond (not b) (find bytes_cmp name olds) None)) here ∙ or_none (find bytes_cmp name files))
-      | inr apart ↦
-          let none = found_none (is_covered paths) true name files pass (λ e. true≢false (sym e ∙ apart)) in
-          find_old name files (uncovered_files paths olds) none
-          ∙ find_kept paths name olds apart
-          ∙ sym ((λ i. or_else (none i) (cond (not (apart i)) (find bytes_cmp name olds) None)))
-    ]
-
-each_true : (test : List ℕ → Bool) (names : List (List ℕ)) → list_all test names ≡ true → AllByRecursion (λ name. test name ≡ true) names
-each_true test [] h = tt
-each_true test (name ∷ names) h = let both = and_parts (test name) (list_all test names) h in (both.0, each_true test names both.1)
-
-files_pass : (parts : Parts) → are_covered parts ≡ true → Pass (is_covered (paths_in parts)) (files_read parts)
-unfolding are_covered
-files_pass parts h = each_named (λ name. is_covered (paths_in parts) name ≡ true) 0 parts.names (lists_in parts) (each_true (λ name. is_covered (paths_in parts) name) parts.names h)
-
-abbrev both_files : Parts → Parts → List Entry
-both_files old newer = interleaving (files_read newer) (uncovered_files (paths_in newer) (files_read old))
-
-files_joined : (old newer : Parts) → are_covered newer ≡ true → map'.from_entries {R = bytes_cmp} (both_files old newer) ≡ join_files (paths_in newer) (files_in old) (files_in newer)
-unfolding files_in
-files_joined old newer h =
-    map'.same_map nat_list_cmp_total alike (map'.from_entries (both_files old newer)) (join_files (paths_in newer) (map'.from_entries (files_read old)) (map'.from_entries (files_read newer))) (λ name.
-    map'.get-from_entries nat_list_cmp_total (both_files old newer) name
-    ∙ found_joined (paths_in newer) (files_read newer) (files_read old) name (files_pass newer h)
-    ∙ (λ i. or_else (sym (map'.get-from_entries nat_list_cmp_total (files_read newer) name) i) (cond (not (is_covered (paths_in newer) name)) (sym (map'.get-from_entries nat_list_cmp_total (files_read old) name) i) None))
-    ∙ sym (get-join_files (paths_in newer) (map'.from_entries (files_read old)) (map'.from_entries (files_read newer)) name))
-
--- ---- the files of both, in order
-
-up_read : (parts : Parts) → are_ascending parts.names ≡ true → Up (files_read parts)
-up_read parts h = up_named 0 parts.names (lists_in parts) h
-
-both_up : (old newer : Parts) → AreTested old newer → Up (both_files old newer)
-both_up old newer tested =
-    let ascend = and_parts (are_ascending old.names) (are_ascending newer.names) tested.ascend in
-    up_interleaved (is_covered (paths_in newer)) (files_read newer) (uncovered_files (paths_in newer) (files_read old)) (up_read newer ascend.1) (files_pass newer tested.covered) (up_kept (paths_in newer) (files_read old) (up_read old ascend.0)) (kept_fail (paths_in newer) (files_read old))
-
-true_T : (b : Bool) → b ≡ true → T b
-true_T true h = tt
-true_T false h = absurd (true≢false (sym h))
-
-index_joined : (old newer : Parts) → AreTested old newer → image_of (set.items (join_paths (paths_in old) (paths_in newer))) (both_files old newer) ≡ joined_index old newer
-unfolding image
-index_joined old newer tested =
-    ap (image_of (set.items (join_paths (paths_in old) (paths_in newer))))
-    (sym (entries_in_order (both_files old newer) (true_T (is_sorted bytes_cmp (both_files old newer)) (sorted_up (both_files old newer) (both_up old newer tested)))) ∙ ap map'.entries (files_joined old newer tested.covered))
-
--- What is read of both, and what is left of the older files.
-pub record AreRead (old newer : Parts) (files kept : List Entry) : Type 0 where
-  pub files_are : files ≡ files_read newer
-  pub kept_are : kept ≡ uncovered_files (paths_in newer) (files_read old)
-
-both_are : (old newer : Parts) (files kept : List Entry) → AreRead old newer files kept → interleaving files kept ≡ both_files old newer
-both_are old newer files kept are = λ i. interleaving (are.files_are i) (are.kept_are i)
-
-pub both_can_add : (old newer : Parts) (files kept : List Entry) → AreRead old newer files kept → AreParts old → AreParts newer → AllByRecursion CanAdd (interleaving files kept)
-both_can_add old newer files kept are a b =
-    subst (AllByRecursion CanAdd) (sym (both_are old newer files kept are)) (all_interleaved CanAdd (files_read newer) (uncovered_files (paths_in newer) (files_read old)) (files_can_add newer b) (all_kept CanAdd (paths_in newer) (files_read old) (files_can_add old a)))
-
-pub both_sorted : (old newer : Parts) (files kept : List Entry) → AreRead old newer files kept → AreTested old newer → map'.is_sorted bytes_cmp (interleaving files kept) ≡ true
-both_sorted old newer files kept are tested = ap (map'.is_sorted bytes_cmp) (both_are old newer files kept are) ∙ sorted_up (both_files old newer) (both_up old newer tested)
-
-pub both_built : (old newer : Parts) (paths : List (List ℕ)) (files kept : List Entry) → paths ≡ set.items (join_paths (paths_in old) (paths_in newer)) → AreRead old newer files kept → AreTested old newer → image_of paths (interleaving files kept) ≡ joined_index old newer
-both_built old newer paths files kept listed are tested =
-    (λ i. image_of (listed i) (both_are old newer files kept are i)) ∙ index_joined old newer tested
 
 -- ---- what is answered
 

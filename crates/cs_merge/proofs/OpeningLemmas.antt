@@ -14,8 +14,8 @@ use Rattle.cs_index.specs.Opening.{Parts, are_whole, ids_read, lists_in, opening
 use Rattle.cs_index.proofs.OnceLemmas.{sections_once, spelled_once}
 use Rattle.cs_index.proofs.OpenedLemmas.{opens_spelled, spells_opened}
 use Rattle.cs_merge.specs.Content.{IsListOf, Holds, HasContent, Opens, files_in, paths_in}
-use Rattle.cs_merge.proofs.GatheringLemmas.{read_posting}
-use Rattle.cs_merge.proofs.InterleavingLemmas.{Up, sorted_up, up_named, up_sorted}
+use Rattle.cs_merge.proofs.ReadLemmas.{read_posting}
+use Rattle.cs_merge.proofs.OrderLemmas.{Up, sorted_up, up_named, up_sorted}
 
 -- names that stand in order ascend
 names_up : (first : ℕ) (names : List (List ℕ)) (lists : List Posting) → Up (entries_of first names lists) → are_ascending names ≡ true

@@ -1,11 +1,10 @@
--- What is read of an index can be built again.
-use Rattle.std.proofs.Common.{◌≡◌, ℕ, ◌+◌, ◌<◌, true, false, not, cond, ◌||◌, eqb, ltb, List, [], ◌∷◌, length, map, take, drop, refl, sym, ap, subst, ◌∙◌, inl, inr, arith}
+-- What is read of an index can be laid out again.
+use Rattle.std.proofs.Common.{◌≡◌, ℕ, ◌+◌, ◌<◌, true, false, not, cond, eqb, ltb, List, [], ◌∷◌, length, map, take, drop, refl, sym, ap, ◌∙◌, inl, inr, arith}
 use Rattle.cs_tree.specs.PathSet.{Paths}
 use Rattle.cs_tree.specs.NameOrder.{bytes_cmp}
-use Rattle.cs_index.specs.PostingLists.{Ids, damaged, read_ids, set_at}
-use Rattle.cs_trigram.specs.Trigram.{Ascends, IsTrigramSet}
-use Rattle.std.proofs.lemmas.Bool.{true≢false, and_parts, and_from, or_cases, cases_Bool, eqb-true, ne_eqb, ltb-true, lt-ltb}
-use Rattle.std.specs.Prelude.{is_some, nat_le}
+use Rattle.cs_index.specs.PostingLists.{damaged, read_ids}
+use Rattle.std.proofs.lemmas.Bool.{true≢false, and_parts, and_from, or_cases, cases_Bool, ne_eqb, lt-ltb}
+use Rattle.std.specs.Prelude.{is_some}
 use Rattle.std.specs.FinMap as map'
 use Rattle.std.specs.FinMap.Entries.{below_all, is_sorted}
 use Rattle.std.specs.List.{AllByRecursion, list_all}
@@ -16,61 +15,23 @@ use Rattle.cs_tree.specs.PathSet as set
 use Rattle.cs_tree.specs.Cover.{covers, least, same}
 use Rattle.cs_tree.proofs.Least.{IsLeast, least_says}
 use Rattle.cs_tree.proofs.Sets.{contains-union, tied_same}
-use Rattle.cs_index.specs.Image.{Entry, ListEntry, Posting, three_bytes, IsString}
+use Rattle.cs_index.specs.Image.{ListEntry, three_bytes, IsString}
 use Rattle.cs_index.specs.Built.{are_paths, are_reduced, is_before, is_storable}
-use Rattle.cs_index.specs.Opening.{Parts, files_read, ids_read, is_entry, lists_in, rises, whole_ids}
+use Rattle.cs_index.specs.Opening.{Parts, ids_read}
 use Rattle.cs_index.specs.Parts.{AreParts}
 use Rattle.cs_merge.specs.Content.{paths_in}
-use Rattle.cs_merge.specs.Interleaving.{CanAdd}
 use Rattle.cs_merge.specs.Join.{join_paths}
 use Rattle.cs_merge.proofs.ContentLemmas.{all_paths, each_of_map}
-use Rattle.cs_merge.proofs.GatheringLemmas.{read_posting}
-use Rattle.cs_merge.proofs.HoldingLemmas.{Fits, all_files, from_list_all, is_true, set_ascends, set_fits}
+use Rattle.cs_merge.proofs.HoldingLemmas.{from_list_all, is_true}
 
 -- ---- sets of trigrams
 
-rise_ascends : (entries : List ListEntry) → rises entries ≡ true → Ascends (map (λ (e : ListEntry). e.trigram) entries)
-rise_ascends [] h = tt
-rise_ascends (e ∷ []) h = tt
-rise_ascends (d ∷ e ∷ es) h =
-    let both = and_parts (ltb d.trigram e.trigram) (rises (e ∷ es)) h in
-    (ltb-true d.trigram e.trigram both.0, rise_ascends (e ∷ es) both.1)
-
-same_keys : (parts : Parts) (es : List ListEntry) → map (λ (p : Posting). p.0) (map (read_posting parts) es) ≡ map (λ (e : ListEntry). e.trigram) es
-same_keys parts [] = refl
-same_keys parts (e ∷ es) = ap (λ rest. e.trigram ∷ rest) (same_keys parts es)
-
-none_read : (parts : Parts) (e : ListEntry) → e.count ≡ 0 → (ids_read parts e).ids ≡ []
+pub none_read : (parts : Parts) (e : ListEntry) → e.count ≡ 0 → (ids_read parts e).ids ≡ []
 none_read parts e h =
     elim (same (take 3 (drop e.offset parts.postings)) (three_bytes e.trigram)) as (λ b. (cond b (read_ids (length parts.names) e.count 0 (drop (e.offset + 3) parts.postings)) damaged).ids ≡ []) [
       | true ↦ ap (λ n. (read_ids (length parts.names) n 0 (drop (e.offset + 3) parts.postings)).ids) h
       | false ↦ refl
     ]
-
-no_ids : (parts : Parts) (e : ListEntry) → e.count ≡ 0 → whole_ids (ids_read parts e) ≡ []
-no_ids parts e h =
-    let r : Ids = ids_read parts e in
-    elim r.whole as (λ b. cond b r.ids [] ≡ []) [ true ↦ none_read parts e h | false ↦ refl ]
-
-list_fits : (parts : Parts) (e : ListEntry) → is_entry (length parts.postings) e ≡ true → Fits (read_posting parts e)
-list_fits parts e h =
-    let both = and_parts (nat_le (e.offset + 4) (length parts.postings)) (ltb e.trigram 16777215 || eqb e.count 0) h in
-    elim (or_cases (ltb e.trigram 16777215) (eqb e.count 0) both.1) [
-      | inl below ↦ inl (ltb-true e.trigram 16777215 below)
-      | inr none ↦ inr (no_ids parts e (eqb-true e.count 0 none))
-    ]
-
-lists_fit : (parts : Parts) (es : List ListEntry) → list_all (λ (e : ListEntry). is_entry (length parts.postings) e) es ≡ true → AllByRecursion Fits (map (read_posting parts) es)
-lists_fit parts [] h = tt
-lists_fit parts (e ∷ es) h =
-    let both = and_parts (is_entry (length parts.postings) e) (list_all (λ (d : ListEntry). is_entry (length parts.postings) d) es) h in
-    (list_fits parts e both.0, lists_fit parts es both.1)
-
-sets_read : (parts : Parts) → AreParts parts → (id : ℕ) → IsTrigramSet (set_at id (lists_in parts))
-sets_read parts are id = (
-  set_ascends id (lists_in parts) (subst Ascends (sym (same_keys parts parts.entries)) (rise_ascends parts.entries are.rise)),
-  set_fits id (lists_in parts) (lists_fit parts parts.entries are.fit),
-)
 
 -- ---- names
 
@@ -78,7 +39,7 @@ all_above : (text : List ℕ) → AllByRecursion (λ b. 0 < b) text → list_all
 all_above [] all = refl
 all_above (b ∷ text) all = and_from (ltb 0 b) (list_all (λ c. ltb 0 c) text) (lt-ltb 0 b all.0) (all_above text all.1)
 
-storable : (text : List ℕ) → IsString text → is_storable text ≡ true
+pub storable : (text : List ℕ) → IsString text → is_storable text ≡ true
 storable [] is = absurd (is.0 refl)
 storable (b ∷ text) is =
     and_from (not (eqb (length (b ∷ text)) 0)) (list_all (λ c. ltb 0 c) (b ∷ text)) (ap not (ne_eqb (length (b ∷ text)) 0 (λ e. absurd (omega (arith, e))))) (all_above (b ∷ text) is.1)
@@ -86,14 +47,6 @@ storable (b ∷ text) is =
 each_storable : (texts : List (List ℕ)) → AllByRecursion IsString texts → list_all is_storable texts ≡ true
 each_storable [] all = refl
 each_storable (text ∷ texts) all = and_from (is_storable text) (list_all is_storable texts) (storable text all.0) (each_storable texts all.1)
-
-can_add : (files : List Entry) → AllByRecursion (λ (file : Entry). IsString file.0 × IsTrigramSet file.1) files → AllByRecursion CanAdd files
-can_add [] all = tt
-can_add (file ∷ files) all = (record { storable = storable file.0 all.0.0; trigrams = all.0.1 }, can_add files all.1)
-
--- what is read of an index can be added to another
-pub files_can_add : (parts : Parts) → AreParts parts → AllByRecursion CanAdd (files_read parts)
-files_can_add parts are = can_add (files_read parts) (all_files IsString IsTrigramSet 0 parts.names (lists_in parts) are.each_name (sets_read parts are))
 
 -- ---- paths
 

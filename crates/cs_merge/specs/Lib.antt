@@ -11,6 +11,8 @@ pub mod Content
 pub mod Joinable
 pub mod Joining
 -- What functions inside promise each other.
-pub mod Regrouping
-pub mod Interleaving
-pub mod Adding
+pub mod ListFault
+pub mod Covering
+pub mod Renumbering
+pub mod SideBySide
+pub mod Building

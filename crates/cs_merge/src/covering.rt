@@ -1,62 +1,142 @@
 // Which names the paths of an index cover.
-ghost use Rattle.std.specs.Prelude.{◌≡◌, true, IfOk, MatchResult};
-ghost use Rattle.cs_tree.specs.Cover.{is_covered};
-ghost use Rattle.cs_index.specs.Opening.{are_whole, files_read};
+ghost use Rattle.std.specs.Prelude.{◌≡◌, ◌∷◌, [], is_some, IfOk, IfSome};
+ghost use Rattle.std.specs.List.{list_any};
+ghost use Rattle.std.specs.List.Sorted.{IsStrictlySortedBy};
+ghost use Rattle.cs_tree.specs.Cover.{covers as covers', is_among, is_covered as is_covered'};
+ghost use Rattle.cs_tree.specs.NameOrder.{bytes_cmp};
+ghost use Rattle.cs_tree.specs.PathParts.{texts};
+ghost use Rattle.cs_tree.specs.PathSet as set;
+ghost use Rattle.cs_tree.specs.Reducing.{lies_below};
 ghost use Rattle.cs_merge.specs.Content.{paths_in};
-ghost use Rattle.cs_index.specs.Postings.{IsListFault};
-ghost use Rattle.cs_merge.specs.Interleaving.{uncovered_files};
+ghost use Rattle.cs_merge.specs.Covering.{AreAmong};
 ghost use Rattle.cs_merge.specs.Joinable.{are_covered};
 
-use crate::files::{File, read_files};
-use cs_index::{Index, IndexFault};
-use cs_tree::covers;
-use std::alloc::Global;
+use cs_index::{Index, Texts};
+use cs_tree::{covers, is_absolute};
+use std::alloc::{AllocError, Global};
+use std::marker::Model;
+
+/// The paths of an index in order. What covers a name is searched among the fronts of the name.
+#[derive(Drop)]
+pub(crate) struct Cover<'a> {
+    paths: Vec<&'a str>,
+}
+
+impl<'a> Model for Cover<'a> {
+    ghost use Rattle.std.specs.List.Sorted.{IsStrictlySortedBy};
+    ghost use Rattle.cs_tree.specs.NameOrder.{bytes_cmp};
+    ghost use Rattle.cs_tree.specs.PathParts.{texts};
+    ghost use Rattle.std.specs.Prelude.{ℕ, List};
+
+    ghost Value = { List (List ℕ) };
+
+    ghost view = { λ s. texts s.paths.items };
+
+    ghost invariant = { λ s. IsStrictlySortedBy bytes_cmp (texts s.paths.items) };
+}
+
+impl<'a> Cover<'a> {
+    /// Of the paths of an index.
+    pub(crate) fn new(alloc: Global, index: &Index<'a>) -> Result<Self, AllocError>
+        ensures { IfOk result (λ cover. set.from_list cover ≡ paths_in index.now) }
+    {
+        let mut paths = Vec::new(alloc);
+        'paths: for path in index.paths() {
+            paths.push(path)?;
+        }
+        paths.sort_unstable();
+        paths.dedup();
+        Ok(Cover { paths })
+    }
+
+    /// Whether some path covers the name.
+    pub(crate) fn covers(&self, name: &str) -> bool
+        ensures { result ≡ is_covered' (set.from_list self.now) name.now }
+    {
+        if is_listed(&self.paths, name) {
+            return true;
+        }
+        if is_below_one(&self.paths, name) {
+            return true;
+        }
+        is_absolute(name) && is_listed(&self.paths, "/")
+    }
+}
+
+/// Whether the name goes on by a slash after one of the paths.
+fn is_below_one(paths: &[&str], name: &str) -> bool
+    requires { IsStrictlySortedBy bytes_cmp (texts paths.now) }
+    ensures { result ≡ list_any (lies_below name.now) (texts paths.now) }
+{
+    let mut rest = name;
+    'fronts: while let Some((front, _name)) = rest.rsplit_once('/') {
+        if is_listed(paths, front) {
+            return true;
+        }
+        rest = front;
+    }
+    false
+}
+
+/// Whether the path is one of the paths.
+fn is_listed(paths: &[&str], path: &str) -> bool
+    requires { IsStrictlySortedBy bytes_cmp (texts paths.now) }
+    ensures { result ≡ is_among (texts paths.now) path.now }
+{
+    paths.binary_search(&path).is_ok()
+}
 
 /// Whether each name of the index lies under some path of it. Takes no memory.
 pub(crate) fn is_under(index: &Index<'_>) -> bool
     ensures { result ≡ are_covered index.now }
 {
+    let mut rest = index.paths();
+    let mut last = None;
     'names: for name in index.names() {
-        if !is_covered(index, name) {
+        let Some(path) = next_cover(index, &mut rest, last, name) else {
             return false;
-        }
+        };
+        last = Some(path);
     }
     true
 }
 
-/// The files of the old index that no path of the newer one covers. Every list of the old index is
-/// read to its end, also where all of its files are dropped.
-pub(crate) fn kept_files<'a>(
-    alloc: Global,
-    old: &Index<'a>,
-    newer: &Index<'_>,
-) -> Result<Vec<File<'a>>, IndexFault>
-    ensures files { IfOk result (λ files. files.items ≡
-        uncovered_files (paths_in newer.now) (files_read old.now)) }
-    ensures whole { IfOk result (λ _. are_whole old.now ≡ true) }
-    ensures fault { MatchResult result (λ _. are_whole old.now ≡ true)
-        (IsListFault (are_whole old.now)) }
+/// A path of the index that covers the name. Names that one path covers follow each other, and paths that
+/// ascend cover names that do: so the last one is asked first, then those behind it, then all.
+fn next_cover<'a>(
+    index: &Index<'a>,
+    rest: &mut Texts<'a>,
+    last: Option<&'a str>,
+    name: &str,
+) -> Option<&'a str>
+    requires rest { AreAmong rest.old index.now.paths }
+    requires last { IfSome last (λ path. AreAmong (path.now ∷ []) index.now.paths) }
+    ensures rest { AreAmong rest.new index.now.paths }
+    ensures last { IfSome result (λ path. AreAmong (path.now ∷ []) index.now.paths) }
+    ensures covers { is_some result ≡ list_any (λ path. covers' path name.now) index.now.paths }
 {
-    let mut files = read_files(alloc, old)?;
-    drop_covered(&mut files, newer);
-    Ok(files)
-}
-
-/// Drops the files that the paths of the index cover.
-fn drop_covered(files: &mut Vec<File<'_>>, index: &Index<'_>)
-    ensures { files.new.items ≡ uncovered_files (paths_in index.now) files.old.items }
-{
-    files.retain(|file| !is_covered(index, file.name()));
-}
-
-/// Whether some path of the index covers the name.
-fn is_covered(index: &Index<'_>, name: &str) -> bool
-    ensures { result ≡ is_covered (paths_in index.now) name.now }
-{
-    'paths: for path in index.paths() {
+    if let Some(path) = last {
         if covers(path, name) {
-            return true;
+            return Some(path);
         }
     }
-    false
+    if let Some(path) = first_cover(rest, name) {
+        return Some(path);
+    }
+    *rest = index.paths();
+    first_cover(rest, name)
+}
+
+/// The first one of the paths that are left that covers the name.
+fn first_cover<'a>(rest: &mut Texts<'a>, name: &str) -> Option<&'a str>
+    ensures rest { AreAmong rest.new rest.old }
+    ensures path { IfSome result (λ path. AreAmong (path.now ∷ []) rest.old) }
+    ensures covers { is_some result ≡ list_any (λ path. covers' path name.now) rest.old }
+{
+    'paths: while let Some(path) = rest.next() {
+        if covers(path, name) {
+            return Some(path);
+        }
+    }
+    None
 }

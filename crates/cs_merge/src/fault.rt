@@ -44,7 +44,7 @@ impl<T: Drop> From<AllocFailed<T>> for MergeFault {
 
 /// A list that is damaged. Want of memory is a fault of its own.
 impl From<IndexFault> for MergeFault {
-    ghost use Rattle.cs_merge.specs.Regrouping.{merge_fault_of};
+    ghost use Rattle.cs_merge.specs.ListFault.{merge_fault_of};
 
     ghost from_gives = { λ index fault. fault ≡ merge_fault_of index };
 

@@ -7,10 +7,11 @@ ghost use Rattle.cs_merge.specs.Join.{join_paths};
 ghost use Rattle.cs_merge.specs.Joinable.{are_covered, both_ascend, both_whole, joined_index, AreJoinable, AreTested};
 ghost use Rattle.cs_merge.specs.Joining.{IsJoined, IsJoinFault};
 
-use crate::building::build;
-use crate::covering::{is_under, kept_files};
+use crate::building::{begun, finished};
+use crate::covering::is_under;
 use crate::fault::MergeFault;
-use crate::files::read_files;
+use crate::listing::lay_lists;
+use crate::naming::lay_names;
 use cs_index::{Index, IndexFault, Texts};
 use cs_tree::reduce;
 use std::alloc::{AllocError, Global};
@@ -67,10 +68,11 @@ fn join(alloc: Global, most: u32, old: &Index<'_>, newer: &Index<'_>) -> Result<
     ensures { MatchResult result (λ index. IsJoined old.now newer.now most index.items)
         (λ fault. IsJoinFault old.now newer.now most fault) }
 {
-    let old_files = kept_files(alloc, old, newer)?;
-    let newer_files = read_files(alloc, newer)?;
     let paths = joined_paths(alloc, old, newer)?;
-    build(alloc, most, &paths, &old_files, &newer_files)
+    let mut sections = begun(alloc, &paths)?;
+    let ids = lay_names(alloc, &mut sections, old, newer)?;
+    lay_lists(&mut sections, old, newer, &ids)?;
+    finished(sections, most)
 }
 
 /// The paths of both that no other one of both covers, ascending.

@@ -4,11 +4,14 @@
 #![tactic(auto)]
 
 mod building;
+mod carrying;
 mod covering;
 mod fault;
-mod files;
 mod joining;
 pub mod laws;
+mod listing;
+mod naming;
+mod renumbering;
 
 pub use fault::MergeFault;
 pub use joining::{merge, merge_within};

@@ -1,0 +1,70 @@
+-- What lists give of each name once they are laid under new ids.
+use Rattle.std.proofs.Common.{◌≡◌, ℕ, ◌<◌, Bool, true, false, cond, ◌||◌, List, [], ◌∷◌, ◌++◌, refl, sym, ap, ◌∙◌, Some, arith}
+use Rattle.std.proofs.lemmas.Bool.{eq-eqb, ne_eqb}
+use Rattle.std.proofs.lemmas.List.{append-nil}
+use Rattle.std.specs.List.{AllByRecursion}
+use Rattle.cs_trigram.specs.Trigram.{has}
+use Rattle.cs_index.specs.Image.{Posting}
+use Rattle.cs_index.specs.Gathering.{ids_of, with_id}
+use Rattle.cs_index.specs.PostingLists.{set_at}
+use Rattle.cs_merge.specs.Renumbering.{NewIds, new_id, renumbered, AreRenumberings, AreCarried, list_of}
+use Rattle.cs_merge.proofs.ReadLemmas.{set_push}
+use Rattle.cs_merge.proofs.RenumberingLemmas.{has_renumbered, has_no_renumbered}
+
+-- ---- one list behind others
+
+pub set_of_more : (id trigram : ℕ) (lists : List Posting) (ids : List ℕ) → set_at id (lists ++ list_of trigram ids) ≡ set_at id lists ++ cond (has ids id) (trigram ∷ []) []
+set_of_more id trigram lists [] = ap (set_at id) (append-nil lists) ∙ sym (append-nil (set_at id lists))
+set_of_more id trigram lists (other ∷ ids) = set_push id lists trigram (other ∷ ids)
+
+pub with_one_more : (trigram id : ℕ) (lists : List Posting) (ids : List ℕ) → AllByRecursion (λ (p : Posting). p.0 < trigram) lists → with_id (lists ++ list_of trigram ids) trigram id ≡ lists ++ list_of trigram (ids ++ id ∷ [])
+with_one_more trigram id [] [] all = refl
+with_one_more trigram id [] (other ∷ ids) all = ap (λ b. cond b ((trigram, (other ∷ ids) ++ id ∷ []) ∷ []) ((trigram, other ∷ ids) ∷ (trigram, id ∷ []) ∷ [])) (eq-eqb trigram trigram refl)
+with_one_more trigram id (p ∷ lists) ids all =
+    let below : p.0 < trigram = all.0 in
+    ap (λ b. cond b ((p.0, p.1 ++ id ∷ []) ∷ (lists ++ list_of trigram ids)) (p ∷ with_id (lists ++ list_of trigram ids) trigram id)) (ne_eqb p.0 trigram (λ e. absurd (omega (arith, e, below))))
+    ∙ ap (λ (rest : List Posting). p ∷ rest) (with_one_more trigram id lists ids all.1)
+
+pub ids_of_more : (trigram : ℕ) (lists : List Posting) (ids : List ℕ) → AllByRecursion (λ (p : Posting). p.0 < trigram) lists → ids_of (lists ++ list_of trigram ids) trigram ≡ ids
+ids_of_more trigram [] [] all = refl
+ids_of_more trigram [] (id ∷ ids) all = ap (λ b. cond b (id ∷ ids) []) (eq-eqb trigram trigram refl)
+ids_of_more trigram (p ∷ lists) ids all =
+    let below : p.0 < trigram = all.0 in
+    ap (λ b. cond b p.1 (ids_of (lists ++ list_of trigram ids) trigram)) (ne_eqb p.0 trigram (λ e. absurd (omega (arith, e, below))))
+    ∙ ids_of_more trigram lists ids all.1
+
+pub all_below_more : (trigram next : ℕ) (lists : List Posting) (ids : List ℕ) → AllByRecursion (λ (p : Posting). p.0 < trigram) lists → trigram < next → AllByRecursion (λ (p : Posting). p.0 < next) (lists ++ list_of trigram ids)
+all_below_more trigram next [] [] all h = tt
+all_below_more trigram next [] (id ∷ ids) all h = (h, tt)
+all_below_more trigram next (p ∷ lists) ids all h = (let below : p.0 < trigram = all.0 in omega (arith, below, h), all_below_more trigram next lists ids all.1 h)
+
+-- ---- one trigram more
+
+module _ (count trigram : ℕ) (older newer : NewIds) (are : AreRenumberings count older newer) (given : List Posting) (some others ids : List ℕ) (both : (n : ℕ) → has ids n ≡ (has (renumbered older some) n || has (renumbered newer others) n)) where
+  pub older_has : (id new : ℕ) → new_id older id ≡ Some new → has ids new ≡ has some id
+  older_has id new h =
+      both new
+      ∙ (λ i. has_renumbered older some id new are.older_order h i || has_no_renumbered newer others new (λ other e. are.apart id other new h e) i)
+      ∙ or_none (has some id)
+    where
+      or_none : (b : Bool) → (b || false) ≡ b
+      or_none true = refl
+      or_none false = refl
+
+  pub newer_has : (id new : ℕ) → new_id newer id ≡ Some new → has ids new ≡ has others id
+  newer_has id new h =
+      both new
+      ∙ (λ i. has_no_renumbered older some new (λ other e. are.apart other id new e h) i || has_renumbered newer others id new are.newer_order h i)
+
+  -- the sets once a list is laid, where those of the index itself have it too
+  pub older_carried : (before after : List Posting) → ((id : ℕ) → set_at id after ≡ set_at id before ++ cond (has some id) (trigram ∷ []) []) → AreCarried older before given → AreCarried older after (given ++ list_of trigram ids)
+  older_carried before after grows carried id new h =
+      set_of_more new trigram given ids
+      ∙ (λ i. carried id new h i ++ cond (older_has id new h i) (trigram ∷ []) [])
+      ∙ sym (grows id)
+
+  pub newer_carried : (before after : List Posting) → ((id : ℕ) → set_at id after ≡ set_at id before ++ cond (has others id) (trigram ∷ []) []) → AreCarried newer before given → AreCarried newer after (given ++ list_of trigram ids)
+  newer_carried before after grows carried id new h =
+      set_of_more new trigram given ids
+      ∙ (λ i. carried id new h i ++ cond (newer_has id new h i) (trigram ∷ []) [])
+      ∙ sym (grows id)

@@ -1,0 +1,38 @@
+use Rattle.std.proofs.Common.{◌∷◌, refl, sym, ap, ◌∙◌}
+use Rattle.std.specs.List.{cons_option}
+use Rattle.cs_index.specs.Postings.{ids_given}
+use Rattle.cs_merge.specs.Renumbering.{renumbered}
+use Rattle.cs_merge.proofs.ReadLemmas.{told_id, told_no_id, told_end}
+use Rattle.cs_merge.proofs.carrying.next_kept.Goals as goal
+
+pub returns-in_default-told-clause-fault : goal.returns-in_default-told-clause-fault
+returns-in_default-told-clause-fault c =
+    (refl, sym c.ids.invariant.whole ∙ told_no_id c.ids.ids c.next.new.self c.in-Some.told c.in-Some.ensures.steps c.in_default-told.not-Ok)
+
+pub returns-in-Some-new_id-clause-ids : goal.returns-in-Some-new_id-clause-ids
+returns-in-Some-new_id-clause-ids c =
+    let next = told_id c.ids.ids c.next.new.self c.in-Ok.id (c.in-Some.ensures.steps ∙ ap (λ x. x ∷ ids_given c.next.new.self) c.in-Ok.is) in
+    ap (λ new. cons_option new (renumbered c.args.new_ids.now c.next.new.self.ids)) (sym c.in-Some-new_id.is ∙ c.new_id.ensures)
+    ∙ ap (renumbered c.args.new_ids.now) (sym next.0)
+    ∙ c.ids.invariant.left
+
+pub returns-in-Some-new_id-clause-whole : goal.returns-in-Some-new_id-clause-whole
+returns-in-Some-new_id-clause-whole c =
+    let next = told_id c.ids.ids c.next.new.self c.in-Ok.id (c.in-Some.ensures.steps ∙ ap (λ x. x ∷ ids_given c.next.new.self) c.in-Ok.is) in
+    sym next.1 ∙ c.ids.invariant.whole
+
+pub ids-preserved : goal.ids-preserved
+ids-preserved c =
+    let next = told_id c.ids.ids c.next.new.self c.in-Ok.id (c.in-Some.ensures.steps ∙ ap (λ x. x ∷ ids_given c.next.new.self) c.in-Ok.is) in
+    record {
+      left = ap (λ new. cons_option new (renumbered c.args.new_ids.now c.next.new.self.ids)) (sym c.in_default-new_id.is ∙ c.new_id.ensures) ∙ ap (renumbered c.args.new_ids.now) (sym next.0) ∙ c.ids.invariant.left;
+      whole = sym next.1 ∙ c.ids.invariant.whole;
+    }
+
+pub returns-clause-ids : goal.returns-clause-ids
+returns-clause-ids c =
+    ap (renumbered c.args.new_ids.now) ((told_end c.next.new.self c.in_default.ensures.steps.1).0 ∙ sym (told_end c.ids.ids c.in_default.ensures.steps.0).0)
+    ∙ c.ids.invariant.left
+
+pub returns-clause-end : goal.returns-clause-end
+returns-clause-end c = λ e. told_end c.next.new.self c.in_default.ensures.steps.1

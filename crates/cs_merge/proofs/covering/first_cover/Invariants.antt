@@ -1,0 +1,11 @@
+use Rattle.std.proofs.Common.{◌≡◌}
+use Rattle.std.specs.List.{list_any}
+use Rattle.cs_tree.specs.Cover.{covers}
+use Rattle.cs_merge.specs.Covering.{AreAmong}
+use Rattle.cs_merge.proofs.covering.first_cover.Given as goal
+
+abbrev pub invariant-paths : goal.invariant-paths
+invariant-paths l = record {
+  among : AreAmong l.rest l.initial.rest;
+  left : list_any (λ path. covers path l.name) l.rest ≡ list_any (λ path. covers path l.name) l.initial.rest;
+}

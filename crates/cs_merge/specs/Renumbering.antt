@@ -1,0 +1,102 @@
+-- How the ids of an index become ids of the index of both.
+-- docs/PROMISES.md, "Joining".
+use Rattle.std.specs.Prelude.{◌≡◌, ℕ, ◌+◌, ◌<◌, ◌≤◌, Bool, true, false, List, [], ◌∷◌, Option, Some, None, slice_get, length, option_and_then}
+use Rattle.std.specs.List.{filter_map}
+use Rattle.cs_tree.specs.NameOrder.{are_ascending}
+use Rattle.cs_tree.specs.Cover.{is_covered}
+use Rattle.cs_index.specs.Built.{is_above}
+use Rattle.cs_index.specs.Laid.{Laid}
+use Rattle.cs_index.specs.Opening.{Parts}
+use Rattle.cs_merge.specs.Content.{paths_in}
+use Rattle.cs_index.specs.Image.{Posting}
+use Rattle.cs_index.specs.PostingLists.{Ids, set_at}
+
+-- the new id of each id, from 0 on; a file that is dropped has none
+abbrev pub NewIds : Type 0
+NewIds = List (Option ℕ)
+
+-- the new id of one
+abbrev pub new_id : NewIds → ℕ → Option ℕ
+new_id new_ids id = option_and_then (λ new. new) (slice_get new_ids id)
+
+-- the new ids of some, without those that are dropped
+abbrev pub renumbered : NewIds → List ℕ → List ℕ
+renumbered new_ids ids = filter_map (new_id new_ids) ids
+
+-- the same of ids that are read
+abbrev pub renumbered_ids : NewIds → Ids → Ids
+renumbered_ids new_ids read = record { ids = renumbered new_ids read.ids; whole = read.whole }
+
+-- ids that ascend stay so
+abbrev pub KeepsOrder : NewIds → Type 0
+KeepsOrder new_ids = (low high a b : ℕ) → low < high → new_id new_ids low ≡ Some a → new_id new_ids high ≡ Some b →
+    a < b
+
+-- no new id comes of both
+abbrev pub AreApart : NewIds → NewIds → Type 0
+AreApart older newer = (id other new : ℕ) → new_id older id ≡ Some new → new_id newer other ≡ Some new → ⊥
+
+-- new ids are below a number
+abbrev pub StayBelow : ℕ → NewIds → Type 0
+StayBelow count new_ids = (id new : ℕ) → new_id new_ids id ≡ Some new → new < count
+
+-- What lists of ids are renumbered by.
+pub record AreRenumberings (count : ℕ) (older newer : NewIds) : Type 0 where
+  pub older_order : KeepsOrder older
+  pub newer_order : KeepsOrder newer
+  pub apart : AreApart older newer
+  pub older_below : StayBelow count older
+  pub newer_below : StayBelow count newer
+
+-- ---- names
+
+-- the file is dropped, or its name stands at its new id
+abbrev pub IsPlaced : (List ℕ → Bool) → List (List ℕ) → List ℕ → Option ℕ → Type 0
+IsPlaced is_dropped names name None = is_dropped name ≡ true
+IsPlaced is_dropped names name (Some new) = (is_dropped name ≡ false) × (slice_get names new ≡ Some name)
+
+-- the new ids are those of the names of an index, as far as they go
+abbrev pub ArePlaced : (List ℕ → Bool) → List (List ℕ) → List (List ℕ) → NewIds → Type 0
+ArePlaced is_dropped own names new_ids =
+    (id : ℕ) (name : List ℕ) (new : Option ℕ) → slice_get own id ≡ Some name → slice_get new_ids id ≡ Some new →
+    IsPlaced is_dropped names name new
+
+-- ---- lists
+
+-- each file that is kept has, by its new id, the trigrams that it had
+abbrev pub AreCarried : NewIds → List Posting → List Posting → Type 0
+AreCarried new_ids lists given = (id new : ℕ) → new_id new_ids id ≡ Some new → set_at new given ≡ set_at id lists
+
+-- a list of ids, which leaves no trace where it has none
+abbrev pub list_of : ℕ → List ℕ → List Posting
+list_of trigram [] = []
+list_of trigram (id ∷ ids) = (trigram, id ∷ ids) ∷ []
+
+-- ---- names side by side
+
+-- the name is one of the newer index, or one of the old that is kept
+pub data IsOfOne (is_dropped : List ℕ → Bool) (older newer : List (List ℕ)) (name : List ℕ) : Type 0 where
+  new : (id : ℕ) → slice_get newer id ≡ Some name → IsOfOne is_dropped older newer name
+  kept : (id : ℕ) → slice_get older id ≡ Some name → is_dropped name ≡ false → IsOfOne is_dropped older newer name
+
+-- The names of both in order, so far: those whose ids have new ids.
+pub record AreNamed (is_dropped : List ℕ →
+    Bool) (older newer names : List (List ℕ)) (older_ids newer_ids : NewIds) : Type 0 where
+  pub older_within : length older_ids ≤ length older
+  pub newer_within : length newer_ids ≤ length newer
+  pub few : length names ≤ length older_ids + length newer_ids
+  pub ascend : are_ascending names ≡ true
+  pub older_placed : ArePlaced is_dropped older names older_ids
+  pub newer_placed : ArePlaced (λ name. false) newer names newer_ids
+  pub each_from : (place : ℕ) (name : List ℕ) → slice_get names place ≡ Some name → IsOfOne is_dropped older newer name
+  -- what is left stands above them
+  pub older_left : (place : ℕ) (name : List ℕ) → length older_ids ≤ place → slice_get older place ≡ Some name →
+      is_dropped name ≡ false → is_above names name ≡ true
+  pub newer_left : (place : ℕ) (name : List ℕ) → length newer_ids ≤ place → slice_get newer place ≡ Some name →
+      is_above names name ≡ true
+
+-- The names of both are laid so far, and no list.
+pub record IsNaming (older newer : Parts) (before now : Laid) (older_ids newer_ids : NewIds) : Type 0 where
+  pub named : AreNamed (is_covered (paths_in newer)) older.names newer.names now.names older_ids newer_ids
+  pub paths : now.paths ≡ before.paths
+  pub unlisted : now.lists ≡ []

@@ -1,0 +1,69 @@
+-- The lists of both, side by side in the order of their trigrams.
+use Rattle.std.specs.Prelude.{◌≡◌, ℕ, ◌+◌, ◌≤◌, true, nat_eq, nat_lt, if◌then◌else◌, ◌||◌, List, [], ◌∷◌, ◌++◌, length, take, Option, Some, None, slice_get, option_map}
+use Rattle.std.specs.List.{list_all}
+use Rattle.std.specs.Option.{option_map_or}
+use Rattle.cs_trigram.specs.Trigram.{has}
+use Rattle.cs_index.specs.IdStream.{next_after}
+use Rattle.cs_index.specs.Image.{ListEntry}
+use Rattle.cs_index.specs.Laid.{Laid, AllBelow}
+use Rattle.cs_index.specs.Opening.{Parts, ids_read, lists_in}
+use Rattle.cs_index.specs.PostingLists.{Ids}
+use Rattle.cs_index.specs.Rising.{RiseWithin}
+use Rattle.cs_merge.specs.Renumbering.{NewIds, AreCarried, list_of}
+
+-- the lower one of two numbers, either of which may be missing
+abbrev pub lower_of : Option ℕ → Option ℕ → Option ℕ
+lower_of None other = other
+lower_of (Some one) None = Some one
+lower_of (Some one) (Some other) = if nat_lt other one then Some other else Some one
+
+-- numbers without the first one, where that is this number
+abbrev pub without_first : ℕ → List ℕ → List ℕ
+without_first number [] = []
+without_first number (one ∷ rest) = if nat_eq one number then rest else one ∷ rest
+
+-- what is left of ids that are read
+abbrev pub ids_after : ℕ → Ids → Ids
+ids_after id read = record { ids = without_first id read.ids; whole = read.whole }
+
+-- no ids, and no damage
+abbrev pub no_ids : Ids
+no_ids = record { ids = []; whole = true }
+
+-- the trigram of the list at a place
+abbrev pub trigram_of : Parts → ℕ → Option ℕ
+trigram_of parts place = option_map (λ (e : ListEntry). e.trigram) (slice_get parts.entries place)
+
+-- the ids of the list at a place, where it is that of the trigram
+abbrev pub list_ids : Parts → ℕ → ℕ → Ids
+list_ids parts place trigram = option_map_or (λ (e : ListEntry). if nat_eq e.trigram trigram then ids_read parts e else no_ids) (slice_get parts.entries place) no_ids
+
+-- the place behind it
+abbrev pub place_after : Parts → ℕ → ℕ → ℕ
+place_after parts place trigram = option_map_or (λ (e : ListEntry). if nat_eq e.trigram trigram then place + 1 else place) (slice_get parts.entries place) place
+
+-- Some ids of both are given to the list of a trigram, and others are left.
+pub record IsGiven (trigram : ℕ) (before now : Laid) (older newer older_left newer_left : List ℕ) : Type 0 where
+  pub given : List ℕ
+  pub paths : now.paths ≡ before.paths
+  pub names : now.names ≡ before.names
+  pub lists : now.lists ≡ before.lists ++ list_of trigram given
+  pub each : (id : ℕ) → (has given id || (has older_left id || has newer_left id)) ≡ (has older id || has newer id)
+  pub older_rise : RiseWithin (length before.names) (next_after 0 given) older_left
+  pub newer_rise : RiseWithin (length before.names) (next_after 0 given) newer_left
+
+-- The lists of both that stand before these places are laid.
+pub record AreListed (older newer : Parts) (older_ids newer_ids : NewIds) (before now : Laid) (older_place newer_place : ℕ) : Type 0 where
+  pub paths : now.paths ≡ before.paths
+  pub names : now.names ≡ before.names
+  pub older_within : older_place ≤ length older.entries
+  pub newer_within : newer_place ≤ length newer.entries
+  pub older_sets : AreCarried older_ids (take older_place (lists_in older)) now.lists
+  pub newer_sets : AreCarried newer_ids (take newer_place (lists_in newer)) now.lists
+  pub older_whole : list_all (λ (e : ListEntry). (ids_read older e).whole) (take older_place older.entries) ≡ true
+  pub newer_whole : list_all (λ (e : ListEntry). (ids_read newer e).whole) (take newer_place newer.entries) ≡ true
+  -- what is left stands above them
+  pub older_left : (entry : ListEntry) → slice_get older.entries older_place ≡ Some entry →
+      AllBelow now.lists entry.trigram
+  pub newer_left : (entry : ListEntry) → slice_get newer.entries newer_place ≡ Some entry →
+      AllBelow now.lists entry.trigram

@@ -1,0 +1,121 @@
+// The lists of both, side by side in the order of their trigrams.
+ghost use Rattle.std.specs.Prelude.{◌≡◌, ◌⊎◌, ◌<◌, ◌&&◌, [], true, false, length, MatchResult, OnOk};
+ghost use Rattle.cs_trigram.specs.Trigram.{closing_trigram};
+ghost use Rattle.cs_index.specs.Laid.{AllBelow};
+ghost use Rattle.cs_index.specs.Postings.{IsListFault};
+ghost use Rattle.cs_index.specs.Rising.{RiseWithin};
+ghost use Rattle.cs_index.specs.Opening.{lists_in};
+ghost use Rattle.cs_index.specs.Parts.{AreParts};
+ghost use Rattle.cs_merge.specs.Joinable.{both_whole};
+ghost use Rattle.cs_merge.specs.Renumbering.{renumbered_ids, AreCarried, AreRenumberings};
+ghost use Rattle.cs_merge.specs.SideBySide.{list_ids, lower_of, place_after, trigram_of, IsGiven};
+
+use crate::carrying::Carried;
+use crate::renumbering::{Renumbering, Renumberings};
+use cs_index::{Index, IndexFault, Sections};
+
+/// Lays the lists of both in ascending order of trigrams. Each is read once to its end, also where all
+/// of its files are dropped.
+pub(crate) fn lay_lists(
+    sections: &mut Sections,
+    old: &Index<'_>,
+    newer: &Index<'_>,
+    ids: &Renumberings,
+) -> Result<(), IndexFault>
+    requires old_parts { AreParts old.now }
+    requires newer_parts { AreParts newer.now }
+    requires ids { AreRenumberings (length sections.old.names) ids.now.older ids.now.newer }
+    requires unlisted { sections.old.lists ≡ [] }
+    ensures paths { OnOk result (sections.new.paths ≡ sections.old.paths) }
+    ensures names { OnOk result (sections.new.names ≡ sections.old.names) }
+    ensures older { OnOk result (AreCarried ids.now.older (lists_in old.now) sections.new.lists) }
+    ensures newer { OnOk result (AreCarried ids.now.newer (lists_in newer.now) sections.new.lists) }
+    ensures fault { MatchResult result (λ _. both_whole old.now newer.now ≡ true)
+        (IsListFault (both_whole old.now newer.now)) }
+{
+    let mut older_place = 0;
+    let mut newer_place = 0;
+    'lists: while let Some(trigram) = lower(
+        trigram_at(old, older_place),
+        trigram_at(newer, newer_place),
+    ) {
+        let older = take_list(old, &mut older_place, trigram, &ids.older)?;
+        let later = take_list(newer, &mut newer_place, trigram, &ids.newer)?;
+        lay_list(sections, trigram, older, later)?;
+    }
+    Ok(())
+}
+
+/// The trigram of the list at a place.
+fn trigram_at(index: &Index<'_>, place: u32) -> Option<u32>
+    ensures { result ≡ trigram_of index.now place }
+{
+    match index.list_at(place) {
+        Some((trigram, _ids)) => Some(trigram),
+        None => None,
+    }
+}
+
+/// The new ids of the list at a place, which is then passed, if it is that of the trigram.
+fn take_list<'a, 'b>(
+    index: &Index<'a>,
+    place: &mut u32,
+    trigram: u32,
+    new_ids: &'b Renumbering,
+) -> Result<Carried<'a, 'b>, IndexFault>
+    ensures place { OnOk result (place.new ≡ place_after index.now place.old trigram) }
+    ensures ids { MatchResult result
+        (λ ids. ids ≡ renumbered_ids new_ids.now (list_ids index.now place.old trigram))
+        (λ fault. (fault ≡ IndexFault.BadList) × ((list_ids index.now place.old trigram).whole ≡ false)) }
+{
+    if *place < index.lists() {
+        if let Some((found, ids)) = index.list_at(*place) {
+            if found == trigram {
+                *place += 1;
+                return Carried::new(ids, new_ids);
+            }
+        }
+    }
+    Ok(Carried::none(new_ids))
+}
+
+/// Lays the list of a trigram: the new ids of both, ascending. A list is begun with its first id.
+fn lay_list(
+    sections: &mut Sections,
+    trigram: u32,
+    older: Carried<'_, '_>,
+    newer: Carried<'_, '_>,
+) -> Result<(), IndexFault>
+    requires above { AllBelow sections.old.lists trigram }
+    requires older_rise { RiseWithin (length sections.old.names) 0 older.ids }
+    requires newer_rise { RiseWithin (length sections.old.names) 0 newer.ids }
+    requires below { (trigram < closing_trigram) ⊎ ((older.ids ≡ []) × (newer.ids ≡ [])) }
+    ensures ok { OnOk result (IsGiven trigram sections.old sections.new older.entry.ids newer.entry.ids [] []) }
+    ensures fault { MatchResult result (λ _. (older.entry.whole && newer.entry.whole) ≡ true)
+        (IsListFault (older.entry.whole && newer.entry.whole)) }
+{
+    let mut older = older;
+    let mut newer = newer;
+    let mut next = lower(older.first(), newer.first());
+    if next.is_some() {
+        sections.list(trigram);
+    }
+    'ids: while let Some(id) = next {
+        sections.id(id)?;
+        older.pass(id)?;
+        newer.pass(id)?;
+        next = lower(older.first(), newer.first());
+    }
+    Ok(())
+}
+
+/// The lower one of two numbers, either of which may be missing.
+fn lower(one: Option<u32>, other: Option<u32>) -> Option<u32>
+    ensures { result ≡ lower_of one other }
+{
+    match (one, other) {
+        (None, _) => other,
+        (Some(_), None) => one,
+        (Some(first), Some(second)) => if second < first { other } else { one },
+    }
+}

@@ -1,0 +1,107 @@
+// The names of both, side by side.
+ghost use Rattle.std.specs.Prelude.{◌≡◌, ◌<◌, ◌≤◌, ◌+◌, ◌^◌, ◌∷◌, ◌++◌, [], true, false, Some, length, IfOk, OnOk};
+ghost use Rattle.std.specs.Option.{option_copied, option_map_or};
+ghost use Rattle.std.specs.Ordering.{is_lt};
+ghost use Rattle.cs_tree.specs.NameOrder.{bytes_cmp};
+ghost use Rattle.cs_tree.specs.PathSet as set;
+ghost use Rattle.cs_index.specs.Built.{is_above, is_storable};
+ghost use Rattle.cs_index.specs.Laid.{with_laid_name};
+ghost use Rattle.cs_index.specs.Parts.{AreParts};
+ghost use Rattle.cs_merge.specs.Content.{paths_in};
+ghost use Rattle.cs_merge.specs.Joinable.{AreTested};
+ghost use Rattle.cs_merge.specs.Renumbering.{IsNaming};
+
+use crate::covering::Cover;
+use crate::renumbering::{Renumbering, Renumberings};
+use cs_index::{Index, Sections};
+use std::alloc::{AllocError, Global};
+
+/// Lays the names of both in order, and answers what becomes of their ids. An old name that the newer
+/// paths cover is dropped.
+pub(crate) fn lay_names(
+    alloc: Global,
+    sections: &mut Sections,
+    old: &Index<'_>,
+    newer: &Index<'_>,
+) -> Result<Renumberings, AllocError>
+    requires old_parts { AreParts old.now }
+    requires newer_parts { AreParts newer.now }
+    requires tested { AreTested old.now newer.now }
+    requires unnamed { sections.old.names ≡ [] }
+    requires unlisted { sections.old.lists ≡ [] }
+    ensures named { IfOk result (λ ids. IsNaming old.now newer.now sections.old sections.new ids.older ids.newer) }
+    ensures all { IfOk result (λ ids. (length old.now.names ≤ length ids.older)
+        × (length newer.now.names ≤ length ids.newer)) }
+{
+    let cover = Cover::new(alloc, newer)?;
+    let mut ids = Renumberings {
+        older: Renumbering::new(alloc),
+        newer: Renumbering::new(alloc),
+    };
+    'names: while lay_next(sections, old, newer, &cover, &mut ids)? {}
+    Ok(ids)
+}
+
+/// Lays or drops the lowest name that is left, and answers whether there was one.
+fn lay_next(
+    sections: &mut Sections,
+    old: &Index<'_>,
+    newer: &Index<'_>,
+    cover: &Cover<'_>,
+    ids: &mut Renumberings,
+) -> Result<bool, AllocError>
+    requires old_parts { AreParts old.now }
+    requires newer_parts { AreParts newer.now }
+    requires tested { AreTested old.now newer.now }
+    requires cover { set.from_list cover.now ≡ paths_in newer.now }
+    requires so_far { IsNaming old.now newer.now sections.old sections.old ids.old.older ids.old.newer }
+    ensures so_far { OnOk result (IsNaming old.now newer.now sections.old sections.new ids.new.older ids.new.newer) }
+    ensures more { IfOk result (λ more. more ≡ true → length ids.new.older + length ids.new.newer
+        ≡ length ids.old.older + length ids.old.newer + 1) }
+    ensures all { IfOk result (λ more. more ≡ false → (length old.now.names ≤ length ids.new.older)
+        × (length newer.now.names ≤ length ids.new.newer)) }
+{
+    let next = newer.name(ids.newer.len());
+    if let Some(name) = old.name(ids.older.len()) {
+        if is_below(name, next) {
+            if cover.covers(name) {
+                ids.older.leave_out()?;
+            } else {
+                lay_name(sections, &mut ids.older, name)?;
+            }
+            return Ok(true);
+        }
+    }
+    let Some(name) = next else {
+        return Ok(false);
+    };
+    lay_name(sections, &mut ids.newer, name)?;
+    Ok(true)
+}
+
+/// Whether the name is below the next one, if there is one.
+fn is_below(name: &str, next: Option<&str>) -> bool
+    ensures { result ≡ option_map_or (λ text. is_lt (bytes_cmp name.now text)) (option_copied next.entry) true }
+{
+    match next {
+        None => true,
+        Some(next) => name < next,
+    }
+}
+
+/// Lays the name that the next id has.
+fn lay_name(
+    sections: &mut Sections,
+    new_ids: &mut Renumbering,
+    name: &str,
+) -> Result<(), AllocError>
+    requires unlisted { sections.old.lists ≡ [] }
+    requires storable { is_storable name.now ≡ true }
+    requires above { is_above sections.old.names name.now ≡ true }
+    requires few { length sections.old.names < 2 ^ 31 }
+    ensures sections { OnOk result (sections.new ≡ with_laid_name sections.old name.now) }
+    ensures ids { OnOk result (new_ids.new ≡ new_ids.old ++ Some (length sections.old.names) ∷ []) }
+{
+    let id = sections.name(name)?;
+    new_ids.keep(id)
+}

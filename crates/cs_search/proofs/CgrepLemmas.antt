@@ -1,5 +1,5 @@
 -- The parts of cgrep put together.
-use Rattle.std.proofs.Common.{◌≡◌, ℕ, Bool, true, false, List, [], refl, sym, ap, subst, ◌∙◌, append-nil, Option, Some, None, Err, ◌↔◌}
+use Rattle.std.proofs.Common.{◌≡◌, ℕ, Bool, true, false, List, [], ◌∷◌, refl, sym, ap, subst, ◌∙◌, append-nil, Option, Some, None, Result, Err, ◌↔◌}
 use Rattle.std.specs.Prelude.{option_map, map, string_bytes}
 use Rattle.cs_syntax.specs.Matching.{Tree, Found}
 use Rattle.cs_syntax.specs.Reading.{Reads}
@@ -14,10 +14,11 @@ use Rattle.cs_tree.proofs.Growing.{Grows-chain}
 use Rattle.cs_words.specs.declared.jobs.Tool.TheVariants.{Cgrep}
 use Rattle.cs_words.specs.declared.jobs.GrepJob.{GrepJob}
 use Rattle.cs_search.specs.declared.status.Status.{Status}
-use Rattle.cs_search.specs.Printed.{Printed, PrintsStatus, status_of, input_printed, file_printed, all_printed}
+use Rattle.cs_search.specs.Printed.{Printed, PrintsStatus, status_of, input_printed, file_printed, all_printed, TellsFaults}
 use Rattle.cs_search.specs.Searcher.{Prints}
-use Rattle.cs_search.specs.Cgrep.{cgrep_printed, searched_by_cgrep, standard_name, PatternFirst, TellsFaultsOf}
-use Rattle.cs_search.proofs.PrintedLemmas.{Tells-more}
+use Rattle.cs_search.specs.Cgrep.{cgrep_printed, searched_by_cgrep, standard_name}
+use Rattle.cs_search.specs.CgrepFaults.{PatternFirst, TellsFaultsOf}
+use Rattle.cs_search.proofs.PrintedLemmas.{done, Tells-none, Tells-flushed}
 use Rattle.cs_words.specs.Faults.{pattern_fault, pattern_fault_at}
 
 module _ (most : ℕ) (job : GrepJob) (finds : List ℕ → Bool) (snapshot : Option Snapshot) (input : Option Told) where
@@ -46,11 +47,29 @@ PrintsStatus-flushed (Some printed) out now later err err-now err-later matched 
   is ∙ ap status_of p.2,
 )
 
-pub TellsFaultsOf-flushed : (standard : Bool) (tree tree-now input input-now : ℕ) (err err-now err-later : Option (List ℕ)) → TellsFaultsOf standard tree tree-now input input-now err err-now → Grows err-now err-later [] → TellsFaultsOf standard tree tree-now input input-now err err-later
-TellsFaultsOf-flushed true tree tree-now input input-now err err-now err-later told flushed =
-    (told.0, Tells-more Cgrep input input-now input-now err err-now err-later told.1 ([], refl, flushed))
-TellsFaultsOf-flushed false tree tree-now input input-now err err-now err-later told flushed =
-    (told.0, Tells-more Cgrep tree tree-now tree-now err err-now err-later told.1 ([], refl, flushed))
+-- ---- the faults that are told
+
+module _ {A E : Type 0} (r : Result A E) (job : GrepJob) (tree tree' input input' : ℕ) (err err' : Option (List ℕ)) where
+  pub Tells-standard : job.standard ≡ true → tree' ≡ tree → TellsFaults Cgrep (standard_name ∷ []) input input' err err' r → TellsFaultsOf job tree tree' input input' err err' r
+  Tells-standard e same told = rw e (same, told)
+
+  pub Tells-files : job.standard ≡ false → input' ≡ input → TellsFaults Cgrep (map string_bytes job.files.items) tree tree' err err' r → TellsFaultsOf job tree tree' input input' err err' r
+  Tells-files e same told = rw e (same, told)
+
+  by_standard : (b : Bool) → job.standard ≡ b → tree' ≡ tree → input' ≡ input → err' ≡ err → TellsFaultsOf job tree tree' input input' err err' r
+  by_standard true e tree-same input-same is = Tells-standard e tree-same (Tells-none Cgrep r (standard_name ∷ []) input input' err err' input-same is)
+  by_standard false e tree-same input-same is = Tells-files e input-same (Tells-none Cgrep r (map string_bytes job.files.items) tree tree' err err' tree-same is)
+
+  pub Tells-nothing : tree' ≡ tree → input' ≡ input → err' ≡ err → TellsFaultsOf job tree tree' input input' err err' r
+  Tells-nothing = by_standard job.standard refl
+
+  module _ (err-now : Option (List ℕ)) (flushed : Grows err-now err' []) where
+    flushed_by : (b : Bool) → job.standard ≡ b → TellsFaultsOf job tree tree' input input' err err-now done → TellsFaultsOf job tree tree' input input' err err' r
+    flushed_by true e told = let now = rw e at told in Tells-standard e now.0 (Tells-flushed Cgrep r (standard_name ∷ []) input input' err err-now err' now.1 flushed)
+    flushed_by false e told = let now = rw e at told in Tells-files e now.0 (Tells-flushed Cgrep r (map string_bytes job.files.items) tree tree' err err-now err' now.1 flushed)
+
+    pub Tells-of-flushed : TellsFaultsOf job tree tree' input input' err err-now done → TellsFaultsOf job tree tree' input input' err err' r
+    Tells-of-flushed told = flushed_by job.standard refl told
 
 -- the tree that a text reads as
 pub read_once : (text : List ℕ) (fold : Bool) (t u : Tree) → Reads text fold t → Reads text fold u → t ≡ u

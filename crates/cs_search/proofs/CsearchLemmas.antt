@@ -1,11 +1,11 @@
 -- The parts of csearch put together.
-use Rattle.std.proofs.Common.{◌≡◌, ℕ, ◌+◌, ◌<◌, ◌≤◌, Bool, true, false, cond, List, [], ◌∷◌, ◌++◌, length, map, take, get_or, refl, sym, ap, subst, ◌∙◌, append_assoc, length-append, Option, Some, None, Err, inl, inr}
+use Rattle.std.proofs.Common.{◌≡◌, ℕ, ◌+◌, ◌<◌, ◌≤◌, Bool, true, false, cond, List, [], ◌∷◌, ◌++◌, length, map, take, drop, get_or, refl, sym, ap, subst, ◌∙◌, append_assoc, length-append, Option, Some, None, Result, Err, inl, inr}
 use Rattle.cs_index.specs.Postings.{IsListFault}
 use Rattle.cs_index.specs.PostingLists.{set_at, entries_of}
 use Rattle.cs_trigram.specs.Trigram.{has}
 use Rattle.std.specs.Prelude.{filter, slice_get, option_map, string_bytes}
 use Rattle.std.specs.List.{filter_map, range_with_len, cons_option}
-use Rattle.std.proofs.lemmas.List.{take_more}
+use Rattle.std.proofs.lemmas.List.{take_more, take-append-drop}
 use Rattle.std.proofs.lemmas.List.Elements.{filter-append, filter_map-append}
 use Rattle.cs_syntax.specs.Matching.{Tree}
 use Rattle.cs_syntax.specs.Reading.{Reads}
@@ -17,6 +17,7 @@ use Rattle.cs_syntax.specs.declared.fault.PatternError.{PatternError}
 use Rattle.cs_tree.specs.Snapshot.{Snapshot}
 use Rattle.cs_index.specs.declared.fault.IndexFault.{IndexFault}
 use Rattle.cs_index.specs.declared.fault.IndexFault.TheVariants.{BadList}
+use Rattle.cs_words.specs.declared.jobs.Tool.{Tool}
 use Rattle.cs_words.specs.declared.jobs.Tool.TheVariants.{Csearch}
 use Rattle.cs_words.specs.declared.jobs.SearchJob.{SearchJob}
 use Rattle.cs_words.specs.declared.jobs.Style.{Style}
@@ -34,9 +35,9 @@ use Rattle.cs_search.specs.Csearch.{names_meeting, OpensWith, IsQueryOf, Asks, f
 use Rattle.cs_search.specs.declared.status.Status.{Status}
 use Rattle.cs_search.proofs.CgrepLemmas.{read_once, Decides-program}
 use Rattle.cs_search.specs.IndexSearch.{FileRefused, OpenRefused, file_fault_at, file_pattern_fault, names_at, IsCompiled, DecidesNames}
-use Rattle.cs_search.specs.Printed.{Printed, file_printed, all_printed, then, nothing}
+use Rattle.cs_search.specs.Printed.{Printed, PrintsFront, NamedFault, AreFaultsOf, TellsFaults, file_printed, all_printed, then, nothing}
 use Rattle.cs_search.proofs.Printing.{Grows-same}
-use Rattle.cs_search.proofs.PrintedLemmas.{then_then, then_nothing}
+use Rattle.cs_search.proofs.PrintedLemmas.{all_append, then_nothing}
 
 -- ---- the pattern of `-f` that is refused
 
@@ -49,23 +50,44 @@ file_refused text error refused = file_refused_at text error error.fault refl re
 
 -- ---- names, one after another
 
-pub all_append : (printed : List ℕ → Printed) (xs ys : List (List ℕ)) → all_printed printed (xs ++ ys) ≡ then (all_printed printed xs) (all_printed printed ys)
-unfolding all_printed
-all_append printed [] ys = refl
-all_append printed (name ∷ xs) ys =
-    ap (λ (rest : Printed). then (printed name) rest) (all_append printed xs ys)
-    ∙ then_then (printed name) (all_printed printed xs) (all_printed printed ys)
+module _ (names : List (List ℕ)) where
+  pub names_at_more : (ids : List ℕ) (at : ℕ) → at < length ids → names_at names (take (at + 1) ids) ≡ names_at names (take at ids) ++ names_at names (get_or ids at 0 ∷ [])
+  unfolding names_at
+  names_at_more ids at low = ap (filter_map (slice_get names)) (take_more ids at 0 low) ∙ filter_map-append (slice_get names) (take at ids) (get_or ids at 0 ∷ [])
+
+  names_at_split : (ids : List ℕ) (n : ℕ) → names_at names ids ≡ names_at names (take n ids) ++ names_at names (drop n ids)
+  unfolding names_at
+  names_at_split ids n = ap (filter_map (slice_get names)) (sym (take-append-drop n ids)) ∙ filter_map-append (slice_get names) (take n ids) (drop n ids)
+
+  -- and those of the ids that follow
+  pub names_at_rest : (ids : List ℕ) (at : ℕ) → at < length ids → names_at names ids ≡ (names_at names (take at ids) ++ names_at names (get_or ids at 0 ∷ [])) ++ names_at names (drop (at + 1) ids)
+  names_at_rest ids at low = names_at_split ids (at + 1) ∙ ap (λ l. l ++ names_at names (drop (at + 1) ids)) (names_at_more ids at low)
+
+  pub name_at : (id : ℕ) (name : List ℕ) → slice_get names id ≡ Some name → names_at names (id ∷ []) ≡ name ∷ []
+  unfolding names_at
+  name_at id name there = ap (λ (o : Option (List ℕ)). cons_option o []) there
 
 module _ (printed : List ℕ → Printed) (keeps : List ℕ → Bool) (names : List (List ℕ)) where
   pub chosen_more : (ids : List ℕ) (at : ℕ) → at < length ids →
       all_printed printed (filter keeps (names_at names (take (at + 1) ids)))
       ≡ then (all_printed printed (filter keeps (names_at names (take at ids)))) (all_printed printed (filter keeps (names_at names (get_or ids at 0 ∷ []))))
-  unfolding names_at
   chosen_more ids at low =
-      ap (λ (l : List ℕ). all_printed printed (filter keeps (filter_map (slice_get names) l))) (take_more ids at 0 low)
-      ∙ ap (λ (l : List (List ℕ)). all_printed printed (filter keeps l)) (filter_map-append (slice_get names) (take at ids) (get_or ids at 0 ∷ []))
-      ∙ ap (all_printed printed) (filter-append keeps (filter_map (slice_get names) (take at ids)) (filter_map (slice_get names) (get_or ids at 0 ∷ [])))
-      ∙ all_append printed (filter keeps (filter_map (slice_get names) (take at ids))) (filter keeps (filter_map (slice_get names) (get_or ids at 0 ∷ [])))
+      ap (λ (l : List (List ℕ)). all_printed printed (filter keeps l)) (names_at_more names ids at low)
+      ∙ ap (all_printed printed) (filter-append keeps (names_at names (take at ids)) (names_at names (get_or ids at 0 ∷ [])))
+      ∙ all_append printed (filter keeps (names_at names (take at ids))) (filter keeps (names_at names (get_or ids at 0 ∷ [])))
+
+  -- and the ids that follow
+  pub chosen_rest : (ids : List ℕ) (at : ℕ) → at < length ids →
+      all_printed printed (filter keeps (names_at names ids))
+      ≡ then (then (all_printed printed (filter keeps (names_at names (take at ids)))) (all_printed printed (filter keeps (names_at names (get_or ids at 0 ∷ []))))) (all_printed printed (filter keeps (names_at names (drop (at + 1) ids))))
+  chosen_rest ids at low =
+      let first = names_at names (take at ids) ++ names_at names (get_or ids at 0 ∷ []) in
+      let rest = names_at names (drop (at + 1) ids) in
+      let chosen_first : all_printed printed (filter keeps first) ≡ then (all_printed printed (filter keeps (names_at names (take at ids)))) (all_printed printed (filter keeps (names_at names (get_or ids at 0 ∷ [])))) = ap (λ l. all_printed printed (filter keeps l)) (sym (names_at_more names ids at low)) ∙ chosen_more ids at low in
+      ap (λ (l : List (List ℕ)). all_printed printed (filter keeps l)) (names_at_rest names ids at low)
+      ∙ ap (all_printed printed) (filter-append keeps first rest)
+      ∙ all_append printed (filter keeps first) (filter keeps rest)
+      ∙ ap (λ (p : Printed). then p (all_printed printed (filter keeps rest))) chosen_first
 
   pub none_at : (id : ℕ) → slice_get names id ≡ None → all_printed printed (filter keeps (names_at names (id ∷ []))) ≡ nothing
   unfolding names_at all_printed
@@ -208,3 +230,29 @@ Prints-nothing (Some s) printed out err is = subst (λ (p : Printed). IsPrinted 
 pub Prints-as : (tree : Option Snapshot) (printed wanted : Snapshot → Printed) (out out' err err' : Option (List ℕ)) (matched : Bool) → ((s : Snapshot) → wanted s ≡ printed s) → Prints (option_map printed tree) out out' err err' matched → Prints (option_map wanted tree) out out' err err' matched
 Prints-as None printed wanted out out' err err' matched is p = tt
 Prints-as (Some s) printed wanted out out' err err' matched is p = subst (λ (x : Printed). IsPrinted x out out' err err' matched) (sym (is s)) p
+
+pub PrintsFront-as : (tree : Option Snapshot) (printed wanted : Snapshot → Printed) (out out' err err' : Option (List ℕ)) → ((s : Snapshot) → wanted s ≡ printed s) → PrintsFront (option_map printed tree) out out' err err' → PrintsFront (option_map wanted tree) out out' err err'
+PrintsFront-as None printed wanted out out' err err' is p = tt
+PrintsFront-as (Some s) printed wanted out out' err err' is p = subst (λ (x : Printed). PrintsFront (Some x) out out' err err') (sym (is s)) p
+
+-- ---- faults of the names that are chosen
+
+faults_past : {X : Type 0} (f : X → List ℕ) (b : Bool) (x : X) (kept xs : List X) → ((faults : List NamedFault) → AreFaultsOf (map f kept) faults → AreFaultsOf (map f xs) faults) → (faults : List NamedFault) → AreFaultsOf (map f (cond b (x ∷ kept) kept)) faults → AreFaultsOf (map f (x ∷ xs)) faults
+faults_past f true x kept xs rest faults (inl are) = inl (rest faults are)
+faults_past f true x kept xs rest faults (inr are) = inr (are.0, are.1, are.2, rest are.1 are.3)
+faults_past f false x kept xs rest faults are = inl (rest faults are)
+
+faults_kept : {X : Type 0} (f : X → List ℕ) (test : X → Bool) (xs : List X) (faults : List NamedFault) → AreFaultsOf (map f (filter test xs)) faults → AreFaultsOf (map f xs) faults
+faults_kept f test [] faults are = are
+faults_kept f test (x ∷ xs) faults are = faults_past f (test x) x (filter test xs) xs (faults_kept f test xs) faults are
+
+faults_chosen : (parts : Parts) (query : Query) (ids : List ℕ) (faults : List NamedFault) → ids ≡ candidates_of parts query → AreFaultsOf (names_at parts.names ids) faults → AreFaultsOf parts.names faults
+unfolding names_meeting
+faults_chosen parts query ids faults is are =
+    subst (λ (l : List (List ℕ)). AreFaultsOf l faults) (names_of_files 0 parts.names (lists_in parts))
+    (faults_kept (λ (e : Entry). e.0) (λ (e : Entry). holds query (has e.1)) (files_read parts) faults
+    (subst (λ (l : List (List ℕ)). AreFaultsOf l faults) (ap (names_at parts.names) is ∙ candidates_named parts query) are))
+
+-- those of the candidates are those of the files that have them
+pub Tells-chosen : {A E : Type 0} (r : Result A E) (tool : Tool) (parts : Parts) (query : Query) (ids : List ℕ) (failed failed' : ℕ) (err err' : Option (List ℕ)) → ids ≡ candidates_of parts query → TellsFaults tool (names_at parts.names ids) failed failed' err err' r → TellsFaults tool parts.names failed failed' err err' r
+Tells-chosen r tool parts query ids failed failed' err err' is told = (told.0, faults_chosen parts query ids told.0 is told.1, told.2, told.3)

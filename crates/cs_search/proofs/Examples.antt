@@ -1,11 +1,14 @@
 -- Worked rows of reports, computed.
-use Rattle.std.proofs.Common.{◌≡◌, ℕ, Bool, true, false, List, [], Some, None, refl, codes}
+use Rattle.std.proofs.Common.{◌≡◌, ℕ, Bool, true, false, List, [], ◌∷◌, Some, None, refl, codes, inl, inr}
 use Rattle.std.specs.Str.{bytes_eq}
 use Rattle.std.specs.Fmt.{digits}
 use Rattle.cs_words.specs.declared.jobs.Style.{Style}
 use Rattle.cs_search.specs.declared.grep_fault.ReadFault.{ReadFault}
 use Rattle.cs_search.specs.declared.grep_fault.ReadFault.TheVariants.{Read}
 use Rattle.cs_match.specs.Lines.{lines, ended_lines}
+use Rattle.cs_words.specs.declared.fault.FileFault.TheVariants.{Missing, Denied, InputTooLong}
+use Rattle.cs_search.specs.Fronts.{TakesFront}
+use Rattle.cs_search.specs.Printed.{AreFaultsOf, failures_of}
 use Rattle.cs_search.specs.Report.{report, printed, hits_from, hit_line, name_line, count_line}
 
 -- a line matches that is `one`
@@ -51,3 +54,18 @@ fault_of_a_failed_input = refl
 no_fault_after_a_listed_hit : (report listed (codes "/t/c") one (codes "one\ntwo\non") (Some Read)).fault ≡ None
 unfolding one listed report printed hits_from name_line ended_lines
 no_fault_after_a_listed_hit = refl
+
+-- ---- where a search is refused
+
+front_of_a_line : TakesFront (codes "t:one\n") (Some (codes "s:two\n")) (Some (codes "s:two\nt:o"))
+front_of_a_line = record { count = 3; grows = refl }
+
+fault_of_the_second_name : AreFaultsOf (codes "a" ∷ codes "b" ∷ codes "c" ∷ []) ((codes "b", Missing) ∷ [])
+fault_of_the_second_name = inl (inr (Missing, [], refl, inl refl))
+
+too_long_is_no_failure : failures_of ((codes "a", InputTooLong) ∷ (codes "b", Missing) ∷ []) 3 ≡ 4
+too_long_is_no_failure = refl
+
+nothing_of_one_name_is_told_twice : AreFaultsOf (codes "a" ∷ []) ((codes "a", Missing) ∷ (codes "a", Denied) ∷ []) → ⊥
+nothing_of_one_name_is_told_twice (inl none) = cc
+nothing_of_one_name_is_told_twice (inr (why, rest, is, none)) = cc

@@ -12,7 +12,7 @@ use Rattle.cs_search.specs.declared.grep_fault.ReadFault.{ReadFault}
 use Rattle.cs_match.specs.Lines.{newline, lines, ended_lines}
 use Rattle.cs_match.specs.Unended.{unended, last_line}
 use Rattle.cs_search.specs.Report.{Hit, hits_from, some_hit, hit_line, name_line, count_line, printed, tested, report}
-use Rattle.cs_search.specs.InputReport.{IsReported}
+use Rattle.cs_search.specs.GrepReports.{IsReported}
 use Rattle.cs_search.specs.TestedLines.{shown, total, Tests, IsListed}
 use Rattle.cs_match.proofs.LinesLemmas.{lines-split}
 use Rattle.cs_search.proofs.ReportLemmas.{hits_from-append, some_hit-append}
@@ -31,27 +31,27 @@ some_counted [] = refl
 some_counted (hit ∷ hits) = lt-ltb 0 (length (hit ∷ hits)) (omega arith)
 
 module _ (style : Style) (name : List ℕ) where
-  shown_listed : style.list ≡ true → (hit : Hit) → shown style name hit ≡ name ++ newline ∷ []
+  pub shown_listed : style.list ≡ true → (hit : Hit) → shown style name hit ≡ name ++ newline ∷ []
   unfolding shown
   shown_listed e hit = rw e refl
 
-  shown_counted : style.list ≡ false → style.count ≡ true → (hit : Hit) → shown style name hit ≡ []
+  pub shown_counted : style.list ≡ false → style.count ≡ true → (hit : Hit) → shown style name hit ≡ []
   unfolding shown
   shown_counted e h hit = rw (e, h) refl
 
-  shown_plain : style.list ≡ false → style.count ≡ false → (hit : Hit) → shown style name hit ≡ hit_line style name hit
+  pub shown_plain : style.list ≡ false → style.count ≡ false → (hit : Hit) → shown style name hit ≡ hit_line style name hit
   unfolding shown
   shown_plain e h hit = rw (e, h) refl
 
-  printed_listed : style.list ≡ true → (whole : Bool) (hits : List Hit) → printed style name whole hits ≡ cond (some_hit hits) (name ++ newline ∷ []) []
+  pub printed_listed : style.list ≡ true → (whole : Bool) (hits : List Hit) → printed style name whole hits ≡ cond (some_hit hits) (name ++ newline ∷ []) []
   unfolding printed name_line
   printed_listed e whole hits = rw e refl
 
-  printed_counted : style.list ≡ false → style.count ≡ true → (whole : Bool) (hits : List Hit) → printed style name whole hits ≡ cond whole (cond (some_hit hits) (name ++ (codes ": " ++ (decimal (length hits) ++ newline ∷ []))) []) []
+  pub printed_counted : style.list ≡ false → style.count ≡ true → (whole : Bool) (hits : List Hit) → printed style name whole hits ≡ cond whole (cond (some_hit hits) (name ++ (codes ": " ++ (decimal (length hits) ++ newline ∷ []))) []) []
   unfolding printed count_line
   printed_counted e h whole hits = rw (e, h) refl
 
-  printed_plain : style.list ≡ false → style.count ≡ false → (whole : Bool) (hits : List Hit) → printed style name whole hits ≡ flat_map (hit_line style name) hits
+  pub printed_plain : style.list ≡ false → style.count ≡ false → (whole : Bool) (hits : List Hit) → printed style name whole hits ≡ flat_map (hit_line style name) hits
   unfolding printed
   printed_plain e h whole hits = rw (e, h) refl
 
@@ -88,6 +88,11 @@ module _ (style : Style) (name : List ℕ) where
       (λ e. ⊎_elim (λ h. flat_none (shown style name) (shown_counted e h) hits ∙ sym (printed_counted e h false hits))
       (λ h. flat_same (shown style name) (hit_line style name) (shown_plain e h) hits ∙ sym (printed_plain e h false hits))
       (cases_Bool style.count)) (cases_Bool style.list)
+
+pub few_last : (style : Style) (name : List ℕ) (finds : List ℕ → Bool) (n : ℕ) (rest : List ℕ) → length (hits_from n finds (last_line rest)) ≤ 1
+unfolding hits_from
+few_last style name finds n [] = omega arith
+few_last style name finds n (b ∷ rest) = few_hits style name finds n (b ∷ rest)
 
 module _ (style : Style) (name : List ℕ) (finds : List ℕ → Bool) (text : List ℕ) (before after : Tally) (no_lines : before.lines ≡ 0) (no_hits : before.hits ≡ 0) (taken out : Option (List ℕ)) where
   from_one : (ls : List (List ℕ)) → hits_from (before.lines + 1) finds ls ≡ hits_from 1 finds ls
@@ -134,11 +139,6 @@ module _ (style : Style) (name : List ℕ) (finds : List ℕ → Bool) (text : L
           sym (ap (λ b. cond (b && some_hit hits) None fault) s.listed ∙ ap (λ b. cond b None fault) found),
         )
 
-  few_last : (n : ℕ) (rest : List ℕ) → length (hits_from n finds (last_line rest)) ≤ 1
-  unfolding hits_from
-  few_last n [] = omega arith
-  few_last n (b ∷ rest) = few_hits style name finds n (b ∷ rest)
-
   kept_fault : (b : Bool) → ◌≡◌ {A = Option ReadFault} (cond b None None) None
   kept_fault true = refl
   kept_fault false = refl
@@ -151,7 +151,7 @@ module _ (style : Style) (name : List ℕ) (finds : List ℕ → Bool) (text : L
       let tests = subst (λ ls. Tests style name finds ls before after taken out) all (Tests-more style name finds (ended_lines text) (last_line rest) before mid after taken now out (omega arith) front last) in
       let hits = hits_from 1 finds (lines text) in
       let count = hits_counted (lines text) tests in
-      let few = λ (e : style.list ≡ true). (let none = unlisted e in let h : length hits ≤ 1 = omega (arith, none, last.hits, few_last (mid.lines + 1) rest, count) in h) in (
+      let few = λ (e : style.list ≡ true). (let none = unlisted e in let h : length hits ≤ 1 = omega (arith, none, last.hits, few_last style name finds (mid.lines + 1) rest, count) in h) in (
         subst (Grows taken later) (ap (λ n. flat_map (shown style name) hits ++ total style name n) count ∙ printed_end style name hits few) (Grows-chain taken out later _ _ (hits_written (lines text) tests) written),
         ap (λ n. nat_lt 0 n) count ∙ some_counted hits,
         sym (kept_fault (style.list && some_hit hits)),

@@ -4,6 +4,7 @@ pub mod BlockLemmas
 pub mod BufferLemmas
 pub mod CgrepLemmas
 pub mod CsearchLemmas
+pub mod FrontLemmas
 pub mod HitLemmas
 pub mod Printing
 pub mod PromiseLemmas

@@ -1,10 +1,10 @@
 -- What is printed of inputs, one after another.
-use Rattle.std.proofs.Common.{◌≡◌, ℕ, Bool, false, List, [], ◌∷◌, ◌++◌, refl, sym, ap, subst, ◌∙◌, Option, Some, None, Result, Ok, Err, ◌≢◌, ◌||◌, append_assoc, append-nil, ◌+◌, ◌<◌, length, take, get_or}
+use Rattle.std.proofs.Common.{◌≡◌, ℕ, Bool, false, List, [], ◌∷◌, ◌++◌, refl, sym, ap, subst, ◌∙◌, Option, Some, None, Result, Ok, Err, ◌≢◌, ◌||◌, append_assoc, append-nil, ◌+◌, ◌<◌, length, take, drop, get_or, inl, inr}
 use Rattle.cs_tree.specs.TreeAnswers.{opening_of}
 use Rattle.cs_words.specs.FileFaults.{fault_line_of, file_fault_of}
 use Rattle.cs_tree.specs.Failures.{count_after, count_if}
 use Rattle.std.specs.Prelude.{option_map, map}
-use Rattle.std.proofs.lemmas.List.{take_more, map-append}
+use Rattle.std.proofs.lemmas.List.{take_more, map-append, take-append-drop}
 use Rattle.std.proofs.Math.Bool.{or-false, or_assoc}
 use Rattle.std.proofs.lemmas.List.Concat.{flat_map-append}
 use Rattle.cs_tree.specs.Told.{Told, Grows}
@@ -18,12 +18,14 @@ use Rattle.cs_words.specs.declared.fault.FileFault.{FileFault}
 use Rattle.cs_search.specs.declared.grep_fault.ReadFault.{ReadFault}
 use Rattle.cs_search.specs.declared.grep_fault.ReadFault.TheVariants.{Read, TooLong}
 use Rattle.cs_search.specs.declared.grepped.Grepped.{Grepped}
-use Rattle.cs_search.specs.InputReport.{Reports, told_report}
+use Rattle.cs_search.specs.GrepReports.{Reports, ReportsFront}
+use Rattle.cs_search.specs.InputReport.{told_report}
+use Rattle.cs_search.specs.Fronts.{TakesFront, TakesAll}
 use Rattle.cs_search.specs.GrepFaults.{is_failed_read}
-use Rattle.cs_search.specs.Printed.{left_fault, fault_text, Printed, then, nothing, all_printed, input_printed, opened_printed, file_printed, NamedFault, fault_lines, failures_of, TellsFaults, is_file_failure}
+use Rattle.cs_search.specs.Printed.{left_fault, fault_text, Printed, then, nothing, all_printed, input_printed, opened_printed, file_printed, PrintsFront, NamedFault, fault_lines, failures_of, AreFaultsOf, TellsFaults, is_file_failure}
 use Rattle.cs_search.specs.Searcher.{Prints, IsPrinted}
 use Rattle.cs_tree.proofs.Growing.{Grows-chain}
-use Rattle.cs_search.proofs.Printing.{Grows-same}
+use Rattle.cs_search.proofs.Printing.{Grows-same, front_none, front_all, front_left, front_right, front_then}
 
 module _ (most : ℕ) (tool : Tool) (style : Style) (finds : List ℕ → Bool) (name : List ℕ) where
   -- one input
@@ -57,6 +59,45 @@ module _ (most : ℕ) (tool : Tool) (style : Style) (finds : List ℕ → Bool) 
       subst (λ (opening : Result Told TreeFault). IsPrinted (opened_printed most tool style finds name opening) out out err err' false) (sym (refused-at fault (opening_of (item_at s name)) later not opens))
       (Grows-same out, grows, refl)
 
+  -- a refused search
+  pub PrintsFront-input : (told : Option Told) (out out' err : Option (List ℕ)) → ReportsFront told (told_report most style name finds) out out' → PrintsFront (option_map (input_printed most tool style finds name) told) out out' err err
+  unfolding input_printed
+  PrintsFront-input None out out' err front = tt
+  PrintsFront-input (Some told) out out' err front = (front, front_none _ err)
+
+  -- a refused line of a fault
+  pub PrintsFront-fault : (told : Option Told) (answer : Grepped) (fault : ReadFault) (out out' err err' : Option (List ℕ)) → answer.fault ≡ Some fault → Reports told (told_report most style name finds) out out' answer → TakesFront (fault_line_of tool name (left_fault fault)) err err' → PrintsFront (option_map (input_printed most tool style finds name) told) out out' err err'
+  unfolding input_printed
+  PrintsFront-fault None answer fault out out' err err' is r front = tt
+  PrintsFront-fault (Some told) answer fault out out' err err' is r front =
+      (front_all _ out out' r.0, subst (λ (why : Option ReadFault). TakesFront (fault_text tool name (option_map left_fault why)) err err') (sym is ∙ r.2) front)
+
+  front-at : (opening : Result Told TreeFault) (later : Option Told) (out out' err err' : Option (List ℕ)) → OpenedAs opening later → PrintsFront (option_map (input_printed most tool style finds name) later) out out' err err' → PrintsFront (Some (opened_printed most tool style finds name opening)) out out' err err'
+  front-at (Ok told) later out out' err err' is p = rw is at p
+  front-at (Err fault) later out out' err err' is p = absurd is
+
+  pub PrintsFront-opened : (snapshot : Option Snapshot) (later : Option Told) (out out' err err' : Option (List ℕ)) → Opens snapshot name (Ok tt) later → PrintsFront (option_map (input_printed most tool style finds name) (open_told snapshot later)) out out' err err' → PrintsFront (option_map (λ (s : Snapshot). file_printed most tool style finds s name) snapshot) out out' err err'
+  unfolding file_printed
+  PrintsFront-opened None later out out' err err' opens p = tt
+  PrintsFront-opened (Some s) later out out' err err' opens p = front-at (opening_of (item_at s name)) later out out' err err' opens p
+
+  pub PrintsFront-refused : (snapshot : Option Snapshot) (fault : TreeFault) (later : Option Told) (out err err' : Option (List ℕ)) → fault ≢ tree.Memory → Opens snapshot name (Err fault) later → TakesFront (fault_line_of tool name (file_fault_of fault)) err err' → PrintsFront (option_map (λ (s : Snapshot). file_printed most tool style finds s name) snapshot) out out err err'
+  unfolding file_printed
+  PrintsFront-refused None fault later out err err' not opens front = tt
+  PrintsFront-refused (Some s) fault later out err err' not opens front =
+      subst (λ (opening : Result Told TreeFault). PrintsFront (Some (opened_printed most tool style finds name opening)) out out err err') (sym (refused-at fault (opening_of (item_at s name)) later not opens))
+      (front_none _ out, front)
+
+pub PrintsFront-none : (printed : Option Printed) (out err : Option (List ℕ)) → PrintsFront printed out out err err
+PrintsFront-none None out err = tt
+PrintsFront-none (Some printed) out err = (front_none _ out, front_none _ err)
+
+-- all was printed, and nothing more was taken
+pub PrintsFront-all : (printed : Option Printed) (out now later err err-now err-later : Option (List ℕ)) (matched : Bool) → Prints printed out now err err-now matched → Grows now later [] → Grows err-now err-later [] → PrintsFront printed out later err err-later
+PrintsFront-all None out now later err err-now err-later matched p flushed flushed-err = tt
+PrintsFront-all (Some printed) out now later err err-now err-later matched p flushed flushed-err =
+    (front_then _ out now later (front_all _ out now p.0) flushed, front_then _ err err-now err-later (front_all _ err err-now p.1) flushed-err)
+
 -- ---- one after the other
 
 same_printed : (output output' errors errors' : List ℕ) (matched matched' : Bool) → output ≡ output' → errors ≡ errors' → matched ≡ matched' → ◌≡◌ {A = Printed} (record { output = output; errors = errors; matched = matched }) (record { output = output'; errors = errors'; matched = matched' })
@@ -81,6 +122,13 @@ Prints-then (Some s) first next both out now later err err-now err-later matched
     subst (λ (printed : Printed). IsPrinted printed out later err err-later (matched || last)) (sym (is s))
     (Grows-chain out now later _ _ p.0 q.0, Grows-chain err err-now err-later _ _ p.1 q.1, ap (λ b. b || last) p.2 ∙ ap (λ b. (first s).matched || b) q.2)
 
+-- of the first all, of the next a front, and of what follows nothing
+pub PrintsFront-then : (tree : Option Snapshot) (first next more both : Snapshot → Printed) (out now later err err-now err-later : Option (List ℕ)) (matched : Bool) → ((s : Snapshot) → both s ≡ then (then (first s) (next s)) (more s)) → Prints (option_map first tree) out now err err-now matched → PrintsFront (option_map next tree) now later err-now err-later → PrintsFront (option_map both tree) out later err err-later
+PrintsFront-then None first next more both out now later err err-now err-later matched is p q = tt
+PrintsFront-then (Some s) first next more both out now later err err-now err-later matched is p q =
+    subst (λ (printed : Printed). PrintsFront (Some printed) out later err err-later) (sym (is s))
+    (front_left _ _ out later (front_right _ _ out now later p.0 q.0), front_left _ _ err err-later (front_right _ _ err err-now err-later p.1 q.1))
+
 pub Prints-none : (tree : Option Snapshot) (printed : Snapshot → List ℕ → Printed) (out err : Option (List ℕ)) → Prints (option_map (λ (s : Snapshot). all_printed (printed s) []) tree) out out err err false
 unfolding all_printed
 Prints-none None printed out err = tt
@@ -89,7 +137,44 @@ Prints-none (Some s) printed out err = (Grows-same out, Grows-same err, refl)
 pub mapped_more : {X : Type 0} (f : X → List ℕ) (xs : List X) (i : ℕ) (x : X) → i < length xs → x ≡ get_or xs i x → map f (take (i + 1) xs) ≡ map f (take i xs) ++ f x ∷ []
 mapped_more f xs i x low is = ap (map f) (take_more xs i x low ∙ ap (λ y. take i xs ++ y ∷ []) (sym is)) ∙ map-append f (take i xs) (x ∷ [])
 
+pub all_append : (printed : List ℕ → Printed) (xs ys : List (List ℕ)) → all_printed printed (xs ++ ys) ≡ then (all_printed printed xs) (all_printed printed ys)
+unfolding all_printed
+all_append printed [] ys = refl
+all_append printed (name ∷ xs) ys =
+    ap (λ (rest : Printed). then (printed name) rest) (all_append printed xs ys)
+    ∙ then_then (printed name) (all_printed printed xs) (all_printed printed ys)
+
+pub mapped_rest : {X : Type 0} (f : X → List ℕ) (xs : List X) (i : ℕ) (x : X) → i < length xs → x ≡ get_or xs i x → map f xs ≡ (map f (take i xs) ++ f x ∷ []) ++ map f (drop (i + 1) xs)
+mapped_rest f xs i x low is =
+    ap (map f) (sym (take-append-drop (i + 1) xs)) ∙ map-append f (take (i + 1) xs) (drop (i + 1) xs)
+    ∙ ap (λ l. l ++ map f (drop (i + 1) xs)) (mapped_more f xs i x low is)
+
+pub all_mapped : {X : Type 0} (printed : List ℕ → Printed) (f : X → List ℕ) (xs : List X) (i : ℕ) (x : X) → i < length xs → x ≡ get_or xs i x → all_printed printed (map f xs) ≡ then (then (all_printed printed (map f (take i xs))) (printed (f x))) (all_printed printed (map f (drop (i + 1) xs)))
+all_mapped printed f xs i x low is =
+    ap (all_printed printed) (mapped_rest f xs i x low is)
+    ∙ all_append printed (map f (take i xs) ++ f x ∷ []) (map f (drop (i + 1) xs))
+    ∙ ap (λ (first : Printed). then first (all_printed printed (map f (drop (i + 1) xs)))) (all_more printed (map f (take i xs)) (f x))
+
 -- ---- faults
+
+-- a call that was answered, and one that was refused
+abbrev pub done : Result (Unit {0}) (Unit {0})
+done = Ok tt
+
+abbrev pub undone : Result (Unit {0}) (Unit {0})
+undone = Err tt
+
+faults_none : (names : List (List ℕ)) → AreFaultsOf names []
+faults_none [] = refl
+faults_none (name ∷ names) = inl (faults_none names)
+
+faults_one : (name : List ℕ) (why : FileFault) → AreFaultsOf (name ∷ []) ((name, why) ∷ [])
+faults_one name why = inr (why, [], refl, refl)
+
+faults_append : (names more : List (List ℕ)) (first next : List NamedFault) → AreFaultsOf names first → AreFaultsOf more next → AreFaultsOf (names ++ more) (first ++ next)
+faults_append [] more first next is then' = subst (λ (fs : List NamedFault). AreFaultsOf more (fs ++ next)) (sym is) then'
+faults_append (name ∷ names) more first next (inl is) then' = inl (faults_append names more first next is then')
+faults_append (name ∷ names) more first next (inr is) then' = inr (is.0, is.1 ++ next, ap (λ fs. fs ++ next) is.2, faults_append names more is.1 next is.3 then')
 
 module _ (tool : Tool) where
   left_counted : (fault : ReadFault) (n : ℕ) → count_if (is_failed_read (Some fault)) n ≡ count_if (is_file_failure (left_fault fault)) n
@@ -102,27 +187,52 @@ module _ (tool : Tool) where
   open_counted tree.Failed n not = refl
   open_counted tree.Memory n not = absurd (not refl)
 
-  one-line : (name : List ℕ) (fault : FileFault) → fault_lines tool ((name, fault) ∷ []) ≡ fault_line_of tool name fault
-  one-line name fault = append-nil (fault_line_of tool name fault)
+  takes-line : {A E : Type 0} (r : Result A E) (name : List ℕ) (fault : FileFault) (err err' : Option (List ℕ)) → TakesAll (fault_line_of tool name fault) err err' r → TakesAll (fault_lines tool ((name, fault) ∷ [])) err err' r
+  takes-line r name fault err err' takes = subst (λ bytes. TakesAll bytes err err' r) (sym (append-nil (fault_line_of tool name fault))) takes
 
-  pub Tells-none : (failed failed' : ℕ) (err err' : Option (List ℕ)) → failed' ≡ failed → err' ≡ err → TellsFaults tool failed failed' err err'
-  Tells-none failed failed' err err' same is = ([], same, subst (λ (e : Option (List ℕ)). Grows err e []) (sym is) (Grows-same err))
+  -- nothing failed, and nothing was printed
+  pub Tells-none : {A E : Type 0} (r : Result A E) (names : List (List ℕ)) (failed failed' : ℕ) (err err' : Option (List ℕ)) → failed' ≡ failed → err' ≡ err → TellsFaults tool names failed failed' err err' r
+  Tells-none (Ok x) names failed failed' err err' same is = ([], faults_none names, same, subst (λ (e : Option (List ℕ)). Grows err e []) (sym is) (Grows-same err))
+  Tells-none (Err e) names failed failed' err err' same is = ([], faults_none names, same, subst (TakesFront [] err) (sym is) (front_none [] err))
 
-  pub Tells-left : (fault : ReadFault) (name : List ℕ) (failed failed' : ℕ) (err err' : Option (List ℕ)) → failed' ≡ count_if (is_failed_read (Some fault)) failed → Grows err err' (fault_line_of tool name (left_fault fault)) → TellsFaults tool failed failed' err err'
-  Tells-left fault name failed failed' err err' count grows =
-      ((name, left_fault fault) ∷ [], count ∙ left_counted fault failed, subst (Grows err err') (sym (one-line name (left_fault fault))) grows)
+  pub Tells-left : {A E : Type 0} (r : Result A E) (fault : ReadFault) (name : List ℕ) (failed failed' : ℕ) (err err' : Option (List ℕ)) → failed' ≡ count_if (is_failed_read (Some fault)) failed → TakesAll (fault_line_of tool name (left_fault fault)) err err' r → TellsFaults tool (name ∷ []) failed failed' err err' r
+  Tells-left r fault name failed failed' err err' count takes =
+      ((name, left_fault fault) ∷ [], faults_one name (left_fault fault), count ∙ left_counted fault failed, takes-line r name (left_fault fault) err err' takes)
 
-  pub Tells-open : (fault : TreeFault) (name : List ℕ) (failed failed' : ℕ) (err err' : Option (List ℕ)) → fault ≢ tree.Memory → failed' ≡ count_after {A = Unit {0}} is_tree_failure (Err fault) failed → Grows err err' (fault_line_of tool name (file_fault_of fault)) → TellsFaults tool failed failed' err err'
-  Tells-open fault name failed failed' err err' not count grows =
-      ((name, file_fault_of fault) ∷ [], count ∙ open_counted fault failed not, subst (Grows err err') (sym (one-line name (file_fault_of fault))) grows)
+  pub Tells-open : {A E : Type 0} (r : Result A E) (fault : TreeFault) (name : List ℕ) (failed failed' : ℕ) (err err' : Option (List ℕ)) → fault ≢ tree.Memory → failed' ≡ count_after {A = Unit {0}} is_tree_failure (Err fault) failed → TakesAll (fault_line_of tool name (file_fault_of fault)) err err' r → TellsFaults tool (name ∷ []) failed failed' err err' r
+  Tells-open r fault name failed failed' err err' not count takes =
+      ((name, file_fault_of fault) ∷ [], faults_one name (file_fault_of fault), count ∙ open_counted fault failed not, takes-line r name (file_fault_of fault) err err' takes)
 
   failures_of-append : (a b : List NamedFault) (n : ℕ) → failures_of (a ++ b) n ≡ failures_of b (failures_of a n)
   failures_of-append [] b n = refl
   failures_of-append (fault ∷ a) b n = failures_of-append a b (count_if (is_file_failure fault.1) n)
 
-  pub Tells-more : (failed now later : ℕ) (err err-now err-later : Option (List ℕ)) → TellsFaults tool failed now err err-now → TellsFaults tool now later err-now err-later → TellsFaults tool failed later err err-later
-  Tells-more failed now later err err-now err-later first next = (
+  takes-more : {A E : Type 0} (r : Result A E) (first next : List NamedFault) (err err-now err-later : Option (List ℕ)) → Grows err err-now (fault_lines tool first) → TakesAll (fault_lines tool next) err-now err-later r → TakesAll (fault_lines tool (first ++ next)) err err-later r
+  takes-more (Ok x) first next err err-now err-later grows takes =
+      subst (Grows err err-later) (sym (flat_map-append (λ (fault : NamedFault). fault_line_of tool fault.0 fault.1) first next)) (Grows-chain err err-now err-later _ _ grows takes)
+  takes-more (Err e) first next err err-now err-later grows takes =
+      subst (λ bytes. TakesFront bytes err err-later) (sym (flat_map-append (λ (fault : NamedFault). fault_line_of tool fault.0 fault.1) first next)) (front_right _ _ err err-now err-later grows takes)
+
+  -- faults of some names, and then of more
+  pub Tells-more : {A E : Type 0} (r : Result A E) (names more : List (List ℕ)) (failed now later : ℕ) (err err-now err-later : Option (List ℕ)) → TellsFaults tool names failed now err err-now done → TellsFaults tool more now later err-now err-later r → TellsFaults tool (names ++ more) failed later err err-later r
+  Tells-more r names more failed now later err err-now err-later first next = (
     first.0 ++ next.0,
-    next.1 ∙ ap (failures_of next.0) first.1 ∙ sym (failures_of-append first.0 next.0 failed),
-    subst (Grows err err-later) (sym (flat_map-append (λ (fault : NamedFault). fault_line_of tool fault.0 fault.1) first.0 next.0)) (Grows-chain err err-now err-later _ _ first.2 next.2),
+    faults_append names more first.0 next.0 first.1 next.1,
+    next.2 ∙ ap (failures_of next.0) first.2 ∙ sym (failures_of-append first.0 next.0 failed),
+    takes-more r first.0 next.0 err err-now err-later first.3 next.3,
   )
+
+  -- the names that follow have none
+  pub Tells-rest : {A E : Type 0} (r : Result A E) (names more : List (List ℕ)) (failed failed' : ℕ) (err err' : Option (List ℕ)) → TellsFaults tool names failed failed' err err' r → TellsFaults tool (names ++ more) failed failed' err err' r
+  Tells-rest r names more failed failed' err err' told =
+      (told.0, subst (AreFaultsOf (names ++ more)) (append-nil told.0) (faults_append names more told.0 [] told.1 (faults_none more)), told.2, told.3)
+
+  -- the outputs are flushed
+  pub Tells-flushed : {A E : Type 0} (r : Result A E) (names : List (List ℕ)) (failed failed' : ℕ) (err err-now err-later : Option (List ℕ)) → TellsFaults tool names failed failed' err err-now done → Grows err-now err-later [] → TellsFaults tool names failed failed' err err-later r
+  Tells-flushed (Ok x) names failed failed' err err-now err-later told flushed =
+      (told.0, told.1, told.2, subst (Grows err err-later) (append-nil (fault_lines tool told.0)) (Grows-chain err err-now err-later _ [] told.3 flushed))
+  Tells-flushed (Err e) names failed failed' err err-now err-later told flushed =
+      (told.0, told.1, told.2, front_then _ err err-now err-later (front_all _ err err-now told.3) flushed)
+
+  pub Tells-refused : {A E : Type 0} (r : Result A E) (fault : E) (names : List (List ℕ)) (failed failed' : ℕ) (err err' : Option (List ℕ)) → r ≡ Err fault → TellsFaults tool names failed failed' err err' undone → TellsFaults tool names failed failed' err err' r
+  Tells-refused r fault names failed failed' err err' is told = rw is told

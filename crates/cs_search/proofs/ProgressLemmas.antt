@@ -35,7 +35,7 @@ HasTested-none (Some told) n Tested none t = subst (λ k. Tested (ended_lines (t
 -- ---- a piece more
 
 -- the front of what is told, with a piece more
-front_more : (told left later : Told) (n : ℕ) (piece : List ℕ) → n ≤ length told.bytes → told.bytes ≡ take n told.bytes ++ left.bytes → left.bytes ≡ piece ++ later.bytes → take (n + length piece) told.bytes ≡ take n told.bytes ++ piece
+pub front_more : (told left later : Told) (n : ℕ) (piece : List ℕ) → n ≤ length told.bytes → told.bytes ≡ take n told.bytes ++ left.bytes → left.bytes ≡ piece ++ later.bytes → take (n + length piece) told.bytes ≡ take n told.bytes ++ piece
 front_more told left later n piece within split next =
     take_on n (length piece) told.bytes
     ∙ ap (λ r. take n told.bytes ++ take (length piece) r) (ap (λ l. drop n l) split ∙ drop_at (take n told.bytes) left.bytes n (omega (arith, length-take n told.bytes)) ∙ next)

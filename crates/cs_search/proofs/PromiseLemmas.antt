@@ -1,11 +1,14 @@
 -- csearch prints what cgrep does where the files still read as they were indexed, and so where jobs left the index.
 use Rattle.std.proofs.Common.{◌≡◌, ℕ, ◌<◌, ◌^◌, List, length, refl, sym, ap, subst, ◌∙◌, Bool, true, false, Option, Some, None, Ok}
 use Rattle.cs_index.specs.Roundtrip.{parts_written, Has}
-use Rattle.std.specs.Prelude.{filter}
+use Rattle.std.specs.Prelude.{filter, option_map, string_bytes, ◌↔◌}
 use Rattle.std.specs.List.{AllByRecursion}
 use Rattle.std.specs.FinMap as map'
 use Rattle.cs_tree.specs.PathSet as set
-use Rattle.cs_syntax.specs.Matching.{Tree}
+use Rattle.cs_syntax.specs.Matching.{Tree, Found}
+use Rattle.cs_syntax.specs.Reading.{Reads}
+use Rattle.cs_match.specs.Finding.{Decides}
+use Rattle.cs_index.specs.Candidates.{candidates_of, is_answerable}
 use Rattle.cs_tree.specs.Snapshot.{Snapshot, item_at}
 use Rattle.cs_tree.specs.Reached.{read_item}
 use Rattle.cs_trigram.specs.Text.{text_trigrams, limits}
@@ -24,12 +27,17 @@ use Rattle.cs_history.specs.WellFormed.{IsHistory}
 use Rattle.cs_history.proofs.HistoryLemmas.{history_content, index_is}
 use Rattle.cs_words.specs.declared.jobs.Tool.TheVariants.{Csearch, Cgrep}
 use Rattle.cs_words.specs.declared.jobs.SearchJob.{SearchJob}
+use Rattle.cs_words.specs.declared.jobs.Tool.{Tool}
+use Rattle.cs_words.specs.declared.jobs.Style.{Style}
 use Rattle.cs_search.specs.declared.report.TheConstants.{MOST_SEARCHED}
 use Rattle.cs_search.specs.Cgrep.{searched_by_cgrep}
-use Rattle.cs_search.specs.Csearch.{OpensWith, IsQueryOf, Asks, Seeks, ReadsAs, Agrees, names_meeting, csearch_printed, PrintsAsked, PrintsLikeCgrep, PrintsAsPromised}
-use Rattle.cs_search.specs.Printed.{Printed, all_printed, file_printed}
+use Rattle.cs_search.specs.IndexSearch.{names_at, IsCompiled, DecidesNames}
+use Rattle.cs_search.specs.Csearch.{file_text, OpensWith, IsQueryOf, Asks, Seeks, ReadsAs, Agrees, names_meeting, csearch_printed, PrintsAsked, PrintsLikeCgrep, PrintsAsPromised}
+use Rattle.cs_search.specs.Printed.{Printed, PrintsFront, all_printed, file_printed}
 use Rattle.cs_search.proofs.AgreementLemmas.{search_alike}
-use Rattle.cs_search.proofs.CsearchLemmas.{names_of_files}
+use Rattle.cs_search.proofs.PrintedLemmas.{PrintsFront-none}
+use Rattle.cs_search.proofs.CgrepLemmas.{read_once, Decides-program}
+use Rattle.cs_search.proofs.CsearchLemmas.{names_of_files, names_decided, chosen}
 
 -- by `-brute` too no line is lost
 loses : (brute : Bool) (pattern : Tree) (query : Query) → IsQueryOf brute pattern query → LosesNoLine query pattern
@@ -37,7 +45,7 @@ loses true pattern query all = λ line set found has. ap (λ (q : Query). holds 
 loses false pattern query right = right.0
 
 -- bytes open in one way
-opens_once : (index : Option (List ℕ)) (a b : Parts) → OpensWith index a → OpensWith index b → a ≡ b
+pub opens_once : (index : Option (List ℕ)) (a b : Parts) → OpensWith index a → OpensWith index b → a ≡ b
 opens_once None a b x y = absurd x
 opens_once (Some bytes) a b x y = cc
 
@@ -48,6 +56,24 @@ module _ (job : SearchJob) (index : Option (List ℕ)) (finds keeps : List ℕ �
   alike agrees =
       search_alike job.style finds keeps tree asks.query tests.pattern (loses job.brute tests.pattern asks.query (asks.is_right tests.pattern tests.reads)) tests.decides Csearch Cgrep (files_read asks.parts) agrees
       ∙ ap (λ (names : List (List ℕ)). all_printed (file_printed MOST_SEARCHED Cgrep job.style finds tree) (filter keeps names)) (names_of_files 0 asks.parts.names (lists_in asks.parts))
+
+-- what is printed of the files that are chosen, by what was compiled
+module _ (job : SearchJob) (index : Option (List ℕ)) (tree : Option Snapshot) (Prints : Option Printed → Type 0) (asks : Asks job index) (whole : is_answerable asks.parts asks.query ≡ true)
+    (pattern : Tree) (reads : Reads (string_bytes job.pattern) job.fold pattern) (program matcher : Tree) (same : (line : List ℕ) → Found program line ↔ Found pattern line) (matches : matcher ≡ program)
+    (file names : Option Tree) (compiled : IsCompiled (file_text job) file) (named_by : names ≡ file) (ids : List ℕ) (are : ids ≡ candidates_of asks.parts asks.query) (tool : Tool) (is_tool : tool ≡ Csearch) (style : Style) (is_style : style ≡ job.style) where
+  abbrev Searched : (List ℕ → Bool) → (List ℕ → Bool) → Tool → Style → Option Printed
+  Searched finds keeps by in_style = option_map (λ (s : Snapshot). all_printed (file_printed MOST_SEARCHED by in_style finds s) (filter keeps (names_at asks.parts.names ids))) tree
+
+  pub searched : ((finds keeps : List ℕ → Bool) → Decides finds matcher → DecidesNames keeps names → Prints (option_map (λ (s : Snapshot). all_printed (file_printed MOST_SEARCHED tool style finds s) (filter keeps (names_at asks.parts.names ids))) tree)) → PrintsAsked MOST_SEARCHED job index tree Prints
+  searched prints = (
+    asks,
+    whole,
+    λ finds keeps seeks.
+        let decides = subst (Decides finds) (sym matches) (Decides-program finds pattern program seeks.pattern same (read_once (string_bytes job.pattern) job.fold pattern seeks.pattern reads seeks.reads) seeks.decides) in
+        let kept = subst (DecidesNames keeps) (sym named_by) (names_decided (file_text job) file keeps compiled seeks.names) in
+        subst Prints (ap (λ t. Searched finds keeps t style) is_tool ∙ ap (λ t. Searched finds keeps Csearch t) is_style ∙ chosen MOST_SEARCHED job.style finds keeps asks.parts asks.query tree ids are)
+        (prints finds keeps decides kept),
+  )
 
 module _ (job : SearchJob) (index : Option (List ℕ)) (tree : Option Snapshot) (Prints : Option Printed → Type 0) (by_index : PrintsAsked MOST_SEARCHED job index tree Prints) where
   -- what was printed, where the tree tells its snapshot
@@ -62,6 +88,10 @@ module _ (job : SearchJob) (index : Option (List ℕ)) (tree : Option Snapshot) 
       let same : parts ≡ asks.parts = opens_once index parts asks.parts opens asks.opens in
       let there : Agrees asks.parts snapshot = subst (λ (p : Parts). Agrees p snapshot) same agrees in
       subst Prints (ap (λ (p : Printed). Some p) (alike job index finds keeps asks tests snapshot there ∙ ap (λ (p : Parts). searched_by_cgrep MOST_SEARCHED job.style finds snapshot (filter keeps p.names)) (sym same))) (told_printed snapshot finds keeps is tests)
+
+-- where nothing was printed
+pub like_cgrep_quiet : (job : SearchJob) (index : Option (List ℕ)) (tree : Option Snapshot) (out err : Option (List ℕ)) → PrintsLikeCgrep MOST_SEARCHED job index tree (λ printed. PrintsFront printed out out err err)
+like_cgrep_quiet job index tree out err parts snapshot finds keeps opens is agrees seeks = PrintsFront-none (Some (searched_by_cgrep MOST_SEARCHED job.style finds snapshot (filter keeps parts.names))) out err
 
 -- ---- an index that jobs left
 

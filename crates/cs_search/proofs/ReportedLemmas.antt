@@ -7,7 +7,8 @@ use Rattle.cs_search.specs.declared.grep_fault.ReadFault.{ReadFault}
 use Rattle.cs_search.specs.declared.stop.Stop.TheVariants.{Listed, End, Left}
 use Rattle.cs_match.specs.Unended.{last_line}
 use Rattle.cs_search.specs.Report.{report}
-use Rattle.cs_search.specs.InputReport.{IsReported, Reports, told_report, fault_within}
+use Rattle.cs_search.specs.GrepReports.{IsReported, Reports}
+use Rattle.cs_search.specs.InputReport.{told_report, fault_within}
 use Rattle.cs_search.specs.TestedLines.{total, Tests}
 use Rattle.cs_search.specs.Progress.{Stops, FindsBy}
 use Rattle.cs_search.proofs.HitLemmas.{reported_left, reported_listed, reported_end}

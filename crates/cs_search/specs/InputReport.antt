@@ -1,11 +1,10 @@
--- What is searched of an input that tells its bytes, and what a search of it prints and answers.
+-- What is searched of an input that tells its bytes, and its report.
 -- docs/PROMISES.md, "What is printed"; docs/FORMAT.md, "Limits".
-use Rattle.std.specs.Prelude.{ℕ, ◌≡◌, nat_lt, if◌then◌else◌, Bool, List, length, take, Option, Some, None}
-use Rattle.cs_tree.specs.Told.{Told, Ending, ends, fails, Grows}
+use Rattle.std.specs.Prelude.{ℕ, nat_lt, if◌then◌else◌, Bool, List, length, take, Option, Some, None}
+use Rattle.cs_tree.specs.Told.{Told, Ending, ends, fails}
 use Rattle.cs_words.specs.declared.jobs.Style.{Style}
 use Rattle.cs_search.specs.declared.grep_fault.ReadFault.{ReadFault}
 use Rattle.cs_search.specs.declared.grep_fault.ReadFault.TheVariants.{Read, TooLong}
-use Rattle.cs_search.specs.declared.grepped.Grepped.{Grepped}
 use Rattle.cs_search.specs.Report.{Report, report}
 
 abbrev pub fault_at : Ending → Option ReadFault
@@ -20,13 +19,3 @@ fault_within most told = if nat_lt most (length told.bytes) then Some TooLong el
 unfoldable pub told_report : ℕ → Style → List ℕ → (List ℕ → Bool) → Told → Report ReadFault
 told_report most style name finds told =
     report style name finds (take most told.bytes) (fault_within most told)
-
--- The report's output was written, and the answer has its mark and its fault.
-abbrev pub IsReported : Report ReadFault → Option (List ℕ) → Option (List ℕ) → Grepped → Type 0
-IsReported report before after answer =
-    Grows before after report.output × (answer.matched ≡ report.matched) × (answer.fault ≡ report.fault)
-
--- that, where the input tells its bytes
-abbrev pub Reports : Option Told → (Told → Report ReadFault) → Option (List ℕ) → Option (List ℕ) → Grepped → Type 0
-Reports None report before after answer = Unit {0}
-Reports (Some told) report before after answer = IsReported (report told) before after answer

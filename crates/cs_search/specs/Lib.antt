@@ -11,12 +11,15 @@ pub use Rattle.cs_match.specs.Finding
 pub use Rattle.cs_match.specs.Lines
 pub mod Report
 pub mod InputReport
+pub mod GrepReports
 pub mod GrepFaults
 pub mod Printed
 pub mod Refusals
 pub mod Cgrep
+pub mod CgrepFaults
 pub mod Csearch
 pub mod Buffer
+pub mod Fronts
 -- What functions inside promise each other.
 pub mod TestedLines
 pub mod Progress

@@ -1,6 +1,6 @@
 -- What a tool prints and answers of the inputs that it searches, one after another.
 -- docs/PROMISES.md, "What is printed".
-use Rattle.std.specs.Prelude.{ℕ, ◌≡◌, Bool, true, false, ◌||◌, List, [], ◌∷◌, ◌++◌, Option, Some, None, option_map, Result, Ok, Err}
+use Rattle.std.specs.Prelude.{ℕ, ◌≡◌, ◌⊎◌, Bool, true, false, ◌||◌, List, [], ◌∷◌, ◌++◌, Option, Some, None, option_map, Result, Ok, Err}
 use Rattle.cs_tree.specs.TreeAnswers.{opening_of}
 use Rattle.cs_words.specs.FileFaults.{fault_line_of, file_fault_of}
 use Rattle.cs_tree.specs.Failures.{count_if}
@@ -16,6 +16,7 @@ use Rattle.cs_search.specs.declared.grep_fault.ReadFault.{ReadFault}
 use Rattle.cs_search.specs.declared.grep_fault.ReadFault.TheVariants.{Read, TooLong}
 use Rattle.cs_search.specs.declared.status.Status.{Status}
 use Rattle.cs_search.specs.declared.status.Status.TheVariants.{Matched, NoMatch}
+use Rattle.cs_search.specs.Fronts.{TakesFront, TakesAll}
 use Rattle.cs_search.specs.Report.{Report}
 use Rattle.cs_search.specs.InputReport.{told_report}
 
@@ -86,6 +87,16 @@ PrintsStatus None out out' err err' status = Unit {0}
 PrintsStatus (Some printed) out out' err err' status =
     Grows out out' printed.output × Grows err err' printed.errors × (status ≡ status_of printed.matched)
 
+-- ---- where a search is refused
+
+abbrev pub PrintsNothing : Option (List ℕ) → Option (List ℕ) → Option (List ℕ) → Option (List ℕ) → Type 0
+PrintsNothing out out' err err' = Grows out out' [] × Grows err err' []
+
+-- Of this each output has taken a front, where what was searched tells its bytes.
+abbrev pub PrintsFront : Option Printed → Option (List ℕ) → Option (List ℕ) → Option (List ℕ) → Option (List ℕ) → Type 0
+PrintsFront None out out' err err' = Unit {0}
+PrintsFront (Some printed) out out' err err' = TakesFront printed.output out out' × TakesFront printed.errors err err'
+
 -- ---- faults that are printed, and failures that are counted
 
 -- a name, and why it was not searched to its end
@@ -105,7 +116,17 @@ abbrev pub failures_of : List NamedFault → ℕ → ℕ
 failures_of [] n = n
 failures_of (fault ∷ faults) n = failures_of faults (count_if (is_file_failure fault.1) n)
 
--- The lines of some faults were printed and no other, and each that is a failure was counted.
-abbrev pub TellsFaults : Tool → ℕ → ℕ → Option (List ℕ) → Option (List ℕ) → Type 0
-TellsFaults tool failed failed' err err' =
-    (faults : List NamedFault) × (failed' ≡ failures_of faults failed) × Grows err err' (fault_lines tool faults)
+-- These are faults of some of the names, at most one for each, in the order of the names.
+abbrev pub AreFaultsOf : List (List ℕ) → List NamedFault → Type 0
+AreFaultsOf [] faults = faults ≡ []
+AreFaultsOf (name ∷ names) faults =
+    AreFaultsOf names faults
+    ⊎ ((why : FileFault) × (rest : List NamedFault) × (faults ≡ (name, why) ∷ rest) × AreFaultsOf names rest)
+
+-- The lines of some faults of the names were printed and no other, and where the call was refused a front of them; the
+-- failures that were counted are those among these faults.
+abbrev pub TellsFaults : {A E : Type 0} → Tool → List (List ℕ) → ℕ → ℕ → Option (List ℕ) → Option (List ℕ) →
+    Result A E → Type 0
+TellsFaults tool names failed failed' err err' result =
+    (faults : List NamedFault) × AreFaultsOf names faults
+    × (failed' ≡ failures_of faults failed) × TakesAll (fault_lines tool faults) err err' result

@@ -12,7 +12,7 @@ use Rattle.cs_match.specs.Lines.{ended_lines}
 use Rattle.cs_match.specs.Unended.{unended}
 use Rattle.cs_search.specs.InputReport.{fault_within}
 use Rattle.cs_search.specs.GrepFaults.{is_failed_read}
-use Rattle.cs_search.specs.TestedLines.{Tests, IsListed}
+use Rattle.cs_search.specs.TestedLines.{Tests, TestsFront, IsListed}
 
 -- So many bytes of what was told were read; this part after their last newline waits, and the lines before it are counted.
 abbrev pub HasRead : Option Told → Option Told → ℕ → List ℕ → ℕ → Type 0
@@ -58,6 +58,13 @@ module _ (style : Style) (name : List ℕ) (finds : List ℕ → Bool) (before a
   abbrev pub FindsBy : ℕ → Stop → Option Told → Type 0
   FindsBy most stop None = Unit {0}
   FindsBy most stop (Some told) = FindsAt most stop told
+
+-- a refused search has written a front of what is printed at the hits
+abbrev pub FindsFront : Style → List ℕ → (List ℕ → Bool) → ℕ → Option (List ℕ) → Option (List ℕ) → ℕ →
+    Option Told → Type 0
+FindsFront style name finds first taken later most None = Unit {0}
+FindsFront style name finds first taken later most (Some told) =
+    TestsFront style name finds (ended_lines (take most told.bytes)) first taken later
 
 -- a read of the input has failed, so that the search stops
 abbrev pub has_stop_failed : Result Stop GrepFault → Bool

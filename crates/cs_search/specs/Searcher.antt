@@ -1,6 +1,10 @@
 -- What the functions of a searcher promise each other: what stays as it was, what they print, and what refuses them.
 use Rattle.std.specs.Prelude.{ℕ, ◌≡◌, Bool, List, Option, Some, None, Result, Ok, Err}
-use Rattle.cs_tree.specs.Told.{Grows}
+use Rattle.cs_tree.specs.Told.{Told, Grows}
+use Rattle.cs_tree.specs.Transfers.{LosesAtMost}
+use Rattle.cs_tree.specs.Snapshot.{Snapshot, item_at}
+use Rattle.cs_tree.specs.TreeAnswers.{opening_of}
+use Rattle.cs_tree.specs.declared.fault.TreeFault.{TreeFault}
 use Rattle.cs_words.specs.declared.fault.ToolFault.{ToolFault}
 use Rattle.cs_words.specs.declared.fault.ToolFault.TheVariants.{Write, Memory}
 use Rattle.cs_search.specs.declared.searcher.Searcher.{Searcher}
@@ -20,6 +24,17 @@ IsPrinted printed out out' err err' matched =
 abbrev pub Prints : Option Printed → Option (List ℕ) → Option (List ℕ) → Option (List ℕ) → Option (List ℕ) → Bool → Type 0
 Prints None out out' err err' matched = Unit {0}
 Prints (Some printed) out out' err err' matched = IsPrinted printed out out' err err' matched
+
+-- Of what was opened at most so many bytes were read, where it is open yet.
+abbrev pub OpenLosesAtMost : ℕ → Result Told TreeFault → Option Told → Type 0
+OpenLosesAtMost most opening None = Unit {0}
+OpenLosesAtMost most (Ok told) (Some left) = LosesAtMost most (Some told) (Some left)
+OpenLosesAtMost most (Err fault) (Some left) = ⊥
+
+-- that, of what stands at the name
+abbrev pub FileLosesAtMost : ℕ → Option Snapshot → List ℕ → Option Told → Type 0
+FileLosesAtMost most None name left = Unit {0}
+FileLosesAtMost most (Some tree) name left = OpenLosesAtMost most (opening_of (item_at tree name)) left
 
 -- A search is refused for a write that has failed, or for want of memory.
 abbrev pub IsSearchFault : {A : Type 0} → Result A ToolFault → Type 0

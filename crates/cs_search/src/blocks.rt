@@ -1,12 +1,12 @@
 // Searches of lines, and of blocks of lines.
-ghost use Rattle.std.specs.Prelude.{◌≡◌, ◌≤◌, ◌<◌, ◌+◌, ◌-◌, ◌^◌, ◌∷◌, [], ℕ, Bool, true, false, List, OnOk, IfOk, IfSome, MatchBool, MatchOption, length, take, drop};
+ghost use Rattle.std.specs.Prelude.{◌≡◌, ◌≤◌, ◌<◌, ◌+◌, ◌-◌, ◌^◌, ◌∷◌, [], ℕ, Bool, true, false, List, OnOk, OnErr, IfOk, IfSome, MatchBool, MatchOption, length, take, drop};
 ghost use Rattle.cs_search.specs.GrepFaults.{is_grep_failure};
 ghost use Rattle.cs_tree.specs.Failures.{count_after};
 ghost use Rattle.cs_match.specs.Finding.{Decides};
 ghost use Rattle.cs_match.specs.Lines.{newline, ended_lines, IsPart};
 ghost use Rattle.cs_match.specs.Skipping.{AreWhole, NoneFound};
 ghost use Rattle.cs_match.specs.Unended.{unended};
-ghost use Rattle.cs_search.specs.TestedLines.{Tests, IsListed};
+ghost use Rattle.cs_search.specs.TestedLines.{Tests, TestsFront, IsListed};
 
 use crate::form::Form;
 use crate::grep_fault::GrepFault;
@@ -27,6 +27,9 @@ pub(crate) fn search_line<O: Sink>(
     ensures lines { OnOk result (tally.new.lines ≡ tally.old.lines + 1) }
     ensures tests { OnOk result ((finds : List ℕ → Bool) → Decides finds matcher.old →
         Tests form.now.style form.now.name.now finds (line.now ∷ []) tally.old tally.new
+        (O.taken out.old) (O.taken out.new)) }
+    ensures front { OnErr result ((finds : List ℕ → Bool) → Decides finds matcher.old →
+        TestsFront form.now.style form.now.name.now finds (line.now ∷ []) (tally.old.lines + 1)
         (O.taken out.old) (O.taken out.new)) }
     ensures same { matcher.new ≡ matcher.old }
     ensures failed { O.failed out.new ≡ count_after is_grep_failure result (O.failed out.old) }
@@ -107,6 +110,9 @@ fn search_lines<O: Sink>(
         (tally.old.lines + 1) tally.new (O.taken out.old) (O.taken out.new))
         (Tests form.now.style form.now.name.now finds (ended_lines block.now)
         tally.old tally.new (O.taken out.old) (O.taken out.new))) }
+    ensures front { OnErr result ((finds : List ℕ → Bool) → Decides finds matcher.old →
+        TestsFront form.now.style form.now.name.now finds (ended_lines block.now) (tally.old.lines + 1)
+        (O.taken out.old) (O.taken out.new)) }
     ensures unlisted { IfOk result (λ listed. listed ≡ false →
         form.now.style.list ≡ true → tally.new.hits ≡ 0) }
     ensures same { matcher.new ≡ matcher.old }
@@ -147,6 +153,9 @@ pub(crate) fn search_block<O: Sink>(
         (tally.old.lines + 1) tally.new (O.taken out.old) (O.taken out.new))
         (λ start. Tests form.now.style form.now.name.now finds (ended_lines block.now)
         tally.old tally.new (O.taken out.old) (O.taken out.new))) }
+    ensures front { OnErr result ((finds : List ℕ → Bool) → Decides finds matcher.old →
+        TestsFront form.now.style form.now.name.now finds (ended_lines block.now) (tally.old.lines + 1)
+        (O.taken out.old) (O.taken out.new)) }
     ensures unlisted { IfOk result (λ answer. IfSome answer
         (λ start. form.now.style.list ≡ true → tally.new.hits ≡ 0)) }
     ensures same { matcher.new ≡ matcher.old }

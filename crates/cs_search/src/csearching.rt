@@ -1,15 +1,15 @@
 // The tool that searches by an index.
-ghost use Rattle.std.specs.Prelude.{◌≡◌, ℕ, Bool, List, [], ◌∷◌, IfOk, IfErr, option_map, option_copied, filter};
+ghost use Rattle.std.specs.Prelude.{◌≡◌, ◌⊎◌, ℕ, Bool, List, [], ◌∷◌, IfOk, IfErr, OnErr, option_map, option_copied, filter};
 ghost use Rattle.cs_tree.specs.Failures.{CountsOne};
 ghost use Rattle.cs_match.specs.Finding.{Decides};
+ghost use Rattle.cs_index.specs.Opening.{Parts};
 ghost use Rattle.cs_tree.specs.Snapshot.{Snapshot};
-ghost use Rattle.cs_tree.specs.Told.{Grows};
 ghost use Rattle.cs_words.specs.declared.jobs.Tool.TheVariants.{Csearch};
 ghost use Rattle.cs_search.specs.Searcher.{IsSearchFault, IsKept, Prints};
 ghost use Rattle.cs_search.specs.Refusals.{has_write_failed, QuietAtRefusal};
-ghost use Rattle.cs_search.specs.Csearch.{OpensWith, IsQueryOf, PrintsAsked, PrintsLikeCgrep, PrintsAsPromised, RefusedInOrder};
+ghost use Rattle.cs_search.specs.Csearch.{OpensWith, IsQueryOf, PrintsAsked, PrintsLikeCgrep, PrintsAsPromised, AreAccepted, RefusedInOrder};
 ghost use Rattle.cs_search.specs.IndexSearch.{names_at, DecidesNames, OpenRefused};
-ghost use Rattle.cs_search.specs.Printed.{PrintsStatus, TellsFaults, all_printed, file_printed};
+ghost use Rattle.cs_search.specs.Printed.{PrintsStatus, PrintsNothing, PrintsFront, TellsFaults, all_printed, file_printed};
 
 use crate::names::{NameFilter, compile_file};
 use crate::report::MOST_SEARCHED;
@@ -27,6 +27,8 @@ use std::alloc::{AllocError, Global};
 /// Prints the lines that match the pattern of the job, in the indexed files that may have one, in the order of their
 /// ids. A line on `err` names each file that could not be searched to its end. At the end both outputs are flushed,
 /// `out` first. Refusals come before any output: of the pattern, of that of `-f`, for want of an index, of a bad one.
+/// Where it is refused for a write or for want of memory, each output has taken a front of what it prints, and a line
+/// that blames a file tells of a failure that the tree counted.
 pub fn csearch<T: Tree, O: Sink, E: Sink>(
     alloc: Global,
     job: &SearchJob,
@@ -47,12 +49,22 @@ pub fn csearch<T: Tree, O: Sink, E: Sink>(
         (option_copied index.entry) (T.snapshot tree.old)
         (λ printed. PrintsStatus printed
         (O.taken out.old) (O.taken out.new) (E.taken err.old) (E.taken err.new) status)) }
+    ensures front { OnErr result
+        (PrintsNothing (O.taken out.old) (O.taken out.new) (E.taken err.old) (E.taken err.new)
+        ⊎ (AreAccepted job.now × PrintsAsked MOST_SEARCHED job.now
+        (option_copied index.entry) (T.snapshot tree.old)
+        (λ printed. PrintsFront printed
+        (O.taken out.old) (O.taken out.new) (E.taken err.old) (E.taken err.new)))) }
+    ensures front_agrees { OnErr result (PrintsLikeCgrep MOST_SEARCHED job.now
+        (option_copied index.entry) (T.snapshot tree.old)
+        (λ printed. PrintsFront printed
+        (O.taken out.old) (O.taken out.new) (E.taken err.old) (E.taken err.new))) }
     ensures refused { RefusedInOrder job.now (option_copied index.entry) result }
     ensures quiet { QuietAtRefusal result
-        (Grows (O.taken out.old) (O.taken out.new) []
-        × Grows (E.taken err.old) (E.taken err.new) []) }
-    ensures faults { IfOk result (λ _. TellsFaults Csearch
-        (T.failed tree.old) (T.failed tree.new) (E.taken err.old) (E.taken err.new)) }
+        (PrintsNothing (O.taken out.old) (O.taken out.new) (E.taken err.old) (E.taken err.new)) }
+    ensures faults { (parts : Parts) → OpensWith (option_copied index.entry) parts →
+        TellsFaults Csearch parts.names
+        (T.failed tree.old) (T.failed tree.new) (E.taken err.old) (E.taken err.new) result }
     ensures writes { CountsOne (has_write_failed result)
         (O.failed out.old) (O.failed out.new) (E.failed err.old) (E.failed err.new) }
     ensures keeps { T.snapshot tree.new ≡ T.snapshot tree.old }
@@ -109,8 +121,14 @@ fn search_ids<T: Tree, O: Sink, E: Sink>(
         (file_printed MOST_SEARCHED searcher.old.tool searcher.old.style finds tree)
         (filter keeps (names_at index.now.names ids.now))) (T.snapshot tree.old))
         (O.taken out.old) (O.taken out.new) (E.taken err.old) (E.taken err.new) matched) }
-    ensures faults { IfOk result (λ _. TellsFaults searcher.old.tool
-        (T.failed tree.old) (T.failed tree.new) (E.taken err.old) (E.taken err.new)) }
+    ensures front { OnErr result ((finds keeps : List ℕ → Bool) →
+        Decides finds searcher.old.matcher → DecidesNames keeps kept.old.matcher →
+        PrintsFront (option_map (λ tree. all_printed
+        (file_printed MOST_SEARCHED searcher.old.tool searcher.old.style finds tree)
+        (filter keeps (names_at index.now.names ids.now))) (T.snapshot tree.old))
+        (O.taken out.old) (O.taken out.new) (E.taken err.old) (E.taken err.new)) }
+    ensures faults { TellsFaults searcher.old.tool (names_at index.now.names ids.now)
+        (T.failed tree.old) (T.failed tree.new) (E.taken err.old) (E.taken err.new) result }
     ensures writes { CountsOne (has_write_failed result)
         (O.failed out.old) (O.failed out.new) (E.failed err.old) (E.failed err.new) }
     ensures only { IsSearchFault result }
@@ -139,8 +157,14 @@ fn search_id<T: Tree, O: Sink, E: Sink>(
         (file_printed MOST_SEARCHED searcher.old.tool searcher.old.style finds tree)
         (filter keeps (names_at index.now.names (id ∷ [])))) (T.snapshot tree.old))
         (O.taken out.old) (O.taken out.new) (E.taken err.old) (E.taken err.new) matched) }
-    ensures faults { IfOk result (λ _. TellsFaults searcher.old.tool
-        (T.failed tree.old) (T.failed tree.new) (E.taken err.old) (E.taken err.new)) }
+    ensures front { OnErr result ((finds keeps : List ℕ → Bool) →
+        Decides finds searcher.old.matcher → DecidesNames keeps kept.old.matcher →
+        PrintsFront (option_map (λ tree. all_printed
+        (file_printed MOST_SEARCHED searcher.old.tool searcher.old.style finds tree)
+        (filter keeps (names_at index.now.names (id ∷ [])))) (T.snapshot tree.old))
+        (O.taken out.old) (O.taken out.new) (E.taken err.old) (E.taken err.new)) }
+    ensures faults { TellsFaults searcher.old.tool (names_at index.now.names (id ∷ []))
+        (T.failed tree.old) (T.failed tree.new) (E.taken err.old) (E.taken err.new) result }
     ensures writes { CountsOne (has_write_failed result)
         (O.failed out.old) (O.failed out.new) (E.failed err.old) (E.failed err.new) }
     ensures only { IsSearchFault result }

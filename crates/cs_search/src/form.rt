@@ -1,9 +1,9 @@
 // How what is found in an input is printed.
-ghost use Rattle.std.specs.Prelude.{◌≡◌, ◌++◌, ◌∷◌, [], ℕ, OnOk, codes, decimal, if◌then◌else◌};
+ghost use Rattle.std.specs.Prelude.{◌≡◌, ◌++◌, ◌∷◌, [], ℕ, codes, decimal, if◌then◌else◌};
 ghost use Rattle.cs_search.specs.GrepFaults.{is_grep_failure};
 ghost use Rattle.cs_tree.specs.Failures.{count_after};
-ghost use Rattle.cs_tree.specs.Told.{Grows};
 ghost use Rattle.cs_match.specs.Lines.{newline};
+ghost use Rattle.cs_search.specs.Fronts.{TakesAll};
 ghost use Rattle.cs_search.specs.Report.{hit_line};
 ghost use Rattle.cs_search.specs.TestedLines.{shown, total};
 
@@ -28,8 +28,8 @@ impl Form<'_> {
         line: &[u8],
         out: &mut O,
     ) -> Result<(), GrepFault>
-        ensures written { OnOk result (Grows (O.taken out.old) (O.taken out.new)
-            (shown self.now.style self.now.name.now (number, line.now))) }
+        ensures written { TakesAll (shown self.now.style self.now.name.now (number, line.now))
+            (O.taken out.old) (O.taken out.new) result }
         ensures failed { O.failed out.new ≡ count_after is_grep_failure result (O.failed out.old) }
     {
         if self.style.list {
@@ -46,8 +46,8 @@ impl Form<'_> {
     /// The name on a line.
     #[tactic(auto, using(crate::proofs::Printing::printing))]
     fn print_name<O: Sink>(&self, out: &mut O) -> Result<(), GrepFault>
-        ensures written { OnOk result (Grows (O.taken out.old) (O.taken out.new)
-            (self.now.name.now ++ newline ∷ [])) }
+        ensures written { TakesAll (self.now.name.now ++ newline ∷ [])
+            (O.taken out.old) (O.taken out.new) result }
         ensures failed { O.failed out.new ≡ count_after is_grep_failure result (O.failed out.old) }
     {
         write_all(out, self.name.as_bytes())?;
@@ -58,8 +58,8 @@ impl Form<'_> {
     /// The line, after the name and the number that the style asks for.
     #[tactic(auto, using(crate::proofs::Printing::printing), unfolding(crate::specs::Report::hit_line))]
     fn print_line<O: Sink>(&self, number: u64, line: &[u8], out: &mut O) -> Result<(), GrepFault>
-        ensures written { OnOk result (Grows (O.taken out.old) (O.taken out.new)
-            (hit_line self.now.style self.now.name.now (number, line.now))) }
+        ensures written { TakesAll (hit_line self.now.style self.now.name.now (number, line.now))
+            (O.taken out.old) (O.taken out.new) result }
         ensures failed { O.failed out.new ≡ count_after is_grep_failure result (O.failed out.old) }
     {
         self.print_front(out)?;
@@ -72,8 +72,8 @@ impl Form<'_> {
     /// `NAME:`, and under `-h` nothing.
     #[tactic(auto, using(crate::proofs::Printing::printing))]
     fn print_front<O: Sink>(&self, out: &mut O) -> Result<(), GrepFault>
-        ensures written { OnOk result (Grows (O.taken out.old) (O.taken out.new)
-            (if self.now.style.bare then [] else self.now.name.now ++ codes ":")) }
+        ensures written { TakesAll (if self.now.style.bare then [] else self.now.name.now ++ codes ":")
+            (O.taken out.old) (O.taken out.new) result }
         ensures failed { O.failed out.new ≡ count_after is_grep_failure result (O.failed out.old) }
     {
         if self.style.bare {
@@ -87,8 +87,8 @@ impl Form<'_> {
     /// `NUMBER:` under `-n`, and else nothing.
     #[tactic(auto, using(crate::proofs::Printing::printing))]
     fn print_number<O: Sink>(&self, number: u64, out: &mut O) -> Result<(), GrepFault>
-        ensures written { OnOk result (Grows (O.taken out.old) (O.taken out.new)
-            (if self.now.style.number then decimal number ++ codes ":" else [])) }
+        ensures written { TakesAll (if self.now.style.number then decimal number ++ codes ":" else [])
+            (O.taken out.old) (O.taken out.new) result }
         ensures failed { O.failed out.new ≡ count_after is_grep_failure result (O.failed out.old) }
     {
         if !self.style.number {
@@ -102,8 +102,8 @@ impl Form<'_> {
     /// What is printed at the end of an input where so many lines matched: under `-c` without `-l` their number.
     #[tactic(auto, using(crate::proofs::Printing::printing), unfolding(crate::specs::TestedLines::total))]
     pub(crate) fn print_total<O: Sink>(&self, count: u64, out: &mut O) -> Result<(), GrepFault>
-        ensures written { OnOk result (Grows (O.taken out.old) (O.taken out.new)
-            (total self.now.style self.now.name.now count)) }
+        ensures written { TakesAll (total self.now.style self.now.name.now count)
+            (O.taken out.old) (O.taken out.new) result }
         ensures failed { O.failed out.new ≡ count_after is_grep_failure result (O.failed out.old) }
     {
         if self.style.list || !self.style.count || count == 0 {
@@ -116,8 +116,8 @@ impl Form<'_> {
     /// `NAME: COUNT` on a line.
     #[tactic(auto, using(crate::proofs::Printing::printing))]
     fn print_count<O: Sink>(&self, count: u64, out: &mut O) -> Result<(), GrepFault>
-        ensures written { OnOk result (Grows (O.taken out.old) (O.taken out.new)
-            (self.now.name.now ++ (codes ": " ++ (decimal count ++ newline ∷ [])))) }
+        ensures written { TakesAll (self.now.name.now ++ (codes ": " ++ (decimal count ++ newline ∷ [])))
+            (O.taken out.old) (O.taken out.new) result }
         ensures failed { O.failed out.new ≡ count_after is_grep_failure result (O.failed out.old) }
     {
         write_all(out, self.name.as_bytes())?;
@@ -130,7 +130,7 @@ impl Form<'_> {
 
 /// The digits of a number.
 fn write_number<O: Sink>(number: u64, out: &mut O) -> Result<(), GrepFault>
-    ensures written { OnOk result (Grows (O.taken out.old) (O.taken out.new) (decimal number)) }
+    ensures written { TakesAll (decimal number) (O.taken out.old) (O.taken out.new) result }
     ensures failed { O.failed out.new ≡ count_after is_grep_failure result (O.failed out.old) }
 {
     let mut digits = Buffer::new();
@@ -140,7 +140,7 @@ fn write_number<O: Sink>(number: u64, out: &mut O) -> Result<(), GrepFault>
 
 /// A newline.
 fn end_line<O: Sink>(out: &mut O) -> Result<(), GrepFault>
-    ensures written { OnOk result (Grows (O.taken out.old) (O.taken out.new) (newline ∷ [])) }
+    ensures written { TakesAll (newline ∷ []) (O.taken out.old) (O.taken out.new) result }
     ensures failed { O.failed out.new ≡ count_after is_grep_failure result (O.failed out.old) }
 {
     write_all(out, b"\n")?;

@@ -1,11 +1,11 @@
 // The reading of one input, and the search of what is read.
-ghost use Rattle.std.specs.Prelude.{◌≡◌, ◌≤◌, ◌<◌, ◌+◌, ◌^◌, [], ℕ, Bool, true, List, IfOk, IsOkUnless, length};
+ghost use Rattle.std.specs.Prelude.{◌≡◌, ◌≤◌, ◌<◌, ◌+◌, ◌^◌, [], ℕ, Bool, true, List, IfOk, OnErr, IsOkUnless, length};
 ghost use Rattle.cs_tree.specs.Transfers.{LosesAtMost};
 ghost use Rattle.cs_search.specs.GrepFaults.{is_grep_failure};
 ghost use Rattle.cs_tree.specs.Failures.{count_after, count_if};
 ghost use Rattle.cs_match.specs.Finding.{Decides};
 ghost use Rattle.cs_search.specs.Buffer.{pending};
-ghost use Rattle.cs_search.specs.Progress.{StopsHere, Stops, UnlessListed, FindsBy, has_stop_failed};
+ghost use Rattle.cs_search.specs.Progress.{StopsHere, Stops, UnlessListed, FindsBy, FindsFront, has_stop_failed};
 
 use crate::blocks::search_block;
 use crate::buffer::LineBuffer;
@@ -38,6 +38,9 @@ pub(crate) fn search_input<R: Source, O: Sink>(
     ensures finds { IfOk result (λ stop. (finds : List ℕ → Bool) → Decides finds matcher.old →
         FindsBy form.now.style form.now.name.now finds tally.old tally.new
         (O.taken out.old) (O.taken out.new) most stop (R.told input.old)) }
+    ensures front { OnErr result ((finds : List ℕ → Bool) → Decides finds matcher.old →
+        FindsFront form.now.style form.now.name.now finds (tally.old.lines + 1)
+        (O.taken out.old) (O.taken out.new) most (R.told input.old)) }
     ensures unlisted { IfOk result (λ stop. UnlessListed stop
         (form.now.style.list ≡ true → tally.new.hits ≡ 0)) }
     ensures loses { LosesAtMost (most + 1) (R.told input.old) (R.told input.new) }

@@ -1,12 +1,13 @@
 // Searches of one input.
-ghost use Rattle.std.specs.Prelude.{◌≡◌, ◌<◌, ◌+◌, ◌^◌, ℕ, Bool, List, OnOk, IfOk};
+ghost use Rattle.std.specs.Prelude.{◌≡◌, ◌<◌, ◌+◌, ◌^◌, ℕ, Bool, List, OnOk, OnErr, IfOk};
 ghost use Rattle.cs_tree.specs.Transfers.{LosesAtMost};
 ghost use Rattle.cs_tree.specs.Failures.{count_after, count_if};
 ghost use Rattle.cs_match.specs.Finding.{Decides};
 ghost use Rattle.cs_match.specs.Unended.{last_line};
-ghost use Rattle.cs_search.specs.InputReport.{Reports, told_report};
+ghost use Rattle.cs_search.specs.GrepReports.{Reports, ReportsFront};
+ghost use Rattle.cs_search.specs.InputReport.{told_report};
 ghost use Rattle.cs_search.specs.GrepFaults.{is_grep_failure, has_read_failed};
-ghost use Rattle.cs_search.specs.TestedLines.{Tests};
+ghost use Rattle.cs_search.specs.TestedLines.{Tests, TestsFront};
 
 use crate::blocks::search_line;
 use crate::buffer::LineBuffer;
@@ -25,8 +26,8 @@ use std::alloc::Global;
 pub const MOST_SEARCHED: usize = 1073741824;
 
 /// Prints what a search of the input finds, as the style asks, and answers whether some line matched and why the input
-/// was left before its end. It flushes nothing. With `-l` nothing is read past the read that completed the first
-/// matching line.
+/// was left before its end. Where it is refused, a front of that was printed. It flushes nothing. With `-l` nothing is
+/// read past the read that completed the first matching line.
 pub fn grep<R: Source, O: Sink>(
     alloc: Global,
     name: &str,
@@ -38,6 +39,9 @@ pub fn grep<R: Source, O: Sink>(
     ensures report { IfOk result (λ answer. (finds : List ℕ → Bool) → Decides finds matcher.old →
         Reports (R.told input.old) (told_report MOST_SEARCHED style name.now finds)
         (O.taken out.old) (O.taken out.new) answer) }
+    ensures front { OnErr result ((finds : List ℕ → Bool) → Decides finds matcher.old →
+        ReportsFront (R.told input.old) (told_report MOST_SEARCHED style name.now finds)
+        (O.taken out.old) (O.taken out.new)) }
     ensures read_failed { R.failed input.new ≡
         count_if (has_read_failed result) (R.failed input.old) }
     ensures write_failed { O.failed out.new ≡
@@ -71,6 +75,9 @@ pub fn grep_within<R: Source, O: Sink>(
     ensures report { IfOk result (λ answer. (finds : List ℕ → Bool) → Decides finds matcher.old →
         Reports (R.told input.old) (told_report most form.now.style form.now.name.now finds)
         (O.taken out.old) (O.taken out.new) answer) }
+    ensures front { OnErr result ((finds : List ℕ → Bool) → Decides finds matcher.old →
+        ReportsFront (R.told input.old) (told_report most form.now.style form.now.name.now finds)
+        (O.taken out.old) (O.taken out.new)) }
     ensures read_failed { R.failed input.new ≡
         count_if (has_read_failed result) (R.failed input.old) }
     ensures write_failed { O.failed out.new ≡
@@ -112,6 +119,9 @@ fn search_rest<O: Sink>(
     requires { tally.old.lines + 1 < 2 ^ 64 }
     ensures tests { OnOk result ((finds : List ℕ → Bool) → Decides finds matcher.old →
         Tests form.now.style form.now.name.now finds (last_line rest.now) tally.old tally.new
+        (O.taken out.old) (O.taken out.new)) }
+    ensures front { OnErr result ((finds : List ℕ → Bool) → Decides finds matcher.old →
+        TestsFront form.now.style form.now.name.now finds (last_line rest.now) (tally.old.lines + 1)
         (O.taken out.old) (O.taken out.new)) }
     ensures same { matcher.new ≡ matcher.old }
     ensures failed { O.failed out.new ≡ count_after is_grep_failure result (O.failed out.old) }

@@ -1,12 +1,13 @@
 // What a tool searches its inputs with.
-ghost use Rattle.std.specs.Prelude.{◌≡◌, ℕ, Bool, List, IfOk, OnOk, option_map, map, string_bytes};
+ghost use Rattle.std.specs.Prelude.{◌≡◌, ◌+◌, ℕ, Bool, List, [], ◌∷◌, IfOk, OnErr, option_map, map, string_bytes};
 ghost use Rattle.cs_words.specs.FileFaults.{fault_line_of};
 ghost use Rattle.cs_tree.specs.Failures.{count_if, CountsOne};
+ghost use Rattle.cs_tree.specs.Transfers.{LosesAtMost};
 ghost use Rattle.cs_match.specs.Finding.{Decides};
-ghost use Rattle.cs_tree.specs.Told.{Grows};
-ghost use Rattle.cs_search.specs.Searcher.{IsSearchFault, Prints};
+ghost use Rattle.cs_search.specs.Fronts.{TakesAll};
+ghost use Rattle.cs_search.specs.Searcher.{IsSearchFault, Prints, FileLosesAtMost};
 ghost use Rattle.cs_search.specs.Refusals.{has_write_failed};
-ghost use Rattle.cs_search.specs.Printed.{input_printed, file_printed, all_printed, left_fault, TellsFaults};
+ghost use Rattle.cs_search.specs.Printed.{input_printed, file_printed, all_printed, left_fault, PrintsFront, TellsFaults};
 
 use crate::buffer::LineBuffer;
 use crate::form::Form;
@@ -65,8 +66,14 @@ impl<'p> Searcher<'p> {
             (input_printed MOST_SEARCHED self.old.tool self.old.style finds name.now)
             (R.told input.old))
             (O.taken out.old) (O.taken out.new) (E.taken err.old) (E.taken err.new) matched) }
-        ensures faults { IfOk result (λ _. TellsFaults self.old.tool
-            (R.failed input.old) (R.failed input.new) (E.taken err.old) (E.taken err.new)) }
+        ensures front { OnErr result ((finds : List ℕ → Bool) → Decides finds self.old.matcher →
+            PrintsFront (option_map
+            (input_printed MOST_SEARCHED self.old.tool self.old.style finds name.now)
+            (R.told input.old))
+            (O.taken out.old) (O.taken out.new) (E.taken err.old) (E.taken err.new)) }
+        ensures loses { LosesAtMost (MOST_SEARCHED + 1) (R.told input.old) (R.told input.new) }
+        ensures faults { TellsFaults self.old.tool (name.now ∷ [])
+            (R.failed input.old) (R.failed input.new) (E.taken err.old) (E.taken err.new) result }
         ensures writes { CountsOne (has_write_failed result)
             (O.failed out.old) (O.failed out.new) (E.failed err.old) (E.failed err.new) }
         ensures only { IsSearchFault result }
@@ -105,8 +112,15 @@ impl<'p> Searcher<'p> {
             file_printed MOST_SEARCHED self.old.tool self.old.style finds tree name.now)
             (T.snapshot tree.old))
             (O.taken out.old) (O.taken out.new) (E.taken err.old) (E.taken err.new) matched) }
-        ensures faults { IfOk result (λ _. TellsFaults self.old.tool
-            (T.failed tree.old) (T.failed tree.new) (E.taken err.old) (E.taken err.new)) }
+        ensures front { OnErr result ((finds : List ℕ → Bool) → Decides finds self.old.matcher →
+            PrintsFront (option_map (λ tree.
+            file_printed MOST_SEARCHED self.old.tool self.old.style finds tree name.now)
+            (T.snapshot tree.old))
+            (O.taken out.old) (O.taken out.new) (E.taken err.old) (E.taken err.new)) }
+        ensures loses { FileLosesAtMost (MOST_SEARCHED + 1)
+            (T.snapshot tree.old) name.now (T.opened tree.new) }
+        ensures faults { TellsFaults self.old.tool (name.now ∷ [])
+            (T.failed tree.old) (T.failed tree.new) (E.taken err.old) (E.taken err.new) result }
         ensures writes { CountsOne (has_write_failed result)
             (O.failed out.old) (O.failed out.new) (E.failed err.old) (E.failed err.new) }
         ensures only { IsSearchFault result }
@@ -138,8 +152,14 @@ impl<'p> Searcher<'p> {
             (map string_bytes names.now))
             (T.snapshot tree.old))
             (O.taken out.old) (O.taken out.new) (E.taken err.old) (E.taken err.new) matched) }
-        ensures faults { IfOk result (λ _. TellsFaults self.old.tool
-            (T.failed tree.old) (T.failed tree.new) (E.taken err.old) (E.taken err.new)) }
+        ensures front { OnErr result ((finds : List ℕ → Bool) → Decides finds self.old.matcher →
+            PrintsFront (option_map (λ tree. all_printed
+            (file_printed MOST_SEARCHED self.old.tool self.old.style finds tree)
+            (map string_bytes names.now))
+            (T.snapshot tree.old))
+            (O.taken out.old) (O.taken out.new) (E.taken err.old) (E.taken err.new)) }
+        ensures faults { TellsFaults self.old.tool (map string_bytes names.now)
+            (T.failed tree.old) (T.failed tree.new) (E.taken err.old) (E.taken err.new) result }
         ensures writes { CountsOne (has_write_failed result)
             (O.failed out.old) (O.failed out.new) (E.failed err.old) (E.failed err.new) }
         ensures only { IsSearchFault result }
@@ -160,8 +180,8 @@ impl<'p> Searcher<'p> {
         fault: FileFault,
         err: &mut E,
     ) -> Result<(), ToolFault>
-        ensures written { OnOk result (Grows (E.taken err.old) (E.taken err.new)
-            (fault_line_of self.now.tool name.now fault)) }
+        ensures written { TakesAll (fault_line_of self.now.tool name.now fault)
+            (E.taken err.old) (E.taken err.new) result }
         ensures failed { E.failed err.new ≡ count_if (has_write_failed result) (E.failed err.old) }
         ensures only { IsSearchFault result }
     {

@@ -1,14 +1,16 @@
 // The tools that search.
-ghost use Rattle.std.specs.Prelude.{◌≡◌, ℕ, Bool, List, [], IfOk, string_bytes};
+ghost use Rattle.std.specs.Prelude.{◌≡◌, ◌+◌, ◌⊎◌, ℕ, Bool, List, [], IfOk, OnErr, string_bytes};
 ghost use Rattle.cs_tree.specs.Failures.{CountsOne};
+ghost use Rattle.cs_tree.specs.Transfers.{LosesAtMost};
 ghost use Rattle.cs_syntax.specs.Matching.{Tree as PatternTree};
 ghost use Rattle.cs_syntax.specs.Reading.{Reads};
 ghost use Rattle.cs_match.specs.Finding.{Decides};
 ghost use Rattle.cs_tree.specs.Told.{Grows};
-ghost use Rattle.cs_search.specs.Cgrep.{cgrep_printed, PatternFirst, TellsFaultsOf};
-ghost use Rattle.cs_search.specs.Refusals.{QuietAtRefusal, has_write_failed};
+ghost use Rattle.cs_search.specs.Cgrep.{cgrep_printed};
+ghost use Rattle.cs_search.specs.CgrepFaults.{PatternFirst, TellsFaultsOf};
+ghost use Rattle.cs_search.specs.Refusals.{IsAccepted, QuietAtRefusal, has_write_failed};
 ghost use Rattle.cs_search.specs.Searcher.{IsSearchFault, Prints};
-ghost use Rattle.cs_search.specs.Printed.{PrintsStatus, status_of};
+ghost use Rattle.cs_search.specs.Printed.{PrintsStatus, PrintsNothing, PrintsFront, status_of};
 
 use crate::report::MOST_SEARCHED;
 use crate::searcher::Searcher;
@@ -21,7 +23,8 @@ use std::alloc::Global;
 
 /// Prints the lines that match the pattern of the job: those of standard input, or those of its files in the order of
 /// the words. A line on `err` names each input that could not be searched to its end. At the end both outputs are
-/// flushed, `out` first.
+/// flushed, `out` first. Where it is refused, each output has taken a front of that, and a line that blames an input
+/// tells of a failure that it counted.
 pub fn cgrep<T: Tree, R: Source, O: Sink, E: Sink>(
     alloc: Global,
     job: &GrepJob,
@@ -35,13 +38,21 @@ pub fn cgrep<T: Tree, R: Source, O: Sink, E: Sink>(
         PrintsStatus
         (cgrep_printed MOST_SEARCHED job.now finds (T.snapshot tree.old) (R.told input.old))
         (O.taken out.old) (O.taken out.new) (E.taken err.old) (E.taken err.new) status) }
+    ensures front { OnErr result
+        (PrintsNothing (O.taken out.old) (O.taken out.new) (E.taken err.old) (E.taken err.new)
+        ⊎ (IsAccepted (string_bytes job.now.pattern) job.now.fold
+        × ((pattern : PatternTree) (finds : List ℕ → Bool) →
+        Reads (string_bytes job.now.pattern) job.now.fold pattern → Decides finds pattern →
+        PrintsFront
+        (cgrep_printed MOST_SEARCHED job.now finds (T.snapshot tree.old) (R.told input.old))
+        (O.taken out.old) (O.taken out.new) (E.taken err.old) (E.taken err.new)))) }
     ensures pattern { PatternFirst (string_bytes job.now.pattern) job.now.fold result }
     ensures quiet { QuietAtRefusal result
-        (Grows (O.taken out.old) (O.taken out.new) []
-        × Grows (E.taken err.old) (E.taken err.new) []) }
-    ensures faults { IfOk result (λ _. TellsFaultsOf job.now.standard
+        (PrintsNothing (O.taken out.old) (O.taken out.new) (E.taken err.old) (E.taken err.new)) }
+    ensures loses { LosesAtMost (MOST_SEARCHED + 1) (R.told input.old) (R.told input.new) }
+    ensures faults { TellsFaultsOf job.now
         (T.failed tree.old) (T.failed tree.new) (R.failed input.old) (R.failed input.new)
-        (E.taken err.old) (E.taken err.new)) }
+        (E.taken err.old) (E.taken err.new) result }
     ensures writes { CountsOne (has_write_failed result)
         (O.failed out.old) (O.failed out.new) (E.failed err.old) (E.failed err.new) }
     ensures tree_keeps { T.snapshot tree.new ≡ T.snapshot tree.old }
@@ -88,9 +99,14 @@ fn search_job<T: Tree, R: Source, O: Sink, E: Sink>(
         Decides finds searcher.old.matcher →
         Prints (cgrep_printed MOST_SEARCHED job.now finds (T.snapshot tree.old) (R.told input.old))
         (O.taken out.old) (O.taken out.new) (E.taken err.old) (E.taken err.new) matched) }
-    ensures faults { IfOk result (λ _. TellsFaultsOf job.now.standard
+    ensures front { OnErr result ((finds : List ℕ → Bool) → Decides finds searcher.old.matcher →
+        PrintsFront
+        (cgrep_printed MOST_SEARCHED job.now finds (T.snapshot tree.old) (R.told input.old))
+        (O.taken out.old) (O.taken out.new) (E.taken err.old) (E.taken err.new)) }
+    ensures loses { LosesAtMost (MOST_SEARCHED + 1) (R.told input.old) (R.told input.new) }
+    ensures faults { TellsFaultsOf job.now
         (T.failed tree.old) (T.failed tree.new) (R.failed input.old) (R.failed input.new)
-        (E.taken err.old) (E.taken err.new)) }
+        (E.taken err.old) (E.taken err.new) result }
     ensures writes { CountsOne (has_write_failed result)
         (O.failed out.old) (O.failed out.new) (E.failed err.old) (E.failed err.new) }
     ensures only { IsSearchFault result }

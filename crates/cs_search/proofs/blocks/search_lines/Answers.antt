@@ -6,9 +6,10 @@ use Rattle.cs_match.specs.Lines.{ended_lines}
 use Rattle.cs_match.specs.Skipping.{AreWhole}
 use Rattle.cs_match.proofs.WholeLemmas.{whole_drop, whole_line, ended_line}
 use Rattle.cs_search.specs.declared.tally.Tally.{Tally}
-use Rattle.cs_search.specs.TestedLines.{Tests, IsListed}
+use Rattle.cs_search.specs.TestedLines.{Tests, TestsFront, IsListed}
 use Rattle.cs_search.proofs.BlockLemmas.{ended_front, ended_all, lines_on, whole_on, counted_within}
 use Rattle.cs_search.proofs.TestedLemmas.{Tests-none, Tests-more, Tests-passed, IsListed-first, IsListed-more}
+use Rattle.cs_search.proofs.FrontLemmas.{any_err, TestsFront-more, TestsFront-after}
 use Rattle.cs_search.proofs.blocks.search_lines.Goals as goal
 use Rattle.cs_search.proofs.blocks.search_lines.Goals.{else-form-via-then-form+else-tally-gt0, else-form-via-else-form}
 
@@ -47,6 +48,22 @@ search_line-requires g c =
     let i = c.lines.invariant in
     let e = c.in-Some.ensures in
     omega (arith, counted_within c.args.block.now c.lines.at, c.requires.room, i.counted, e.0, e.1)
+
+pub returns-in_err-search_line-clause-front : goal.returns-in_err-search_line-clause-front
+returns-in_err-search_line-clause-front g c =
+    any_err c.from_residual.result (λ finds decides.
+    let i = c.lines.invariant in
+    let e = c.in-Some.ensures in
+    let block = c.args.block.now in
+    let at = c.lines.at in
+    let end = c.in-Some.end in
+    let rising : at ≤ end + 1 = omega (arith, e.0) in
+    let line = take (end - at) (drop at block) in
+    let more : ended_lines (take (end + 1) block) ≡ ended_lines (take at block) ++ line ∷ [] = lines_on block at (end + 1) rising i.whole ∙ ap (λ ls. ended_lines (take at block) ++ ls) (ended_line block at end e.0 e.2 e.3) in
+    let there = whole_on block at (end + 1) rising i.whole (whole_line block at end e.0 e.3) in
+    let front = TestsFront-after _ _ finds (ended_lines (take at block)) (line ∷ []) c.args.tally.now c.lines.tally (g.O.Sink.taken c.args.out.now) (g.O.Sink.taken c.lines.out) (g.O.Sink.taken c.search_line.new.out) i.unlisted i.counted (i.tests finds decides) (c.in_err-search_line.ensures.front finds (subst (Decides finds) (sym i.same) decides)) in
+    subst (λ (ls : List (List ℕ)). TestsFront c.args.form.now.style c.args.form.now.name.now finds ls (c.args.tally.now.lines + 1) (g.O.Sink.taken c.args.out.now) (g.O.Sink.taken c.search_line.new.out)) (ap (λ ls. ls ++ ended_lines (drop (end + 1) block)) (sym more) ∙ sym (ended_front block (end + 1) there))
+    (TestsFront-more _ _ finds _ (ended_lines (drop (end + 1) block)) _ _ _ front))
 
 pub returns-then-tally-gt0-clause-tests : goal.returns-then-tally-gt0-clause-tests
 returns-then-tally-gt0-clause-tests g c = λ finds decides.

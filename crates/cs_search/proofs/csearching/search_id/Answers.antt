@@ -1,10 +1,13 @@
-use Rattle.std.proofs.Common.{◌≡◌, [], ◌∷◌, true, false, sym, ◌∙◌}
+use Rattle.std.proofs.Common.{◌≡◌, [], ◌∷◌, true, false, refl, sym, subst, ◌∙◌}
+use Rattle.std.proofs.lemmas.Result.{err_from_is_err_and}
 use Rattle.std.specs.Prelude.{filter}
 use Rattle.cs_tree.specs.Snapshot.{Snapshot}
 use Rattle.cs_search.specs.declared.report.TheConstants.{MOST_SEARCHED}
 use Rattle.cs_search.specs.IndexSearch.{names_at}
-use Rattle.cs_search.specs.Printed.{all_printed, file_printed}
-use Rattle.cs_search.proofs.CsearchLemmas.{Prints-nothing, Prints-as, none_at, left_out_at, kept_at}
+use Rattle.cs_search.specs.Printed.{all_printed, file_printed, TellsFaults}
+use Rattle.cs_search.proofs.FrontLemmas.{any_err}
+use Rattle.cs_search.proofs.PrintedLemmas.{done, undone, Tells-none, Tells-refused}
+use Rattle.cs_search.proofs.CsearchLemmas.{Prints-nothing, Prints-as, PrintsFront-as, none_at, left_out_at, kept_at, name_at}
 use Rattle.cs_search.proofs.csearching.search_id.Goals as goal
 
 pub returns-in_default-clause-prints : goal.returns-in_default-clause-prints
@@ -32,3 +35,34 @@ returns-clause-prints g c = λ finds keeps decides names.
     Prints-as (g.T.Tree.snapshot c.args.tree.now) (λ s. file s c.in-Some.name.now) (λ s. all_printed (file s) (filter keeps (names_at c.args.index.now.names (c.args.id ∷ [])))) _ _ _ _ c.in_ok-matched.matched
     (λ s. kept_at (file s) keeps c.args.index.now.names c.args.id c.in-Some.name.now (sym c.in-Some.ensures) in_it)
     (c.in_ok-matched.ensures.prints finds decides)
+
+pub returns-in_err-matched-clause-front : goal.returns-in_err-matched-clause-front
+returns-in_err-matched-clause-front g c =
+    any_err c.from_residual.result (λ finds keeps decides names.
+    let searcher = c.args.searcher.now in
+    let file = λ (s : Snapshot). file_printed MOST_SEARCHED searcher.tool searcher.style finds s in
+    let tested : c.keeps.result ≡ keeps c.in-Some.name.now = c.keeps.ensures.tested keeps names in
+    let in_it : keeps c.in-Some.name.now ≡ true = sym tested ∙ c.if-not-keeps.false in
+    PrintsFront-as (g.T.Tree.snapshot c.args.tree.now) (λ s. file s c.in-Some.name.now) (λ s. all_printed (file s) (filter keeps (names_at c.args.index.now.names (c.args.id ∷ [])))) _ _ _ _
+    (λ s. kept_at (file s) keeps c.args.index.now.names c.args.id c.in-Some.name.now (sym c.in-Some.ensures) in_it)
+    (c.in_err-matched.ensures.front finds decides))
+
+pub returns-in_default-clause-faults : goal.returns-in_default-clause-faults
+returns-in_default-clause-faults g c =
+    Tells-none c.args.searcher.now.tool done (names_at c.args.index.now.names (c.args.id ∷ [])) (g.T.Tree.failed c.args.tree.now) (g.T.Tree.failed c.args.tree.now) (g.E.Sink.taken c.args.err.now) (g.E.Sink.taken c.args.err.now) refl refl
+
+pub returns-then-not-keeps-clause-faults : goal.returns-then-not-keeps-clause-faults
+returns-then-not-keeps-clause-faults g c =
+    Tells-none c.args.searcher.now.tool done (names_at c.args.index.now.names (c.args.id ∷ [])) (g.T.Tree.failed c.args.tree.now) (g.T.Tree.failed c.args.tree.now) (g.E.Sink.taken c.args.err.now) (g.E.Sink.taken c.args.err.now) refl refl
+
+pub returns-clause-faults : goal.returns-clause-faults
+returns-clause-faults g c =
+    subst (λ names. TellsFaults c.args.searcher.now.tool names (g.T.Tree.failed c.args.tree.now) (g.T.Tree.failed c.search_file.new.tree) (g.E.Sink.taken c.args.err.now) (g.E.Sink.taken c.search_file.new.err) done)
+    (sym (name_at c.args.index.now.names c.args.id c.in-Some.name.now (sym c.in-Some.ensures))) c.in_ok-matched.ensures.faults
+
+pub returns-in_err-matched-clause-faults : goal.returns-in_err-matched-clause-faults
+returns-in_err-matched-clause-faults g c =
+    let p = err_from_is_err_and c.from_residual.result c.from_residual.ensures.1 in
+    Tells-refused c.args.searcher.now.tool c.from_residual.result p.0 (names_at c.args.index.now.names (c.args.id ∷ [])) _ _ _ _ p.1
+    (subst (λ names. TellsFaults c.args.searcher.now.tool names (g.T.Tree.failed c.args.tree.now) (g.T.Tree.failed c.search_file.new.tree) (g.E.Sink.taken c.args.err.now) (g.E.Sink.taken c.search_file.new.err) undone)
+    (sym (name_at c.args.index.now.names c.args.id c.in-Some.name.now (sym c.in-Some.ensures))) c.in_err-matched.ensures.faults)

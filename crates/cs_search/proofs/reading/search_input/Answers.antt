@@ -9,12 +9,13 @@ use Rattle.cs_tree.proofs.Losing.{Loses_few}
 use Rattle.cs_match.specs.Lines.{ended_lines, IsPart}
 use Rattle.cs_match.specs.Unended.{unended}
 use Rattle.cs_search.specs.Buffer.{pending}
-use Rattle.cs_search.specs.TestedLines.{Tests, IsListed}
+use Rattle.cs_search.specs.TestedLines.{Tests, TestsFront, IsListed}
 use Rattle.cs_search.specs.Progress.{HasRead, HasTested}
 use Rattle.cs_match.proofs.LinesLemmas.{IsPart-unended, lines_within}
 use Rattle.cs_search.proofs.BufferLemmas.{Gains-split, Gains-size}
 use Rattle.cs_search.proofs.TestedLemmas.{Tests-none, Tests-more}
 use Rattle.cs_search.proofs.ProgressLemmas.{HasRead-none, HasTested-none, HasRead-more, HasTested-more, FindsBy-empty, FindsBy-listed, FindsBy-past, Stops-past, Loses-taken, LosesAtMost-more}
+use Rattle.cs_search.proofs.FrontLemmas.{any_err, FindsFront-tested, FindsFront-piece}
 use Rattle.cs_search.proofs.reading.search_input.Goals as goal
 
 pub pieces-init : goal.pieces-init
@@ -45,6 +46,29 @@ returns-in-Err-Failed-clause-finds g c = λ finds decides.
     let i = c.pieces.invariant in
     let e = c.in-Err-Failed.ensures in
     FindsBy-empty _ _ finds _ _ _ _ _ (Left Read) (g.R.Source.told c.args.input.now) (g.R.Source.told c.pieces.input) (g.R.Source.told c.fill.new.input) (c.args.most - c.pieces.left) (pending c.pieces.buffer) [] c.pieces.tally.lines fails (inr refl) (omega arith) i.read e.told.0 (subst (λ fault. RefusedBy fault (g.R.Source.told c.fill.new.input)) c.in-Err-Failed.field-0-is e.told.1) refl (i.tested finds decides)
+
+pub returns-in-Err-Memory-clause-front : goal.returns-in-Err-Memory-clause-front
+returns-in-Err-Memory-clause-front g c = λ finds decides.
+    let i = c.pieces.invariant in
+    FindsFront-tested _ _ finds _ c.pieces.tally _ _ _ (g.R.Source.told c.args.input.now) (c.args.most - c.pieces.left) (omega arith) i.unlisted (i.tested finds decides)
+
+pub returns-in_err-start-clause-front : goal.returns-in_err-start-clause-front
+returns-in_err-start-clause-front g c =
+    any_err c.from_residual.result (λ finds decides.
+    let i = c.pieces.invariant in
+    let e = c.in-Ok.ensures in
+    let old = pending c.pieces.buffer in
+    let piece = drop (length old) (pending c.fill.new.self) in
+    let block : c.pending.result.now ≡ old ++ piece = c.pending.ensures ∙ Gains-split _ _ _ e.gains in
+    let size : length piece ≡ c.in-Ok.n = Gains-size _ _ _ e.gains in
+    FindsFront-piece _ _ finds _ c.pieces.tally _ (g.O.Sink.taken c.pieces.out) _ (g.R.Source.told c.args.input.now) (g.R.Source.told c.pieces.input) (g.R.Source.told c.fill.new.input) (c.args.most - c.pieces.left) old piece c.pieces.tally.lines _ (omega (arith, e.within, i.few, size)) i.read e.told.0 i.unlisted (omega (arith, c.requires.lines)) (i.tested finds decides)
+    (subst (λ b. TestsFront c.args.form.now.style c.args.form.now.name.now finds (ended_lines b) (c.pieces.tally.lines + 1) (g.O.Sink.taken c.pieces.out) (g.O.Sink.taken c.search_block.new.out)) block (c.in_err-start.ensures.front finds (subst (Decides finds) (sym i.same) decides))))
+
+pub returns-in_err-stop-clause-front : goal.returns-in_err-stop-clause-front
+returns-in_err-stop-clause-front g c =
+    any_err c.from_residual-in_err-stop.result (λ finds decides.
+    let i = c.pieces.invariant in
+    FindsFront-tested _ _ finds _ c.pieces.tally _ _ _ (g.R.Source.told c.args.input.now) (c.args.most - c.pieces.left) (omega arith) i.unlisted (i.tested finds decides))
 
 pub returns-in_err-start-clause-loses : goal.returns-in_err-start-clause-loses
 returns-in_err-start-clause-loses g c =

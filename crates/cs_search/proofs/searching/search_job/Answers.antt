@@ -1,12 +1,16 @@
-use Rattle.std.proofs.Common.{sym, subst, Option}
+use Rattle.std.proofs.Common.{◌∷◌, [], List, refl, sym, subst, Option}
+use Rattle.std.proofs.lemmas.Result.{err_from_is_err_and}
 use Rattle.std.specs.Prelude.{option_map, map, string_bytes}
 use Rattle.cs_tree.specs.Snapshot.{Snapshot}
 use Rattle.cs_search.specs.declared.report.TheConstants.{MOST_SEARCHED}
+use Rattle.cs_words.specs.declared.jobs.Tool.{Tool}
 use Rattle.cs_words.specs.declared.jobs.Tool.TheVariants.{Cgrep}
 use Rattle.cs_search.specs.Cgrep.{standard_name}
-use Rattle.cs_search.specs.Printed.{Printed, input_printed, file_printed, all_printed}
+use Rattle.cs_search.specs.Printed.{Printed, PrintsFront, input_printed, file_printed, all_printed, TellsFaults}
 use Rattle.cs_search.specs.Searcher.{Prints}
-use Rattle.cs_search.proofs.CgrepLemmas.{cgrep_standard, cgrep_files}
+use Rattle.cs_search.proofs.FrontLemmas.{any_err}
+use Rattle.cs_search.proofs.PrintedLemmas.{done, undone, Tells-refused}
+use Rattle.cs_search.proofs.CgrepLemmas.{cgrep_standard, cgrep_files, Tells-standard, Tells-files}
 use Rattle.cs_search.proofs.searching.search_job.Goals as goal
 
 pub returns-then-job-clause-prints : goal.returns-then-job-clause-prints
@@ -29,3 +33,52 @@ returns-clause-prints g c = λ finds decides.
     let r = subst (λ style. Holds (option_map (λ (s : Snapshot). all_printed (file_printed MOST_SEARCHED Cgrep style finds s) (map string_bytes c.deref.result.now)) snapshot)) c.requires.style q in
     subst Holds (sym (cgrep_files MOST_SEARCHED job finds snapshot (g.R.Source.told c.args.input.now) c.if-job.false))
     (subst (λ names. Holds (option_map (λ (s : Snapshot). all_printed (file_printed MOST_SEARCHED Cgrep job.style finds s) (map string_bytes names)) snapshot)) c.deref.ensures.value r)
+
+pub returns-in_err-matched-clause-front : goal.returns-in_err-matched-clause-front
+returns-in_err-matched-clause-front g c =
+    any_err c.from_residual.result (λ finds decides.
+    let job = c.args.job.now in
+    let told = g.R.Source.told c.args.input.now in
+    let Holds = λ (printed : Option Printed). PrintsFront printed (g.O.Sink.taken c.args.out.now) (g.O.Sink.taken c.search.new.out) (g.E.Sink.taken c.args.err.now) (g.E.Sink.taken c.search.new.err) in
+    let p = c.in_err-matched.ensures.front finds decides in
+    let q = subst (λ tool. Holds (option_map (input_printed MOST_SEARCHED tool c.args.searcher.now.style finds standard_name) told)) c.requires.tool p in
+    subst Holds (sym (cgrep_standard MOST_SEARCHED job finds (g.T.Tree.snapshot c.args.tree.now) told c.if-job.true))
+    (subst (λ style. Holds (option_map (input_printed MOST_SEARCHED Cgrep style finds standard_name) told)) c.requires.style q))
+
+pub returns-in_err-matched-2-clause-front : goal.returns-in_err-matched-2-clause-front
+returns-in_err-matched-2-clause-front g c =
+    any_err c.from_residual-in_err-matched-2.result (λ finds decides.
+    let job = c.args.job.now in
+    let snapshot = g.T.Tree.snapshot c.args.tree.now in
+    let Holds = λ (printed : Option Printed). PrintsFront printed (g.O.Sink.taken c.args.out.now) (g.O.Sink.taken c.search_files.new.out) (g.E.Sink.taken c.args.err.now) (g.E.Sink.taken c.search_files.new.err) in
+    let p = c.in_err-matched-2.ensures.front finds decides in
+    let q = subst (λ tool. Holds (option_map (λ (s : Snapshot). all_printed (file_printed MOST_SEARCHED tool c.args.searcher.now.style finds s) (map string_bytes c.deref.result.now)) snapshot)) c.requires.tool p in
+    let r = subst (λ style. Holds (option_map (λ (s : Snapshot). all_printed (file_printed MOST_SEARCHED Cgrep style finds s) (map string_bytes c.deref.result.now)) snapshot)) c.requires.style q in
+    subst Holds (sym (cgrep_files MOST_SEARCHED job finds snapshot (g.R.Source.told c.args.input.now) c.if-job.false))
+    (subst (λ names. Holds (option_map (λ (s : Snapshot). all_printed (file_printed MOST_SEARCHED Cgrep job.style finds s) (map string_bytes names)) snapshot)) c.deref.ensures.value r))
+
+pub returns-then-job-clause-faults : goal.returns-then-job-clause-faults
+returns-then-job-clause-faults g c =
+    Tells-standard done c.args.job.now (g.T.Tree.failed c.args.tree.now) (g.T.Tree.failed c.args.tree.now) (g.R.Source.failed c.args.input.now) (g.R.Source.failed c.search.new.input) (g.E.Sink.taken c.args.err.now) (g.E.Sink.taken c.search.new.err) c.if-job.true refl
+    (subst (λ tool. TellsFaults tool (standard_name ∷ []) (g.R.Source.failed c.args.input.now) (g.R.Source.failed c.search.new.input) (g.E.Sink.taken c.args.err.now) (g.E.Sink.taken c.search.new.err) done) c.requires.tool c.in_ok-matched.ensures.faults)
+
+pub returns-in_err-matched-clause-faults : goal.returns-in_err-matched-clause-faults
+returns-in_err-matched-clause-faults g c =
+    let p = err_from_is_err_and c.from_residual.result c.from_residual.ensures.1 in
+    Tells-standard c.from_residual.result c.args.job.now (g.T.Tree.failed c.args.tree.now) (g.T.Tree.failed c.args.tree.now) (g.R.Source.failed c.args.input.now) (g.R.Source.failed c.search.new.input) (g.E.Sink.taken c.args.err.now) (g.E.Sink.taken c.search.new.err) c.if-job.true refl
+    (Tells-refused Cgrep c.from_residual.result p.0 (standard_name ∷ []) (g.R.Source.failed c.args.input.now) (g.R.Source.failed c.search.new.input) (g.E.Sink.taken c.args.err.now) (g.E.Sink.taken c.search.new.err) p.1
+    (subst (λ tool. TellsFaults tool (standard_name ∷ []) (g.R.Source.failed c.args.input.now) (g.R.Source.failed c.search.new.input) (g.E.Sink.taken c.args.err.now) (g.E.Sink.taken c.search.new.err) undone) c.requires.tool c.in_err-matched.ensures.faults))
+
+pub returns-clause-faults : goal.returns-clause-faults
+returns-clause-faults g c =
+    let Tells = λ (tool : Tool) (names : List _). TellsFaults tool (map string_bytes names) (g.T.Tree.failed c.args.tree.now) (g.T.Tree.failed c.search_files.new.tree) (g.E.Sink.taken c.args.err.now) (g.E.Sink.taken c.search_files.new.err) done in
+    Tells-files done c.args.job.now (g.T.Tree.failed c.args.tree.now) (g.T.Tree.failed c.search_files.new.tree) (g.R.Source.failed c.args.input.now) (g.R.Source.failed c.args.input.now) (g.E.Sink.taken c.args.err.now) (g.E.Sink.taken c.search_files.new.err) c.if-job.false refl
+    (subst (Tells Cgrep) c.deref.ensures.value (subst (λ tool. Tells tool c.deref.result.now) c.requires.tool c.in_ok-matched-2.ensures.faults))
+
+pub returns-in_err-matched-2-clause-faults : goal.returns-in_err-matched-2-clause-faults
+returns-in_err-matched-2-clause-faults g c =
+    let p = err_from_is_err_and c.from_residual-in_err-matched-2.result c.from_residual-in_err-matched-2.ensures.1 in
+    let Tells = λ (tool : Tool) (names : List _). TellsFaults tool (map string_bytes names) (g.T.Tree.failed c.args.tree.now) (g.T.Tree.failed c.search_files.new.tree) (g.E.Sink.taken c.args.err.now) (g.E.Sink.taken c.search_files.new.err) undone in
+    Tells-files c.from_residual-in_err-matched-2.result c.args.job.now (g.T.Tree.failed c.args.tree.now) (g.T.Tree.failed c.search_files.new.tree) (g.R.Source.failed c.args.input.now) (g.R.Source.failed c.args.input.now) (g.E.Sink.taken c.args.err.now) (g.E.Sink.taken c.search_files.new.err) c.if-job.false refl
+    (Tells-refused Cgrep c.from_residual-in_err-matched-2.result p.0 (map string_bytes c.args.job.now.files.items) _ _ _ _ p.1
+    (subst (Tells Cgrep) c.deref.ensures.value (subst (λ tool. Tells tool c.deref.result.now) c.requires.tool c.in_err-matched-2.ensures.faults)))

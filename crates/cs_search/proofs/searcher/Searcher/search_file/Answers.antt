@@ -1,12 +1,17 @@
-use Rattle.std.proofs.Common.{ap, subst, ◌∙◌}
+use Rattle.std.proofs.Common.{◌≡◌, ◌∷◌, [], ap, refl, subst, ◌∙◌, Err}
+use Rattle.std.proofs.lemmas.Result.{err_from_is_err_and}
+use Rattle.cs_tree.specs.Failures.{count_after}
+use Rattle.cs_tree.specs.Trees.{is_tree_failure}
 use Rattle.cs_words.specs.FileFaults.{fault_line_of}
 use Rattle.std.specs.Prelude.{option_map}
 use Rattle.cs_tree.specs.Told.{Grows}
 use Rattle.cs_tree.specs.Trees.{open_told}
 use Rattle.cs_search.specs.declared.report.TheConstants.{MOST_SEARCHED}
 use Rattle.cs_search.specs.Searcher.{Prints}
-use Rattle.cs_search.specs.Printed.{input_printed}
-use Rattle.cs_search.proofs.PrintedLemmas.{Prints-opened, Prints-refused, Tells-open}
+use Rattle.cs_search.specs.Fronts.{TakesFront}
+use Rattle.cs_search.specs.Printed.{PrintsFront, input_printed}
+use Rattle.cs_search.proofs.FrontLemmas.{any_err}
+use Rattle.cs_search.proofs.PrintedLemmas.{Prints-opened, Prints-refused, PrintsFront-none, PrintsFront-opened, PrintsFront-refused, done, undone, Tells-none, Tells-open, Tells-refused}
 use Rattle.cs_search.proofs.searcher.Searcher.search_file.Goals as goal
 
 pub returns-in-Err-clause-prints : goal.returns-in-Err-clause-prints
@@ -31,5 +36,48 @@ returns-in-Err-clause-faults g c =
     let tool = c.args.self.now.tool in
     let name = c.args.name.now in
     let file = c.in_ok-fault.ensures.file in
-    Tells-open tool c.in-Err.fault name (g.T.Tree.failed c.args.tree.now) (g.T.Tree.failed c.open.new.self) (g.E.Sink.taken c.args.err.now) (g.E.Sink.taken c.print_fault.new.err) file.1 c.in-Err.ensures.failed
+    Tells-open tool done c.in-Err.fault name (g.T.Tree.failed c.args.tree.now) (g.T.Tree.failed c.open.new.self) (g.E.Sink.taken c.args.err.now) (g.E.Sink.taken c.print_fault.new.err) file.1 c.in-Err.ensures.failed
     (subst (λ fault. Grows (g.E.Sink.taken c.args.err.now) (g.E.Sink.taken c.print_fault.new.err) (fault_line_of tool name fault)) file.0 c.in_ok-print_fault.ensures.written)
+
+pub returns-in_err-fault-clause-front : goal.returns-in_err-fault-clause-front
+returns-in_err-fault-clause-front g c = any_err c.from_residual.result (λ finds decides. PrintsFront-none _ _ _)
+
+pub returns-in_err-print_fault-clause-front : goal.returns-in_err-print_fault-clause-front
+returns-in_err-print_fault-clause-front g c =
+    any_err c.from_residual-in_err-print_fault.result (λ finds decides.
+    let tool = c.args.self.now.tool in
+    let name = c.args.name.now in
+    let file = c.in_ok-fault.ensures.file in
+    PrintsFront-refused MOST_SEARCHED tool c.args.self.now.style finds name (g.T.Tree.snapshot c.args.tree.now) c.in-Err.fault (g.T.Tree.opened c.open.new.self) (g.O.Sink.taken c.args.out.now) (g.E.Sink.taken c.args.err.now) (g.E.Sink.taken c.print_fault.new.err) file.1 c.in-Err.ensures.answer
+    (subst (λ fault. TakesFront (fault_line_of tool name fault) (g.E.Sink.taken c.args.err.now) (g.E.Sink.taken c.print_fault.new.err)) file.0 c.in_err-print_fault.ensures.written))
+
+pub returns-in_err-matched-clause-front : goal.returns-in_err-matched-clause-front
+returns-in_err-matched-clause-front g c =
+    any_err c.from_residual-in_err-matched.result (λ finds decides.
+    let tool = c.args.self.now.tool in
+    let style = c.args.self.now.style in
+    let name = c.args.name.now in
+    let told = ap (λ t. open_told (g.T.Tree.snapshot t) (g.T.Tree.opened t)) c.new-reader.ensures.same_tree ∙ ap (λ s. open_told s (g.T.Tree.opened c.open.new.self)) c.open.ensures.keeps in
+    PrintsFront-opened MOST_SEARCHED tool style finds name (g.T.Tree.snapshot c.args.tree.now) (g.T.Tree.opened c.open.new.self) (g.O.Sink.taken c.args.out.now) (g.O.Sink.taken c.search.new.out) (g.E.Sink.taken c.args.err.now) (g.E.Sink.taken c.search.new.err) c.in_default.ensures.answer
+    (subst (λ input. PrintsFront (option_map (input_printed MOST_SEARCHED tool style finds name) input) (g.O.Sink.taken c.args.out.now) (g.O.Sink.taken c.search.new.out) (g.E.Sink.taken c.args.err.now) (g.E.Sink.taken c.search.new.err)) told (c.in_err-matched.ensures.front finds decides)))
+
+pub returns-in_err-fault-clause-faults : goal.returns-in_err-fault-clause-faults
+returns-in_err-fault-clause-faults g c =
+    let p = err_from_is_err_and c.from_residual.result c.from_residual.ensures.1 in
+    let tool = c.args.self.now.tool in
+    let err = g.E.Sink.taken c.args.err.now in
+    Tells-refused tool c.from_residual.result p.0 (c.args.name.now ∷ []) _ _ err err p.1
+    (Tells-none tool undone (c.args.name.now ∷ []) (g.T.Tree.failed c.args.tree.now) (g.T.Tree.failed c.open.new.self) err err
+    (subst (λ fault. g.T.Tree.failed c.open.new.self ≡ count_after {A = Unit {0}} is_tree_failure (Err fault) (g.T.Tree.failed c.args.tree.now)) c.in_err-fault.ensures.memory c.in-Err.ensures.failed) refl)
+
+pub returns-in_err-print_fault-clause-faults : goal.returns-in_err-print_fault-clause-faults
+returns-in_err-print_fault-clause-faults g c =
+    let p = err_from_is_err_and c.from_residual-in_err-print_fault.result c.from_residual-in_err-print_fault.ensures.1 in
+    let tool = c.args.self.now.tool in
+    let name = c.args.name.now in
+    let file = c.in_ok-fault.ensures.file in
+    let err = g.E.Sink.taken c.args.err.now in
+    let later = g.E.Sink.taken c.print_fault.new.err in
+    Tells-refused tool c.from_residual-in_err-print_fault.result p.0 (name ∷ []) _ _ err later p.1
+    (Tells-open tool undone c.in-Err.fault name (g.T.Tree.failed c.args.tree.now) (g.T.Tree.failed c.open.new.self) err later file.1 c.in-Err.ensures.failed
+    (subst (λ fault. TakesFront (fault_line_of tool name fault) err later) file.0 c.in_err-print_fault.ensures.written))

@@ -1,0 +1,16 @@
+use Rattle.std.proofs.Common.{◌++◌, ◌∷◌, [], sym, subst, decimal, Bool, if◌then◌else◌}
+use Rattle.std.proofs.lemmas.Result.{err_from_is_err_and}
+use Rattle.cs_search.specs.Fronts.{TakesFront}
+use Rattle.cs_search.proofs.Printing.{refused, front_right, front_written}
+use Rattle.cs_search.proofs.form.Form.print_number.Goals as goal
+
+pub returns-in_err-write_all-clause-written : goal.returns-in_err-write_all-clause-written
+returns-in_err-write_all-clause-written g c =
+    let p = err_from_is_err_and c.from_residual-in_err-write_all.result c.from_residual-in_err-write_all.ensures.1 in
+    let digits = decimal c.args.number in
+    let before = g.O.Sink.taken c.args.out.now in
+    let later = g.O.Sink.taken c.write_all.new.out in
+    let told = c.in_err-write_all.ensures.told in
+    refused _ before later c.from_residual-in_err-write_all.result p.0 p.1
+    (subst (λ (number : Bool). TakesFront (if number then digits ++ 58 ∷ [] else []) before later) (sym c.if-not-self.false)
+    (front_right digits (58 ∷ []) before _ later c.in_ok-write_number.ensures.written (front_written (58 ∷ []) _ later told.0 told.2)))

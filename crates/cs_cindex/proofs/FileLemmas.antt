@@ -1,5 +1,5 @@
 -- Files, one after another: what was added and printed so far.
-use Rattle.std.proofs.Common.{◌≡◌, ℕ, suc, ◌+◌, ◌-◌, ◌^◌, ◌<◌, ◌≤◌, Bool, true, false, cond, ◌&&◌, List, [], ◌∷◌, ◌++◌, map, take, drop, get_or, length, refl, sym, ap, subst, ◌∙◌, arith, Option, Some, None, append-nil, append_assoc, length-append, add-one, drop-cons}
+use Rattle.std.proofs.Common.{◌≡◌, ℕ, suc, ◌+◌, ◌-◌, ◌^◌, ◌<◌, ◌≤◌, Bool, true, false, cond, ◌&&◌, ◌||◌, List, [], ◌∷◌, ◌++◌, map, take, drop, get_or, length, refl, sym, ap, subst, ◌∙◌, arith, Option, Some, None, append-nil, append_assoc, length-append, add-one, drop-cons}
 use Rattle.cs_tree.specs.NameOrder.{bytes_cmp, are_ascending}
 use Rattle.std.specs.Prelude.{option_map, filter_map, slice_get}
 use Rattle.std.specs.List.{AllByRecursion, cons_option}
@@ -7,10 +7,12 @@ use Rattle.std.specs.Option.{option_map_or}
 use Rattle.std.specs.Ordering.{is_lt}
 use Rattle.std.specs.declared.cmp.Ordering.{Ordering}
 use Rattle.std.specs.declared.cmp.Ordering.TheVariants.{Less, Equal, Greater}
-use Rattle.std.specs.Cmp.Lexicographic.{nat_list_cmp_total}
-use Rattle.std.proofs.lemmas.Bool.{and_parts}
+use Rattle.std.specs.Cmp.Lexicographic.{nat_list_cmp_total, bytes_decides}
+use Rattle.std.proofs.lemmas.Bool.{and_parts, or_left, or_right}
+use Rattle.std.proofs.lemmas.List.Folds.{list_any-append}
 use Rattle.std.proofs.lemmas.List.{take_at, take_more, take-append-drop, map-append}
 use Rattle.std.proofs.lemmas.List.Elements.{filter_map-append}
+use Rattle.cs_tree.specs.Cover.{is_among, same}
 use Rattle.cs_tree.specs.Snapshot.{Snapshot}
 use Rattle.cs_tree.specs.Told.{Grows}
 use Rattle.cs_index.specs.Image.{Entry, names_of}
@@ -19,8 +21,8 @@ use Rattle.cs_words.specs.declared.fault.FileFault.TheVariants.{Unnamed}
 use Rattle.cs_cindex.specs.declared.reading.Verdict.{Verdict}
 use Rattle.cs_cindex.specs.declared.reading.Verdict.TheVariants.{Text, Skipped, Left}
 use Rattle.cs_cindex.specs.Notices.{TakesFront, Line, faulted, file_line, text_of, AreCounted, Prints, PrintsFront}
-use Rattle.cs_cindex.specs.Verdicts.{trigrams_told, line_told, file_trigrams, IsVerdict, IsVerdictIn, IsVerdictCounted, one_line, noted_line, noted_entries}
-use Rattle.cs_cindex.specs.Files.{texts_at, are_storable, AreTextsIn, AreTooManyIn, AreFileLinesIn, BeginFileLinesIn, AreAbove}
+use Rattle.cs_cindex.specs.Verdicts.{trigrams_told, line_told, file_trigrams, IsVerdict, IsVerdictIn, IsVerdictCounted, one_line, noted_line, added_entries, noted_entries}
+use Rattle.cs_cindex.specs.Files.{texts_at, are_storable, AreTextsIn, AreTooManyIn, AreFileLinesIn, BeginFileLinesIn, AreAbove, HaveNamesOf}
 use Rattle.cs_cindex.proofs.FrontLemmas.{grows_none, front_all}
 use Rattle.cs_cindex.proofs.LineLemmas.{front_after, text-append, AreCounted-wider, AreCounted-append}
 use Rattle.cs_tree.proofs.Growing.{Grows-chain}
@@ -232,6 +234,31 @@ noted_at log_skip log_skip' name name' verdict e f = ap (λ b. one_line (noted_l
 
 pub texts_next : (told : Option Snapshot) (names names' : List (List ℕ)) (entries entries' : List Entry) (name : List ℕ) (verdict : Verdict) → names' ≡ names ++ name ∷ [] → entries' ≡ entries ++ noted_entries name verdict → AreTextsIn told names entries → IsVerdictIn told name verdict → AreTextsIn told names' entries'
 texts_next told names names' entries entries' name verdict e f are is = rw (e, f) (texts_step told names entries name verdict are is)
+
+-- one more name, and maybe an entry that has it
+names_step : (names : List (List ℕ)) (entries : List Entry) (name : List ℕ) (verdict : Verdict) → HaveNamesOf names entries → HaveNamesOf (names ++ name ∷ []) (entries ++ noted_entries name verdict)
+names_step names entries name verdict have = before entries have
+  where
+    split : (one : List ℕ) → is_among (names ++ name ∷ []) one ≡ (is_among names one || is_among (name ∷ []) one)
+    split one = list_any-append (λ other. same other one) names (name ∷ [])
+
+    last : is_among (names ++ name ∷ []) name ≡ true
+    last = split name ∙ or_right (is_among names name) _ (or_left (same name name) false ((bytes_decides name name).1 refl))
+
+    added : (trigrams : List ℕ) → HaveNamesOf (names ++ name ∷ []) (added_entries name trigrams)
+    added trigrams = elim (is_storable name) as (λ b. HaveNamesOf (names ++ name ∷ []) (cond b ((name, trigrams) ∷ []) [])) [ true ↦ (last, tt) | false ↦ tt ]
+
+    noted : (v : Verdict) → HaveNamesOf (names ++ name ∷ []) (noted_entries name v)
+    noted (Text trigrams) = added trigrams.items
+    noted (Skipped reason) = tt
+    noted (Left why) = tt
+
+    before : (es : List Entry) → HaveNamesOf names es → HaveNamesOf (names ++ name ∷ []) (es ++ noted_entries name verdict)
+    before [] all = noted verdict
+    before (e ∷ es) all = (split e.0 ∙ or_left (is_among names e.0) _ all.0, before es all.1)
+
+pub names_next : (names names' : List (List ℕ)) (entries entries' : List Entry) (name : List ℕ) (verdict : Verdict) → names' ≡ names ++ name ∷ [] → entries' ≡ entries ++ noted_entries name verdict → HaveNamesOf names entries → HaveNamesOf names' entries'
+names_next names names' entries entries' name verdict e f have = rw (e, f) (names_step names entries name verdict have)
 
 pub above_next : (entries entries' : List Entry) (names rest : List (List ℕ)) (name : List ℕ) (verdict : Verdict) → names ≡ name ∷ rest → entries' ≡ entries ++ noted_entries name verdict → are_ascending names ≡ true → AreAbove entries names → AreAbove entries' rest
 above_next entries entries' names rest name verdict e f up all = rw f (above_step entries name verdict rest (rw e at up) (rw e at all))

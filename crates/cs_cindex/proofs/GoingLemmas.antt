@@ -1,16 +1,12 @@
 -- The paths that a job walks, and what a walk gives.
-use Rattle.std.proofs.Common.{◌≡◌, ◌≢◌, ℕ, ◌<◌, ◌^◌, Bool, true, false, cond, not, List, [], ◌∷◌, length, map, refl, sym, ap, subst, ◌∙◌, Option, Some, None, Result, Ok, Err}
-use Rattle.cs_tree.specs.Folders.{Tells}
+use Rattle.std.proofs.Common.{◌≡◌, ◌≢◌, ℕ, ◌<◌, ◌^◌, Bool, true, false, cond, not, List, [], ◌∷◌, length, map, refl, sym, ap, subst, ◌∙◌, Some, None, Result, Ok, Err}
 use Rattle.cs_tree.specs.PathSet.{Paths}
 use Rattle.cs_tree.specs.NameOrder.{are_ascending}
 use Rattle.std.specs.Prelude.{String, string_bytes}
 use Rattle.std.specs.declared.alloc.Global.{Global}
 use Rattle.std.proofs.lemmas.Bool.{and_parts}
 use Rattle.std.specs.List.{AllByRecursion, list_all}
-use Rattle.cs_index.specs.Built.{is_storable, are_reduced, are_paths}
-use Rattle.cs_index.proofs.StringLemmas.{storable_is}
-use Rattle.cs_history.proofs.WalkLemmas.{found_content, found_lies}
-use Rattle.std.proofs.lemmas.Str.{IsUtf8-string_bytes}
+use Rattle.cs_index.specs.Built.{is_storable, are_paths}
 use Rattle.cs_index.specs.declared.fault.IndexFault.TheVariants.{BadPaths}
 use Rattle.cs_tree.specs.Cleaning.{is_settled}
 use Rattle.cs_cindex.specs.Refusals.{unfit_parts_fault}
@@ -18,10 +14,7 @@ use Rattle.std.proofs.lemmas.List.{length-map}
 use Rattle.cs_tree.specs.PathSet as set
 use Rattle.cs_tree.specs.Cover.{least}
 use Rattle.cs_tree.specs.Clean.{clean_path}
-use Rattle.cs_tree.specs.Snapshot.{Snapshot}
-use Rattle.cs_tree.specs.Reached.{files_reached}
-use Rattle.cs_trigram.specs.Text.{text_trigrams, limits}
-use Rattle.cs_index.specs.Image.{Files, IsString}
+use Rattle.cs_index.specs.Image.{Files}
 use Rattle.cs_index.specs.Opening.{Parts, opening}
 use Rattle.cs_index.specs.declared.fault.IndexFault.{IndexFault}
 use Rattle.cs_merge.proofs.HoldingLemmas.{from_list_all}
@@ -31,7 +24,7 @@ use Rattle.cs_history.specs.Jobs.{given_texts}
 use Rattle.cs_history.proofs.JobLemmas.{given_clean}
 use Rattle.std.specs.Result.{IsOkAnd}
 use Rattle.cs_cindex.specs.Joins.{IsSound}
-use Rattle.cs_cindex.specs.Indexed.{IsIndexOf}
+use Rattle.cs_cindex.specs.Next.{IsIndex}
 use Rattle.cs_cindex.specs.JobPaths.{AreCleaned, starts}
 use Rattle.cs_cindex.proofs.PathLemmas.{set_of_items, all_taken, settled_storable, reduced_paths}
 use Rattle.cs_cindex.proofs.OldLemmas.{OpensWith, opened_image}
@@ -78,23 +71,11 @@ start_paths job parts (t ∷ ts) paths clean good e = own_paths job (t ∷ ts) p
 pub some_path : (job : IndexJob) (ts : List (String Global)) → AreCleaned job (map string_bytes ts) → length ts ≢ 0 → length job.paths.items ≢ 0
 some_path job ts clean some none = some (sym (length-map ts string_bytes) ∙ count_texts job (map string_bytes ts) clean ∙ none)
 
--- ---- what a walk gives can be joined, where the tree tells what stands in it
-
-stored_strings : (ts : List (String Global)) → list_all is_storable (map string_bytes ts) ≡ true → AllByRecursion IsString (map string_bytes ts)
-stored_strings [] h = tt
-stored_strings (t ∷ ts) h =
-    let both = and_parts (is_storable (string_bytes t)) (list_all is_storable (map string_bytes ts)) h in
-    (storable_is (string_bytes t) both.0 (IsUtf8-string_bytes t), stored_strings ts both.1)
+-- ---- what a walk gives can be joined
 
 sound_content : (opening : Result Parts IndexFault) (paths : Paths) (files : Files) → OpensWith opening paths files → IsOkAnd opening IsSound
 sound_content (Ok parts) paths files h = h.sound
 sound_content (Err fault) paths files h = h
 
-pub sound_walk : (tree : Option Snapshot) (ts : List (String Global)) (bytes : List ℕ) → Tells tree → are_paths (map string_bytes ts) ≡ true → IsIndexOf tree (set.from_list (map string_bytes ts)) bytes → length bytes < 2 ^ 32 → IsOkAnd (opening bytes) IsSound
-sound_walk None ts bytes tells good built short = absurd tells
-sound_walk (Some tree) ts bytes tells good built short =
-    let paths = set.from_list (map string_bytes ts) in
-    let files = files_reached (text_trigrams limits) tree paths in
-    let strings = from_list_all IsString (map string_bytes ts) (stored_strings ts (and_parts (list_all is_storable (map string_bytes ts)) (are_reduced (map string_bytes ts)) good).0) in
-    sound_content (opening bytes) paths files
-    (opened_image bytes paths files (found_content limits tree paths tells strings) (λ name trigrams h. found_lies (text_trigrams limits) tree paths name trigrams h) (built tells) short)
+pub sound_own : (paths : Paths) (bytes : List ℕ) → IsIndex paths bytes → length bytes < 2 ^ 32 → IsOkAnd (opening bytes) IsSound
+sound_own paths bytes index short = sound_content (opening bytes) paths index.files (opened_image bytes paths index.files index.content index.under index.is short)

@@ -1,33 +1,38 @@
 -- The index of the files that a walk finds.
-use Rattle.std.proofs.Common.{◌≡◌, ℕ, suc, ◌+◌, ◌*◌, ◌^◌, ◌≤◌, Bool, true, false, cond, not, ◌&&◌, ◌||◌, List, [], ◌∷◌, ◌++◌, map, length, refl, sym, ap, subst, ◌∙◌, arith, Option, Some, None, length-append}
+use Rattle.std.proofs.Common.{◌≡◌, ℕ, suc, ◌+◌, ◌*◌, ◌^◌, ◌≤◌, ◌<◌, Bool, true, false, cond, not, ◌&&◌, ◌||◌, List, [], ◌∷◌, ◌++◌, map, length, refl, sym, ap, subst, ◌∙◌, arith, Option, Some, None, length-append, inl, inr}
 use Rattle.cs_history.specs.JobIndex.{tree_index}
 use Rattle.cs_tree.specs.Folders.{IsTree}
 use Rattle.cs_tree.specs.PathSet.{Paths}
 use Rattle.cs_tree.specs.NameOrder.{bytes_cmp, are_ascending}
 use Rattle.std.proofs.lemmas.List.{length-map}
-use Rattle.std.proofs.lemmas.Bool.{and_parts, and_from}
+use Rattle.std.proofs.lemmas.Bool.{true≢false, and_parts, and_from, cases_Bool}
 use Rattle.std.specs.Prelude.{flat_map, nat_le}
-use Rattle.std.specs.List.{list_any, list_all, cons_option}
+use Rattle.std.specs.List.{list_any, list_all, cons_option, AllByRecursion}
 use Rattle.std.specs.Ordering.{is_lt, eq_by_cmp}
-use Rattle.std.specs.Cmp.Lexicographic.{nat_list_cmp_total}
+use Rattle.std.specs.Cmp.Lexicographic.{nat_list_cmp_total, bytes_decides}
 use Rattle.std.specs.FinMap as map'
+use Rattle.std.specs.FinMap.Entries.{find}
 use Rattle.cs_tree.specs.PathSet as set
 use Rattle.cs_tree.specs.Clean.{longest_path}
-use Rattle.cs_tree.specs.Cover.{covers, same}
+use Rattle.cs_tree.specs.Cover.{covers, is_covered, same}
 use Rattle.cs_tree.specs.Snapshot.{Snapshot, Item, folder, file, cut, other, bad, item_at}
 use Rattle.cs_tree.specs.Reached.{files_reached, read_item, is_reached}
 use Rattle.cs_tree.specs.Walks.{Left, Finds, FindsIn, is_among, is_file}
-use Rattle.cs_tree.proofs.Sets.{alike, entries_in_order, items_in_order}
+use Rattle.cs_tree.proofs.Sets.{alike, entries_in_order, items_in_order, tied_is}
 use Rattle.cs_tree.proofs.Collect.{get-collected}
 use Rattle.cs_tree.proofs.Found.{get-found}
 use Rattle.cs_trigram.specs.Text.{limits, text_trigrams}
-use Rattle.cs_index.specs.Image.{Entry, image, image_of, names_of, concat, with_nul, four_bytes, starts_from, name_offsets, magic, trailer, sections_of, postings_of}
-use Rattle.cs_index.specs.Built.{are_paths, are_reduced, is_before, is_storable}
-use Rattle.cs_index.specs.Spelling.{IsIndexable}
+use Rattle.cs_trigram.specs.Trigram.{Ascends, IsTrigramSet, closing_trigram}
+use Rattle.cs_merge.specs.Content.{IsContent, LieUnder}
+use Rattle.cs_merge.proofs.HoldingLemmas.{from_list_all}
+use Rattle.cs_index.specs.Image.{Entry, IsString, image, image_of, names_of, concat, with_nul, four_bytes, starts_from, name_offsets, magic, trailer, sections_of, postings_of}
+use Rattle.cs_index.specs.Built.{Built, IsBuilt, are_paths, are_reduced, is_before, is_storable}
 use Rattle.cs_index.proofs.StringLemmas.{length-starts_from}
-use Rattle.cs_cindex.specs.Indexed.{AreTooMany, IsIndexOf, IsTreeTooLarge, IsIndex}
+use Rattle.cs_cindex.specs.Indexed.{IsIndexOf, IsTreeTooLarge}
+use Rattle.cs_cindex.specs.Output.{AreTooMany}
+use Rattle.cs_cindex.specs.Next.{IsIndex}
 use Rattle.cs_cindex.specs.Verdicts.{file_trigrams}
-use Rattle.cs_cindex.specs.Files.{texts_at, are_storable, AreTextsIn, AreTooManyIn}
+use Rattle.cs_cindex.specs.Files.{texts_at, are_storable, AreTextsIn, AreTooManyIn, HaveNamesOf}
 use Rattle.cs_cindex.proofs.FileLemmas.{AreAfter, ascend_rest, ascend_after, with_name}
 use Rattle.cs_cindex.proofs.NameLemmas.{found_storable}
 use Rattle.cs_cindex.proofs.OrderLemmas.{same_tied, true_T, below_all}
@@ -189,9 +194,60 @@ module _ (told : Option Snapshot) (paths names : List (List ℕ)) (faults : List
           (sym (ap map'.entries (sym (texts_found tree (set.from_list paths) names faults found_here)) ∙ entries_in_order (texts_at tree names) (true_T _ (texts_sorted tree names found_here.names_ascend))))
           (many (names_stored tree paths names faults ok found_here tree_is))
 
-pub index_built : (paths built : List (List ℕ)) (entries : List Entry) (bytes : List ℕ) → built ≡ paths → IsIndexable built entries → bytes ≡ image_of built entries → IsIndex paths bytes
-index_built paths built entries bytes same indexable is = record {
-  entries = entries;
-  is = is ∙ ap (λ ps. image_of ps entries) same;
-  indexable = subst (λ ps. IsIndexable ps entries) same indexable;
+-- ---- whatever the tree told
+
+find_all : (P : List ℕ → List ℕ → Type 0) (entries : List Entry) (name trigrams : List ℕ) → AllByRecursion (λ (e : Entry). P e.0 e.1) entries → find bytes_cmp name entries ≡ Some trigrams → P name trigrams
+find_all P [] name trigrams all h = cc
+find_all P (e ∷ entries) name trigrams all h =
+    elim (cases_Bool (eq_by_cmp bytes_cmp name e.0)) [
+      | inl here ↦
+          let is : e.1 ≡ trigrams = same_some e.1 trigrams (sym (ap (λ t. cond t (Some e.1) (find bytes_cmp name entries)) here) ∙ h) in
+          subst (P name) is (subst (λ n. P n e.1) (sym (tied_is name e.0 here)) all.0)
+      | inr apart ↦ find_all P entries name trigrams all.1 (sym (ap (λ t. cond t (Some e.1) (find bytes_cmp name entries)) apart) ∙ h)
+    ]
+  where
+    same_some : (s t : List ℕ) → Some s ≡ Some t → s ≡ t
+    same_some s t e = cc
+
+each_set : (entries : List Entry) → AllByRecursion (λ (e : Entry). Ascends e.1) entries → AllByRecursion (λ (e : Entry). AllByRecursion (λ g. g < closing_trigram) e.1) entries → AllByRecursion (λ (e : Entry). IsTrigramSet e.1) entries
+each_set [] up fit = tt
+each_set (e ∷ entries) up fit = ((up.0, fit.0), each_set entries up.1 fit.1)
+
+each_string : (entries : List Entry) → AllByRecursion IsString (names_of entries) → AllByRecursion (λ (e : Entry). IsString e.0) entries
+each_string [] all = tt
+each_string (e ∷ entries) all = (all.0, each_string entries all.1)
+
+built_content : (built : Built) → IsBuilt built → IsContent (set.from_list built.paths) (map'.from_entries built.entries)
+built_content built is =
+    let read : (name trigrams : List ℕ) → map'.get (map'.from_entries built.entries) name ≡ Some trigrams → find bytes_cmp name built.entries ≡ Some trigrams =
+    λ name trigrams there. sym (map'.get-from_entries nat_list_cmp_total built.entries name) ∙ there in
+    record {
+      paths_are = from_list_all IsString built.paths is.each_path;
+      names_are = λ name trigrams there. find_all (λ n (t : List ℕ). IsString n) built.entries name trigrams (each_string built.entries is.each_name) (read name trigrams there);
+      sets_are = λ name trigrams there. find_all (λ (n : List ℕ) t. IsTrigramSet t) built.entries name trigrams (each_set built.entries is.sets is.trigrams) (read name trigrams there);
+    }
+
+-- what holds of all names holds of those of the entries
+member : (P : List ℕ → Type 0) (names : List (List ℕ)) (name : List ℕ) → AllByRecursion P names → is_among names name ≡ true → P name
+member P [] name all h = absurd (true≢false (sym h))
+member P (one ∷ names) name all h =
+    elim (cases_Bool (same one name)) [
+      | inl here ↦ subst P ((bytes_decides one name).0 here) all.0
+      | inr apart ↦ member P names name all.1 (sym (ap (λ b. b || is_among names name) apart) ∙ h)
+    ]
+
+pub lies_under : (paths : Paths) (names : List (List ℕ)) (entries : List Entry) → AllByRecursion (λ name. is_covered paths name ≡ true) names → HaveNamesOf names entries → LieUnder paths (map'.from_entries entries)
+lies_under paths names entries covered have = λ name trigrams there.
+    find_all (λ n (t : List ℕ). is_covered paths n ≡ true) entries name trigrams (each entries have) (sym (map'.get-from_entries nat_list_cmp_total entries name) ∙ there)
+  where
+    each : (es : List Entry) → HaveNamesOf names es → AllByRecursion (λ (e : Entry). is_covered paths e.0 ≡ true) es
+    each [] all = tt
+    each (e ∷ es) all = (member (λ n. is_covered paths n ≡ true) names e.0 covered all.0, each es all.1)
+
+pub index_built : (paths : List (List ℕ)) (built : Built) (bytes : List ℕ) → built.paths ≡ paths → IsBuilt built → LieUnder (set.from_list paths) (map'.from_entries built.entries) → bytes ≡ image_of built.paths built.entries → IsIndex (set.from_list paths) bytes
+index_built paths built bytes same is under bytes_are = record {
+  files = map'.from_entries built.entries;
+  content = subst (λ ps. IsContent (set.from_list ps) (map'.from_entries built.entries)) same (built_content built is);
+  under = under;
+  is = bytes_are ∙ image_is built.paths built.entries is.paths is.ascend ∙ ap (λ ps. image (set.from_list ps) (map'.from_entries built.entries)) same;
 }

@@ -151,20 +151,20 @@ late_path lists job tree old place h = h
 late_path clears job tree old place h = h
 late_path walks job tree old place h = h
 
-late_order : (kind : JobKind) (job : IndexJob) (tree : Option Snapshot) (old : Option (List ℕ)) → Tells tree → IsLateFault kind job tree old Unsorted → ⊥
-late_order lists job tree old tells h = h
-late_order clears job tree old tells h = h
-late_order walks job tree old tells h = h tells
+late_order : (kind : JobKind) (job : IndexJob) (tree : Option Snapshot) (old : Option (List ℕ)) → IsLateFault kind job tree old Unsorted → ⊥
+late_order lists job tree old h = h
+late_order clears job tree old h = h
+late_order walks job tree old h = h
 
 damaged_none : (earlier : History) (old : Option (List ℕ)) → IsHistory earlier → index_of earlier ≡ old → IsShort old → IsDamaged old → ⊥
 damaged_none earlier None is left short h = h
 damaged_none earlier (Some bytes) is left short h = history_whole earlier bytes is left short h
 
-late_bad : (earlier : History) (kind : JobKind) (job : IndexJob) (tree : Option Snapshot) (old : Option (List ℕ)) (fault : IndexFault) → Tells tree → IsHistory earlier → index_of earlier ≡ old → IsShort old → IsLateFault kind job tree old (BadIndex fault) → ⊥
-late_bad earlier lists job tree old fault tells is left short h = h
-late_bad earlier clears job tree old fault tells is left short h = h
-late_bad earlier walks job tree old fault tells is left short h =
-    cond_both job.reset None old (λ o. IsDamaged o → ⊥) (λ _ damaged. damaged) (λ _ damaged. damaged_none earlier old is left short damaged) (h tells).1
+late_bad : (earlier : History) (kind : JobKind) (job : IndexJob) (tree : Option Snapshot) (old : Option (List ℕ)) (fault : IndexFault) → IsHistory earlier → index_of earlier ≡ old → IsShort old → IsLateFault kind job tree old (BadIndex fault) → ⊥
+late_bad earlier lists job tree old fault is left short h = h
+late_bad earlier clears job tree old fault is left short h = h
+late_bad earlier walks job tree old fault is left short list =
+    cond_both job.reset None old (λ o. IsDamaged o → ⊥) (λ _ damaged. damaged) (λ _ damaged. damaged_none earlier old is left short damaged) list.damaged
 
 -- an early fault is no fault of the index itself
 no_bad : (earlier : History) (job : IndexJob) (fault : IndexFault) → Causes earlier job (BadIndex fault) → ⊥
@@ -223,8 +223,8 @@ right_reply earlier job tree old (Refused fault) tells is left short cause large
   bad_path = λ place e. path_cause earlier job place (early (BadPath place) (λ h. cc) (late_path (job_kind job) job tree old place) e);
   too_large = large;
   fits = fits;
-  bad_index = λ bad e. no_bad earlier job bad (early (BadIndex bad) (λ h. cc) (late_bad earlier (job_kind job) job tree old bad tells is left short) e);
-  unsorted = λ e. no_order earlier job (early Unsorted (λ h. cc) (late_order (job_kind job) job tree old tells) e);
+  bad_index = λ bad e. no_bad earlier job bad (early (BadIndex bad) (λ h. cc) (late_bad earlier (job_kind job) job tree old bad is left short) e);
+  unsorted = λ e. no_order earlier job (early Unsorted (λ h. cc) (late_order (job_kind job) job tree old) e);
 }
   where
     early : (other : CindexFault) → (other ≡ Memory → ⊥) → (IsLateFault (job_kind job) job tree old other → ⊥) → Refused fault ≡ Refused other → Causes earlier job other

@@ -7,7 +7,7 @@ use Rattle.cs_tree.specs.NameOrder.{bytes_cmp}
 use Rattle.std.specs.Prelude.{string_bytes, is_some}
 use Rattle.std.specs.FinMap as map'
 use Rattle.std.specs.Cmp.Lexicographic.{nat_list_cmp_total}
-use Rattle.std.proofs.lemmas.Bool.{true≢false, cases_Bool, cases_lt, ne_eqb, eqb-true, eqb-false}
+use Rattle.std.proofs.lemmas.Bool.{true≢false, and_parts, cases_Bool, ne_eqb, eqb-true, eqb-false}
 use Rattle.std.proofs.lemmas.List.{length-map}
 use Rattle.cs_tree.specs.PathSet as set
 use Rattle.cs_tree.specs.Cover.{least}
@@ -18,7 +18,7 @@ use Rattle.cs_index.specs.Image.{image}
 use Rattle.cs_index.specs.Opening.{Parts, opening}
 use Rattle.cs_index.specs.declared.fault.IndexFault.{IndexFault}
 use Rattle.cs_merge.specs.Content.{paths_in}
-use Rattle.cs_merge.specs.Joinable.{joined_index}
+use Rattle.cs_merge.specs.Joinable.{joined_index, AreJoinable}
 use Rattle.cs_merge.specs.Join.{join_files, join_paths}
 use Rattle.cs_cindex.specs.Indexed.{IsIndexOf, IsTreeTooLarge, IsIndexingFault}
 use Rattle.cs_words.specs.declared.jobs.IndexJob.{IndexJob}
@@ -36,7 +36,7 @@ use Rattle.cs_history.proofs.IndexLemmas.{index_joined, first_index, given_some,
 use Rattle.std.specs.Result.{IsOkAnd}
 use Rattle.cs_index.specs.Opening.{are_whole}
 use Rattle.cs_cindex.specs.Joins.{IsSound, JoinsTo, IsJoinFault}
-use Rattle.cs_cindex.specs.Next.{opening_paths, base_paths, paths_walked, index_alone, opening_join, next_index, IsNextLong, IsNext}
+use Rattle.cs_cindex.specs.Next.{opening_paths, base_paths, paths_walked, index_alone, opening_join, next_index, HasWholeLists, IsIndex, IsOwn, IsNextLong, alone, joined, IsNext}
 use Rattle.cs_cindex.specs.Refusals.{base, IsWalkFault}
 use Rattle.cs_cindex.proofs.OldLemmas.{OpensWith, history_opens, opened_image}
 
@@ -46,56 +46,83 @@ own_told : (job : IndexJob) (tree : Option Snapshot) (old : Option (List ℕ)) (
 own_told job None old paths bytes e built tells = absurd tells
 own_told job (Some tree) old paths bytes e built tells = built tells ∙ ap (tree_index tree) e
 
-pub next_anew : (job : IndexJob) (tree : Option Snapshot) (paths : Paths) (bytes : List ℕ) → paths ≡ paths_walked job None → IsIndexOf tree paths bytes → length bytes < 2 ^ 32 → IsNext job tree None (Some bytes)
-next_anew job tree paths bytes e built short = record {
-  is = λ tells. ap Some (own_told job tree None paths bytes e built tells);
-  own_short = λ tells. subst (λ b. length b < 2 ^ 32) (own_told job tree None paths bytes e built tells) short;
+-- what indexing gives is the job's own index
+pub own_index : (job : IndexJob) (tree : Option Snapshot) (old : Option (List ℕ)) (paths : Paths) (bytes : List ℕ) → paths ≡ paths_walked job old → IsIndex paths bytes → IsIndexOf tree paths bytes → length bytes < 2 ^ 32 → IsOwn job tree old bytes
+own_index job tree old paths bytes e index built short = record {
+  index = subst (λ ps. IsIndex ps bytes) e index;
+  told = own_told job tree old paths bytes e built;
   short = short;
 }
+
+pub next_anew : (job : IndexJob) (tree : Option Snapshot) (bytes : List ℕ) → IsOwn job tree None bytes → IsNext job tree None (Some bytes)
+next_anew job tree bytes own = record { own = bytes; own_is = own; whole = tt; is = refl; short = own.short }
 
 joins_opening : (parts : Parts) (opening : Result Parts IndexFault) (bytes : List ℕ) → JoinsTo parts opening bytes → Some bytes ≡ opening_join (Ok parts) opening
-joins_opening parts (Ok own) bytes joins = ap Some joins
+joins_opening parts (Ok own) bytes joins = ap Some joins.1
 joins_opening parts (Err fault) bytes joins = absurd joins
 
-pub next_onto : (job : IndexJob) (tree : Option Snapshot) (old : List ℕ) (parts : Parts) (paths : Paths) (own bytes : List ℕ) → opening old ≡ Ok parts → paths ≡ paths_walked job (Some old) → IsIndexOf tree paths own → length own < 2 ^ 32 → JoinsTo parts (opening own) bytes → length bytes < 2 ^ 32 → IsNext job tree (Some old) (Some bytes)
-next_onto job tree old parts paths own bytes opens e built few joins short = record {
-  is = λ tells.
-      joins_opening parts (opening own) bytes joins
-      ∙ ap (λ o. opening_join o (opening own)) (sym opens)
-      ∙ ap (λ b. opening_join (opening old) (opening b)) (own_told job tree (Some old) paths own e built tells);
-  own_short = λ tells. subst (λ b. length b < 2 ^ 32) (own_told job tree (Some old) paths own e built tells) few;
+-- what can be joined is whole
+joinable_whole : (parts own : Parts) → AreJoinable parts own → are_whole parts ≡ true
+joinable_whole parts own joinable = (and_parts (are_whole parts) (are_whole own) joinable.whole).0
+
+whole_opening : (parts : Parts) (opening : Result Parts IndexFault) (bytes : List ℕ) → JoinsTo parts opening bytes → are_whole parts ≡ true
+whole_opening parts (Ok own) bytes joins = joinable_whole parts own joins.0
+whole_opening parts (Err fault) bytes joins = absurd joins
+
+whole_old : (old : List ℕ) (parts : Parts) → opening old ≡ Ok parts → are_whole parts ≡ true → HasWholeLists (Some old)
+whole_old old parts opens whole = subst (λ o. IsOkAnd o (λ parts. are_whole parts ≡ true)) (sym opens) whole
+
+pub next_onto : (job : IndexJob) (tree : Option Snapshot) (old : List ℕ) (parts : Parts) (own bytes : List ℕ) → opening old ≡ Ok parts → IsOwn job tree (Some old) own → JoinsTo parts (opening own) bytes → length bytes < 2 ^ 32 → IsNext job tree (Some old) (Some bytes)
+next_onto job tree old parts own bytes opens own_is joins short = record {
+  own = own;
+  own_is = own_is;
+  whole = whole_old old parts opens (whole_opening parts (opening own) bytes joins);
+  is = joins_opening parts (opening own) bytes joins ∙ ap (λ o. opening_join o (opening own)) (sym opens);
   short = short;
 }
 
+-- in the words of a tree that tells what stands in it
+pub told_next : (job : IndexJob) (tree : Option Snapshot) (old new : Option (List ℕ)) → IsNext job tree old new → Tells tree → new ≡ next_index old (index_alone job (snapshot_told tree) old)
+told_next job tree old new next tells = next.is ∙ ap (next_index old) (next.own_is.told tells)
+
+pub told_short : (job : IndexJob) (tree : Option Snapshot) (old : Option (List ℕ)) (own : List ℕ) → IsOwn job tree old own → Tells tree → length (index_alone job (snapshot_told tree) old) < 2 ^ 32
+told_short job tree old own own_is tells = subst (λ b. length b < 2 ^ 32) (own_is.told tells) own_is.short
+
 -- a refusal of indexing is one of the job
-large_told : (job : IndexJob) (tree : Option Snapshot) (old : Option (List ℕ)) (paths : Paths) → paths ≡ paths_walked job old → IsTreeTooLarge tree paths → Tells tree → IsNextLong job (snapshot_told tree) old
+large_told : (job : IndexJob) (tree : Option Snapshot) (old : Option (List ℕ)) (paths : Paths) → paths ≡ paths_walked job old → IsTreeTooLarge tree paths → Tells tree → IsLong (Some (index_alone job (snapshot_told tree) old))
 large_told job None old paths e large tells = absurd tells
-large_told job (Some tree) old paths e large tells = inl (subst (λ ps. 2 ^ 32 ≤ length (tree_index tree ps)) e (large tells))
+large_told job (Some tree) old paths e large tells = subst (λ ps. 2 ^ 32 ≤ length (tree_index tree ps)) e (large tells)
 
 pub index_refusal : (job : IndexJob) (tree : Option Snapshot) (old : Option (List ℕ)) (paths : Paths) (fault : CindexFault) → paths ≡ paths_walked job old → IsIndexingFault fault → (fault ≡ TooLarge → IsTreeTooLarge tree paths) → IsWalkFault job tree old fault
-index_refusal job tree old paths TooLarge e only large = large_told job tree old paths e (large refl)
+index_refusal job tree old paths TooLarge e only large = alone (large_told job tree old paths e (large refl))
 index_refusal job tree old paths Write e only large = tt
 index_refusal job tree old paths Memory e only large = tt
 index_refusal job tree old paths NoIndex e only large = only
 index_refusal job tree old paths (BadIndex fault) e only large = absurd only
-index_refusal job tree old paths Unsorted e only large = absurd only
+index_refusal job tree old paths Unsorted e only large = only
 index_refusal job tree old paths (BadPath place) e only large = only
 
 -- and so is one of joining
-long_opening : (parts : Parts) (opening : Result Parts IndexFault) → IsOkAnd opening (λ own. IsLong (Some (joined_index parts own))) → IsLong (opening_join (Ok parts) opening)
-long_opening parts (Ok own) long = long
+long_opening : (parts : Parts) (opening : Result Parts IndexFault) → IsOkAnd opening (λ own. AreJoinable parts own × IsLong (Some (joined_index parts own))) → (are_whole parts ≡ true) × IsLong (opening_join (Ok parts) opening)
+long_opening parts (Ok own) long = (joinable_whole parts own long.0, long.1)
 long_opening parts (Err fault) long = absurd long
 
-pub join_refusal : (job : IndexJob) (tree : Option Snapshot) (old : List ℕ) (parts : Parts) (paths : Paths) (own : List ℕ) (fault : CindexFault) → opening old ≡ Ok parts → paths ≡ paths_walked job (Some old) → IsIndexOf tree paths own → (Tells tree → IsOkAnd (opening own) IsSound) → IsJoinFault parts (opening own) fault → IsWalkFault job tree (Some old) fault
-join_refusal job tree old parts paths own (BadIndex fault) opens e built sound h = λ tells. let bad = h (sound tells) in (bad.0, subst (λ o. IsOkAnd o (λ parts. are_whole parts ≡ false)) (sym opens) bad.1)
-join_refusal job tree old parts paths own Unsorted opens e built sound h = λ tells. h (sound tells)
-join_refusal job tree old parts paths own TooLarge opens e built sound h = λ tells.
-    let joined : IsLong (opening_join (opening old) (opening own)) = subst (λ o. IsLong (opening_join o (opening own))) (sym opens) (long_opening parts (opening own) h) in
-    inr (subst (λ b. IsLong (opening_join (opening old) (opening b))) (own_told job tree (Some old) paths own e built tells) joined)
-join_refusal job tree old parts paths own Memory opens e built sound h = tt
-join_refusal job tree old parts paths own Write opens e built sound h = absurd h
-join_refusal job tree old parts paths own NoIndex opens e built sound h = h
-join_refusal job tree old parts paths own (BadPath place) opens e built sound h = h
+module _ (job : IndexJob) (tree : Option Snapshot) (old : List ℕ) (parts : Parts) (own : List ℕ) (opens : opening old ≡ Ok parts) (own_is : IsOwn job tree (Some old) own) (sound : IsOkAnd (opening own) IsSound) where
+  pub join_refusal : (fault : CindexFault) → IsJoinFault parts (opening own) fault → IsWalkFault job tree (Some old) fault
+  join_refusal (BadIndex fault) h = record {
+    is = (h sound).0;
+    damaged = subst (λ o. IsOkAnd o (λ parts. are_whole parts ≡ false)) (sym opens) (h sound).1;
+    own = own;
+    own_is = own_is;
+  }
+  join_refusal Unsorted h = h sound
+  join_refusal TooLarge h =
+      let both = long_opening parts (opening own) h in
+      joined own own_is (whole_old old parts opens both.0) (subst (λ o. IsLong (opening_join o (opening own))) (sym opens) both.1)
+  join_refusal Memory h = tt
+  join_refusal Write h = absurd h
+  join_refusal NoIndex h = h
+  join_refusal (BadPath place) h = h
 
 -- ---- where some jobs left what it goes on from
 
@@ -159,13 +186,10 @@ next_is job tree (Some bytes) earlier on short =
     (opened_image own (walked_paths visit earlier) (files_found visit earlier) (walk_content visit earlier on.history) (walk_lies visit earlier) (own_is job tree (Some bytes) earlier on) short)
 
 -- what is too large is so in the words of the history
-pub large_is : (job : IndexJob) (tree : Snapshot) (old : Option (List ℕ)) (earlier : History) → On job tree old earlier → IsNextLong job tree old → IsLong (Some (tree_index tree (walked_paths (visit_of job tree) earlier))) ⊎ IsLong (index_of (visit_of job tree ∷ earlier))
-large_is job tree old earlier on (inl own) = inl (subst (λ b. 2 ^ 32 ≤ length b) (own_is job tree old earlier on) own)
-large_is job tree old earlier on (inr next) =
-    elim (cases_lt (length (index_alone job tree old)) (2 ^ 32)) [
-      | inl short ↦ inr (subst IsLong (next_is job tree old earlier on short) next)
-      | inr long ↦ inl (subst (λ b. 2 ^ 32 ≤ length b) (own_is job tree old earlier on) long)
-    ]
+pub large_is : (job : IndexJob) (tree : Option Snapshot) (old : Option (List ℕ)) (earlier : History) → Tells tree → On job (snapshot_told tree) old earlier → IsNextLong job tree old → IsLong (Some (tree_index (snapshot_told tree) (walked_paths (visit_of job (snapshot_told tree)) earlier))) ⊎ IsLong (index_of (visit_of job (snapshot_told tree) ∷ earlier))
+large_is job tree old earlier tells on (alone long) = inl (subst (λ b. 2 ^ 32 ≤ length b) (own_is job (snapshot_told tree) old earlier on) (long tells))
+large_is job tree old earlier tells on (joined own is whole long) =
+    inr (subst IsLong (ap (next_index old) (is.told tells) ∙ next_is job (snapshot_told tree) old earlier on (told_short job tree old own is tells)) long)
 
 not_both : (index : Option (List ℕ)) → IsShort index → IsLong index → ⊥
 not_both None short long = long

@@ -1,6 +1,5 @@
 -- What becomes of the index, and why jobs are refused.
 use Rattle.std.proofs.Common.{◌≡◌, ℕ, ◌&&◌, cond, List, [], ◌∷◌, refl, sym, ap, subst, ◌∙◌, ◌⊎◌, Option, Some, None}
-use Rattle.cs_tree.specs.Folders.{Tells}
 use Rattle.std.specs.Prelude.{string_bytes, option_map}
 use Rattle.std.specs.Option.{option_or}
 use Rattle.cs_tree.specs.Snapshot.{Snapshot}
@@ -17,7 +16,7 @@ use Rattle.cs_cindex.specs.Next.{IsNextLong, IsNext}
 use Rattle.cs_cindex.specs.Refusals.{lists, clears, walks, job_kind, base, first_bad, base_fault, early_walk_fault, early_fault_of, early_fault, IsLateFault, EarlyOr, HasCause}
 use Rattle.cs_cindex.specs.Steps.{RightAfter}
 use Rattle.cs_cindex.proofs.PathLemmas.{all_taken}
-use Rattle.cs_cindex.proofs.NextLemmas.{on_base, walks_on, next_is, large_is, fits_is}
+use Rattle.cs_cindex.proofs.NextLemmas.{told_next, told_short, on_base, walks_on, next_is, large_is, fits_is}
 use Rattle.cs_cindex.proofs.JobLemmas.{Causes, none_there, refused, causes, listing, clearing, walking, cases_of, is_early, right_reply}
 
 none_bad_of : (o b : Option CindexFault) (bad : Option ℕ) → option_or (option_map (λ place. BadPath place) bad) b ≡ None → bad ≡ None
@@ -44,8 +43,8 @@ walk_indexes job tree old bytes w none next =
     record {
       index = λ earlier p.
           let tells = p.trees_tell.0 in
-          next.is tells
-          ∙ next_is job (snapshot_told tree) (base job old) (cond job.reset [] earlier) (on_base job tree old earlier taken p) (next.own_short tells)
+          told_next job tree (base job old) (Some bytes) next tells
+          ∙ next_is job (snapshot_told tree) (base job old) (cond job.reset [] earlier) (on_base job tree old earlier taken p) (told_short job tree (base job old) next.own next.own_is tells)
           ∙ ap index_of (sym (walks_on job (snapshot_told tree) earlier w));
       fitting = ((λ _. taken), tt);
       short = λ _. next.short;
@@ -72,11 +71,11 @@ large_late job tree old earlier p none late =
       | clearing l r n k ↦ absurd (subst (λ kind. IsLateFault kind job tree old TooLarge) k late)
       | walking l one k ↦
           let w : Walks job = (l, one) in
-          let next : Tells tree → IsNextLong job (snapshot_told tree) (base job old) = subst (λ kind. IsLateFault kind job tree old TooLarge) k late in
+          let next : IsNextLong job tree (base job old) = subst (λ kind. IsLateFault kind job tree old TooLarge) k late in
           record {
             walks = w;
             long = subst (λ h. IsLong (Some (Rattle.cs_history.specs.Replies.own_index earlier job (snapshot_told tree))) ⊎ IsLong (index_of h)) (sym (walks_on job (snapshot_told tree) earlier w))
-                (large_is job (snapshot_told tree) (base job old) (cond job.reset [] earlier) (on_base job tree old earlier (early_taken job old w none) p) (next p.trees_tell.0));
+                (large_is job tree (base job old) (cond job.reset [] earlier) p.trees_tell.0 (on_base job tree old earlier (early_taken job old w none) p) next);
           }
     ]
 
@@ -93,7 +92,7 @@ done_fits job tree old new Done earlier p cause next e large =
     let w = large.walks in
     let done = next refl w in
     let tells = p.trees_tell.0 in
-    fits_is job (snapshot_told tree) (base job old) new (cond job.reset [] earlier) (on_base job tree old earlier (early_taken job old w cause) p) (done.is tells) (done.own_short tells) done.short
+    fits_is job (snapshot_told tree) (base job old) new (cond job.reset [] earlier) (on_base job tree old earlier (early_taken job old w cause) p) (told_next job tree (base job old) new done tells) (told_short job tree (base job old) done.own done.own_is tells) done.short
     (subst (λ h. IsLong (Some (Rattle.cs_history.specs.Replies.own_index earlier job (snapshot_told tree))) ⊎ IsLong (index_of h)) (walks_on job (snapshot_told tree) earlier w) large.long)
 
 -- ---- the reply of a job

@@ -134,7 +134,7 @@ module _ (job : IndexJob) (tree : JobTree) (old : Standing) (later : Outputs) wh
           writes = (o, e);
         }
 
-    pub walk_refused : (fault : CindexFault) → EarlyOr (early_walk_fault job from) (IsWalkFault job tree.snapshot from fault) fault → WalkPrintsSome (early_walk_fault job from) job tree.snapshot from tree.failed tree.failed_then old.outputs.err later.err → later.err_failed ≡ count_if (is_failed_write fault) old.outputs.err_failed → IsStep job tree (Refused fault) old (record { index = old.index; outputs = later })
+    pub walk_refused : (fault : CindexFault) → EarlyOr (early_walk_fault job from) (IsWalkFault job tree.snapshot from fault) fault → WalkPrintsSome (early_walk_fault job from) fault job tree.snapshot from tree.failed tree.failed_then old.outputs.err later.err → later.err_failed ≡ count_if (is_failed_write fault) old.outputs.err_failed → IsStep job tree (Refused fault) old (record { index = old.index; outputs = later })
     walk_refused fault cause err e =
         let kind = walks_kind job w in
         record {
@@ -145,7 +145,7 @@ module _ (job : IndexJob) (tree : JobTree) (old : Standing) (later : Outputs) wh
           walked = λ h. absurd (never_done fault h);
           out = subst (λ k. TakesFront (list_lines k old.index) old.outputs.out later.out) (sym kind) (front_all [] old.outputs.out later.out out);
           err = subst (λ k. TellsBy k (Refused fault) job tree.snapshot old.index tree.failed tree.failed_then old.outputs.err later.err) (sym kind)
-              (subst (λ b. WalkPrintsSome (early_walk_fault job b) job tree.snapshot b tree.failed tree.failed_then old.outputs.err later.err) (sym is) err);
+              (subst (λ b. WalkPrintsSome (early_walk_fault job b) fault job tree.snapshot b tree.failed tree.failed_then old.outputs.err later.err) (sym is) err);
           writes = counts_err (is_failed_write fault) old.outputs.out_failed later.out_failed old.outputs.err_failed later.err_failed o e;
         }
 

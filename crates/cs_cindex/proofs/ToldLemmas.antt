@@ -1,7 +1,8 @@
 -- What jobs print.
-use Rattle.std.proofs.Common.{◌≡◌, ◌≢◌, ℕ, Bool, cond, List, [], ◌∷◌, ◌++◌, length, refl, sym, ap, subst, ◌∙◌, inl, inr, arith, append_assoc, append-nil, Option, Some, None, Result, Ok}
+use Rattle.std.proofs.Common.{◌≡◌, ◌≢◌, ◌⊎◌, ℕ, Bool, cond, List, [], ◌∷◌, ◌++◌, length, refl, sym, ap, subst, ◌∙◌, inl, inr, arith, append_assoc, append-nil, Option, Some, None, Result, Ok}
 use Rattle.cs_tree.specs.PathSet.{Paths}
-use Rattle.std.specs.Prelude.{codes}
+use Rattle.std.specs.Prelude.{codes, string_bytes, option_map}
+use Rattle.std.specs.Option.{option_or}
 use Rattle.std.proofs.lemmas.Bool.{ne_eqb, eq-eqb}
 use Rattle.cs_tree.specs.PathSet as set
 use Rattle.cs_tree.specs.Cover.{least}
@@ -12,12 +13,14 @@ use Rattle.cs_index.specs.declared.fault.IndexFault.{IndexFault}
 use Rattle.cs_words.specs.declared.jobs.IndexJob.{IndexJob}
 use Rattle.cs_words.specs.declared.jobs.Reply.TheVariants.{Done, Refused}
 use Rattle.cs_words.specs.declared.fault.CindexFault.{CindexFault}
-use Rattle.cs_history.specs.Jobs.{given_paths}
+use Rattle.cs_history.specs.Jobs.{given_paths, given_texts}
 use Rattle.cs_cindex.specs.Notices.{TakesFront, AreLinesIn, BeginLinesIn, Prints, PrintsFront}
-use Rattle.cs_cindex.specs.Refusals.{JobKind, lists, clears, walks, base, early_fault_of}
-use Rattle.cs_cindex.specs.JobPaths.{AreCleaned, starts}
+use Rattle.cs_cindex.specs.Indexed.{IsIndexingFault}
+use Rattle.cs_cindex.specs.Refusals.{JobKind, lists, clears, walks, base, early_fault_of, early_walk_fault, base_fault, EarlyOr, IsOutputFault}
+use Rattle.cs_cindex.specs.JobPaths.{AreCleanFault, AreCleaned, starts}
 use Rattle.cs_cindex.specs.Next.{opening_paths, base_paths, paths_walked}
-use Rattle.cs_cindex.specs.Output.{path_lines, WalkPrints, WalkPrintsFront, WalkPrintsSome, TellsBy}
+use Rattle.cs_words.specs.declared.fault.CindexFault.TheVariants.{NoIndex, BadIndex, Unsorted, TooLarge, BadPath, Write, Memory}
+use Rattle.cs_cindex.specs.Output.{path_lines, AreTooMany, IsMidway, WalkPrints, WalkPrintsFront, WalkPrintsSome, TellsBy}
 use Rattle.cs_cindex.proofs.FrontLemmas.{grows_none, grows_then, front_none, front_left, front_right}
 use Rattle.cs_cindex.proofs.GoingLemmas.{walk_as_set, count_texts}
 
@@ -31,9 +34,36 @@ cut_none : (job : IndexJob) (tree : Option Snapshot) (old : Option (List ℕ)) (
 cut_none job tree old n taken = record { lines = []; due = begin_none job.log_skip tree (paths_walked job old); counted = tt; front = front_none [] taken }
 
 -- nothing was printed
-pub nothing_printed : (early : Option CindexFault) (job : IndexJob) (tree : Option Snapshot) (old : Option (List ℕ)) (n : ℕ) (taken : Option (List ℕ)) → WalkPrintsSome early job tree old n n taken taken
-nothing_printed None job tree old n taken = inr (cut_none job tree old n taken)
-nothing_printed (Some early) job tree old n taken = grows_none taken
+pub nothing_printed : (early : Option CindexFault) (fault : CindexFault) (job : IndexJob) (tree : Option Snapshot) (old : Option (List ℕ)) (n : ℕ) (taken : Option (List ℕ)) → EarlyOr early (IsOutputFault fault) fault → WalkPrintsSome early fault job tree old n n taken taken
+nothing_printed None Write job tree old n taken h = inr (tt, cut_none job tree old n taken)
+nothing_printed None Memory job tree old n taken h = inr (tt, cut_none job tree old n taken)
+nothing_printed None TooLarge job tree old n taken h = absurd h
+nothing_printed None NoIndex job tree old n taken h = absurd h
+nothing_printed None (BadIndex fault) job tree old n taken h = absurd h
+nothing_printed None Unsorted job tree old n taken h = absurd h
+nothing_printed None (BadPath place) job tree old n taken h = absurd h
+nothing_printed (Some early) fault job tree old n taken h = grows_none taken
+
+-- where a path of the job is refused
+clean_midway : (job : IndexJob) (tree : Option Snapshot) (old : Option (List ℕ)) (fault : CindexFault) → AreCleanFault (string_bytes job.cwd) (given_texts job) fault → early_walk_fault job old ≡ None → IsOutputFault fault
+clean_midway job tree old (BadPath place) h e =
+    absurd (some_none (sym (ap (λ bad. option_or (option_map (λ at. BadPath at) bad) (base_fault job old)) h) ∙ e))
+  where
+    some_none : Some (BadPath place) ≡ None → ⊥
+    some_none is = cc
+clean_midway job tree old Memory h e = tt
+clean_midway job tree old NoIndex h e = h
+clean_midway job tree old (BadIndex fault) h e = absurd h
+clean_midway job tree old Unsorted h e = absurd h
+clean_midway job tree old TooLarge h e = absurd h
+clean_midway job tree old Write h e = absurd h
+
+pub unclean_printed : (job : IndexJob) (tree : Option Snapshot) (old : Option (List ℕ)) (fault : CindexFault) (n : ℕ) (taken : Option (List ℕ)) → AreCleanFault (string_bytes job.cwd) (given_texts job) fault → WalkPrintsSome (early_walk_fault job old) fault job tree old n n taken taken
+unclean_printed job tree old fault n taken h = by_early (early_walk_fault job old) (clean_midway job tree old fault h)
+  where
+    by_early : (early : Option CindexFault) → (early ≡ None → IsOutputFault fault) → WalkPrintsSome early fault job tree old n n taken taken
+    by_early None midway = nothing_printed None fault job tree old n taken (midway refl)
+    by_early (Some early) midway = grows_none taken
 
 -- ---- the paths that are walked
 
@@ -53,11 +83,35 @@ start_walk job old parts (t ∷ ts) paths clean opens e =
 pub prints_over : (job : IndexJob) (tree : Option Snapshot) (paths : Paths) (old : Option (List ℕ)) (n m : ℕ) (a b : Option (List ℕ)) → paths ≡ paths_walked job old → Prints (AreLinesIn job.log_skip tree paths) n m a b → WalkPrints job tree old n m a b
 prints_over job tree paths old n m a b e h = subst (λ ps. Prints (AreLinesIn job.log_skip tree ps) n m a b) e h
 
-pub front_over : (job : IndexJob) (tree : Option Snapshot) (paths : Paths) (old : Option (List ℕ)) (early : Option CindexFault) (n m : ℕ) (a b : Option (List ℕ)) → paths ≡ paths_walked job old → early ≡ None → PrintsFront (BeginLinesIn job.log_skip tree paths) n m a b → WalkPrintsSome early job tree old n m a b
-front_over job tree paths old early n m a b e none h = subst (λ o. WalkPrintsSome o job tree old n m a b) (sym none) (inr (subst (λ ps. PrintsFront (BeginLinesIn job.log_skip tree ps) n m a b) e h))
+module _ (job : IndexJob) (tree : Option Snapshot) (paths : Paths) (old : Option (List ℕ)) (early : Option CindexFault) (n m : ℕ) (a b : Option (List ℕ)) (fault : CindexFault) (e : paths ≡ paths_walked job old) (none : early ≡ None) where
+  -- all of them
+  pub whole_over : Prints (AreLinesIn job.log_skip tree paths) n m a b → WalkPrintsSome early fault job tree old n m a b
+  whole_over h = subst (λ o. WalkPrintsSome o fault job tree old n m a b) (sym none) (inl (prints_over job tree paths old n m a b e h))
 
-pub whole_over : (job : IndexJob) (tree : Option Snapshot) (paths : Paths) (old : Option (List ℕ)) (early : Option CindexFault) (n m : ℕ) (a b : Option (List ℕ)) → paths ≡ paths_walked job old → early ≡ None → Prints (AreLinesIn job.log_skip tree paths) n m a b → WalkPrintsSome early job tree old n m a b
-whole_over job tree paths old early n m a b e none h = subst (λ o. WalkPrintsSome o job tree old n m a b) (sym none) (inl (prints_over job tree paths old n m a b e h))
+  midway_over : IsMidway fault tree paths → PrintsFront (BeginLinesIn job.log_skip tree paths) n m a b → WalkPrintsSome early fault job tree old n m a b
+  midway_over midway h =
+      subst (λ o. WalkPrintsSome o fault job tree old n m a b) (sym none)
+      (inr (subst (IsMidway fault tree) e midway, subst (λ ps. PrintsFront (BeginLinesIn job.log_skip tree ps) n m a b) e h))
+
+  -- a front of them, or all where the index is too large
+  pub front_over : IsIndexingFault fault → (fault ≡ TooLarge → AreTooMany tree paths ⊎ Prints (AreLinesIn job.log_skip tree paths) n m a b) → PrintsFront (BeginLinesIn job.log_skip tree paths) n m a b → WalkPrintsSome early fault job tree old n m a b
+  front_over only whole h =
+      elim (cases_midway fault only) [
+        | inl large ↦ elim (whole large) [
+          | inl many ↦ midway_over (subst (λ f. IsMidway f tree paths) (sym large) many) h
+          | inr all ↦ whole_over all
+        ]
+        | inr midway ↦ midway_over midway h
+      ]
+    where
+      cases_midway : (f : CindexFault) → IsIndexingFault f → (f ≡ TooLarge) ⊎ IsMidway f tree paths
+      cases_midway TooLarge is = inl refl
+      cases_midway Write is = inr tt
+      cases_midway Memory is = inr tt
+      cases_midway NoIndex is = inr is
+      cases_midway (BadIndex bad) is = inr is
+      cases_midway Unsorted is = inr is
+      cases_midway (BadPath place) is = inr is
 
 -- ---- flushes
 
@@ -69,7 +123,7 @@ tells_then walks job tree old n m a b c h g = record { lines = h.lines; due = h.
 pub tells_refused : (kind : JobKind) (job : IndexJob) (tree : Option Snapshot) (old : Option (List ℕ)) (n m : ℕ) (a b : Option (List ℕ)) (fault : CindexFault) → early_fault_of kind job old ≡ None → TellsBy kind Done job tree old n m a b → TellsBy kind (Refused fault) job tree old n m a b
 tells_refused lists job tree old n m a b fault none h = h
 tells_refused clears job tree old n m a b fault none h = h
-tells_refused walks job tree old n m a b fault none h = subst (λ o. WalkPrintsSome o job tree (base job old) n m a b) (sym none) (inl h)
+tells_refused walks job tree old n m a b fault none h = subst (λ o. WalkPrintsSome o fault job tree (base job old) n m a b) (sym none) (inl h)
 
 -- ---- the lines of paths
 

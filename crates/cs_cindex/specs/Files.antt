@@ -1,6 +1,7 @@
 -- How far the files of a tree are indexed.
 use Rattle.std.specs.Prelude.{◌≡◌, ℕ, ◌≤◌, Bool, true, List, length, take, Option, Some, None, option_map, filter_map}
 use Rattle.std.specs.List.{list_all, AllByRecursion}
+use Rattle.cs_tree.specs.Cover.{is_among}
 use Rattle.cs_tree.specs.Snapshot.{Snapshot}
 use Rattle.cs_index.specs.Image.{Entry, names_of}
 use Rattle.cs_index.specs.Built.{is_storable, is_above, most_names}
@@ -18,6 +19,10 @@ are_storable names = list_all is_storable names
 abbrev pub AreTextsIn : Option Snapshot → List (List ℕ) → List Entry → Type 0
 AreTextsIn None names entries = Unit {0}
 AreTextsIn (Some tree) names entries = are_storable names ≡ true → entries ≡ texts_at tree names
+
+-- The entries have no other names than these, whatever the tree told.
+abbrev pub HaveNamesOf : List (List ℕ) → List Entry → Type 0
+HaveNamesOf names entries = AllByRecursion (λ (entry : Entry). is_among names entry.0 ≡ true) entries
 
 -- More of them than an index can have.
 abbrev pub AreTooManyIn : Option Snapshot → List (List ℕ) → Type 0

@@ -4,13 +4,7 @@ use Rattle.std.specs.Prelude.{◌≡◌, ◌≤◌, ℕ, ◌^◌, List, length, 
 use Rattle.cs_history.specs.JobIndex.{tree_index}
 use Rattle.cs_tree.specs.Folders.{IsTree}
 use Rattle.cs_tree.specs.PathSet.{Paths}
-use Rattle.std.specs.FinMap as map'
-use Rattle.cs_index.specs.Built.{most_names}
 use Rattle.cs_tree.specs.Snapshot.{Snapshot}
-use Rattle.cs_tree.specs.Reached.{files_reached}
-use Rattle.cs_trigram.specs.Text.{limits, text_trigrams}
-use Rattle.cs_index.specs.Image.{Entry, image_of}
-use Rattle.cs_index.specs.Spelling.{IsIndexable}
 use Rattle.cs_words.specs.declared.fault.CindexFault.{CindexFault}
 use Rattle.cs_words.specs.declared.fault.CindexFault.TheVariants.{TooLarge, Write, Memory}
 
@@ -23,17 +17,6 @@ IsIndexOf (Some tree) paths bytes = IsTree tree → bytes ≡ tree_index tree pa
 abbrev pub IsTreeTooLarge : Option Snapshot → Paths → Type 0
 IsTreeTooLarge None paths = Unit {0}
 IsTreeTooLarge (Some tree) paths = IsTree tree → 2 ^ 32 ≤ length (tree_index tree paths)
-
--- More texts are found than an index may name: then it would be too large in any case.
-abbrev pub AreTooMany : Option Snapshot → Paths → Type 0
-AreTooMany None paths = Unit {0}
-AreTooMany (Some tree) paths = IsTree tree → most_names ≤ length (map'.entries (files_reached (text_trigrams limits) tree paths))
-
--- The bytes are an index of these paths and of some names, whatever the tree told.
-pub record IsIndex (paths : List (List ℕ)) (bytes : List ℕ) : Type 0 where
-  pub entries : List Entry
-  pub is : bytes ≡ image_of paths entries
-  pub indexable : IsIndexable paths entries
 
 -- ---- refusals
 

@@ -10,7 +10,7 @@ use Rattle.cs_words.specs.declared.fault.CindexFault.{CindexFault}
 use Rattle.cs_words.specs.declared.fault.CindexFault.TheVariants.{BadIndex, Unsorted, TooLarge, Memory}
 use Rattle.cs_merge.specs.declared.fault.MergeFault.{MergeFault}
 use Rattle.cs_merge.specs.declared.fault.MergeFault.TheVariants as merge
-use Rattle.cs_merge.specs.Joinable.{are_covered, joined_index}
+use Rattle.cs_merge.specs.Joinable.{are_covered, joined_index, AreJoinable}
 use Rattle.cs_history.specs.Replies.{IsLong}
 
 -- an index that can be joined to another one: names ascend and lie under paths, and each list is whole
@@ -19,15 +19,14 @@ pub record IsSound (parts : Parts) : Type 0 where
   pub covered : are_covered parts ≡ true
   pub whole : are_whole parts ≡ true
 
--- what opens is an index, and these bytes are that of both
+-- what opens is an index that can be joined to the old one, and these bytes are that of both
 abbrev pub JoinsTo : Parts → Result Parts IndexFault → List ℕ → Type 0
-JoinsTo old opening bytes = IsOkAnd opening (λ newer. bytes ≡ joined_index old newer)
+JoinsTo old opening bytes = IsOkAnd opening (λ newer. AreJoinable old newer × (bytes ≡ joined_index old newer))
 
--- why an index is not joined with that of a walk; the names of this one ascend and lie under its paths, where
--- the tree told what stands in it
+-- why an index is not joined with that of a walk
 abbrev pub IsJoinFault : Parts → Result Parts IndexFault → CindexFault → Type 0
 IsJoinFault old newer (BadIndex fault) = IsOkAnd newer IsSound → (fault ≡ BadList) × (are_whole old ≡ false)
-IsJoinFault old newer TooLarge = IsOkAnd newer (λ newer. IsLong (Some (joined_index old newer)))
+IsJoinFault old newer TooLarge = IsOkAnd newer (λ newer. AreJoinable old newer × IsLong (Some (joined_index old newer)))
 IsJoinFault old newer Memory = Unit {0}
 IsJoinFault old newer Unsorted = IsOkAnd newer IsSound → ⊥
 IsJoinFault old newer _ = ⊥

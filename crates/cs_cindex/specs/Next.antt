@@ -1,14 +1,17 @@
 -- What a job walks, and the index that comes of it, whatever bytes it goes on from.
 -- docs/PROMISES.md, "Jobs of cindex".
-use Rattle.std.specs.Prelude.{◌≡◌, ◌<◌, ◌^◌, ◌⊎◌, ℕ, if◌then◌else◌, List, length, Option, Some, None, Result, Ok, Err}
+use Rattle.std.specs.Prelude.{◌≡◌, ◌<◌, ◌^◌, ℕ, true, if◌then◌else◌, List, length, Option, Some, None, Result, Ok, Err}
+use Rattle.std.specs.Result.{IsOkAnd}
 use Rattle.cs_history.specs.JobIndex.{tree_index}
 use Rattle.cs_tree.specs.Folders.{Tells}
 use Rattle.cs_tree.specs.PathSet.{Paths}
 use Rattle.cs_tree.specs.PathSet as set
 use Rattle.cs_tree.specs.Cover.{least}
 use Rattle.cs_tree.specs.Snapshot.{Snapshot}
-use Rattle.cs_index.specs.Opening.{Parts, opening}
+use Rattle.cs_index.specs.Image.{Files, image}
+use Rattle.cs_index.specs.Opening.{Parts, are_whole, opening}
 use Rattle.cs_index.specs.declared.fault.IndexFault.{IndexFault}
+use Rattle.cs_merge.specs.Content.{IsContent, LieUnder}
 use Rattle.cs_merge.specs.Joinable.{joined_index}
 use Rattle.cs_words.specs.declared.jobs.IndexJob.{IndexJob}
 use Rattle.cs_history.specs.Jobs.{given_paths, has_no_path, snapshot_told}
@@ -48,12 +51,38 @@ abbrev pub next_index : Option (List ℕ) → List ℕ → Option (List ℕ)
 next_index None own = Some own
 next_index (Some bytes) own = opening_join (opening bytes) (opening own)
 
--- 32 bits do not count the bytes of the job's own index, or of the one after it
-abbrev pub IsNextLong : IndexJob → Snapshot → Option (List ℕ) → Type 0
-IsNextLong job tree old = IsLong (Some (index_alone job tree old)) ⊎ IsLong (next_index old (index_alone job tree old))
+-- every list of the index that a job goes on from is whole, where there is one
+abbrev pub HasWholeLists : Option (List ℕ) → Type 0
+HasWholeLists None = Unit {0}
+HasWholeLists (Some bytes) = IsOkAnd (opening bytes) (λ parts. are_whole parts ≡ true)
 
--- What a job that walks and is done leaves: 32 bits count the bytes of its own index and of the new one.
+-- the bytes are an index of these paths and of some files under them
+pub record IsIndex (paths : Paths) (bytes : List ℕ) : Type 0 where
+  pub files : Files
+  pub content : IsContent paths files
+  pub under : LieUnder paths files
+  pub is : bytes ≡ image paths files
+
+-- A job's own index is one of the paths that it walks, and 32 bits count its bytes. Where the tree tells what
+-- stands in it, it is that of what the job finds.
+pub record IsOwn (job : IndexJob) (tree : Option Snapshot) (old : Option (List ℕ)) (own : List ℕ) : Type 0 where
+  pub index : IsIndex (paths_walked job old) own
+  pub told : Tells tree → own ≡ index_alone job (snapshot_told tree) old
+  pub short : length own < 2 ^ 32
+
+-- Why a job that walks is too large: 32 bits do not count the bytes of its own index; or it has one, every list
+-- that it goes on from is whole, and they do not count those of the index after it.
+pub data IsNextLong (job : IndexJob) (tree : Option Snapshot) (old : Option (List ℕ)) : Type 0 where
+  alone : (Tells tree → IsLong (Some (index_alone job (snapshot_told tree) old))) → IsNextLong job tree old
+  joined :
+      (own : List ℕ) → IsOwn job tree old own → HasWholeLists old → IsLong (next_index old own) →
+      IsNextLong job tree old
+
+-- What a job that walks and is done leaves: its own index, joined with the one that it goes on from. No list of
+-- that is damaged, and 32 bits count the bytes of the new one.
 pub record IsNext (job : IndexJob) (tree : Option Snapshot) (old new : Option (List ℕ)) : Type 0 where
-  pub is : Tells tree → new ≡ next_index old (index_alone job (snapshot_told tree) old)
-  pub own_short : Tells tree → length (index_alone job (snapshot_told tree) old) < 2 ^ 32
+  pub own : List ℕ
+  pub own_is : IsOwn job tree old own
+  pub whole : HasWholeLists old
+  pub is : new ≡ next_index old own
   pub short : IsShort new

@@ -1,15 +1,21 @@
 -- What a job prints. docs/PROMISES.md, "What is printed".
-use Rattle.std.specs.Prelude.{◌⊎◌, ℕ, List, [], ◌++◌, codes, Option, Some, None, Result, Ok, Err, MatchResult, Bool, true, false}
+use Rattle.std.specs.Prelude.{◌≤◌, ◌⊎◌, ℕ, length, List, [], ◌++◌, codes, Option, Some, None, Result, Ok, Err, MatchResult, Bool, true, false}
 use Rattle.std.specs.List.{flat_map}
 use Rattle.cs_tree.specs.Snapshot.{Snapshot}
 use Rattle.cs_tree.specs.Told.{Grows}
+use Rattle.cs_tree.specs.Folders.{IsTree}
+use Rattle.cs_tree.specs.PathSet.{Paths}
+use Rattle.cs_tree.specs.Reached.{files_reached}
+use Rattle.cs_trigram.specs.Text.{limits, text_trigrams}
+use Rattle.cs_index.specs.Built.{most_names}
+use Rattle.std.specs.FinMap as map'
 use Rattle.cs_index.specs.Opening.{Parts, opening}
 use Rattle.cs_index.specs.declared.fault.IndexFault.{IndexFault}
 use Rattle.cs_words.specs.declared.jobs.IndexJob.{IndexJob}
 use Rattle.cs_words.specs.declared.jobs.Reply.{Reply}
 use Rattle.cs_words.specs.declared.jobs.Reply.TheVariants.{Done, Refused}
 use Rattle.cs_words.specs.declared.fault.CindexFault.{CindexFault}
-use Rattle.cs_words.specs.declared.fault.CindexFault.TheVariants.{Write}
+use Rattle.cs_words.specs.declared.fault.CindexFault.TheVariants.{NoIndex, BadIndex, Unsorted, TooLarge, BadPath, Write, Memory}
 use Rattle.cs_cindex.specs.Notices.{TakesFront, AreLinesIn, BeginLinesIn, Prints, PrintsFront}
 use Rattle.cs_cindex.specs.Next.{paths_walked}
 use Rattle.cs_cindex.specs.Refusals.{JobKind, lists, clears, walks, base, early_walk_fault}
@@ -49,20 +55,37 @@ WalkPrints job tree old failed failed_then err later = Prints (AreLinesIn job.lo
 abbrev pub WalkPrintsFront : IndexJob → Option Snapshot → Option (List ℕ) → ℕ → ℕ → Option (List ℕ) → Option (List ℕ) → Type 0
 WalkPrintsFront job tree old failed failed_then err later = PrintsFront (BeginLinesIn job.log_skip tree (paths_walked job old)) failed failed_then err later
 
--- A refused one has printed nothing where it was refused early, and else all of them or a front.
-abbrev pub WalkPrintsSome : Option CindexFault → IndexJob → Option Snapshot → Option (List ℕ) → ℕ → ℕ → Option (List ℕ) → Option (List ℕ) → Type 0
-WalkPrintsSome None job tree old failed failed_then err later =
-    WalkPrints job tree old failed failed_then err later ⊎ WalkPrintsFront job tree old failed failed_then err later
-WalkPrintsSome (Some early) job tree old failed failed_then err later = Grows err later []
+-- More texts are found than an index may name: then it would be too large in any case.
+abbrev pub AreTooMany : Option Snapshot → Paths → Type 0
+AreTooMany None paths = Unit {0}
+AreTooMany (Some tree) paths =
+    IsTree tree → most_names ≤ length (map'.entries (files_reached (text_trigrams limits) tree paths))
+
+-- a refusal that may come while lines are printed: for an output or for memory, or for too many texts
+abbrev pub IsMidway : CindexFault → Option Snapshot → Paths → Type 0
+IsMidway Write tree paths = Unit {0}
+IsMidway Memory tree paths = Unit {0}
+IsMidway TooLarge tree paths = AreTooMany tree paths
+IsMidway NoIndex tree paths = ⊥
+IsMidway (BadIndex fault) tree paths = ⊥
+IsMidway Unsorted tree paths = ⊥
+IsMidway (BadPath place) tree paths = ⊥
+
+-- One that was refused early has printed nothing, and another all of them, or a front where it was refused midway.
+abbrev pub WalkPrintsSome : Option CindexFault → CindexFault → IndexJob → Option Snapshot → Option (List ℕ) → ℕ → ℕ → Option (List ℕ) → Option (List ℕ) → Type 0
+WalkPrintsSome None fault job tree old failed failed_then err later =
+    WalkPrints job tree old failed failed_then err later
+    ⊎ (IsMidway fault tree (paths_walked job old) × WalkPrintsFront job tree old failed failed_then err later)
+WalkPrintsSome (Some early) fault job tree old failed failed_then err later = Grows err later []
 
 -- what one has printed, by its answer
 abbrev pub WalkPrintsFor : {A : Type 0} → Result A CindexFault → Option CindexFault → IndexJob → Option Snapshot → Option (List ℕ) → ℕ → ℕ → Option (List ℕ) → Option (List ℕ) → Type 0
 WalkPrintsFor result early job tree old failed failed_then err later =
-    MatchResult result (λ _. WalkPrints job tree old failed failed_then err later) (λ _. WalkPrintsSome early job tree old failed failed_then err later)
+    MatchResult result (λ _. WalkPrints job tree old failed failed_then err later) (λ fault. WalkPrintsSome early fault job tree old failed failed_then err later)
 
 abbrev pub WalkPrintsBy : Reply → IndexJob → Option Snapshot → Option (List ℕ) → ℕ → ℕ → Option (List ℕ) → Option (List ℕ) → Type 0
 WalkPrintsBy Done job tree old failed failed_then err later = WalkPrints job tree old failed failed_then err later
-WalkPrintsBy (Refused fault) job tree old failed failed_then err later = WalkPrintsSome (early_walk_fault job old) job tree old failed failed_then err later
+WalkPrintsBy (Refused fault) job tree old failed failed_then err later = WalkPrintsSome (early_walk_fault job old) fault job tree old failed failed_then err later
 
 -- No other job prints there.
 abbrev pub TellsBy : JobKind → Reply → IndexJob → Option Snapshot → Option (List ℕ) → ℕ → ℕ → Option (List ℕ) → Option (List ℕ) → Type 0

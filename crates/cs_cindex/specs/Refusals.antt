@@ -1,7 +1,6 @@
 -- Why a job is refused, whatever bytes the old index has.
 -- docs/PROMISES.md, "Refusals of cindex"; the comment of the command cindex.
 use Rattle.std.specs.Prelude.{◌≡◌, ◌⊎◌, ℕ, true, false, not, ◌&&◌, if◌then◌else◌, List, [], ◌∷◌, position, Option, Some, None, option_map, is_some, Result, Ok, Err, MatchResult, string_bytes}
-use Rattle.cs_tree.specs.Folders.{Tells}
 use Rattle.cs_tree.specs.NameOrder.{are_ascending}
 use Rattle.std.specs.List.{list_all}
 use Rattle.std.specs.Option.{option_or}
@@ -18,8 +17,8 @@ use Rattle.cs_words.specs.declared.jobs.Reply.{Reply}
 use Rattle.cs_words.specs.declared.jobs.Reply.TheVariants.{Done, Refused}
 use Rattle.cs_words.specs.declared.fault.CindexFault.{CindexFault}
 use Rattle.cs_words.specs.declared.fault.CindexFault.TheVariants.{NoIndex, BadIndex, Unsorted, TooLarge, BadPath, Write, Memory}
-use Rattle.cs_history.specs.Jobs.{given_texts, has_no_path, snapshot_told}
-use Rattle.cs_cindex.specs.Next.{IsNextLong}
+use Rattle.cs_history.specs.Jobs.{given_texts, has_no_path}
+use Rattle.cs_cindex.specs.Next.{IsNextLong, IsOwn}
 
 -- ---- what a job is
 
@@ -96,15 +95,21 @@ abbrev pub IsDamaged : Option (List ℕ) → Type 0
 IsDamaged None = ⊥
 IsDamaged (Some bytes) = IsOkAnd (opening bytes) (λ parts. are_whole parts ≡ false)
 
--- A job that walks is also refused for a damaged list of the index that it goes on from, or for size. Where
--- its tree tells nothing, what the walk gave may itself not be joined.
+-- Why a job is refused for a list: it has its own index, and one of the index that it goes on from is damaged.
+pub record IsListFault (job : IndexJob) (tree : Option Snapshot) (old : Option (List ℕ)) (fault : IndexFault) : Type 0 where
+  pub is : fault ≡ BadList
+  pub damaged : IsDamaged old
+  pub own : List ℕ
+  pub own_is : IsOwn job tree old own
+
+-- A job that walks is also refused for a damaged list of the index that it goes on from, or for size.
 abbrev pub IsWalkFault : IndexJob → Option Snapshot → Option (List ℕ) → CindexFault → Type 0
-IsWalkFault job tree old (BadIndex fault) = Tells tree → (fault ≡ BadList) × IsDamaged old
-IsWalkFault job tree old TooLarge = Tells tree → IsNextLong job (snapshot_told tree) old
+IsWalkFault job tree old (BadIndex fault) = IsListFault job tree old fault
+IsWalkFault job tree old TooLarge = IsNextLong job tree old
 IsWalkFault job tree old Write = Unit {0}
 IsWalkFault job tree old Memory = Unit {0}
 IsWalkFault job tree old NoIndex = ⊥
-IsWalkFault job tree old Unsorted = Tells tree → ⊥
+IsWalkFault job tree old Unsorted = ⊥
 IsWalkFault job tree old (BadPath place) = ⊥
 
 abbrev pub IsLateFault : JobKind → IndexJob → Option Snapshot → Option (List ℕ) → CindexFault → Type 0

@@ -1,18 +1,17 @@
 // The files of a tree, one after the other, put into an index.
-ghost use Rattle.std.specs.Prelude.{◌≡◌, ◌≤◌, ◌^◌, ◌⊎◌, ◌++◌, true, [], map, string_bytes, length, Some, IfOk, IfErr, OnOk, OnErr};
+ghost use Rattle.std.specs.Prelude.{◌≡◌, ◌<◌, ◌≤◌, ◌^◌, ◌⊎◌, ◌++◌, true, [], map, string_bytes, length, Some, IfOk, IfErr, OnOk, OnErr};
 ghost use Rattle.cs_tree.specs.NameOrder.{are_ascending};
 ghost use Rattle.cs_tree.specs.Failures.{count_after};
 ghost use Rattle.cs_trigram.specs.Trigram.{IsTrigramSet};
-ghost use Rattle.cs_index.specs.Built.{are_paths, is_above, most_names};
+ghost use Rattle.cs_index.specs.Built.{are_paths, is_above, IsBuilt, most_names};
 ghost use Rattle.cs_index.specs.Image.{image_of, names_of};
-ghost use Rattle.cs_index.specs.Spelling.{IsIndexable};
 ghost use Rattle.cs_history.specs.Replies.{IsLong};
 ghost use Rattle.cs_cindex.specs.Output.{is_failed_write};
 ghost use Rattle.cs_cindex.specs.Indexed.{IsIndexingFault};
 ghost use Rattle.cs_cindex.specs.Notices.{Prints, PrintsFront};
 ghost use Rattle.cs_cindex.specs.Refusals.{IsOutputFault};
 ghost use Rattle.cs_cindex.specs.Verdicts.{HasSet, added_entries, added_line, noted_entries, noted_line, one_line, PrintsAll};
-ghost use Rattle.cs_cindex.specs.Files.{AreTextsIn, AreTooManyIn, AreFileLinesIn, BeginFileLinesIn};
+ghost use Rattle.cs_cindex.specs.Files.{AreTextsIn, AreTooManyIn, AreFileLinesIn, BeginFileLinesIn, HaveNamesOf};
 
 use crate::printing::{print_fault, print_skipped};
 use crate::reading::{Verdict, read_file};
@@ -68,6 +67,8 @@ impl Indexer {
         requires empty { self.old.builder.entries ≡ [] }
         ensures texts { OnOk result (AreTextsIn
             (T.snapshot tree.old) (map string_bytes names.now) self.new.builder.entries) }
+        ensures names { OnOk result
+            (HaveNamesOf (map string_bytes names.now) self.new.builder.entries) }
         ensures prints { OnOk result (Prints
             (AreFileLinesIn self.old.log_skip (T.snapshot tree.old) (map string_bytes names.now))
             (T.failed tree.old) (T.failed tree.new) (E.taken err.old) (E.taken err.new)) }
@@ -163,13 +164,14 @@ impl Indexer {
     pub(crate) fn finish(self) -> Result<Vec<u8>, CindexFault>
         ensures is { IfOk result
             (λ index. index.items ≡ image_of self.builder.paths self.builder.entries) }
-        ensures indexable { IfOk result (λ _. IsIndexable self.builder.paths self.builder.entries) }
+        ensures built { IsBuilt self.builder }
+        ensures short { IfOk result (λ index. length index.items < 2 ^ 32) }
         ensures too_large { result ≡ Err CindexFault.TooLarge →
             IsLong (Some (image_of self.builder.paths self.builder.entries)) }
         ensures only { IfErr result
             (λ fault. (fault ≡ CindexFault.TooLarge) ⊎ (fault ≡ CindexFault.Memory)) }
     {
-        match self.builder.finish() {
+        match self.builder.finish_within(u32::MAX) {
             Ok(index) => Ok(index),
             Err(BuildFault::TooLarge) => Err(CindexFault::TooLarge),
             Err(_) => Err(CindexFault::Memory),

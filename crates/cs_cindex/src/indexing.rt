@@ -3,8 +3,9 @@ ghost use Rattle.std.specs.Prelude.{◌≡◌, ◌<◌, ◌^◌, ◌⊎◌, true
 ghost use Rattle.cs_tree.specs.Failures.{count_after};
 ghost use Rattle.cs_tree.specs.PathSet as set;
 ghost use Rattle.cs_index.specs.Built.{are_paths};
-ghost use Rattle.cs_cindex.specs.Output.{is_failed_write};
-ghost use Rattle.cs_cindex.specs.Indexed.{AreTooMany, IsIndex, IsIndexOf, IsTreeTooLarge, IsIndexingFault};
+ghost use Rattle.cs_cindex.specs.Output.{AreTooMany, is_failed_write};
+ghost use Rattle.cs_cindex.specs.Indexed.{IsIndexOf, IsTreeTooLarge, IsIndexingFault};
+ghost use Rattle.cs_cindex.specs.Next.{IsIndex};
 ghost use Rattle.cs_cindex.specs.Notices.{AreLinesIn, BeginLinesIn, Prints, PrintsFront};
 
 use crate::indexer::Indexer;
@@ -36,7 +37,8 @@ pub(crate) fn index_paths<T: Tree, E: Sink>(
     ensures image { IfOk result (λ index.
         IsIndexOf (T.snapshot tree.old) (set.from_list (map string_bytes paths.now)) index.items) }
     ensures short { IfOk result (λ index. length index.items < 2 ^ 32) }
-    ensures well_formed { IfOk result (λ index. IsIndex (map string_bytes paths.now) index.items) }
+    ensures well_formed { IfOk result
+        (λ index. IsIndex (set.from_list (map string_bytes paths.now)) index.items) }
     ensures prints { IfOk result (λ _. Prints
         (AreLinesIn log_skip (T.snapshot tree.old) (set.from_list (map string_bytes paths.now)))
         (T.failed tree.old) (T.failed tree.new) (E.taken err.old) (E.taken err.new)) }

@@ -4,8 +4,9 @@ use Rattle.cs_tree.specs.PathSet as set
 use Rattle.cs_tree.specs.Told.{Grows}
 use Rattle.cs_tree.specs.Walks.{left_entry, names_walked, faults_walked}
 use Rattle.cs_cindex.specs.Notices.{TakesFront, left_line, text_of}
+use Rattle.cs_cindex.specs.Files.{HaveNamesOf}
 use Rattle.cs_cindex.proofs.LineLemmas.{any_err, Front-none}
-use Rattle.cs_cindex.proofs.IndexLemmas.{index_is, index_built, too_large, too_many, many_found}
+use Rattle.cs_cindex.proofs.IndexLemmas.{index_is, lies_under, index_built, too_large, too_many, many_found}
 use Rattle.cs_cindex.proofs.IndexingLemmas.{files_printed, files_front, texts_walked, many_walked, front_left, front_files, front_whole, prints_all}
 use Rattle.cs_cindex.proofs.indexing.index_paths.Goals as goal
 
@@ -53,7 +54,10 @@ returns-clause-image g c =
 
 pub returns-clause-well_formed : goal.returns-clause-well_formed
 returns-clause-well_formed g c =
-    index_built _ _ _ _ (c.in_ok-index_files.ensures.paths ∙ c.in_ok-indexer.ensures.paths) c.in_ok-index.ensures.indexable c.in_ok-index.ensures.is
+    index_built _ _ _ (c.in_ok-index_files.ensures.paths ∙ c.in_ok-indexer.ensures.paths) c.in_ok-index.ensures.built
+    (lies_under (set.from_list (map string_bytes c.args.paths.now)) (names_walked c.in_ok-walked.walked) _ c.in_ok-walked.ensures.under
+    (subst (λ names. HaveNamesOf names c.index_files.new.self.builder.entries) (ap (map string_bytes) c.deref-2.ensures.value) c.in_ok-index_files.ensures.names))
+    c.in_ok-index.ensures.is
 
 pub returns-clause-prints : goal.returns-clause-prints
 returns-clause-prints g c =

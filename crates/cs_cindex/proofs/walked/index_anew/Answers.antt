@@ -8,7 +8,7 @@ use Rattle.cs_words.specs.declared.fault.CindexFault.TheVariants.{NoIndex}
 use Rattle.cs_cindex.specs.Refusals.{EarlyOr, IsWalkFault, base_fault}
 use Rattle.cs_cindex.proofs.ToldLemmas.{own_walked, front_over, prints_over}
 use Rattle.cs_cindex.proofs.GoingLemmas.{own_paths, some_path}
-use Rattle.cs_cindex.proofs.NextLemmas.{next_anew, index_refusal}
+use Rattle.cs_cindex.proofs.NextLemmas.{own_index, next_anew, index_refusal}
 use Rattle.cs_cindex.proofs.walked.index_anew.Goals as goal
 
 pub index_paths-requires : goal.index_paths-requires
@@ -32,13 +32,18 @@ pub returns-clause-next : goal.returns-clause-next
 returns-clause-next g c =
     let some = some_path c.args.job.now c.args.given.now c.requires (eqb-false (length c.args.given.now) 0 (sym c.if-is_empty.ensures)) in
     let walked = own_walked c.args.job.now (map string_bytes c.args.given.now) (map string_bytes c.deref.result.now) None c.requires some (ap (λ ps. map string_bytes ps) c.deref.ensures.value ∙ c.in_ok-paths.ensures) in
-    next_anew c.args.job.now (g.T.Tree.snapshot c.args.tree.now) (set.from_list (map string_bytes c.deref.result.now)) c.in_ok-index.index.items walked c.in_ok-index.ensures.image c.in_ok-index.ensures.short
+    let snapshot = g.T.Tree.snapshot c.args.tree.now in
+    next_anew c.args.job.now snapshot c.in_ok-index.index.items
+    (own_index c.args.job.now snapshot None (set.from_list (map string_bytes c.deref.result.now)) c.in_ok-index.index.items walked c.in_ok-index.ensures.well_formed c.in_ok-index.ensures.image c.in_ok-index.ensures.short)
 
 pub returns-in_err-index-clause-prints : goal.returns-in_err-index-clause-prints
 returns-in_err-index-clause-prints g c =
     let p = err_from_is_err_and c.from_residual-in_err-index.result c.from_residual-in_err-index.ensures.1 in
-    rw p.1 (front_over c.args.job.now (g.T.Tree.snapshot c.args.tree.now) (set.from_list (map string_bytes c.deref.result.now)) None (base_fault c.args.job.now None) _ _ _ _ (own_walked c.args.job.now (map string_bytes c.args.given.now) (map string_bytes c.deref.result.now) None c.requires (some_path c.args.job.now c.args.given.now c.requires (eqb-false (length c.args.given.now) 0 (sym c.if-is_empty.ensures))) (ap (λ ps. map string_bytes ps) c.deref.ensures.value ∙ c.in_ok-paths.ensures))
-    (none_early c.args.job.now (some_path c.args.job.now c.args.given.now c.requires (eqb-false (length c.args.given.now) 0 (sym c.if-is_empty.ensures)))) c.in_err-index.ensures.front)
+    let told = c.in_err-index.ensures in
+    let some = some_path c.args.job.now c.args.given.now c.requires (eqb-false (length c.args.given.now) 0 (sym c.if-is_empty.ensures)) in
+    let walked = own_walked c.args.job.now (map string_bytes c.args.given.now) (map string_bytes c.deref.result.now) None c.requires some (ap (λ ps. map string_bytes ps) c.deref.ensures.value ∙ c.in_ok-paths.ensures) in
+    rw (p.1, p.2) (front_over c.args.job.now (g.T.Tree.snapshot c.args.tree.now) (set.from_list (map string_bytes c.deref.result.now)) None (base_fault c.args.job.now None) _ _ _ _ c.in_err-index.field-0.0 walked (none_early c.args.job.now some)
+    told.only (λ e. told.whole (ap Err e)) told.front)
 
 pub returns-clause-prints : goal.returns-clause-prints
 returns-clause-prints g c =

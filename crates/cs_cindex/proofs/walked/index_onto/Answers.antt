@@ -6,8 +6,8 @@ use Rattle.cs_index.specs.Opening.{opening}
 use Rattle.cs_cindex.specs.Refusals.{IsWalkFault, EarlyOr, base_fault, opening_fault, unfit_parts_fault}
 use Rattle.cs_cindex.specs.Joins.{IsJoinFault, JoinsTo}
 use Rattle.cs_cindex.proofs.ToldLemmas.{start_walk, front_over, whole_over, prints_over}
-use Rattle.cs_cindex.proofs.GoingLemmas.{start_paths, sound_walk}
-use Rattle.cs_cindex.proofs.NextLemmas.{next_onto, index_refusal, join_refusal}
+use Rattle.cs_cindex.proofs.GoingLemmas.{start_paths, sound_own}
+use Rattle.cs_cindex.proofs.NextLemmas.{own_index, next_onto, index_refusal, join_refusal}
 use Rattle.cs_cindex.proofs.walked.index_onto.Goals as goal
 
 pub index_paths-requires : goal.index_paths-requires
@@ -29,9 +29,12 @@ returns-in_err-joined-clause-refusal g c =
     let snapshot = g.T.Tree.snapshot c.args.tree.now in
     let reduced = ap (λ ps. map string_bytes ps) c.deref.ensures.value ∙ c.in_ok-paths.ensures in
     let walked = start_walk c.args.job.now c.args.old.now c.in_ok-index.index (map string_bytes c.args.given.now) (map string_bytes c.deref.result.now) c.requires c.in_ok-index.ensures.0 reduced in
-    let good_paths = start_paths c.args.job.now c.in_ok-index.index (map string_bytes c.args.given.now) (map string_bytes c.deref.result.now) c.requires c.in_ok-index.ensures.1 reduced in
-    let late : IsWalkFault c.args.job.now snapshot (Some c.args.old.now) c.in_err-joined.field-0.0 = join_refusal c.args.job.now snapshot c.args.old.now c.in_ok-index.index (set.from_list (map string_bytes c.deref.result.now)) c.in_ok-newer.newer.items c.in_err-joined.field-0.0 c.in_ok-index.ensures.0 walked c.in_ok-newer.ensures.image
-    (λ tells. sound_walk snapshot c.deref.result.now c.in_ok-newer.newer.items tells good_paths c.in_ok-newer.ensures.image c.in_ok-newer.ensures.short)
+    let newer = c.in_ok-newer.newer.items in
+    let told = c.in_ok-newer.ensures in
+    let own = own_index c.args.job.now snapshot (Some c.args.old.now) (set.from_list (map string_bytes c.deref.result.now)) newer walked told.well_formed told.image told.short in
+    let late : IsWalkFault c.args.job.now snapshot (Some c.args.old.now) c.in_err-joined.field-0.0 = join_refusal c.args.job.now snapshot c.args.old.now c.in_ok-index.index newer c.in_ok-index.ensures.0 own
+    (sound_own (set.from_list (map string_bytes c.deref.result.now)) newer told.well_formed told.short)
+    c.in_err-joined.field-0.0
     (subst (λ bytes. IsJoinFault c.in_ok-index.index (opening bytes) c.in_err-joined.field-0.0) c.deref-2.ensures.value c.in_err-joined.ensures.fault) in
     let good : base_fault c.args.job.now (Some c.args.old.now) ≡ None = ap (opening_fault unfit_parts_fault) c.in_ok-index.ensures.0 ∙ c.in_ok-index.ensures.1 in
     rw (p.1, p.2) (subst (λ o. EarlyOr o (IsWalkFault c.args.job.now snapshot (Some c.args.old.now) c.in_err-joined.field-0.0) c.in_err-joined.field-0.0) (sym good) late)
@@ -39,18 +42,27 @@ returns-in_err-joined-clause-refusal g c =
 pub returns-clause-next : goal.returns-clause-next
 returns-clause-next g c =
     let walked = start_walk c.args.job.now c.args.old.now c.in_ok-index.index (map string_bytes c.args.given.now) (map string_bytes c.deref.result.now) c.requires c.in_ok-index.ensures.0 (ap (λ ps. map string_bytes ps) c.deref.ensures.value ∙ c.in_ok-paths.ensures) in
-    next_onto c.args.job.now (g.T.Tree.snapshot c.args.tree.now) c.args.old.now c.in_ok-index.index (set.from_list (map string_bytes c.deref.result.now)) c.in_ok-newer.newer.items c.in_ok-joined.joined.items c.in_ok-index.ensures.0 walked c.in_ok-newer.ensures.image c.in_ok-newer.ensures.short
+    let snapshot = g.T.Tree.snapshot c.args.tree.now in
+    let told = c.in_ok-newer.ensures in
+    let own = own_index c.args.job.now snapshot (Some c.args.old.now) (set.from_list (map string_bytes c.deref.result.now)) c.in_ok-newer.newer.items walked told.well_formed told.image told.short in
+    next_onto c.args.job.now snapshot c.args.old.now c.in_ok-index.index c.in_ok-newer.newer.items c.in_ok-joined.joined.items c.in_ok-index.ensures.0 own
     (subst (λ bytes. JoinsTo c.in_ok-index.index (opening bytes) c.in_ok-joined.joined.items) c.deref-2.ensures.value c.in_ok-joined.ensures.joined) c.in_ok-joined.ensures.short
 
 pub returns-in_err-newer-clause-prints : goal.returns-in_err-newer-clause-prints
 returns-in_err-newer-clause-prints g c =
     let p = err_from_is_err_and c.from_residual-in_err-newer.result c.from_residual-in_err-newer.ensures.1 in
-    rw p.1 (front_over c.args.job.now (g.T.Tree.snapshot c.args.tree.now) (set.from_list (map string_bytes c.deref.result.now)) (Some c.args.old.now) (base_fault c.args.job.now (Some c.args.old.now)) _ _ _ _ (start_walk c.args.job.now c.args.old.now c.in_ok-index.index (map string_bytes c.args.given.now) (map string_bytes c.deref.result.now) c.requires c.in_ok-index.ensures.0 (ap (λ ps. map string_bytes ps) c.deref.ensures.value ∙ c.in_ok-paths.ensures)) (ap (opening_fault unfit_parts_fault) c.in_ok-index.ensures.0 ∙ c.in_ok-index.ensures.1) c.in_err-newer.ensures.front)
+    let told = c.in_err-newer.ensures in
+    let walked = start_walk c.args.job.now c.args.old.now c.in_ok-index.index (map string_bytes c.args.given.now) (map string_bytes c.deref.result.now) c.requires c.in_ok-index.ensures.0 (ap (λ ps. map string_bytes ps) c.deref.ensures.value ∙ c.in_ok-paths.ensures) in
+    let good : base_fault c.args.job.now (Some c.args.old.now) ≡ None = ap (opening_fault unfit_parts_fault) c.in_ok-index.ensures.0 ∙ c.in_ok-index.ensures.1 in
+    rw (p.1, p.2) (front_over c.args.job.now (g.T.Tree.snapshot c.args.tree.now) (set.from_list (map string_bytes c.deref.result.now)) (Some c.args.old.now) (base_fault c.args.job.now (Some c.args.old.now)) _ _ _ _ c.in_err-newer.field-0.0 walked good
+    told.only (λ e. told.whole (ap Err e)) told.front)
 
 pub returns-in_err-joined-clause-prints : goal.returns-in_err-joined-clause-prints
 returns-in_err-joined-clause-prints g c =
     let p = err_from_is_err_and c.from_residual-in_err-joined.result c.from_residual-in_err-joined.ensures.1 in
-    rw p.1 (whole_over c.args.job.now (g.T.Tree.snapshot c.args.tree.now) (set.from_list (map string_bytes c.deref.result.now)) (Some c.args.old.now) (base_fault c.args.job.now (Some c.args.old.now)) _ _ _ _ (start_walk c.args.job.now c.args.old.now c.in_ok-index.index (map string_bytes c.args.given.now) (map string_bytes c.deref.result.now) c.requires c.in_ok-index.ensures.0 (ap (λ ps. map string_bytes ps) c.deref.ensures.value ∙ c.in_ok-paths.ensures)) (ap (opening_fault unfit_parts_fault) c.in_ok-index.ensures.0 ∙ c.in_ok-index.ensures.1) c.in_ok-newer.ensures.prints)
+    let walked = start_walk c.args.job.now c.args.old.now c.in_ok-index.index (map string_bytes c.args.given.now) (map string_bytes c.deref.result.now) c.requires c.in_ok-index.ensures.0 (ap (λ ps. map string_bytes ps) c.deref.ensures.value ∙ c.in_ok-paths.ensures) in
+    let good : base_fault c.args.job.now (Some c.args.old.now) ≡ None = ap (opening_fault unfit_parts_fault) c.in_ok-index.ensures.0 ∙ c.in_ok-index.ensures.1 in
+    rw (p.1, p.2) (whole_over c.args.job.now (g.T.Tree.snapshot c.args.tree.now) (set.from_list (map string_bytes c.deref.result.now)) (Some c.args.old.now) (base_fault c.args.job.now (Some c.args.old.now)) _ _ _ _ c.in_err-joined.field-0.0 walked good c.in_ok-newer.ensures.prints)
 
 pub returns-clause-prints : goal.returns-clause-prints
 returns-clause-prints g c =

@@ -6,14 +6,15 @@ use Rattle.cs_index.specs.Image.{names_of}
 use Rattle.cs_index.specs.Built.{is_above}
 use Rattle.cs_cindex.specs.Notices.{TakesFront, Line, Prints, text_of}
 use Rattle.cs_cindex.specs.Verdicts.{noted_entries}
-use Rattle.cs_cindex.specs.Files.{AreTextsIn, AreFileLinesIn, AreAbove}
+use Rattle.cs_cindex.specs.Files.{AreTextsIn, AreFileLinesIn, AreAbove, HaveNamesOf}
 use Rattle.cs_cindex.proofs.LineLemmas.{any_err}
-use Rattle.cs_cindex.proofs.FileLemmas.{names_at, names_more, names_rest, told_at, noted_at, texts_none, prints_none, above_none, texts_next, prints_step, above_next, above_first, ascend_next, front_read, front_noted, too_many}
+use Rattle.cs_cindex.proofs.FileLemmas.{names_at, names_more, names_rest, told_at, noted_at, texts_none, prints_none, above_none, texts_next, names_next, prints_step, above_next, above_first, ascend_next, front_read, front_noted, too_many}
 use Rattle.cs_cindex.proofs.indexer.Indexer.index_files.Goals as goal
 
 pub loop-name-init : goal.loop-name-init
 loop-name-init g c = record {
   texts = texts_none (g.T.Tree.snapshot c.args.tree.now) c.args.self.now.builder.entries c.requires.empty;
+  names = subst (HaveNamesOf (map string_bytes (take 0 c.args.names.now))) (sym c.requires.empty) tt;
   prints = prints_none c.args.self.now.log_skip (g.T.Tree.snapshot c.args.tree.now) (g.T.Tree.failed c.args.tree.now) (g.E.Sink.taken c.args.err.now);
   ascend = c.requires.ascend;
   above = subst (λ entries. AreAbove entries (map string_bytes c.args.names.now)) (sym c.requires.empty) (above_none (map string_bytes c.args.names.now));
@@ -85,6 +86,7 @@ loop-name-preserved g c =
     let printed = subst (λ (lines : List Line). Grows (g.E.Sink.taken c.loop-name.err) (g.E.Sink.taken c.note.new.err) (text_of lines)) (noted_at c.loop-name.self.log_skip c.args.self.now.log_skip c.as_str-in-loop-name.result.now name verdict i.log_skip c.as_str-in-loop-name.ensures.value) c.in_ok-note.ensures.prints in
     record {
       texts = texts_next told (map string_bytes (take at names)) (map string_bytes (take (at + 1) names)) entries c.note.new.self.builder.entries name verdict more added i.texts is;
+      names = names_next (map string_bytes (take at names)) (map string_bytes (take (at + 1) names)) entries c.note.new.self.builder.entries name verdict more added i.names;
       prints = subst (λ ns. Prints (AreFileLinesIn c.args.self.now.log_skip told ns) (g.T.Tree.failed c.args.tree.now) (g.T.Tree.failed c.read_file.new.tree) (g.E.Sink.taken c.args.err.now) (g.E.Sink.taken c.note.new.err)) (sym more)
           (prints_step c.args.self.now.log_skip told (map string_bytes (take at names)) (g.T.Tree.failed c.args.tree.now) (g.T.Tree.failed c.loop-name.tree) (g.T.Tree.failed c.read_file.new.tree) i.rises c.read_file.ensures.rises
           (g.E.Sink.taken c.args.err.now) (g.E.Sink.taken c.loop-name.err) i.prints (g.E.Sink.taken c.note.new.err) name verdict is c.in_ok-verdict.ensures.counted printed);
@@ -104,3 +106,7 @@ returns-clause-texts g c =
 pub returns-clause-prints : goal.returns-clause-prints
 returns-clause-prints g c =
     subst (λ names. Prints (AreFileLinesIn c.args.self.now.log_skip (g.T.Tree.snapshot c.args.tree.now) (map string_bytes names)) (g.T.Tree.failed c.args.tree.now) (g.T.Tree.failed c.loop-name.tree) (g.E.Sink.taken c.args.err.now) (g.E.Sink.taken c.loop-name.err)) (take_all c.loop-name.name-index c.args.names.now c.loop-name-test.false) c.loop-name.invariant.prints
+
+pub returns-clause-names : goal.returns-clause-names
+returns-clause-names g c =
+    subst (λ names. HaveNamesOf (map string_bytes names) c.loop-name.self.builder.entries) (take_all c.loop-name.name-index c.args.names.now c.loop-name-test.false) c.loop-name.invariant.names

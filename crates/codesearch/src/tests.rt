@@ -83,25 +83,31 @@ fn runs_in(
     Ok(())
 }
 
-/// The same over no files.
-fn runs(
-    rt: &(impl Abort + AllocGlobal),
-    words: &[&str],
-    input: &str,
-    want: Wanted<'_>,
-) -> Result<(), Fail> {
+/// The words of a run, standard input, the status, the output and the lines on standard error.
+type Run<'a> = (&'a [&'a str], &'a str, u8, &'a str, &'a str);
+
+/// The same over no files, for each of these.
+fn runs(rt: &(impl Abort + AllocGlobal), each: &[Run<'_>]) -> Result<(), Fail> {
     let mut tree = MemTree::new(rt.alloc(), 1)?;
-    let mut source = MemSource::new(input.as_bytes(), 3, false);
-    runs_in(rt, &mut tree, words, &mut source, want)
+    for (words, input, status, out, err) in each {
+        let mut source = MemSource::new(input.as_bytes(), 3, false);
+        runs_in(rt, &mut tree, words, &mut source, ends(*status, out, err))?;
+    }
+    Ok(())
 }
 
-/// The same over files, with nothing on standard input.
+/// The words of a search, the status, the output and the lines on standard error.
+type Search<'a> = (&'a [&'a str], u8, &'a str, &'a str);
+
+/// The same over files, with nothing on standard input, for each of these.
 fn searches(
     rt: &(impl Abort + AllocGlobal),
     tree: &mut MemTree,
-    words: &[&str],
-    want: Wanted<'_>,
+    each: &[Search<'_>],
 ) -> Result<(), Fail> {
-    let mut nothing = MemSource::new(b"", 1, false);
-    runs_in(rt, tree, words, &mut nothing, want)
+    for (words, status, out, err) in each {
+        let mut nothing = MemSource::new(b"", 1, false);
+        runs_in(rt, tree, words, &mut nothing, ends(*status, out, err))?;
+    }
+    Ok(())
 }

@@ -1,5 +1,7 @@
 // What tests of several libraries are given.
-use cs_tree::{Item, MemTree};
+use cs_index::Builder;
+use cs_tree::{Item, MemSource, MemTree};
+use cs_trigram::{Scan, Scanner};
 use cs_words::Style;
 use std::alloc::{AllocError, Global};
 use std::test::Fail;
@@ -63,4 +65,40 @@ pub fn tree_of(alloc: Global, folder: &str, files: Files<'_>) -> Result<MemTree,
         tree.put(*name, file).ok().ok_or("put")?;
     }
     Ok(tree)
+}
+
+/// A builder of an index of the paths.
+pub fn builder_of(alloc: Global, paths: &[&str]) -> Result<Builder, Fail> {
+    Ok(Builder::new(alloc, &strings(alloc, paths)?)?)
+}
+
+/// The index of the paths with these files.
+pub fn index_of(alloc: Global, paths: &[&str], files: Files<'_>) -> Result<Vec<u8>, Fail> {
+    let mut builder = builder_of(alloc, paths)?;
+    add_files(alloc, &mut builder, files)?;
+    Ok(builder.finish()?)
+}
+
+fn add_files(alloc: Global, builder: &mut Builder, files: Files<'_>) -> Result<(), Fail> {
+    let mut scanner = Scanner::new(alloc)?;
+    for (name, text) in files {
+        add_file(builder, &mut scanner, *name, *text)?;
+    }
+    Ok(())
+}
+
+/// Adds a file, which has to be text.
+fn add_file(
+    builder: &mut Builder,
+    scanner: &mut Scanner,
+    name: &str,
+    text: &[u8],
+) -> Result<(), Fail> {
+    match scanner.scan(&mut MemSource::new(text, 4, false)) {
+        Ok(Scan::Text { trigrams, .. }) => {
+            let _id = builder.add(name, &trigrams)?;
+            Ok(())
+        }
+        _ => Err(Fail::from("text")),
+    }
 }

@@ -1,5 +1,5 @@
 // What patterns read as, and where they are refused.
-use cs_syntax::{Node, PatternError, PatternFault, parse};
+use cs_syntax::{ByteSet, Node, Pattern, PatternError, PatternFault, parse};
 use std::alloc::{AllocError, Global};
 use std::test::Fail;
 
@@ -9,6 +9,11 @@ fn repeated(alloc: Global, piece: &str, times: usize) -> Result<String, AllocErr
         text.push_str(piece)?;
     }
     Ok(text)
+}
+
+/// Where and why a text is refused.
+fn refusal(alloc: Global, text: &str) -> Option<PatternError> {
+    parse(alloc, text, false).err()
 }
 
 /// Each fault of a text once; further rows are worked in `proofs/Examples.antt`.
@@ -28,9 +33,14 @@ fn refuses_at_the_fault(rt: HostRuntime) {
         ("[é]", PatternFault::NotInProfile, 1),
         ("(a{1000}){20}", PatternFault::TooLarge, 0),
     ] {
-        let error = parse(rt.alloc(), text, false).err();
+        let error = refusal(rt.alloc(), text);
         assert_eq!(rt; error, Some(PatternError { fault, at }), "at {text}");
     }
+}
+
+/// Whether a text is a pattern that folds.
+fn is_accepted(alloc: Global, text: &str) -> bool {
+    parse(alloc, text, true).is_ok()
 }
 
 #[test]
@@ -50,54 +60,62 @@ fn accepts_the_whole_profile(rt: HostRuntime) {
         "\\101\\08\\x{10ffff}é*",
         "a]}",
     ] {
-        assert!(rt; parse(rt.alloc(), text, true).is_ok(), "at {text}");
+        assert!(rt; is_accepted(rt.alloc(), text), "at {text}");
     }
+}
+
+/// A group in a group, so deep.
+fn groups(alloc: Global, depth: usize) -> Result<String, AllocError> {
+    let mut text = repeated(alloc, "(", depth)?;
+    text.push_str("(?i)a{1000}")?;
+    for _ in 0..depth {
+        text.push_str(")")?;
+    }
+    Ok(text)
 }
 
 #[test]
 fn accepts_the_largest(rt: HostRuntime) -> Result<(), Fail> {
-    let letters = repeated(rt.alloc(), "a", 9999)?;
-    assert!(rt; parse(rt.alloc(), letters.as_str(), false).is_ok());
-    let letters = repeated(rt.alloc(), "a", 10000)?;
-    let error = parse(rt.alloc(), letters.as_str(), false).err();
-    assert_eq!(rt;
-        error,
-        Some(PatternError {
-            fault: PatternFault::TooLarge,
-            at: 0
-        })
-    );
-
-    let mut groups = repeated(rt.alloc(), "(", 200)?;
-    groups.push_str("(?i)a{1000}")?;
-    let closed = repeated(rt.alloc(), ")", 200)?;
-    groups.push_str(closed.as_str())?;
-    assert!(rt; parse(rt.alloc(), groups.as_str(), false).is_ok());
-    let groups = repeated(rt.alloc(), "(", 201)?;
-    let error = parse(rt.alloc(), groups.as_str(), false).err();
-    assert_eq!(rt;
-        error,
-        Some(PatternError {
-            fault: PatternFault::TooDeep,
-            at: 200
-        })
-    );
+    let heavy = PatternError {
+        fault: PatternFault::TooLarge,
+        at: 0,
+    };
+    for (times, want) in [(9999, None), (10000, Some(heavy))] {
+        let letters = repeated(rt.alloc(), "a", times)?;
+        assert_eq!(rt;
+            refusal(rt.alloc(), letters.as_str()),
+            want,
+            "{times} letters"
+        );
+    }
+    let text = groups(rt.alloc(), 200)?;
+    assert_eq!(rt; refusal(rt.alloc(), text.as_str()), None);
+    let deep = PatternError {
+        fault: PatternFault::TooDeep,
+        at: 200,
+    };
+    let text = repeated(rt.alloc(), "(", 201)?;
+    assert_eq!(rt; refusal(rt.alloc(), text.as_str()), Some(deep));
     Ok(())
+}
+
+/// The set that is the tree of a pattern.
+fn set_of(pattern: &Pattern) -> Result<&ByteSet, Fail> {
+    match pattern.tree() {
+        Node::Set(set) => Ok(set),
+        _ => Err(Fail::new("no set")),
+    }
 }
 
 #[test]
 fn lends_the_tree(rt: HostRuntime) -> Result<(), Fail> {
     let pattern = parse(rt.alloc(), "a", true)?;
-    let Node::Set(set) = pattern.tree() else {
-        return Err(Fail::new("no set"));
-    };
+    let set = set_of(&pattern)?;
     assert!(rt; set.contains(b'A') && set.contains(b'a') && !set.contains(b'b'));
     assert_eq!(rt; set.len(), 2);
     assert_eq!(rt; set.single(), None);
     let pattern = parse(rt.alloc(), "a", false)?;
-    let Node::Set(set) = pattern.tree() else {
-        return Err(Fail::new("no set"));
-    };
+    let set = set_of(&pattern)?;
     assert_eq!(rt; set.single(), Some(b'a'));
     Ok(())
 }

@@ -7,7 +7,25 @@ use cs_words::{
     CindexFault, FileFault, GrepJob, IndexJob, Job, Refusal, SearchJob, Style, Tool, ToolFault,
     WordFault, fault_line, message, read_words, skip_line,
 };
+use std::alloc::{AllocError, Global};
+use std::process::Abort;
 use std::test::Fail;
+
+/// The words, between bars, are read so.
+fn reads(
+    rt: &(impl Abort + AllocGlobal),
+    tool: Tool,
+    text: &str,
+    want: Result<Job, WordFault>,
+) -> Result<(), Fail> {
+    let words = words_of(rt.alloc(), text, '|')?;
+    assert_eq!(rt;
+        read_words(rt.alloc(), tool, "/w", &words),
+        want,
+        "at {text:?}"
+    );
+    Ok(())
+}
 
 #[test]
 fn refuses_words(rt: HostRuntime) -> Result<(), Fail> {
@@ -24,12 +42,7 @@ fn refuses_words(rt: HostRuntime) -> Result<(), Fail> {
         (Tool::Csearch, "-f|p|--|x|y", WordFault::ExtraWord(4)),
         (Tool::Cindex, "-list=", WordFault::BadTruth(0)),
     ] {
-        let words = words_of(rt.alloc(), text, '|')?;
-        assert_eq!(rt;
-            read_words(rt.alloc(), tool, "/w", &words),
-            Err(fault),
-            "at {text:?}"
-        );
+        reads(&rt, tool, text, Err(fault))?;
     }
     let none = Vec::new(rt.alloc());
     assert_eq!(rt;
@@ -39,36 +52,56 @@ fn refuses_words(rt: HostRuntime) -> Result<(), Fail> {
     Ok(())
 }
 
+/// A job of cgrep on files, or where there are none on standard input.
+fn grep_job(
+    alloc: Global,
+    number: bool,
+    pattern: &str,
+    files: Option<&str>,
+) -> Result<Job, AllocError> {
+    let standard = files.is_none();
+    let files = match files {
+        Some(files) => words_of(alloc, files, '|')?,
+        None => Vec::new(alloc),
+    };
+    let pattern = String::from_str(alloc, pattern)?;
+    Ok(Job::Grep(GrepJob {
+        style: Style { number, ..PLAIN },
+        fold: false,
+        pattern,
+        standard,
+        files,
+    }))
+}
+
 #[test]
 fn reads_words_of_cgrep(rt: HostRuntime) -> Result<(), Fail> {
-    for (text, number, pattern, standard, files) in [
-        ("-n|-n=false|x", false, "x", true, ""),
-        ("--n|--|-x", true, "-x", true, ""),
-        ("-", false, "-", true, ""),
-        ("-n=T|x|-n|y", true, "x", false, "-n|y"),
+    for (text, number, pattern, files) in [
+        ("-n|-n=false|x", false, "x", None),
+        ("--n|--|-x", true, "-x", None),
+        ("-", false, "-", None),
+        ("-n=T|x|-n|y", true, "x", Some("-n|y")),
     ] {
-        let words_read = words_of(rt.alloc(), text, '|')?;
-        let files = if standard {
-            Vec::new(rt.alloc())
-        } else {
-            words_of(rt.alloc(), files, '|')?
-        };
-        let style = Style { number, ..PLAIN };
-        let pattern = String::from_str(rt.alloc(), pattern)?;
-        let want = Job::Grep(GrepJob {
-            style,
-            fold: false,
-            pattern,
-            standard,
-            files,
-        });
-        assert_eq!(rt;
-            read_words(rt.alloc(), Tool::Cgrep, "/w", &words_read),
-            Ok(want),
-            "at {text:?}"
-        );
+        let want = grep_job(rt.alloc(), number, pattern, files)?;
+        reads(&rt, Tool::Cgrep, text, Ok(want))?;
     }
     Ok(())
+}
+
+/// A job of csearch for `x`.
+fn search_job(alloc: Global, brute: bool, file: Option<&str>) -> Result<Job, AllocError> {
+    let file = match file {
+        Some(file) => Some(String::from_str(alloc, file)?),
+        None => None,
+    };
+    let pattern = String::from_str(alloc, "x")?;
+    Ok(Job::Search(SearchJob {
+        style: PLAIN,
+        fold: false,
+        brute,
+        file,
+        pattern,
+    }))
 }
 
 #[test]
@@ -79,26 +112,23 @@ fn reads_words_of_csearch(rt: HostRuntime) -> Result<(), Fail> {
         ("-f|-i|-brute|x", true, Some("-i")),
         ("-f|a|-f=b=c|x", false, Some("b=c")),
     ] {
-        let words = words_of(rt.alloc(), text, '|')?;
-        let file = match file {
-            Some(file) => Some(String::from_str(rt.alloc(), file)?),
-            None => None,
-        };
-        let pattern = String::from_str(rt.alloc(), "x")?;
-        let want = Job::Search(SearchJob {
-            style: PLAIN,
-            fold: false,
-            brute,
-            file,
-            pattern,
-        });
-        assert_eq!(rt;
-            read_words(rt.alloc(), Tool::Csearch, "/w", &words),
-            Ok(want),
-            "at {text:?}"
-        );
+        let want = search_job(rt.alloc(), brute, file)?;
+        reads(&rt, Tool::Csearch, text, Ok(want))?;
     }
     Ok(())
+}
+
+/// A job of cindex that walks the paths, which stand between bars.
+fn index_job(alloc: Global, reset: bool, log_skip: bool, paths: &str) -> Result<Job, AllocError> {
+    let paths = words_of(alloc, paths, '|')?;
+    let cwd = String::from_str(alloc, "/w")?;
+    Ok(Job::Index(IndexJob {
+        list: false,
+        reset,
+        log_skip,
+        cwd,
+        paths,
+    }))
 }
 
 #[test]
@@ -107,21 +137,8 @@ fn reads_words_of_cindex(rt: HostRuntime) -> Result<(), Fail> {
         ("/t|-list", false, false, "/t|-list"),
         ("-reset|--logskip|/t", true, true, "/t"),
     ] {
-        let words_read = words_of(rt.alloc(), text, '|')?;
-        let paths = words_of(rt.alloc(), paths, '|')?;
-        let cwd = String::from_str(rt.alloc(), "/w")?;
-        let want = Job::Index(IndexJob {
-            list: false,
-            reset,
-            log_skip,
-            cwd,
-            paths,
-        });
-        assert_eq!(rt;
-            read_words(rt.alloc(), Tool::Cindex, "/w", &words_read),
-            Ok(want),
-            "at {text:?}"
-        );
+        let want = index_job(rt.alloc(), reset, log_skip, paths)?;
+        reads(&rt, Tool::Cindex, text, Ok(want))?;
     }
     Ok(())
 }

@@ -1,6 +1,6 @@
 // Jobs of cindex one after another.
-use crate::tests::desk::Desk;
-use crate::tests::ends;
+use crate::tests::desk::Step::{Call, File, Folder, Left, Remove};
+use crate::tests::desk::tells;
 use std::test::Fail;
 
 /// `/a/b/f` read again, and `/a/bc/y` as it was first read.
@@ -17,93 +17,107 @@ const VANISHED: &[u8; 65] =
 
 #[test]
 fn neighbours_of_a_path(rt: HostRuntime) -> Result<(), Fail> {
-    let mut desk = Desk::new(&rt)?;
-    desk.folder("/a")?;
-    desk.folder("/a/b")?;
-    desk.folder("/a/bc")?;
-    desk.file(&rt, "/a/b/f", b"one\n")?;
-    desk.file(&rt, "/a/bc/y", b"two\n")?;
-    desk.silently(&rt, &["cindex", "/a/b", "/a/bc"])?;
-    desk.file(&rt, "/a/b/f", b"six\n")?;
-    desk.file(&rt, "/a/bc/y", b"ten\n")?;
-    desk.silently(&rt, &["cindex", "/a/b"])?;
-    assert_eq!(&rt; desk.bytes(), NEIGHBOURS.as_slice());
-    desk.does(&rt, &["cindex", "-list"], ends(0, "/a/b\n/a/bc\n", ""))?;
-    desk.does(&rt, &["csearch", "six"], ends(0, "/a/b/f:six\n", ""))?;
-    desk.does(&rt, &["csearch", "ten"], ends(1, "", ""))?;
-    desk.does(
+    tells(
         &rt,
-        &["csearch", "-brute", "ten"],
-        ends(0, "/a/bc/y:ten\n", ""),
+        &[
+            Folder("/a"),
+            Folder("/a/b"),
+            Folder("/a/bc"),
+            File("/a/b/f", b"one\n"),
+            File("/a/bc/y", b"two\n"),
+            Call(&["cindex", "/a/b", "/a/bc"], 0, "", ""),
+            File("/a/b/f", b"six\n"),
+            File("/a/bc/y", b"ten\n"),
+            Call(&["cindex", "/a/b"], 0, "", ""),
+            Left(Some(NEIGHBOURS)),
+            Call(&["cindex", "-list"], 0, "/a/b\n/a/bc\n", ""),
+            Call(&["csearch", "six"], 0, "/a/b/f:six\n", ""),
+            Call(&["csearch", "ten"], 1, "", ""),
+            Call(&["csearch", "-brute", "ten"], 0, "/a/bc/y:ten\n", ""),
+        ],
     )
 }
 
 #[test]
 fn a_file_and_a_folder_in_turn(rt: HostRuntime) -> Result<(), Fail> {
-    let mut desk = Desk::new(&rt)?;
-    desk.folder("/a")?;
-    desk.file(&rt, "/a/b", b"one\n")?;
-    desk.file(&rt, "/a/b-x", b"two\n")?;
-    desk.silently(&rt, &["cindex", "/a"])?;
-    desk.folder("/a/b")?;
-    desk.file(&rt, "/a/b/z", b"six\n")?;
-    desk.silently(&rt, &["cindex", "/a/b"])?;
-    desk.does(&rt, &["cindex", "-list"], ends(0, "/a\n", ""))?;
-    let names = "/a/b-x\n/a/b/z\n";
-    desk.does(&rt, &["csearch", "-l", "-brute", "."], ends(0, names, ""))?;
-    desk.tree.remove("/a/b");
-    desk.file(&rt, "/a/b", b"ten\n")?;
-    desk.silently(&rt, &["cindex", "/a/b"])?;
-    let names = "/a/b\n/a/b-x\n";
-    desk.does(&rt, &["csearch", "-l", "-brute", "."], ends(0, names, ""))
+    let below = "/a/b-x\n/a/b/z\n";
+    let beside = "/a/b\n/a/b-x\n";
+    tells(
+        &rt,
+        &[
+            Folder("/a"),
+            File("/a/b", b"one\n"),
+            File("/a/b-x", b"two\n"),
+            Call(&["cindex", "/a"], 0, "", ""),
+            Folder("/a/b"),
+            File("/a/b/z", b"six\n"),
+            Call(&["cindex", "/a/b"], 0, "", ""),
+            Call(&["cindex", "-list"], 0, "/a\n", ""),
+            Call(&["csearch", "-l", "-brute", "."], 0, below, ""),
+            Remove("/a/b"),
+            File("/a/b", b"ten\n"),
+            Call(&["cindex", "/a/b"], 0, "", ""),
+            Call(&["csearch", "-l", "-brute", "."], 0, beside, ""),
+        ],
+    )
 }
 
 #[test]
 fn a_part_of_a_path(rt: HostRuntime) -> Result<(), Fail> {
-    let mut desk = Desk::new(&rt)?;
-    desk.folder("/a")?;
-    desk.folder("/a/b")?;
-    desk.file(&rt, "/a/b/f", b"one\n")?;
-    desk.file(&rt, "/a/g", b"two\n")?;
-    desk.silently(&rt, &["cindex", "/a"])?;
-    desk.file(&rt, "/a/b/f", b"six\n")?;
-    desk.file(&rt, "/a/g", b"ten\n")?;
-    desk.silently(&rt, &["cindex", "/a/b"])?;
-    assert_eq!(&rt; desk.bytes(), PART.as_slice());
-    desk.does(&rt, &["cindex", "-list"], ends(0, "/a\n", ""))?;
-    desk.does(&rt, &["csearch", "six"], ends(0, "/a/b/f:six\n", ""))?;
-    desk.does(&rt, &["csearch", "ten"], ends(1, "", ""))?;
-    desk.silently(&rt, &["cindex"])?;
-    desk.does(&rt, &["csearch", "ten"], ends(0, "/a/g:ten\n", ""))
+    tells(
+        &rt,
+        &[
+            Folder("/a"),
+            Folder("/a/b"),
+            File("/a/b/f", b"one\n"),
+            File("/a/g", b"two\n"),
+            Call(&["cindex", "/a"], 0, "", ""),
+            File("/a/b/f", b"six\n"),
+            File("/a/g", b"ten\n"),
+            Call(&["cindex", "/a/b"], 0, "", ""),
+            Left(Some(PART)),
+            Call(&["cindex", "-list"], 0, "/a\n", ""),
+            Call(&["csearch", "six"], 0, "/a/b/f:six\n", ""),
+            Call(&["csearch", "ten"], 1, "", ""),
+            Call(&["cindex"], 0, "", ""),
+            Call(&["csearch", "ten"], 0, "/a/g:ten\n", ""),
+        ],
+    )
 }
 
 #[test]
 fn a_path_that_vanishes(rt: HostRuntime) -> Result<(), Fail> {
-    let mut desk = Desk::new(&rt)?;
-    desk.folder("/v")?;
-    desk.file(&rt, "/v/f", b"one\n")?;
-    desk.silently(&rt, &["cindex", "/v"])?;
-    desk.tree.remove("/v");
-    let lines = "cindex: /v: no such file\n";
-    for _ in 0..2 {
-        desk.does(&rt, &["cindex"], ends(0, "", lines))?;
-        assert_eq!(&rt; desk.bytes(), VANISHED.as_slice());
-        desk.does(&rt, &["cindex", "-list"], ends(0, "/v\n", ""))?;
-        desk.does(&rt, &["csearch", "-brute", "-l", "."], ends(1, "", ""))?;
-    }
-    Ok(())
+    let line = "cindex: /v: no such file\n";
+    tells(
+        &rt,
+        &[
+            Folder("/v"),
+            File("/v/f", b"one\n"),
+            Call(&["cindex", "/v"], 0, "", ""),
+            Remove("/v"),
+            Call(&["cindex"], 0, "", line),
+            Left(Some(VANISHED)),
+            Call(&["cindex", "-list"], 0, "/v\n", ""),
+            Call(&["csearch", "-brute", "-l", "."], 1, "", ""),
+            Call(&["cindex"], 0, "", line),
+            Left(Some(VANISHED)),
+            Call(&["cindex", "-list"], 0, "/v\n", ""),
+            Call(&["csearch", "-brute", "-l", "."], 1, "", ""),
+        ],
+    )
 }
 
 #[test]
 fn words_of_cindex(rt: HostRuntime) -> Result<(), Fail> {
-    let mut desk = Desk::new(&rt)?;
-    desk.folder("/t")?;
-    let lines = "cindex: /w/-list: no such file\n";
-    desk.does(&rt, &["cindex", "/t", "-list"], ends(0, "", lines))?;
-    desk.does(&rt, &["cindex", "-list"], ends(0, "/t\n/w/-list\n", ""))?;
-    desk.does(
+    let missing = "cindex: /w/-list: no such file\n";
+    let unknown = "cindex: unknown option -verbose\n";
+    tells(
         &rt,
-        &["cindex", "-verbose"],
-        ends(2, "", "cindex: unknown option -verbose\n"),
+        &[
+            Folder("/t"),
+            Call(&["cindex", "/t", "-list"], 0, "", missing),
+            Call(&["cindex", "-list"], 0, "/t\n/w/-list\n", ""),
+            Call(&["cindex", "-verbose"], 2, "", unknown),
+        ],
     )
 }

@@ -1,79 +1,79 @@
 // Searches through an index.
-use crate::tests::desk::Desk;
-use crate::tests::ends;
-use cs_tree::Item;
+use crate::tests::desk::Step::{Call, Cut, Denied, File, Folder, Index, Remove};
+use crate::tests::desk::tells;
+use crate::tests::indexes::ONE_FILE;
 use std::test::Fail;
-
-fn of_one_file(rt: &impl AllocGlobal) -> Result<Desk, Fail> {
-    let mut desk = Desk::new(rt)?;
-    desk.folder("/a")?;
-    desk.file(rt, "/a/x", b"abcd\n")?;
-    desk.index = Some(crate::tests::indexes::ONE_FILE.to_vec(rt.alloc())?);
-    Ok(desk)
-}
 
 #[test]
 fn one_file(rt: HostRuntime) -> Result<(), Fail> {
-    let mut desk = of_one_file(&rt)?;
-    desk.does(&rt, &["csearch", "bcd"], ends(0, "/a/x:abcd\n", ""))?;
-    desk.does(&rt, &["csearch", "xyz"], ends(1, "", ""))
+    tells(
+        &rt,
+        &[
+            Folder("/a"),
+            File("/a/x", b"abcd\n"),
+            Index(Some(ONE_FILE)),
+            Call(&["csearch", "bcd"], 0, "/a/x:abcd\n", ""),
+            Call(&["csearch", "xyz"], 1, "", ""),
+        ],
+    )
 }
 
 #[test]
 fn files_that_have_changed(rt: HostRuntime) -> Result<(), Fail> {
-    let mut desk = of_one_file(&rt)?;
-    desk.file(&rt, "/a/x", b"wxyz\n")?;
-    desk.does(&rt, &["csearch", "wxy"], ends(1, "", ""))?;
-    desk.does(
+    let missing = "csearch: /a/x: no such file\n";
+    let denied = "csearch: /a/x: permission denied\n";
+    let cut = "csearch: /a/x: cannot be read\n";
+    tells(
         &rt,
-        &["csearch", "-brute", "wxy"],
-        ends(0, "/a/x:wxyz\n", ""),
-    )?;
-    desk.does(&rt, &["csearch", "abc"], ends(1, "", ""))?;
-    desk.tree.remove("/a/x");
-    let lines = "csearch: /a/x: no such file\n";
-    desk.does(&rt, &["csearch", "abc"], ends(1, "", lines))?;
-    desk.item("/a/x", Item::Denied)?;
-    let lines = "csearch: /a/x: permission denied\n";
-    desk.does(&rt, &["csearch", "abc"], ends(1, "", lines))?;
-    desk.item("/a/x", Item::Cut(b"abcd\nab".to_vec(rt.alloc())?))?;
-    let lines = "csearch: /a/x: cannot be read\n";
-    desk.does(&rt, &["csearch", "abc"], ends(0, "/a/x:abcd\n", lines))
+        &[
+            Folder("/a"),
+            Index(Some(ONE_FILE)),
+            File("/a/x", b"wxyz\n"),
+            Call(&["csearch", "wxy"], 1, "", ""),
+            Call(&["csearch", "-brute", "wxy"], 0, "/a/x:wxyz\n", ""),
+            Call(&["csearch", "abc"], 1, "", ""),
+            Remove("/a/x"),
+            Call(&["csearch", "abc"], 1, "", missing),
+            Denied("/a/x"),
+            Call(&["csearch", "abc"], 1, "", denied),
+            Cut("/a/x", b"abcd\nab"),
+            Call(&["csearch", "abc"], 0, "/a/x:abcd\n", cut),
+        ],
+    )
 }
 
 #[test]
 fn refusals(rt: HostRuntime) -> Result<(), Fail> {
-    let mut desk = of_one_file(&rt)?;
-    let words = "csearch: file pattern at 0: group not closed\n";
-    desk.does(&rt, &["csearch", "-f", "(", "x"], ends(2, "", words))?;
-    let words = "csearch: pattern at 2: stacked repeat\n";
-    desk.does(&rt, &["csearch", "-f", "(", "a**"], ends(2, "", words))?;
-    desk.index = None;
-    desk.does(&rt, &["csearch", "a**"], ends(2, "", words))
+    let group = "csearch: file pattern at 0: group not closed\n";
+    let repeat = "csearch: pattern at 2: stacked repeat\n";
+    tells(
+        &rt,
+        &[
+            Index(Some(ONE_FILE)),
+            Call(&["csearch", "-f", "(", "x"], 2, "", group),
+            Call(&["csearch", "-f", "(", "a**"], 2, "", repeat),
+            Index(None),
+            Call(&["csearch", "a**"], 2, "", repeat),
+        ],
+    )
 }
 
 #[test]
 fn patterns_for_names(rt: HostRuntime) -> Result<(), Fail> {
-    let mut desk = Desk::new(&rt)?;
-    desk.folder("/g")?;
-    desk.file(&rt, "/g/1", b"Google Search\n")?;
-    desk.file(&rt, "/g/2", b"Google\n")?;
-    desk.file(&rt, "/g/3", b"Search\n")?;
-    desk.silently(&rt, &["cindex", "/g"])?;
-    for words in [
-        &["csearch", "Google.*Search"] as &[&str],
-        &["csearch", "-brute", "Google.*Search"],
-    ] {
-        desk.does(&rt, words, ends(0, "/g/1:Google Search\n", ""))?;
-    }
-    desk.does(
+    let found = "/g/1:Google Search\n";
+    let both = "/g/1:Google Search\n/g/2:Google\n";
+    tells(
         &rt,
-        &["csearch", "-i", "-f", "[12]$", "GOOGLE"],
-        ends(0, "/g/1:Google Search\n/g/2:Google\n", ""),
-    )?;
-    desk.does(
-        &rt,
-        &["csearch", "-i", "-f", "^/G", "GOOGLE"],
-        ends(1, "", ""),
+        &[
+            Folder("/g"),
+            File("/g/1", b"Google Search\n"),
+            File("/g/2", b"Google\n"),
+            File("/g/3", b"Search\n"),
+            Call(&["cindex", "/g"], 0, "", ""),
+            Call(&["csearch", "Google.*Search"], 0, found, ""),
+            Call(&["csearch", "-brute", "Google.*Search"], 0, found, ""),
+            Call(&["csearch", "-i", "-f", "[12]$", "GOOGLE"], 0, both, ""),
+            Call(&["csearch", "-i", "-f", "^/G", "GOOGLE"], 1, "", ""),
+        ],
     )
 }

@@ -1,7 +1,6 @@
 // Indexes of small trees, byte for byte, and jobs that are refused.
-use crate::tests::desk::Desk;
-use crate::tests::ends;
-use cs_tree::Item;
+use crate::tests::desk::Step::{Call, Cut, File, Folder, Index, Left, Other};
+use crate::tests::desk::tells;
 use std::test::Fail;
 
 const EMPTY: &[u8; 65] =
@@ -28,158 +27,182 @@ pub const OUT_OF_ORDER: &[u8; 115] =
 
 #[test]
 fn an_empty_folder(rt: HostRuntime) -> Result<(), Fail> {
-    let mut desk = Desk::new(&rt)?;
-    desk.folder("/a")?;
-    desk.silently(&rt, &["cindex", "/a"])?;
-    assert_eq!(&rt; desk.bytes(), EMPTY.as_slice());
-    desk.does(&rt, &["cindex", "-list"], ends(0, "/a\n", ""))
+    tells(
+        &rt,
+        &[
+            Folder("/a"),
+            Call(&["cindex", "/a"], 0, "", ""),
+            Left(Some(EMPTY)),
+            Call(&["cindex", "-list"], 0, "/a\n", ""),
+        ],
+    )
 }
 
 #[test]
 fn one_file(rt: HostRuntime) -> Result<(), Fail> {
-    let mut desk = Desk::new(&rt)?;
-    desk.folder("/a")?;
-    desk.file(&rt, "/a/x", b"abcd\n")?;
-    desk.silently(&rt, &["cindex", "/a"])?;
-    assert_eq!(&rt; desk.bytes(), ONE_FILE.as_slice());
-    Ok(())
+    tells(
+        &rt,
+        &[
+            Folder("/a"),
+            File("/a/x", b"abcd\n"),
+            Call(&["cindex", "/a"], 0, "", ""),
+            Left(Some(ONE_FILE)),
+        ],
+    )
 }
 
 #[test]
 fn a_file_without_text(rt: HostRuntime) -> Result<(), Fail> {
-    let mut desk = Desk::new(&rt)?;
-    desk.folder("/t")?;
-    desk.file(&rt, "/t/e", b"")?;
-    desk.silently(&rt, &["cindex", "/t"])?;
-    assert_eq!(&rt; desk.bytes(), EMPTY_FILE.as_slice());
-    desk.does(&rt, &["csearch", "-l", ""], ends(1, "", ""))
+    tells(
+        &rt,
+        &[
+            Folder("/t"),
+            File("/t/e", b""),
+            Call(&["cindex", "/t"], 0, "", ""),
+            Left(Some(EMPTY_FILE)),
+            Call(&["csearch", "-l", ""], 1, "", ""),
+        ],
+    )
 }
 
 #[test]
 fn files_without_trigrams(rt: HostRuntime) -> Result<(), Fail> {
-    let mut desk = Desk::new(&rt)?;
-    desk.folder("/t")?;
-    desk.file(&rt, "/t/e", b"")?;
-    desk.file(&rt, "/t/f", b"a")?;
-    desk.file(&rt, "/t/g", b"b\n")?;
-    desk.silently(&rt, &["cindex", "/t"])?;
-    assert_eq!(&rt; desk.bytes(), NO_TRIGRAMS.as_slice());
-    desk.does(&rt, &["csearch", "^a"], ends(0, "/t/f:a\n", ""))?;
-    desk.does(&rt, &["csearch", "-c", "^$"], ends(1, "", ""))
+    tells(
+        &rt,
+        &[
+            Folder("/t"),
+            File("/t/e", b""),
+            File("/t/f", b"a"),
+            File("/t/g", b"b\n"),
+            Call(&["cindex", "/t"], 0, "", ""),
+            Left(Some(NO_TRIGRAMS)),
+            Call(&["csearch", "^a"], 0, "/t/f:a\n", ""),
+            Call(&["csearch", "-c", "^$"], 1, "", ""),
+        ],
+    )
 }
 
 #[test]
 fn names_that_are_left_out(rt: HostRuntime) -> Result<(), Fail> {
-    let mut desk = Desk::new(&rt)?;
-    desk.silently(&rt, &["cindex", "-reset", "/.x"])?;
-    assert_eq!(&rt; desk.bytes(), NO_FILE.as_slice());
-    desk.folder("/.x")?;
-    desk.file(&rt, "/.x/y", b"abcd\n")?;
-    desk.silently(&rt, &["cindex", "-reset", "/.x"])?;
-    assert_eq!(&rt; desk.bytes(), NO_FILE.as_slice());
-    desk.silently(&rt, &["cindex", "-reset", "/.x/y"])?;
-    desk.does(&rt, &["csearch", "-l", "abc"], ends(0, "/.x/y\n", ""))?;
-    desk.folder("/t")?;
-    for name in ["/t/.a", "/t/#b", "/t/~c", "/t/d~", "/t/e"] {
-        desk.file(&rt, name, b"x\n")?;
-    }
-    desk.tree.put("/t/o", Item::Other).ok().ok_or("no item")?;
-    desk.silently(&rt, &["cindex", "-reset", "/t"])?;
-    desk.does(&rt, &["csearch", "-l", "x"], ends(0, "/t/e\n", ""))
+    tells(
+        &rt,
+        &[
+            Call(&["cindex", "-reset", "/.x"], 0, "", ""),
+            Left(Some(NO_FILE)),
+            Folder("/.x"),
+            File("/.x/y", b"abcd\n"),
+            Call(&["cindex", "-reset", "/.x"], 0, "", ""),
+            Left(Some(NO_FILE)),
+            Call(&["cindex", "-reset", "/.x/y"], 0, "", ""),
+            Call(&["csearch", "-l", "abc"], 0, "/.x/y\n", ""),
+            Folder("/t"),
+            File("/t/.a", b"x\n"),
+            File("/t/#b", b"x\n"),
+            File("/t/~c", b"x\n"),
+            File("/t/d~", b"x\n"),
+            File("/t/e", b"x\n"),
+            Other("/t/o"),
+            Call(&["cindex", "-reset", "/t"], 0, "", ""),
+            Call(&["csearch", "-l", "x"], 0, "/t/e\n", ""),
+        ],
+    )
 }
 
 #[test]
 fn files_that_are_left_out(rt: HostRuntime) -> Result<(), Fail> {
-    let mut desk = Desk::new(&rt)?;
-    desk.folder("/s")?;
-    desk.file(&rt, "/s/n", b"a\0")?;
-    let lines = "cindex: /s/n: not indexed: NUL byte\n";
-    desk.does(&rt, &["cindex", "-logskip", "/s"], ends(0, "", lines))?;
-    desk.does(&rt, &["csearch", "-l", ""], ends(1, "", ""))?;
-    desk.silently(&rt, &["cindex", "/s"])?;
-    let mut desk = Desk::new(&rt)?;
-    desk.folder("/t")?;
-    let cut = b"one\ntwo\non".to_vec(rt.alloc())?;
-    desk.tree.put("/t/c", Item::Cut(cut)).ok().ok_or("no item")?;
-    let lines = "cindex: /t/c: cannot be read\n";
-    desk.does(&rt, &["cindex", "/t"], ends(0, "", lines))?;
-    desk.does(&rt, &["csearch", "-l", ""], ends(1, "", ""))
+    let skipped = "cindex: /s/n: not indexed: NUL byte\n";
+    tells(
+        &rt,
+        &[
+            Folder("/s"),
+            File("/s/n", b"a\0"),
+            Call(&["cindex", "-logskip", "/s"], 0, "", skipped),
+            Call(&["csearch", "-l", ""], 1, "", ""),
+            Call(&["cindex", "/s"], 0, "", ""),
+        ],
+    )?;
+    let cut = "cindex: /t/c: cannot be read\n";
+    tells(
+        &rt,
+        &[
+            Folder("/t"),
+            Cut("/t/c", b"one\ntwo\non"),
+            Call(&["cindex", "/t"], 0, "", cut),
+            Call(&["csearch", "-l", ""], 1, "", ""),
+        ],
+    )
 }
 
 #[test]
 fn no_index(rt: HostRuntime) -> Result<(), Fail> {
-    let mut desk = Desk::new(&rt)?;
-    desk.does(&rt, &["cindex"], ends(2, "", "cindex: no index\n"))?;
-    desk.does(&rt, &["cindex", "-list"], ends(2, "", "cindex: no index\n"))?;
-    desk.does(&rt, &["csearch", "x"], ends(2, "", "csearch: no index\n"))?;
-    desk.silently(&rt, &["cindex", "-reset"])?;
-    assert!(&rt; desk.index.is_none());
-    desk.does(&rt, &["cindex", ""], ends(2, "", "cindex: bad path \n"))
+    tells(
+        &rt,
+        &[
+            Call(&["cindex"], 2, "", "cindex: no index\n"),
+            Call(&["cindex", "-list"], 2, "", "cindex: no index\n"),
+            Call(&["csearch", "x"], 2, "", "csearch: no index\n"),
+            Call(&["cindex", "-reset"], 0, "", ""),
+            Left(None),
+            Call(&["cindex", ""], 2, "", "cindex: bad path \n"),
+        ],
+    )
 }
 
 #[test]
 fn a_bare_reset_leaves_no_index(rt: HostRuntime) -> Result<(), Fail> {
-    let mut desk = Desk::new(&rt)?;
-    desk.index = Some(ONE_FILE.to_vec(rt.alloc())?);
-    desk.silently(&rt, &["cindex", "-reset"])?;
-    assert!(&rt; desk.index.is_none());
-    Ok(())
+    tells(
+        &rt,
+        &[
+            Index(Some(ONE_FILE)),
+            Call(&["cindex", "-reset"], 0, "", ""),
+            Left(None),
+        ],
+    )
 }
 
 #[test]
 fn foreign_indexes(rt: HostRuntime) -> Result<(), Fail> {
-    let mut desk = Desk::new(&rt)?;
-    desk.folder("/a")?;
-    desk.folder("/a/b")?;
-    desk.file(&rt, "/a/b/z", b"abc")?;
-    desk.file(&rt, "/a/b-x", b"abc")?;
-    desk.index = Some(OUT_OF_ORDER.to_vec(rt.alloc())?);
-    desk.does(&rt, &["cindex", "-list"], ends(0, "/a\n", ""))?;
-    desk.does(
+    let found = "/a/b/z:abc\n/a/b-x:abc\n";
+    let unsorted = "cindex: index names are not in order\n";
+    let cut = &OUT_OF_ORDER[..114];
+    let bad = "cindex: bad index: trailer\n";
+    tells(
         &rt,
-        &["csearch", "abc"],
-        ends(0, "/a/b/z:abc\n/a/b-x:abc\n", ""),
-    )?;
-    let words = "cindex: index names are not in order\n";
-    desk.does(&rt, &["cindex", "/a"], ends(2, "", words))?;
-    assert_eq!(&rt; desk.bytes(), OUT_OF_ORDER.as_slice());
-    desk.index = Some(OUT_OF_ORDER[..114].to_vec(rt.alloc())?);
-    desk.does(
-        &rt,
-        &["csearch", "abc"],
-        ends(2, "", "csearch: bad index: trailer\n"),
-    )?;
-    let words = "cindex: bad index: trailer\n";
-    desk.does(&rt, &["cindex", "/a"], ends(2, "", words))?;
-    desk.does(&rt, &["cindex", "-list"], ends(2, "", words))?;
-    assert_eq!(&rt; desk.bytes(), &OUT_OF_ORDER[..114]);
-    desk.silently(&rt, &["cindex", "-reset", "/a"])
+        &[
+            Folder("/a"),
+            Folder("/a/b"),
+            File("/a/b/z", b"abc"),
+            File("/a/b-x", b"abc"),
+            Index(Some(OUT_OF_ORDER)),
+            Call(&["cindex", "-list"], 0, "/a\n", ""),
+            Call(&["csearch", "abc"], 0, found, ""),
+            Call(&["cindex", "/a"], 2, "", unsorted),
+            Left(Some(OUT_OF_ORDER)),
+            Index(Some(cut)),
+            Call(&["csearch", "abc"], 2, "", "csearch: bad index: trailer\n"),
+            Call(&["cindex", "/a"], 2, "", bad),
+            Call(&["cindex", "-list"], 2, "", bad),
+            Left(Some(cut)),
+            Call(&["cindex", "-reset", "/a"], 0, "", ""),
+        ],
+    )
 }
 
 #[test]
 fn damaged_lists(rt: HostRuntime) -> Result<(), Fail> {
-    let mut desk = Desk::new(&rt)?;
-    desk.folder("/a")?;
-    desk.file(&rt, "/a/x", b"abcd\n")?;
     let mut damaged = *ONE_FILE;
     damaged[59] = 2;
-    desk.index = Some(damaged.to_vec(rt.alloc())?);
-    desk.does(
+    tells(
         &rt,
-        &["csearch", "abc"],
-        ends(2, "", "csearch: bad index: list\n"),
-    )?;
-    desk.does(&rt, &["csearch", "bcd"], ends(0, "/a/x:abcd\n", ""))?;
-    desk.does(
-        &rt,
-        &["csearch", "-brute", "abc"],
-        ends(0, "/a/x:abcd\n", ""),
-    )?;
-    desk.does(
-        &rt,
-        &["cindex", "/a"],
-        ends(2, "", "cindex: bad index: list\n"),
-    )?;
-    assert_eq!(&rt; desk.bytes(), damaged.as_slice());
-    Ok(())
+        &[
+            Folder("/a"),
+            File("/a/x", b"abcd\n"),
+            Index(Some(&damaged)),
+            Call(&["csearch", "abc"], 2, "", "csearch: bad index: list\n"),
+            Call(&["csearch", "bcd"], 0, "/a/x:abcd\n", ""),
+            Call(&["csearch", "-brute", "abc"], 0, "/a/x:abcd\n", ""),
+            Call(&["cindex", "/a"], 2, "", "cindex: bad index: list\n"),
+            Left(Some(&damaged)),
+        ],
+    )
 }

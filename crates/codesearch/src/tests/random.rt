@@ -3,7 +3,7 @@
 ghost use Rattle.std.specs.Prelude.{◌<◌};
 
 use crate::program::run;
-use crate::tests::desk::Desk;
+use crate::tests::desk::{Desk, copied};
 use cs_tree::{MemSink, MemSource};
 use std::alloc::Global;
 use std::process::Abort;
@@ -13,7 +13,19 @@ const NAMES: [&str; 3] = ["/a/b/f", "/a/b-x", "/a/g"];
 
 const TEXTS: [Option<&str>; 4] = [Some("one\n"), Some("two\n"), Some("sixes\n"), None];
 
+/// The places of `NAMES` in the order of an index.
+const BY_NAME: [usize; 3] = [1, 0, 2];
+
 const PATHS: [&str; 3] = ["/a", "/a/b", "/a/b-x"];
+
+/// The words of each job: one for each of `PATHS`, a reset, and none of these.
+const JOBS: [&[&str]; 5] = [
+    &["cindex", "/a"],
+    &["cindex", "/a/b"],
+    &["cindex", "/a/b-x"],
+    &["cindex", "-reset", "/a/b"],
+    &["cindex"],
+];
 
 /// Numbers that look like chance, the same in each run.
 #[derive(Drop)]
@@ -58,6 +70,48 @@ impl Model {
         ]
     }
 
+    /// The texts, in the order of their names.
+    fn texts(&self, alloc: Global) -> Result<Vec<&'static str>, Fail> {
+        let mut texts = Vec::new(alloc);
+        for at in BY_NAME {
+            if let Some(text) = self.kept[at] {
+                texts.push(text)?;
+            }
+        }
+        Ok(texts)
+    }
+
+    /// Takes one of `JOBS`, and answers its status.
+    fn takes(&mut self, job: usize, texts: &[Option<&'static str>; 3]) -> u8
+        requires { job < 5 }
+    {
+        if job == 4 {
+            return self.read_again(texts);
+        }
+        if job == 3 {
+            self.given = [false, true, false];
+            self.kept = [None; 3];
+            self.read("/a/b", texts);
+        } else {
+            self.given[job] = true;
+            self.read(PATHS[job], texts);
+        }
+        0
+    }
+
+    /// Reads the paths that remain, and answers the status of that.
+    fn read_again(&mut self, texts: &[Option<&'static str>; 3]) -> u8 {
+        if self.is_empty() {
+            return 2;
+        }
+        for (path, remains) in PATHS.iter().zip(self.paths()) {
+            if remains {
+                self.read(path, texts);
+            }
+        }
+        0
+    }
+
     /// Reads what the tree has below a path.
     fn read(&mut self, path: &str, texts: &[Option<&'static str>; 3]) {
         for at in 0..3 {
@@ -75,52 +129,94 @@ fn lies_below(path: &str, name: &str) -> bool {
     }
 }
 
+/// An index as it is laid.
+#[derive(Drop)]
+struct Laid {
+    bytes: Vec<u8>,
+    /// Where its sections begin.
+    starts: Vec<usize>,
+}
+
+impl Laid {
+    fn new(alloc: Global) -> Result<Laid, Fail> {
+        Ok(Laid {
+            bytes: b"csearch index 1\n".to_vec(alloc)?,
+            starts: Vec::new(alloc),
+        })
+    }
+
+    /// Begins a section, and answers where.
+    fn begin(&mut self) -> Result<usize, Fail> {
+        let start = self.bytes.len();
+        self.starts.push(start)?;
+        Ok(start)
+    }
+
+    /// How many bytes are laid from a place on.
+    fn since(&self, start: usize) -> Result<usize, Fail> {
+        Ok(self.bytes.len().checked_sub(start).ok_or("offset")?)
+    }
+
+    fn lay_paths(&mut self, model: &Model) -> Result<(), Fail> {
+        let _start = self.begin()?;
+        for (path, remains) in PATHS.iter().zip(model.paths()) {
+            if remains {
+                string(&mut self.bytes, path)?;
+            }
+        }
+        self.bytes.push(0)?;
+        Ok(())
+    }
+
+    /// Lays the names, and answers where each of them begins, and the end.
+    fn lay_names(&mut self, alloc: Global, model: &Model) -> Result<Vec<usize>, Fail> {
+        let start = self.begin()?;
+        let mut offsets = Vec::new(alloc);
+        for at in BY_NAME {
+            if model.kept[at].is_some() {
+                offsets.push(self.since(start)?)?;
+                string(&mut self.bytes, NAMES[at])?;
+            }
+        }
+        offsets.push(self.since(start)?)?;
+        self.bytes.push(0)?;
+        Ok(offsets)
+    }
+
+    /// Lays the lists, and answers their entries.
+    fn lay_lists(&mut self, alloc: Global, texts: &[&str]) -> Result<Vec<u8>, Fail> {
+        let start = self.begin()?;
+        let mut entries = Vec::new(alloc);
+        for trigram in trigrams(alloc, texts)? {
+            let at = self.since(start)?;
+            let count = list(&mut self.bytes, &trigram, texts)?;
+            entries.extend_from_slice(&trigram)?;
+            numbers(&mut entries, &[count, at])?;
+        }
+        self.bytes.extend_from_slice(b"\xff\xff\xff\0")?;
+        Ok(entries)
+    }
+
+    /// Lays what follows the lists.
+    fn close(&mut self, offsets: &[usize], entries: &[u8]) -> Result<(), Fail> {
+        let _start = self.begin()?;
+        numbers(&mut self.bytes, offsets)?;
+        let _start = self.begin()?;
+        self.bytes.extend_from_slice(entries)?;
+        numbers(&mut self.bytes, &self.starts)?;
+        self.bytes.extend_from_slice(b"\ncsearch trailr\n")?;
+        Ok(())
+    }
+}
+
 /// The index of a model.
 fn image(alloc: Global, model: &Model) -> Result<Vec<u8>, Fail> {
-    let mut bytes = b"csearch index 1\n".to_vec(alloc)?;
-    let mut starts = Vec::new(alloc);
-    starts.push(bytes.len())?;
-    for (path, remains) in PATHS.iter().zip(model.paths()) {
-        if remains {
-            string(&mut bytes, path)?;
-        }
-    }
-    bytes.push(0)?;
-    let names = bytes.len();
-    starts.push(names)?;
-    let mut offsets = Vec::new(alloc);
-    let mut texts = Vec::new(alloc);
-    for at in [1, 0, 2] {
-        if let Some(text) = model.kept[at] {
-            offsets.push(bytes.len().checked_sub(names).ok_or("offset")?)?;
-            texts.push(text)?;
-            string(&mut bytes, NAMES[at])?;
-        }
-    }
-    offsets.push(bytes.len().checked_sub(names).ok_or("offset")?)?;
-    bytes.push(0)?;
-    let lists = bytes.len();
-    starts.push(lists)?;
-    let mut entries = Vec::new(alloc);
-    for trigram in trigrams(alloc, &texts)? {
-        let at = bytes.len().checked_sub(lists).ok_or("offset")?;
-        let count = list(&mut bytes, &trigram, &texts)?;
-        entries.extend_from_slice(&trigram)?;
-        number(&mut entries, count)?;
-        number(&mut entries, at)?;
-    }
-    bytes.extend_from_slice(b"\xff\xff\xff\0")?;
-    starts.push(bytes.len())?;
-    for offset in &offsets {
-        number(&mut bytes, *offset)?;
-    }
-    starts.push(bytes.len())?;
-    bytes.extend_from_slice(&entries)?;
-    for start in &starts {
-        number(&mut bytes, *start)?;
-    }
-    bytes.extend_from_slice(b"\ncsearch trailr\n")?;
-    Ok(bytes)
+    let mut laid = Laid::new(alloc)?;
+    laid.lay_paths(model)?;
+    let offsets = laid.lay_names(alloc, model)?;
+    let entries = laid.lay_lists(alloc, &model.texts(alloc)?)?;
+    laid.close(&offsets, &entries)?;
+    Ok(laid.bytes)
 }
 
 fn string(bytes: &mut Vec<u8>, text: &str) -> Result<(), Fail> {
@@ -129,9 +225,11 @@ fn string(bytes: &mut Vec<u8>, text: &str) -> Result<(), Fail> {
     Ok(())
 }
 
-fn number(bytes: &mut Vec<u8>, value: usize) -> Result<(), Fail> {
-    let value = u32::try_from(value).ok().ok_or("large")?;
-    bytes.extend_from_slice(&value.to_be_bytes())?;
+fn numbers(bytes: &mut Vec<u8>, values: &[usize]) -> Result<(), Fail> {
+    for value in values {
+        let value = u32::try_from(*value).ok().ok_or("large")?;
+        bytes.extend_from_slice(&value.to_be_bytes())?;
+    }
     Ok(())
 }
 
@@ -156,19 +254,20 @@ fn list(bytes: &mut Vec<u8>, trigram: &[u8; 3], texts: &[&str]) -> Result<usize,
     let mut count = 0usize;
     let mut delta = 0u8;
     for text in texts {
-        delta = delta.checked_add(1).ok_or("delta")?;
-        if text
-            .as_bytes()
-            .windows(3)
-            .any(|window| window == trigram.as_slice())
-        {
+        delta = delta.saturating_add(1);
+        if has(text, trigram) {
             bytes.push(delta)?;
             delta = 0;
-            count = count.checked_add(1).ok_or("count")?;
+            count = count.saturating_add(1);
         }
     }
     bytes.push(0)?;
     Ok(count)
+}
+
+fn has(text: &str, trigram: &[u8; 3]) -> bool {
+    let mut windows = text.as_bytes().windows(3);
+    windows.any(|window| window == trigram.as_slice())
 }
 
 /// Puts texts into the tree, and takes away the files that have none.
@@ -198,7 +297,7 @@ fn indexes(rt: &impl AllocGlobal, desk: &mut Desk, words: &[&str]) -> Result<u8,
     let mut input = MemSource::new(b"", 1, false);
     let mut out = MemSink::new(alloc, 1000);
     let mut err = MemSink::new(alloc, 1000);
-    let index = desk.copied(rt)?;
+    let index = copied(rt, desk.index.as_deref())?;
     let ran = run(
         alloc,
         &owned,
@@ -213,6 +312,35 @@ fn indexes(rt: &impl AllocGlobal, desk: &mut Desk, words: &[&str]) -> Result<u8,
     Ok(ran.status)
 }
 
+/// One job over new texts, at the desk and in the model.
+fn job(
+    rt: &(impl Abort + AllocGlobal),
+    chance: &mut Chance,
+    desk: &mut Desk,
+    model: &mut Model,
+) -> Result<(), Fail> {
+    let texts = [
+        TEXTS[chance.below(4)],
+        TEXTS[chance.below(4)],
+        TEXTS[chance.below(4)],
+    ];
+    set_files(rt, desk, &texts)?;
+    let job = chance.below(5);
+    let status = indexes(rt, desk, JOBS[job])?;
+    assert_eq!(rt; status, model.takes(job, &texts));
+    let wanted = wanted(rt.alloc(), model)?;
+    assert_eq!(rt; desk.index.as_deref(), wanted.as_deref());
+    Ok(())
+}
+
+/// The index of a model, where it has one.
+fn wanted(alloc: Global, model: &Model) -> Result<Option<Vec<u8>>, Fail> {
+    if model.is_empty() {
+        return Ok(None);
+    }
+    Ok(Some(image(alloc, model)?))
+}
+
 /// Three jobs over trees that change.
 fn history(rt: &(impl Abort + AllocGlobal), chance: &mut Chance) -> Result<(), Fail> {
     let mut desk = Desk::new(rt)?;
@@ -223,38 +351,7 @@ fn history(rt: &(impl Abort + AllocGlobal), chance: &mut Chance) -> Result<(), F
         kept: [None; 3],
     };
     for _ in 0..3 {
-        let texts = [
-            TEXTS[chance.below(4)],
-            TEXTS[chance.below(4)],
-            TEXTS[chance.below(4)],
-        ];
-        set_files(rt, &mut desk, &texts)?;
-        let choice = chance.below(5);
-        if choice == 4 {
-            // A job without paths.
-            let wanted = if model.is_empty() { 2 } else { 0 };
-            assert_eq!(rt; indexes(rt, &mut desk, &["cindex"])?, wanted);
-            for at in 0..3 {
-                if model.paths()[at] {
-                    model.read(PATHS[at], &texts);
-                }
-            }
-        } else if choice == 3 {
-            assert_eq!(rt; indexes(rt, &mut desk, &["cindex", "-reset", "/a/b"])?, 0);
-            model.given = [false, true, false];
-            model.kept = [None; 3];
-            model.read("/a/b", &texts);
-        } else {
-            let path = PATHS[choice];
-            assert_eq!(rt; indexes(rt, &mut desk, &["cindex", path])?, 0);
-            model.given[choice] = true;
-            model.read(path, &texts);
-        }
-        if model.is_empty() {
-            assert!(rt; desk.index.is_none());
-        } else {
-            assert_eq!(rt; desk.bytes(), image(rt.alloc(), &model)?.as_slice());
-        }
+        job(rt, chance, &mut desk, &mut model)?;
     }
     Ok(())
 }

@@ -1,8 +1,9 @@
 // The candidates of queries over worked rows.
-use crate::fixtures::{ROW, number, strings};
-use cs_index::{Builder, Index, IndexFault};
+use crate::fixtures::{Files, ROW, index_of, number};
+use cs_index::{Index, IndexFault};
 use cs_trigram::Query;
 use std::alloc::Global;
+use std::process::Abort;
 use std::test::Fail;
 
 /// A query for each of the trigrams.
@@ -14,95 +15,102 @@ fn tris(alloc: Global, trigrams: &[&str]) -> Result<Vec<Query>, Fail> {
     Ok(queries)
 }
 
-/// The index of three files: `Google Search`, `Google` and `Search`, each with a newline.
-fn three_files(alloc: Global) -> Result<Vec<u8>, Fail> {
-    let mut builder = Builder::new(alloc, &strings(alloc, &["/g"])?)?;
-    let _first = builder.add(
-        "/g/1",
-        &[
-            0x205365, 0x476f6f, 0x536561, 0x617263, 0x63680a, 0x652053, 0x656172, 0x676c65,
-            0x6c6520, 0x6f676c, 0x6f6f67, 0x726368,
-        ],
-    )?;
-    let _second = builder.add("/g/2", &[0x476f6f, 0x676c65, 0x6c650a, 0x6f676c, 0x6f6f67])?;
-    let _third = builder.add("/g/3", &[0x536561, 0x617263, 0x63680a, 0x656172, 0x726368])?;
-    Ok(builder.finish()?)
+const FILES: Files<'static> = &[
+    ("/g/1", b"Google Search\n"),
+    ("/g/2", b"Google\n"),
+    ("/g/3", b"Search\n"),
+];
+
+/// The query has just these candidates in the index.
+fn finds(
+    rt: &impl Abort,
+    alloc: Global,
+    index: &Index<'_>,
+    query: &Query,
+    want: &[u32],
+) -> Result<(), Fail> {
+    let found = index.candidates(alloc, query)?;
+    assert_eq!(rt; found.as_slice(), want);
+    Ok(())
+}
+
+/// The same for the trigrams, all of them or some.
+fn finds_tris(
+    rt: &impl Abort,
+    alloc: Global,
+    index: &Index<'_>,
+    all: bool,
+    trigrams: &[&str],
+    want: &[u32],
+) -> Result<(), Fail> {
+    let members = tris(alloc, trigrams)?;
+    let query = if all {
+        Query::And(members)
+    } else {
+        Query::Or(members)
+    };
+    finds(rt, alloc, index, &query, want)
 }
 
 #[test]
 fn names_are_found(rt: HostRuntime) -> Result<(), Fail> {
     let alloc = rt.alloc();
-    let bytes = three_files(alloc)?;
+    let bytes = index_of(alloc, &["/g"], FILES)?;
     let index = Index::open(&bytes)?;
     let each: &[&str] = &["Goo", "oog", "ogl", "gle", "Sea", "ear", "arc", "rch"];
-    assert_eq!(rt;
-        index
-            .candidates(alloc, &Query::And(tris(alloc, each)?))?
-            .as_slice(),
-        [0].as_slice()
-    );
-    assert_eq!(rt;
-        index
-            .candidates(alloc, &Query::Or(tris(alloc, &["le\n", "Sea"])?))?
-            .as_slice(),
-        [0, 1, 2].as_slice()
-    );
-    assert_eq!(rt;
-        index
-            .candidates(alloc, &Query::Or(tris(alloc, &["Sea", "xyz"])?))?
-            .as_slice(),
-        [0, 2].as_slice()
-    );
-    assert_eq!(rt;
-        index
-            .candidates(alloc, &Query::Tri(number(b"Goo")))?
-            .as_slice(),
-        [0, 1].as_slice()
-    );
-    assert!(rt;
-        index
-            .candidates(alloc, &Query::Tri(number(b"xyz")))?
-            .is_empty()
-    );
-    assert!(rt; index.candidates(alloc, &Query::Nothing)?.is_empty());
-    assert!(rt;
-        index
-            .candidates(alloc, &Query::Or(Vec::new(alloc)))?
-            .is_empty()
-    );
-    assert_eq!(rt;
-        index.candidates(alloc, &Query::All)?.as_slice(),
-        [0, 1, 2].as_slice()
-    );
-    assert_eq!(rt;
-        index
-            .candidates(alloc, &Query::And(Vec::new(alloc)))?
-            .as_slice(),
-        [0, 1, 2].as_slice()
-    );
-    Ok(())
+    let rows: [(bool, &[&str], &[u32]); 5] = [
+        (true, each, &[0]),
+        (false, &["le\n", "Sea"], &[0, 1, 2]),
+        (false, &["Sea", "xyz"], &[0, 2]),
+        (false, &[], &[]),
+        (true, &[], &[0, 1, 2]),
+    ];
+    for (all, trigrams, want) in rows {
+        finds_tris(&rt, alloc, &index, all, trigrams, want)?;
+    }
+    for (trigram, want) in [(b"Goo", [0, 1].as_slice()), (b"xyz", &[])] {
+        finds(&rt, alloc, &index, &Query::Tri(number(trigram)), want)?;
+    }
+    finds(&rt, alloc, &index, &Query::Nothing, &[])?;
+    finds(&rt, alloc, &index, &Query::All, &[0, 1, 2])
+}
+
+/// Two queries of two trigrams each.
+fn two_of(alloc: Global, first: Query, second: Query) -> Result<Vec<Query>, Fail> {
+    let mut members = Vec::new(alloc);
+    members.push(first)?;
+    members.push(second)?;
+    Ok(members)
 }
 
 #[test]
 fn members_are_queries(rt: HostRuntime) -> Result<(), Fail> {
     let alloc = rt.alloc();
-    let bytes = three_files(alloc)?;
+    let bytes = index_of(alloc, &["/g"], FILES)?;
     let index = Index::open(&bytes)?;
-    let mut members = Vec::new(alloc);
-    members.push(Query::Or(tris(alloc, &["Goo", "xyz"])?))?;
-    members.push(Query::Or(tris(alloc, &["Sea", "wxy"])?))?;
-    assert_eq!(rt;
-        index.candidates(alloc, &Query::And(members))?.as_slice(),
-        [0].as_slice()
-    );
-    let mut members = Vec::new(alloc);
-    members.push(Query::And(tris(alloc, &["Goo", "le\n"])?))?;
-    members.push(Query::And(tris(alloc, &["Goo", "Sea"])?))?;
-    assert_eq!(rt;
-        index.candidates(alloc, &Query::Or(members))?.as_slice(),
-        [0, 1].as_slice()
-    );
-    Ok(())
+    let goo = Query::Or(tris(alloc, &["Goo", "xyz"])?);
+    let sea = Query::Or(tris(alloc, &["Sea", "wxy"])?);
+    finds(
+        &rt,
+        alloc,
+        &index,
+        &Query::And(two_of(alloc, goo, sea)?),
+        &[0],
+    )?;
+    let end = Query::And(tris(alloc, &["Goo", "le\n"])?);
+    let both = Query::And(tris(alloc, &["Goo", "Sea"])?);
+    finds(
+        &rt,
+        alloc,
+        &index,
+        &Query::Or(two_of(alloc, end, both)?),
+        &[0, 1],
+    )
+}
+
+/// The fault of a query.
+fn fault(alloc: Global, index: &Index<'_>, query: &Query) -> Option<IndexFault> {
+    index.candidates(alloc, query).err()
 }
 
 #[test]
@@ -111,17 +119,11 @@ fn damage_is_found(rt: HostRuntime) -> Result<(), Fail> {
     let mut bytes = *ROW;
     bytes[59] = 0x02;
     let index = Index::open(&bytes)?;
-    let damaged = index.candidates(alloc, &Query::Tri(number(b"abc")));
-    assert_eq!(rt; damaged.err(), Some(IndexFault::BadList));
-    let behind = index.candidates(alloc, &Query::And(tris(alloc, &["xyz", "abc"])?));
-    assert_eq!(rt; behind.err(), Some(IndexFault::BadList));
-    let beside = index.candidates(alloc, &Query::Or(tris(alloc, &["bcd", "abc"])?));
-    assert_eq!(rt; beside.err(), Some(IndexFault::BadList));
-    assert_eq!(rt;
-        index
-            .candidates(alloc, &Query::Tri(number(b"bcd")))?
-            .as_slice(),
-        [0].as_slice()
-    );
-    Ok(())
+    let bad = Some(IndexFault::BadList);
+    assert_eq!(rt; fault(alloc, &index, &Query::Tri(number(b"abc"))), bad);
+    let behind = Query::And(tris(alloc, &["xyz", "abc"])?);
+    assert_eq!(rt; fault(alloc, &index, &behind), bad);
+    let beside = Query::Or(tris(alloc, &["bcd", "abc"])?);
+    assert_eq!(rt; fault(alloc, &index, &beside), bad);
+    finds(&rt, alloc, &index, &Query::Tri(number(b"bcd")), &[0])
 }

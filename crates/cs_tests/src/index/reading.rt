@@ -1,7 +1,8 @@
 // The reader over worked rows.
+ghost use Rattle.std.specs.Prelude.{◌<◌};
+
 use crate::fixtures::{ROW, UNSORTED};
 use cs_index::{Index, IndexFault, Postings, Texts};
-use std::test::Fail;
 
 /// The path `/a` and no name.
 pub const EMPTY: &[u8; 65] =
@@ -76,20 +77,42 @@ fn is_list_of(index: &Index, want: &Wanted, trigram: u32) -> bool {
     index.postings(trigram).is_none() && index.count(trigram) == 0
 }
 
-/// Whether the index answers so to each call.
-fn answers(index: &Index, want: &Wanted) -> bool {
+/// Trigrams of the rows, and others.
+const ASKED: [u32; 5] = [0x616263, 0x626364, 0x63640a, 0xffffff, 0x78797a];
+
+/// Whether each of `ASKED` has the list that is wanted, or none.
+fn are_by_trigram(index: &Index, want: &Wanted) -> bool {
+    for trigram in ASKED {
+        if !is_list_of(index, want, trigram) {
+            return false;
+        }
+    }
+    true
+}
+
+/// Whether there are so many names and lists, in this order.
+fn are_counted(index: &Index, want: &Wanted) -> bool {
     index.len() as usize == want.names.len()
         && index.is_empty() == want.names.is_empty()
         && index.lists() as usize == want.lists.len()
         && index.in_order() == want.in_order
+}
+
+/// Whether the index answers so to each call.
+fn answers(index: &Index, want: &Wanted) -> bool {
+    are_counted(index, want)
         && are_texts(index.paths(), want.paths)
         && are_texts(index.names(), want.names)
         && are_by_place(index, want)
-        && is_list_of(index, want, 0x616263)
-        && is_list_of(index, want, 0x626364)
-        && is_list_of(index, want, 0x63640a)
-        && is_list_of(index, want, 0xffffff)
-        && is_list_of(index, want, 0x78797a)
+        && are_by_trigram(index, want)
+}
+
+/// Whether the bytes open as an index that answers so.
+fn opens_so(bytes: &[u8], want: &Wanted) -> bool {
+    match Index::open(bytes) {
+        Ok(index) => answers(&index, want),
+        Err(_) => false,
+    }
 }
 
 #[test]
@@ -124,7 +147,7 @@ fn paths_come_before_names(rt: HostRuntime) {
 
 /// The first byte of the closing list, and the last byte of the name index.
 #[test]
-fn some_bytes_may_be_anything(rt: HostRuntime) -> Result<(), Fail> {
+fn some_bytes_may_be_anything(rt: HostRuntime) {
     let want = Wanted {
         paths: &["/a"],
         names: &["/a/x"],
@@ -137,15 +160,14 @@ fn some_bytes_may_be_anything(rt: HostRuntime) -> Result<(), Fail> {
             if let Some(changed) = bytes.get_mut(place) {
                 *changed = byte;
             }
-            assert!(rt; answers(&Index::open(&bytes)?, &want), "{byte} at {place}");
+            assert!(rt; opens_so(&bytes, &want), "{byte} at {place}");
         }
     }
-    Ok(())
 }
 
 /// The last offset may be any four bytes, and the NUL behind the names may be missing.
 #[test]
-fn other_writers_are_read(rt: HostRuntime) -> Result<(), Fail> {
+fn other_writers_are_read(rt: HostRuntime) {
     let want = Wanted {
         paths: &["/a"],
         names: &["/a/b/z", "/a/b-x"],
@@ -155,43 +177,45 @@ fn other_writers_are_read(rt: HostRuntime) -> Result<(), Fail> {
     for last in [*b"\0\0\0\x0e", *b"wxyz"] {
         let mut closed = *UNSORTED;
         closed[53..57].copy_from_slice(&last);
-        assert!(rt; answers(&Index::open(&closed)?, &want), "with {last:?}");
+        assert!(rt; opens_so(&closed, &want), "with {last:?}");
         let mut unclosed = *UNCLOSED;
         unclosed[52..56].copy_from_slice(&last);
-        assert!(rt;
-            answers(&Index::open(&unclosed)?, &want),
-            "with {last:?} and no NUL"
-        );
+        assert!(rt; opens_so(&unclosed, &want), "with {last:?} and no NUL");
     }
-    Ok(())
 }
 
 #[test]
-fn no_name_is_read(rt: HostRuntime) -> Result<(), Fail> {
+fn no_name_is_read(rt: HostRuntime) {
     let want = Wanted {
         paths: &["/a"],
         names: &[],
         in_order: true,
         lists: &[],
     };
-    assert!(rt; answers(&Index::open(EMPTY)?, &want));
-    Ok(())
+    assert!(rt; opens_so(EMPTY, &want));
+}
+
+/// The first three answers of a list.
+fn first_three(ids: Postings) -> [Option<Result<u32, IndexFault>>; 3] {
+    let mut ids = ids;
+    [ids.next(), ids.next(), ids.next()]
+}
+
+/// The first three answers of the list of `abc` in `ROW`, with another byte at the place.
+fn damaged(place: usize, byte: u8) -> Option<[Option<Result<u32, IndexFault>>; 3]>
+    requires { place < 122 }
+{
+    let mut bytes = *ROW;
+    bytes[place] = byte;
+    let index = Index::open(&bytes).ok()?;
+    Some(first_three(index.postings(0x616263)?))
 }
 
 #[test]
-fn damage_is_told(rt: HostRuntime) -> Result<(), Fail> {
-    let mut late = *ROW;
-    late[63] = 0x0f;
-    let mut ids = Index::open(&late)?.postings(0x616263).ok_or("no list")?;
-    assert_eq!(rt; ids.next(), Some(Err(IndexFault::BadList)));
-    assert_eq!(rt; ids.next(), None);
-    let mut more = *ROW;
-    more[59] = 0x02;
-    let mut ids = Index::open(&more)?.postings(0x616263).ok_or("no list")?;
-    assert_eq!(rt; ids.next(), Some(Ok(0)));
-    assert_eq!(rt; ids.next(), Some(Err(IndexFault::BadList)));
-    assert_eq!(rt; ids.next(), None);
-    Ok(())
+fn damage_is_told(rt: HostRuntime) {
+    let bad = Some(Err(IndexFault::BadList));
+    assert_eq!(rt; damaged(63, 0x0f), Some([bad, None, None]));
+    assert_eq!(rt; damaged(59, 0x02), Some([Some(Ok(0)), bad, None]));
 }
 
 #[test]
@@ -229,9 +253,11 @@ fn varints_are_read(rt: HostRuntime) {
         ),
         (&[0x02, 0x00], Err(IndexFault::BadList), None),
     ] {
-        let mut ids = Postings::new(bytes, 1, 1);
-        assert_eq!(rt; ids.next(), Some(first), "of {bytes:?}");
-        assert_eq!(rt; ids.next(), second, "of {bytes:?}");
-        assert_eq!(rt; ids.next(), None, "of {bytes:?}");
+        let ids = Postings::new(bytes, 1, 1);
+        assert_eq!(rt;
+            first_three(ids),
+            [Some(first), second, None],
+            "of {bytes:?}"
+        );
     }
 }

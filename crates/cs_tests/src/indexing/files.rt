@@ -48,24 +48,23 @@ fn expect<T: Tree>(
     Ok(())
 }
 
-#[test]
-fn the_faults_of_the_walk_come_first(rt: HostRuntime) -> Result<(), Fail> {
-    let mut tree = tree_of(rt.alloc(), "/v", &[("/v/a", b"a\0")])?;
+/// A folder with a file that is no text, one that may not be read, one that fails, and one that is no file.
+fn odd_files(alloc: Global) -> Result<MemTree, Fail> {
+    let mut tree = tree_of(alloc, "/v", &[("/v/a", b"a\0")])?;
     tree.put("/v/b", Item::Denied).ok().ok_or("put")?;
-    let bytes = Vec::from_slice(rt.alloc(), b"one")?;
+    let bytes = Vec::from_slice(alloc, b"one")?;
     tree.put("/v/c", Item::Cut(bytes)).ok().ok_or("put")?;
     tree.put("/v/d", Item::Other).ok().ok_or("put")?;
+    Ok(tree)
+}
+
+#[test]
+fn the_faults_of_the_walk_come_first(rt: HostRuntime) -> Result<(), Fail> {
     let lines =
         "cindex: /v/b: permission denied\ncindex: /v/a: not indexed: NUL byte\ncindex: /v/c: cannot be read\n";
-    let mut trees = [tree];
-    expect(
-        &rt,
-        rt.alloc(),
-        &mut trees,
-        &["-logskip", "/v"],
-        (EMPTY, lines),
-    )?;
-    Ok(())
+    let mut trees = [odd_files(rt.alloc())?];
+    let words: &[&str] = &["-logskip", "/v"];
+    expect(&rt, rt.alloc(), &mut trees, words, (EMPTY, lines))
 }
 
 #[test]
@@ -121,6 +120,5 @@ impl Tree for OddTree {
 fn a_name_that_no_index_holds(rt: HostRuntime) -> Result<(), Fail> {
     let line = "cindex: /v/a\0b: name is not text\n";
     let mut trees = [OddTree];
-    expect(&rt, rt.alloc(), &mut trees, &["/v"], (EMPTY, line))?;
-    Ok(())
+    expect(&rt, rt.alloc(), &mut trees, &["/v"], (EMPTY, line))
 }

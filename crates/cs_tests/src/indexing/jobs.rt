@@ -1,10 +1,13 @@
 // Worked rows over trees in memory.
+ghost use Rattle.std.specs.Prelude.{IfOk, All};
+ghost use Rattle.cs_cindex.specs.Refusals.{HasAbsoluteFolder};
+
 use crate::fixtures::{UNSORTED, bytes_of};
 use crate::indexing::job_of;
 use cs_cindex::cindex;
-use cs_index::{Index, IndexFault};
-use cs_tree::{Item, MemSink, MemTree};
-use cs_words::{CindexFault, Reply};
+use cs_index::{Index, IndexFault, Postings, Texts};
+use cs_tree::{Item, MemSink, MemTree, Sink};
+use cs_words::{CindexFault, IndexJob, Reply};
 use std::alloc::Global;
 use std::process::Abort;
 use std::test::Fail;
@@ -17,8 +20,8 @@ type Placed<'a> = (&'a str, Option<&'a str>);
 struct Done {
     index: Option<Vec<u8>>,
     reply: Reply,
-    out: Vec<u8>,
-    err: Vec<u8>,
+    out: MemSink,
+    err: MemSink,
 }
 
 fn tree_of(alloc: Global, placed: &[Placed<'_>]) -> Result<MemTree, Fail> {
@@ -57,8 +60,8 @@ fn run(
     Ok(Done {
         index,
         reply: replies[0],
-        out: Vec::from_slice(alloc, out.bytes())?,
-        err: Vec::from_slice(alloc, err.bytes())?,
+        out,
+        err,
     })
 }
 
@@ -67,28 +70,14 @@ fn run(
 struct Three {
     index: Option<Vec<u8>>,
     replies: [Reply; 3],
-    out: Vec<u8>,
-    err: Vec<u8>,
+    out: MemSink,
+    err: MemSink,
 }
 
 /// Three jobs in one call, each over a tree of its own with the same in it.
-fn run_three(
-    alloc: Global,
-    first: &[&str],
-    second: &[&str],
-    third: &[&str],
-    placed: &[Placed<'_>],
-) -> Result<Three, Fail> {
-    let jobs = [
-        job_of(alloc, first)?,
-        job_of(alloc, second)?,
-        job_of(alloc, third)?,
-    ];
-    let mut trees = [
-        tree_of(alloc, placed)?,
-        tree_of(alloc, placed)?,
-        tree_of(alloc, placed)?,
-    ];
+fn run_three(alloc: Global, words: [&[&str]; 3], placed: &[Placed<'_>]) -> Result<Three, Fail> {
+    let jobs = jobs_of(alloc, words)?;
+    let mut trees = three_trees(alloc, placed)?;
     let mut replies = [Reply::Done; 3];
     let mut out = MemSink::new(alloc, 1000);
     let mut err = MemSink::new(alloc, 1000);
@@ -104,9 +93,25 @@ fn run_three(
     Ok(Three {
         index,
         replies,
-        out: Vec::from_slice(alloc, out.bytes())?,
-        err: Vec::from_slice(alloc, err.bytes())?,
+        out,
+        err,
     })
+}
+
+fn jobs_of(alloc: Global, words: [&[&str]; 3]) -> Result<[IndexJob; 3], Fail>
+    ensures { IfOk result (All HasAbsoluteFolder) }
+{
+    let first = job_of(alloc, words[0])?;
+    let second = job_of(alloc, words[1])?;
+    let third = job_of(alloc, words[2])?;
+    Ok([first, second, third])
+}
+
+fn three_trees(alloc: Global, placed: &[Placed<'_>]) -> Result<[MemTree; 3], Fail> {
+    let first = tree_of(alloc, placed)?;
+    let second = tree_of(alloc, placed)?;
+    let third = tree_of(alloc, placed)?;
+    Ok([first, second, third])
 }
 
 /// The index has this length and these paths, and the names with the trigrams of these texts.
@@ -121,28 +126,34 @@ fn check(
     let bytes = index.as_ref().ok_or("no index")?;
     assert_eq!(rt; bytes.len(), length);
     let index = Index::open(bytes)?;
-    let mut place = 0;
-    for path in index.paths() {
-        assert_eq!(rt; paths.get(place), Some(&path));
-        place += 1;
-    }
-    assert_eq!(rt; place, paths.len());
-    let mut id = 0;
-    for name in index.names() {
-        assert_eq!(rt; names.get(id), Some(&name));
-        id += 1;
-    }
-    assert_eq!(rt; id, names.len());
+    are_texts(rt, index.paths(), paths);
+    are_texts(rt, index.names(), names);
     assert_eq!(rt; index.lists() as usize, lists.len());
     for (trigram, ids) in lists {
         let found = index.postings(*trigram).ok_or("no list")?;
-        let mut at = 0;
-        for told in found {
-            assert_eq!(rt; Some(&told?), ids.get(at), "of {trigram}");
-            at += 1;
-        }
-        assert_eq!(rt; at, ids.len(), "of {trigram}");
+        are_ids(rt, found, ids)?;
     }
+    Ok(())
+}
+
+/// The texts are these.
+fn are_texts(rt: &impl Abort, texts: Texts<'_>, want: &[&str]) {
+    let mut place = 0;
+    for text in texts {
+        assert_eq!(rt; want.get(place), Some(&text));
+        place += 1;
+    }
+    assert_eq!(rt; place, want.len());
+}
+
+/// The ids are these.
+fn are_ids(rt: &impl Abort, ids: Postings<'_>, want: &[u32]) -> Result<(), Fail> {
+    let mut at = 0;
+    for id in ids {
+        assert_eq!(rt; Some(&id?), want.get(at));
+        at += 1;
+    }
+    assert_eq!(rt; at, want.len());
     Ok(())
 }
 
@@ -163,10 +174,10 @@ const FOLDERS: &[Placed<'static>] = &[
 
 #[test]
 fn a_list_sees_the_jobs_before_it(rt: HostRuntime) -> Result<(), Fail> {
-    let three = run_three(rt.alloc(), &["/a"], &["-list"], &["/b"], FOLDERS)?;
+    let three = run_three(rt.alloc(), [&["/a"], &["-list"], &["/b"]], FOLDERS)?;
     assert_eq!(rt; three.replies, [Reply::Done, Reply::Done, Reply::Done]);
-    assert_eq!(rt; three.out.as_slice(), b"/a\n".as_slice());
-    assert!(rt; three.err.is_empty());
+    assert_eq!(rt; three.out.bytes(), b"/a\n".as_slice());
+    assert!(rt; three.err.bytes().is_empty());
     check(
         &rt,
         &three.index,
@@ -179,48 +190,43 @@ fn a_list_sees_the_jobs_before_it(rt: HostRuntime) -> Result<(), Fail> {
 
 #[test]
 fn a_refused_job_between_others(rt: HostRuntime) -> Result<(), Fail> {
-    let three = run_three(rt.alloc(), &["/a"], &["/b", ""], &["-list"], FOLDERS)?;
+    let three = run_three(rt.alloc(), [&["/a"], &["/b", ""], &["-list"]], FOLDERS)?;
     let refused = Reply::Refused(CindexFault::BadPath(1));
     assert_eq!(rt; three.replies, [Reply::Done, refused, Reply::Done]);
-    assert_eq!(rt; three.out.as_slice(), b"/a\n".as_slice());
-    assert!(rt; three.err.is_empty());
+    assert_eq!(rt; three.out.bytes(), b"/a\n".as_slice());
+    assert!(rt; three.err.bytes().is_empty());
     let alone = run(rt.alloc(), None, &["/a"], FOLDERS)?;
-    let want = alone.index.ok_or("no index")?;
-    let kept = three.index.ok_or("no index")?;
-    assert_eq!(rt; kept.as_slice(), want.as_slice());
+    assert!(rt; alone.index.is_some());
+    assert_eq!(rt; three.index.as_deref(), alone.index.as_deref());
     Ok(())
+}
+
+/// A job on the bytes of an index, over no files.
+fn run_on(alloc: Global, old: &[u8], words: &[&str]) -> Result<Done, Fail> {
+    run(alloc, Some(Vec::from_slice(alloc, old)?), words, &[])
 }
 
 #[test]
 fn an_index_that_no_job_left(rt: HostRuntime) -> Result<(), Fail> {
-    let old = Vec::from_slice(rt.alloc(), UNSORTED)?;
-    let unsorted = run(rt.alloc(), Some(old), &[], &[])?;
+    let unsorted = run_on(rt.alloc(), UNSORTED, &[])?;
     assert_eq!(rt; unsorted.reply, Reply::Refused(CindexFault::Unsorted));
-    let kept = unsorted.index.ok_or("no index")?;
-    assert_eq!(rt; kept.as_slice(), UNSORTED.as_slice());
-    let listed = run(rt.alloc(), Some(kept), &["-list"], &[])?;
-    assert_eq!(rt; listed.out.as_slice(), b"/a\n".as_slice());
-    let cut = Vec::from_slice(rt.alloc(), &UNSORTED[..114])?;
-    let bad = run(rt.alloc(), Some(cut), &["/a"], &[])?;
+    assert_eq!(rt; unsorted.index.as_deref(), Some(UNSORTED.as_slice()));
+    let listed = run_on(rt.alloc(), UNSORTED, &["-list"])?;
+    assert_eq!(rt; listed.out.bytes(), b"/a\n".as_slice());
+    let cut = &UNSORTED[..114];
+    let bad = run_on(rt.alloc(), cut, &["/a"])?;
     let fault = CindexFault::BadIndex(IndexFault::BadTrailer);
     assert_eq!(rt; bad.reply, Reply::Refused(fault));
-    let kept = bad.index.ok_or("no index")?;
-    assert_eq!(rt; kept.as_slice(), &UNSORTED[..114]);
+    assert_eq!(rt; bad.index.as_deref(), Some(cut));
     Ok(())
 }
 
 #[test]
 fn what_is_left_out(rt: HostRuntime) -> Result<(), Fail> {
-    let skipped = run(
-        rt.alloc(),
-        None,
-        &["-logskip", "/s"],
-        &[("/s", None), ("/s/n", Some("a\0"))],
-    )?;
-    assert_eq!(rt;
-        skipped.err.as_slice(),
-        b"cindex: /s/n: not indexed: NUL byte\n".as_slice()
-    );
+    let odd: &[Placed<'_>] = &[("/s", None), ("/s/n", Some("a\0"))];
+    let skipped = run(rt.alloc(), None, &["-logskip", "/s"], odd)?;
+    let line = b"cindex: /s/n: not indexed: NUL byte\n";
+    assert_eq!(rt; skipped.err.bytes(), line.as_slice());
     check(&rt, &skipped.index, 65, &["/s"], &[], &[])?;
     let empty = run(rt.alloc(), None, &["/s", ""], &[])?;
     assert_eq!(rt; empty.reply, Reply::Refused(CindexFault::BadPath(1)));

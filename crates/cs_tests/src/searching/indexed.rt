@@ -1,9 +1,7 @@
 // Searches of an index, over trees that lack the files that are not to be opened.
-use crate::fixtures::{Files, strings, tree_of, words_of};
-use cs_index::Builder;
+use crate::fixtures::{Files, index_of, tree_of, words_of};
 use cs_search::{Status, csearch};
-use cs_tree::{MemSink, MemSource, MemTree, Sink};
-use cs_trigram::{Scan, Scanner};
+use cs_tree::{MemSink, MemTree, Sink};
 use cs_words::{Job, SearchJob, Tool, ToolFault, read_words};
 use std::alloc::Global;
 use std::process::Abort;
@@ -42,22 +40,20 @@ fn job_of(alloc: Global, text: &str) -> Result<SearchJob, Fail> {
     }
 }
 
-/// The index of the files, below one path.
-fn index_of(alloc: Global, path: &str, files: Files<'_>) -> Result<Vec<u8>, Fail> {
-    let mut builder = Builder::new(alloc, &strings(alloc, &[path])?)?;
-    let mut scanner = Scanner::new(alloc)?;
-    for (name, text) in files {
-        let mut source = MemSource::new(text, 4, false);
-        match scanner.scan(&mut source) {
-            Ok(Scan::Text { trigrams, .. }) => {
-                let _id = builder.add(name, &trigrams)?;
-            }
-            _ => return Err(Fail::from("text")),
-        }
-    }
-    Ok(builder.finish()?)
+/// A search of the index over the tree.
+fn search(
+    alloc: Global,
+    words: &str,
+    index: &[u8],
+    tree: &mut MemTree,
+    out: &mut MemSink,
+    err: &mut MemSink,
+) -> Result<Result<Status, ToolFault>, Fail> {
+    let job = job_of(alloc, words)?;
+    Ok(csearch(alloc, &job, Some(index), tree, out, err))
 }
 
+/// What such a search prints and answers.
 fn run(
     rt: &impl Abort,
     alloc: Global,
@@ -66,10 +62,9 @@ fn run(
     tree: &mut MemTree,
     wanted: Wanted<'_>,
 ) -> Result<(), Fail> {
-    let job = job_of(alloc, words)?;
     let mut out = MemSink::new(alloc, 1000);
     let mut err = MemSink::new(alloc, 1000);
-    let status = csearch(alloc, &job, Some(index), tree, &mut out, &mut err);
+    let status = search(alloc, words, index, tree, &mut out, &mut err)?;
     assert_eq!(rt; out.bytes(), wanted.0.as_bytes(), "of {words:?}");
     assert_eq!(rt; err.bytes(), wanted.1.as_bytes(), "of {words:?}");
     assert_eq!(rt; status, wanted.2, "of {words:?}");
@@ -80,7 +75,7 @@ fn run(
 fn only_candidates_are_opened(rt: HostRuntime) -> Result<(), Fail> {
     let alloc = rt.alloc();
     let matched = Ok(Status::Matched);
-    let index = index_of(alloc, "/g", GOOGLE)?;
+    let index = index_of(alloc, &["/g"], GOOGLE)?;
     let tree = &mut tree_of(alloc, "/g", &[("/g/1", b"Google Search\n")])?;
     let found = "/g/1:Google Search\n";
     let words = "Google.*Search";
@@ -93,7 +88,7 @@ fn only_candidates_are_opened(rt: HostRuntime) -> Result<(), Fail> {
 #[test]
 fn candidates_have_each_trigram(rt: HostRuntime) -> Result<(), Fail> {
     let alloc = rt.alloc();
-    let index = index_of(alloc, "/g", LACKING)?;
+    let index = index_of(alloc, &["/g"], LACKING)?;
     let files: Files<'_> = &[("/g/0", b"Google Search\n"), ("/g/9", b"Search\nGoogle\n")];
     let tree = &mut tree_of(alloc, "/g", files)?;
     let found = ("/g/0:Google Search\n", "", Ok(Status::Matched));

@@ -1,7 +1,7 @@
 // Searches at small limits and in small buffers.
 use crate::fixtures::PLAIN;
 use cs_match::{Matcher, Program};
-use cs_search::{Form, LineBuffer, ReadFault, grep, grep_within};
+use cs_search::{Form, Grepped, LineBuffer, ReadFault, grep, grep_within};
 use cs_syntax::parse;
 use cs_tree::{MemSink, MemSource, Source};
 use cs_words::Style;
@@ -30,47 +30,50 @@ impl<'a> Given<'a> {
 /// What a search of it prints, whether some line matched, and the fault.
 type Wanted<'a> = (&'a str, bool, Option<ReadFault>);
 
-/// One search, by reads of at most `step` bytes into a buffer that begins with `size` bytes.
+/// How an input is searched: by reads of at most so many bytes, into a buffer that begins with so many.
+#[derive(Clone, Copy, Debug)]
+struct Sizes {
+    step: usize,
+    size: usize,
+}
+
+fn program_of(alloc: Global, pattern: &str) -> Result<Program, Fail> {
+    let pattern = parse(alloc, pattern, false).ok().ok_or("pattern")?;
+    Ok(Program::compile(alloc, &pattern)?)
+}
+
+/// What a search answers.
+fn answer_of(
+    alloc: Global,
+    program: &Program,
+    given: Given<'_>,
+    sizes: Sizes,
+    style: Style,
+    out: &mut MemSink,
+) -> Result<Grepped, Fail> {
+    let mut matcher = Matcher::new(alloc, program)?;
+    let mut buffer = LineBuffer::of_size(alloc, sizes.size.max(1))?;
+    let mut input = MemSource::new(given.text, sizes.step.max(1), given.cut);
+    let form = Form { name: "t", style };
+    let most = given.most.min(1000);
+    Ok(grep_within(&form, &mut input, most, &mut buffer, &mut matcher, out)?)
+}
+
+/// One search.
 fn search_by(
     rt: &impl Abort,
     alloc: Global,
-    pattern: &str,
+    program: &Program,
     given: Given<'_>,
-    step: usize,
-    size: usize,
+    sizes: Sizes,
     style: Style,
     wanted: Wanted<'_>,
 ) -> Result<(), Fail> {
-    let pattern = parse(alloc, pattern, false).ok().ok_or("pattern")?;
-    let program = Program::compile(alloc, &pattern)?;
-    let mut matcher = Matcher::new(alloc, &program)?;
-    let mut buffer = LineBuffer::of_size(alloc, size.max(1))?;
-    let mut input = MemSource::new(given.text, step.max(1), given.cut);
     let mut out = MemSink::new(alloc, 1000);
-    let form = Form { name: "t", style };
-    let answer = grep_within(
-        &form,
-        &mut input,
-        given.most.min(1000),
-        &mut buffer,
-        &mut matcher,
-        &mut out,
-    )?;
-    assert_eq!(rt;
-        out.bytes(),
-        wanted.0.as_bytes(),
-        "by steps of {step} and {size} bytes, {style:?}"
-    );
-    assert_eq!(rt;
-        answer.matched,
-        wanted.1,
-        "by steps of {step} and {size} bytes, {style:?}"
-    );
-    assert_eq!(rt;
-        answer.fault,
-        wanted.2,
-        "by steps of {step} and {size} bytes, {style:?}"
-    );
+    let answer = answer_of(alloc, program, given, sizes, style, &mut out)?;
+    assert_eq!(rt; out.bytes(), wanted.0.as_bytes(), "by {sizes:?}, {style:?}");
+    assert_eq!(rt; answer.matched, wanted.1, "by {sizes:?}, {style:?}");
+    assert_eq!(rt; answer.fault, wanted.2, "by {sizes:?}, {style:?}");
     Ok(())
 }
 
@@ -83,9 +86,11 @@ fn search(
     style: Style,
     wanted: Wanted<'_>,
 ) -> Result<(), Fail> {
+    let program = program_of(alloc, pattern)?;
     for step in [1, 2, 3, 7, 100] {
         for size in [1, 2, 5, 64] {
-            search_by(rt, alloc, pattern, given, step, size, style, wanted)?;
+            let sizes = Sizes { step, size };
+            search_by(rt, alloc, &program, given, sizes, style, wanted)?;
         }
     }
     Ok(())
@@ -234,22 +239,25 @@ fn inputs_that_are_too_long(rt: HostRuntime) -> Result<(), Fail> {
     )
 }
 
-#[test]
-fn a_list_reads_no_further_than_its_hit(rt: HostRuntime) -> Result<(), Fail> {
-    let pattern = parse(rt.alloc(), "one", false).ok().ok_or("pattern")?;
-    let program = Program::compile(rt.alloc(), &pattern)?;
-    let mut matcher = Matcher::new(rt.alloc(), &program)?;
-    let mut input = MemSource::new(b"one\ntwo\n", 4, false);
-    let mut out = MemSink::new(rt.alloc(), 1000);
+/// The answer of a search for `one` under `-l`.
+fn listed(alloc: Global, input: &mut MemSource<'_>) -> Result<Grepped, Fail> {
+    let program = program_of(alloc, "one")?;
+    let mut matcher = Matcher::new(alloc, &program)?;
+    let mut out = MemSink::new(alloc, 1000);
     let list = Style {
         list: true,
         ..PLAIN
     };
-    let answer = grep(rt.alloc(), "t", &mut input, &mut matcher, list, &mut out)?;
+    Ok(grep(alloc, "t", input, &mut matcher, list, &mut out)?)
+}
+
+#[test]
+fn a_list_reads_no_further_than_its_hit(rt: HostRuntime) -> Result<(), Fail> {
+    let mut input = MemSource::new(b"one\ntwo\n", 4, false);
+    let answer = listed(rt.alloc(), &mut input)?;
     assert!(rt; answer.matched);
     let mut next = [0u8; 10];
-    let n = input.read(&mut next).ok().ok_or("read")?;
-    assert_eq!(rt; n, 4);
+    assert_eq!(rt; input.read(&mut next), Ok(4));
     assert_eq!(rt; next[..4], b"two\n"[..]);
     Ok(())
 }

@@ -25,14 +25,24 @@ fn tree_of(alloc: Global) -> Result<MemTree, Fail> {
     Ok(tree)
 }
 
+/// A run over the tree, with nothing on standard input.
+fn run<O: Sink, E: Sink>(
+    alloc: Global,
+    words: &str,
+    out: &mut O,
+    err: &mut E,
+) -> Result<Result<Status, ToolFault>, Fail> {
+    let job = job_of(alloc, words)?;
+    let mut tree = tree_of(alloc)?;
+    let mut input = MemSource::new(b"", 1, false);
+    Ok(cgrep(alloc, &job, &mut tree, &mut input, out, err))
+}
+
 #[test]
 fn cgrep_of_files(rt: HostRuntime) -> Result<(), Fail> {
-    let job = job_of(rt.alloc(), "two /t/x /t/p")?;
-    let mut tree = tree_of(rt.alloc())?;
-    let mut input = MemSource::new(b"", 1, false);
     let mut out = MemSink::new(rt.alloc(), 1000);
     let mut err = MemSink::new(rt.alloc(), 1000);
-    let status = cgrep(rt.alloc(), &job, &mut tree, &mut input, &mut out, &mut err);
+    let status = run(rt.alloc(), "two /t/x /t/p", &mut out, &mut err)?;
     assert_eq!(rt; status, Ok(Status::Matched));
     assert_eq!(rt; out.bytes(), b"/t/p:two\n".as_slice());
     assert_eq!(rt; err.bytes(), b"cgrep: /t/x: no such file\n".as_slice());
@@ -41,14 +51,11 @@ fn cgrep_of_files(rt: HostRuntime) -> Result<(), Fail> {
 
 #[test]
 fn cgrep_into_little_room(rt: HostRuntime) -> Result<(), Fail> {
-    let job = job_of(rt.alloc(), "one /t/c /t/p")?;
     let whole = b"/t/c:one\n/t/p:one\n/t/p:one\n";
     for room in 0..whole.len() {
-        let mut tree = tree_of(rt.alloc())?;
-        let mut input = MemSource::new(b"", 1, false);
         let mut out = MemSink::new(rt.alloc(), room);
         let mut err = MemSink::new(rt.alloc(), 1000);
-        let status = cgrep(rt.alloc(), &job, &mut tree, &mut input, &mut out, &mut err);
+        let status = run(rt.alloc(), "one /t/c /t/p", &mut out, &mut err)?;
         assert_eq!(rt; status, Err(ToolFault::Write), "with room for {room} bytes");
         assert_eq!(rt; out.bytes(), &whole[..room], "with room for {room} bytes");
     }
@@ -92,12 +99,9 @@ fn unflushed(alloc: Global) -> Stuck {
 
 #[test]
 fn cgrep_whose_output_is_not_flushed(rt: HostRuntime) -> Result<(), Fail> {
-    let job = job_of(rt.alloc(), "one /t/p")?;
-    let mut tree = tree_of(rt.alloc())?;
-    let mut input = MemSource::new(b"", 1, false);
     let mut out = unflushed(rt.alloc());
     let mut err = MemSink::new(rt.alloc(), 1000);
-    let status = cgrep(rt.alloc(), &job, &mut tree, &mut input, &mut out, &mut err);
+    let status = run(rt.alloc(), "one /t/p", &mut out, &mut err)?;
     assert_eq!(rt; status, Err(ToolFault::Write));
     assert_eq!(rt; out.taken.as_slice(), b"/t/p:one\n/t/p:one\n".as_slice());
     Ok(())
@@ -105,12 +109,9 @@ fn cgrep_whose_output_is_not_flushed(rt: HostRuntime) -> Result<(), Fail> {
 
 #[test]
 fn cgrep_whose_fault_lines_are_not_flushed(rt: HostRuntime) -> Result<(), Fail> {
-    let job = job_of(rt.alloc(), "one /t/p")?;
-    let mut tree = tree_of(rt.alloc())?;
-    let mut input = MemSource::new(b"", 1, false);
     let mut out = MemSink::new(rt.alloc(), 1000);
     let mut err = unflushed(rt.alloc());
-    let status = cgrep(rt.alloc(), &job, &mut tree, &mut input, &mut out, &mut err);
+    let status = run(rt.alloc(), "one /t/p", &mut out, &mut err)?;
     assert_eq!(rt; status, Err(ToolFault::Write));
     assert_eq!(rt; out.bytes(), b"/t/p:one\n/t/p:one\n".as_slice());
     Ok(())

@@ -1,4 +1,7 @@
 // Each call once with ample memory, and readers and writers that fail in mid-stream.
+ghost use Rattle.std.specs.Prelude.{◌≡◌, ◌∷◌, [], true};
+ghost use Rattle.cs_tree.specs.Cover.{begins, slash};
+
 use crate::fixtures::{bytes_of, strings};
 use cs_tree::{
     DiskTree, IoFault, Item, Kind, MemSink, MemSource, MemTree, PathFault, PutFault, Sink, Source,
@@ -8,6 +11,7 @@ use cs_tree::{
 use std::alloc::Global;
 use std::io::{Read, Write};
 use std::os::unix::fs::symlink;
+use std::process::Abort;
 use std::test::*;
 use std::{fs, io};
 
@@ -55,8 +59,11 @@ fn all_is_read_to_the_limit(rt: HostRuntime) -> Result<(), Fail> {
         (7, "abcdefgh"),
         (4, "abcde"),
     ] {
-        let mut source = MemSource::new(b"abcdefgh", 3, false);
-        let all = read_all(rt.alloc(), &mut source, limit)?;
+        let all = read_all(
+            rt.alloc(),
+            &mut MemSource::new(b"abcdefgh", 3, false),
+            limit,
+        )?;
         assert_eq!(rt; all.as_slice(), want.as_bytes(), "limit: {limit}");
     }
     let mut cut = MemSource::new(b"abc", 2, true);
@@ -149,47 +156,81 @@ fn rest_of<T: Tree>(alloc: Global, tree: &mut T) -> Result<Vec<u8>, IoFault> {
     read_all(alloc, &mut reader, 100)
 }
 
+/// Puts items, of which some are refused.
+fn put_items(rt: &(impl Abort + AllocGlobal), tree: &mut MemTree) -> Result<(), Fail> {
+    let file = Item::File(bytes_of(rt.alloc(), "one\n")?);
+    assert_eq!(rt; tree.put("/a", Item::Folder), Ok(()));
+    assert_eq!(rt; tree.put("/a/x", file), Ok(()));
+    for (path, answer) in [
+        ("/b/c", Err(PutFault::NoFolder)),
+        ("a", Err(PutFault::BadPath)),
+        ("/", Err(PutFault::BadPath)),
+        ("/a/", Err(PutFault::BadPath)),
+        ("/a/../b", Err(PutFault::BadPath)),
+        ("/a", Ok(())),
+    ] {
+        assert_eq!(rt; tree.put(path, Item::Folder), answer, "folder {path}");
+    }
+    for (path, answer) in [
+        ("/a\0", Err(PutFault::BadPath)),
+        ("/a", Err(PutFault::HasEntries)),
+        ("/a/x/y", Err(PutFault::NoFolder)),
+        ("/o", Ok(())),
+    ] {
+        assert_eq!(rt; tree.put(path, Item::Other), answer, "other {path}");
+    }
+    assert_eq!(rt; tree.put("/d", Item::Denied), Ok(()));
+    Ok(())
+}
+
+/// The folder has just these names, each with a space behind it.
+fn has_names<T: Tree>(
+    rt: &(impl Abort + AllocGlobal),
+    tree: &mut T,
+    path: &str,
+    want: &str,
+) -> Result<(), Fail> {
+    assert_eq!(rt; names_in(rt, tree, path)?.as_str(), want, "{path}");
+    Ok(())
+}
+
+fn has_kind(
+    rt: &(impl Abort + AllocGlobal),
+    tree: &mut MemTree,
+    path: &str,
+    want: Result<Kind, TreeFault>,
+) {
+    assert_eq!(rt; tree.kind(path), want, "{path}");
+}
+
 #[test]
 fn items_are_put_and_removed(rt: HostRuntime) -> Result<(), Fail> {
     let mut tree = MemTree::new(rt.alloc(), 1)?;
-    for (path, item, answer) in [
-        ("/a", Item::Folder, Ok(())),
-        ("/b/c", Item::Folder, Err(PutFault::NoFolder)),
-        ("a", Item::Folder, Err(PutFault::BadPath)),
-        ("/", Item::Folder, Err(PutFault::BadPath)),
-        ("/a/", Item::Folder, Err(PutFault::BadPath)),
-        ("/a/../b", Item::Folder, Err(PutFault::BadPath)),
-        ("/a\0", Item::Other, Err(PutFault::BadPath)),
-        ("/a/x", Item::File(bytes_of(rt.alloc(), "one\n")?), Ok(())),
-        ("/a", Item::Other, Err(PutFault::HasEntries)),
-        ("/a", Item::Folder, Ok(())),
-        ("/a/x/y", Item::Other, Err(PutFault::NoFolder)),
-        ("/d", Item::Denied, Ok(())),
-        ("/o", Item::Other, Ok(())),
-    ] {
-        assert_eq!(rt; tree.put(path, item), answer, "{path}");
-    }
-    assert_eq!(rt; names_in(&rt, &mut tree, "/a")?.as_str(), "x ");
-    assert_eq!(rt; names_in(&rt, &mut tree, "/")?.as_str(), "a d o ");
+    put_items(&rt, &mut tree)?;
+    has_names(&rt, &mut tree, "/a", "x ")?;
+    has_names(&rt, &mut tree, "/", "a d o ")?;
     assert_eq!(rt;
         tree.entries(rt.alloc(), "/b").err(),
         Some(TreeFault::Missing)
     );
-    assert_eq!(rt; tree.kind("/a"), Ok(Kind::Folder));
-    assert_eq!(rt; tree.kind("/a/x"), Ok(Kind::File));
-    assert_eq!(rt; tree.kind("/o"), Ok(Kind::Other));
-    assert_eq!(rt; tree.kind("/d"), Err(TreeFault::Denied));
+    for (path, kind) in [
+        ("/a", Ok(Kind::Folder)),
+        ("/a/x", Ok(Kind::File)),
+        ("/o", Ok(Kind::Other)),
+        ("/d", Err(TreeFault::Denied)),
+    ] {
+        has_kind(&rt, &mut tree, path, kind);
+    }
     assert_eq!(rt; tree.failures(), 2);
     assert!(rt; tree.remove("/a"));
     assert!(rt; !tree.remove("/a"));
-    assert_eq!(rt; tree.kind("/a/x"), Err(TreeFault::Missing));
-    assert_eq!(rt; names_in(&rt, &mut tree, "/")?.as_str(), "d o ");
+    has_kind(&rt, &mut tree, "/a/x", Err(TreeFault::Missing));
+    has_names(&rt, &mut tree, "/", "d o ")?;
     assert!(rt; tree.remove("/"));
-    assert_eq!(rt; names_in(&rt, &mut tree, "/")?.as_str(), "");
-    Ok(())
+    has_names(&rt, &mut tree, "/", "")
 }
 
-fn names_in<T: Tree>(rt: &HostRuntime, tree: &mut T, path: &str) -> Result<String, Fail> {
+fn names_in<T: Tree>(rt: &impl AllocGlobal, tree: &mut T, path: &str) -> Result<String, Fail> {
     let listing = tree
         .entries(rt.alloc(), path)
         .map_err(|_| "entries was refused")?;
@@ -203,98 +244,134 @@ fn names_in<T: Tree>(rt: &HostRuntime, tree: &mut T, path: &str) -> Result<Strin
     Ok(text)
 }
 
+/// A file, and one that is cut.
+fn two_files(alloc: Global) -> Result<MemTree, Fail> {
+    let mut tree = MemTree::new(alloc, 3)?;
+    tree.put("/f", Item::File(bytes_of(alloc, "one\n")?))?;
+    tree.put("/c", Item::Cut(bytes_of(alloc, "two\n")?))?;
+    Ok(tree)
+}
+
+/// The open file has these bytes behind what was read of it.
+fn has_rest<T: Tree>(
+    rt: &(impl Abort + AllocGlobal),
+    tree: &mut T,
+    want: &[u8],
+) -> Result<(), Fail> {
+    assert_eq!(rt; rest_of(rt.alloc(), tree)?.as_slice(), want);
+    Ok(())
+}
+
+fn opens<T: Tree>(
+    rt: &(impl Abort + AllocGlobal),
+    tree: &mut T,
+    path: &str,
+    want: Result<(), TreeFault>,
+) {
+    assert_eq!(rt; tree.open(path), want, "{path}");
+}
+
 #[test]
 fn files_are_read(rt: HostRuntime) -> Result<(), Fail> {
-    let mut tree = MemTree::new(rt.alloc(), 3)?;
-    tree.put("/f", Item::File(bytes_of(rt.alloc(), "one\n")?))?;
-    tree.put("/c", Item::Cut(bytes_of(rt.alloc(), "two\n")?))?;
+    let mut tree = two_files(rt.alloc())?;
     let mut buf = [0u8; 8];
     assert_eq!(rt; tree.read(&mut buf), Err(TreeFault::Failed));
-    assert_eq!(rt; tree.open("/f"), Ok(()));
-    assert_eq!(rt;
-        rest_of(rt.alloc(), &mut tree)?.as_slice(),
-        b"one\n".as_slice()
-    );
-    assert_eq!(rt; tree.open("/c"), Ok(()));
+    opens(&rt, &mut tree, "/f", Ok(()));
+    has_rest(&rt, &mut tree, b"one\n")?;
+    opens(&rt, &mut tree, "/c", Ok(()));
     assert_eq!(rt; tree.read(&mut buf), Ok(3));
-    assert_eq!(rt; tree.kind("/f"), Ok(Kind::File));
+    has_kind(&rt, &mut tree, "/f", Ok(Kind::File));
     assert_eq!(rt; tree.read(&mut buf), Ok(1));
     assert_eq!(rt; &buf[..1], b"\n".as_slice());
     assert_eq!(rt; rest_of(rt.alloc(), &mut tree).err(), Some(IoFault::Failed));
-    assert_eq!(rt; tree.open("/"), Err(TreeFault::Failed));
+    opens(&rt, &mut tree, "/", Err(TreeFault::Failed));
     assert_eq!(rt; tree.read(&mut buf), Err(TreeFault::Failed));
-    assert_eq!(rt; tree.open("/f"), Ok(()));
+    opens(&rt, &mut tree, "/f", Ok(()));
     assert!(rt; !tree.remove("/g"));
     assert_eq!(rt; tree.read(&mut buf), Err(TreeFault::Failed));
     Ok(())
 }
 
+/// A tree of the real disk, with a folder that is made anew.
+fn disk_with(rt: &HostRuntime, folder: &str) -> Result<DiskTree<HostRuntime>, Fail> {
+    let _absent = fs::remove_dir_all(rt, folder);
+    fs::create_dir(rt, folder)?;
+    Ok(DiskTree::new(rt.clone()?))
+}
+
 #[test]
 fn the_real_disk(rt: HostRuntime) -> Result<(), Fail> {
-    let folder = "cs_tree_disk_test";
-    let file = "cs_tree_disk_test/x";
-    let _absent = fs::remove_dir_all(&rt, folder);
-    fs::create_dir(&rt, folder)?;
+    let mut tree = disk_with(&rt, "cs_tree_disk_test")?;
     fs::create_dir(&rt, "cs_tree_disk_test/d")?;
-    fs::write(&rt, file, "abcd\n")?;
-    let mut tree = DiskTree::new(rt.clone()?);
-    assert_eq!(rt; tree.kind(folder), Ok(Kind::Folder));
-    assert_eq!(rt; tree.kind(file), Ok(Kind::File));
-    assert_eq!(rt; names_in(&rt, &mut tree, folder)?.as_str(), "d x ");
-    assert_eq!(rt; tree.open(file), Ok(()));
-    assert_eq!(rt;
-        rest_of(rt.alloc(), &mut tree)?.as_slice(),
-        b"abcd\n".as_slice()
-    );
+    fs::write(&rt, "cs_tree_disk_test/x", "abcd\n")?;
+    for (path, kind) in [
+        ("cs_tree_disk_test", Ok(Kind::Folder)),
+        ("cs_tree_disk_test/x", Ok(Kind::File)),
+    ] {
+        assert_eq!(rt; tree.kind(path), kind, "{path}");
+    }
+    has_names(&rt, &mut tree, "cs_tree_disk_test", "d x ")?;
+    opens(&rt, &mut tree, "cs_tree_disk_test/x", Ok(()));
+    has_rest(&rt, &mut tree, b"abcd\n")?;
     assert_eq!(rt; tree.failures(), 0);
-    assert_eq!(rt; tree.kind("cs_tree_disk_test/y"), Err(TreeFault::Missing));
-    assert_eq!(rt; tree.kind("cs_tree_disk_test/x/y"), Err(TreeFault::Missing));
-    assert_eq!(rt; tree.open("cs_tree_disk_test/y"), Err(TreeFault::Missing));
-    assert_eq!(rt; tree.open(folder), Err(TreeFault::Failed));
+    for path in ["cs_tree_disk_test/y", "cs_tree_disk_test/x/y"] {
+        assert_eq!(rt; tree.kind(path), Err(TreeFault::Missing), "{path}");
+    }
+    opens(
+        &rt,
+        &mut tree,
+        "cs_tree_disk_test/y",
+        Err(TreeFault::Missing),
+    );
+    opens(&rt, &mut tree, "cs_tree_disk_test", Err(TreeFault::Failed));
     assert_eq!(rt; tree.failures(), 4);
-    fs::remove_dir_all(&rt, folder)?;
+    fs::remove_dir_all(&rt, "cs_tree_disk_test")?;
     Ok(())
 }
 
 #[test]
 fn links_are_neither_files_nor_folders(rt: HostRuntime) -> Result<(), Fail> {
     let folder = "cs_tree_link_test";
-    let _absent = fs::remove_dir_all(&rt, folder);
-    fs::create_dir(&rt, folder)?;
+    let mut tree = disk_with(&rt, folder)?;
     fs::write(&rt, "cs_tree_link_test/x", "ab\n")?;
-    symlink(&rt, "x", "cs_tree_link_test/file")?;
-    symlink(&rt, ".", "cs_tree_link_test/circle")?;
-    symlink(&rt, "none", "cs_tree_link_test/broken")?;
-    symlink(&rt, "itself", "cs_tree_link_test/itself")?;
-    let mut tree = DiskTree::new(rt.clone()?);
-    for path in [
-        "cs_tree_link_test/file",
-        "cs_tree_link_test/circle",
-        "cs_tree_link_test/broken",
-        "cs_tree_link_test/itself",
+    for (target, path) in [
+        ("x", "cs_tree_link_test/file"),
+        (".", "cs_tree_link_test/circle"),
+        ("none", "cs_tree_link_test/broken"),
+        ("itself", "cs_tree_link_test/itself"),
     ] {
+        symlink(&rt, target, path)?;
         assert_eq!(rt; tree.kind(path), Ok(Kind::Other), "{path}");
     }
-    assert_eq!(rt;
-        names_in(&rt, &mut tree, folder)?.as_str(),
-        "broken circle file itself x "
+    has_names(&rt, &mut tree, folder, "broken circle file itself x ")?;
+    opens(&rt, &mut tree, "cs_tree_link_test/file", Ok(()));
+    has_rest(&rt, &mut tree, b"ab\n")?;
+    opens(
+        &rt,
+        &mut tree,
+        "cs_tree_link_test/broken",
+        Err(TreeFault::Missing),
     );
-    assert_eq!(rt; tree.open("cs_tree_link_test/file"), Ok(()));
-    assert_eq!(rt;
-        rest_of(rt.alloc(), &mut tree)?.as_slice(),
-        b"ab\n".as_slice()
-    );
-    assert_eq!(rt;
-        tree.open("cs_tree_link_test/broken"),
-        Err(TreeFault::Missing)
-    );
-    assert_eq!(rt;
-        tree.open("cs_tree_link_test/itself"),
-        Err(TreeFault::Failed)
+    opens(
+        &rt,
+        &mut tree,
+        "cs_tree_link_test/itself",
+        Err(TreeFault::Failed),
     );
     assert_eq!(rt; tree.failures(), 2);
     fs::remove_dir_all(&rt, folder)?;
     Ok(())
+}
+
+/// Whether the path is cleaned so.
+fn is_cleaned(alloc: Global, folder: &str, text: &str, want: Result<&str, PathFault>) -> bool
+    requires { begins (slash ∷ []) folder.now ≡ true }
+{
+    match (clean(alloc, folder, text), want) {
+        (Ok(path), Ok(want)) => path.as_str() == want,
+        (Err(fault), Err(want)) => fault == want,
+        _ => false,
+    }
 }
 
 #[test]
@@ -309,11 +386,16 @@ fn paths_are_cleaned(rt: HostRuntime) {
         ("/w\0", "a", Err(PathFault::Nul)),
         ("/w\0", "/a", Ok("/a")),
     ] {
-        match (clean(rt.alloc(), folder, text), want) {
-            (Ok(path), Ok(want)) => assert_eq!(rt; path.as_str(), want, "{folder} and {text}"),
-            (answer, want) => assert_eq!(rt; answer.err(), want.err(), "{folder} and {text}"),
-        }
+        assert!(rt;
+            is_cleaned(rt.alloc(), folder, text, want),
+            "{folder} and {text}"
+        );
     }
+}
+
+/// What is left of the paths.
+fn reduced(alloc: Global, paths: &[&str]) -> Result<Vec<String>, Fail> {
+    Ok(reduce(alloc, &strings(alloc, paths)?)?)
 }
 
 #[test]
@@ -329,9 +411,8 @@ fn paths_are_reduced(rt: HostRuntime) -> Result<(), Fail> {
         (&[], &[]),
     ];
     for (paths, want) in rows {
-        let kept = reduce(rt.alloc(), &strings(rt.alloc(), paths)?)?;
-        let want = strings(rt.alloc(), want)?;
-        assert_eq!(rt; kept, want, "{paths:?}");
+        let kept = reduced(rt.alloc(), paths)?;
+        assert_eq!(rt; kept, strings(rt.alloc(), want)?, "{paths:?}");
     }
     Ok(())
 }

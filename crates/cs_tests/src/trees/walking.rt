@@ -1,7 +1,8 @@
 // What walks find: the rows of the documents, and trees that fail.
-use crate::fixtures::{bytes_of, strings};
+use crate::fixtures::{Files, bytes_of, strings, tree_of};
 use cs_tree::{Item, Kind, Listing, MemTree, Tree, TreeFault, WalkFault, Walked, walk};
 use std::alloc::{AllocError, Global};
+use std::process::Abort;
 use std::test::*;
 
 fn walk_from<T: Tree>(alloc: Global, tree: &mut T, paths: &[&str]) -> Result<Walked, AllocError> {
@@ -18,75 +19,94 @@ fn names_in(alloc: Global, walked: &Walked) -> Result<String, AllocError> {
     Ok(all)
 }
 
+/// A walk from the paths comes to just these names, each with a space behind it, and these faults.
+fn walks_to<T: Tree>(
+    rt: &(impl Abort + AllocGlobal),
+    tree: &mut T,
+    paths: &[&str],
+    names: &str,
+    faults: &[(&str, WalkFault)],
+) -> Result<(), Fail> {
+    let walked = walk_from(rt.alloc(), tree, paths)?;
+    assert_eq!(rt;
+        names_in(rt.alloc(), &walked)?.as_str(),
+        names,
+        "from {paths:?}"
+    );
+    assert!(rt; are_faults(&walked.faults, faults), "from {paths:?}");
+    Ok(())
+}
+
+fn are_faults(faults: &[(String, WalkFault)], want: &[(&str, WalkFault)]) -> bool {
+    if faults.len() != want.len() {
+        return false;
+    }
+    for (fault, want) in faults.iter().zip(want) {
+        if fault.0.as_str() != want.0 || fault.1 != want.1 {
+            return false;
+        }
+    }
+    true
+}
+
 #[test]
 fn names_that_are_left_out(rt: HostRuntime) -> Result<(), Fail> {
-    let mut tree = MemTree::new(rt.alloc(), 4)?;
-    tree.put("/t", Item::Folder)?;
-    for path in ["/t/.a", "/t/#b", "/t/~c", "/t/d~", "/t/e"] {
-        tree.put(path, Item::File(Vec::new(rt.alloc())))?;
-    }
+    let files: Files<'_> = &[
+        ("/t/.a", b""),
+        ("/t/#b", b""),
+        ("/t/~c", b""),
+        ("/t/d~", b""),
+        ("/t/e", b""),
+    ];
+    let mut tree = tree_of(rt.alloc(), "/t", files)?;
     tree.put("/t/o", Item::Other)?;
-    let walked = walk_from(rt.alloc(), &mut tree, &["/t"])?;
-    assert_eq!(rt; names_in(rt.alloc(), &walked)?.as_str(), "/t/e ");
-    assert!(rt; walked.faults.is_empty());
-    Ok(())
+    walks_to(&rt, &mut tree, &["/t"], "/t/e ", &[])
 }
 
 #[test]
 fn only_the_last_element_is_tested(rt: HostRuntime) -> Result<(), Fail> {
-    let mut tree = MemTree::new(rt.alloc(), 4)?;
-    let nothing_there = walk_from(rt.alloc(), &mut tree, &["/.x"])?;
-    assert!(rt; nothing_there.names.is_empty() && nothing_there.faults.is_empty());
-    tree.put("/.x", Item::Folder)?;
-    tree.put("/.x/y", Item::File(bytes_of(rt.alloc(), "abcd\n")?))?;
+    let mut nothing = MemTree::new(rt.alloc(), 4)?;
+    walks_to(&rt, &mut nothing, &["/.x"], "", &[])?;
+    let mut tree = tree_of(rt.alloc(), "/.x", &[("/.x/y", b"abcd\n")])?;
     for (path, want) in [("/.x", ""), ("/.x/y", "/.x/y "), ("/", "")] {
-        let walked = walk_from(rt.alloc(), &mut tree, &[path])?;
-        assert_eq!(rt; names_in(rt.alloc(), &walked)?.as_str(), want, "{path}");
-        assert!(rt; walked.faults.is_empty(), "{path}");
+        walks_to(&rt, &mut tree, &[path], want, &[])?;
     }
     Ok(())
 }
 
 #[test]
 fn a_path_that_has_vanished(rt: HostRuntime) -> Result<(), Fail> {
-    let mut tree = MemTree::new(rt.alloc(), 4)?;
-    tree.put("/v", Item::Folder)?;
-    tree.put("/v/f", Item::File(bytes_of(rt.alloc(), "one\n")?))?;
-    let walked = walk_from(rt.alloc(), &mut tree, &["/v"])?;
-    assert_eq!(rt; names_in(rt.alloc(), &walked)?.as_str(), "/v/f ");
+    let mut tree = tree_of(rt.alloc(), "/v", &[("/v/f", b"one\n")])?;
+    walks_to(&rt, &mut tree, &["/v"], "/v/f ", &[])?;
     assert!(rt; tree.remove("/v"));
-    let walked = walk_from(rt.alloc(), &mut tree, &["/v"])?;
-    assert!(rt; walked.names.is_empty());
-    assert_eq!(rt; walked.faults.len(), 1);
-    assert_eq!(rt; walked.faults[0].0.as_str(), "/v");
-    assert_eq!(rt; walked.faults[0].1, WalkFault::Tree(TreeFault::Missing));
+    let missing = ("/v", WalkFault::Tree(TreeFault::Missing));
+    walks_to(&rt, &mut tree, &["/v"], "", &[missing])?;
     assert_eq!(rt; tree.failures(), 1);
     Ok(())
 }
 
-#[test]
-fn names_and_faults_are_in_order(rt: HostRuntime) -> Result<(), Fail> {
-    let mut tree = MemTree::new(rt.alloc(), 4)?;
+/// Three folders, each with a file that fails and one that may not be read.
+fn failing_files(alloc: Global) -> Result<MemTree, Fail> {
+    let mut tree = MemTree::new(alloc, 4)?;
     for path in ["/a", "/a/b", "/a/b-x"] {
         tree.put(path, Item::Folder)?;
     }
     for path in ["/a/g", "/a/b/f", "/a/b-x/f"] {
-        tree.put(path, Item::Cut(bytes_of(rt.alloc(), "one\n")?))?;
+        tree.put(path, Item::Cut(bytes_of(alloc, "one\n")?))?;
     }
     for path in ["/a/z", "/a/b/d", "/a/b-x/d"] {
         tree.put(path, Item::Denied)?;
     }
-    let walked = walk_from(rt.alloc(), &mut tree, &["/a/b", "/a", "/a"])?;
-    assert_eq!(rt;
-        names_in(rt.alloc(), &walked)?.as_str(),
-        "/a/b-x/f /a/b/f /a/g "
-    );
-    assert_eq!(rt; walked.faults.len(), 3);
-    for (at, path) in [(0, "/a/b-x/d"), (1, "/a/b/d"), (2, "/a/z")] {
-        assert_eq!(rt; walked.faults[at].0.as_str(), path);
-        assert_eq!(rt; walked.faults[at].1, WalkFault::Tree(TreeFault::Denied));
-    }
-    Ok(())
+    Ok(tree)
+}
+
+#[test]
+fn names_and_faults_are_in_order(rt: HostRuntime) -> Result<(), Fail> {
+    let mut tree = failing_files(rt.alloc())?;
+    let denied = WalkFault::Tree(TreeFault::Denied);
+    let names = "/a/b-x/f /a/b/f /a/g ";
+    let faults = [("/a/b-x/d", denied), ("/a/b/d", denied), ("/a/z", denied)];
+    walks_to(&rt, &mut tree, &["/a/b", "/a", "/a"], names, &faults)
 }
 
 /// A tree in which every path is a folder that lists `a`.

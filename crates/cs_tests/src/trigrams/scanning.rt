@@ -5,13 +5,46 @@ use cs_trigram::{BoundedScanner, Limits, Reason, Scan, ScanFault, Scanner};
 use std::process::Abort;
 use std::test::Fail;
 
-/// A text of these trigrams.
-fn text(rt: &HostRuntime, parts: &[&[u8; 3]], bytes: u64) -> Result<Scan, Fail> {
-    let mut trigrams = Vec::new(rt.alloc());
-    for part in parts {
-        trigrams.push(number(part.as_slice()))?;
+/// What a scan is to answer: the trigrams and how many bytes, or why the file is left out.
+type Want<'a> = Result<(&'a [&'a [u8; 3]], u64), Reason>;
+
+/// Whether the scan answers so.
+fn is_so(scan: &Scan, want: Want<'_>) -> bool {
+    match (scan, want) {
+        (Scan::Text { trigrams, bytes }, Ok((parts, count))) => {
+            *bytes == count && are_numbers(trigrams, parts)
+        }
+        (Scan::Skip(reason), Err(want)) => *reason == want,
+        _ => false,
     }
-    Ok(Scan::Text { trigrams, bytes })
+}
+
+fn are_numbers(trigrams: &[u32], parts: &[&[u8; 3]]) -> bool {
+    if trigrams.len() != parts.len() {
+        return false;
+    }
+    for (trigram, part) in trigrams.iter().zip(parts) {
+        if *trigram != number(part.as_slice()) {
+            return false;
+        }
+    }
+    true
+}
+
+/// A scan of the file, so many bytes at a time, answers so.
+fn scans(
+    rt: &(impl Abort + AllocGlobal),
+    scanner: &mut Scanner,
+    file: &[u8],
+    step: usize,
+    want: Want<'_>,
+) -> Result<(), Fail> {
+    let scan = scanner.scan(&mut MemSource::new(file, step.max(1), false))?;
+    assert!(rt;
+        is_so(&scan, want),
+        "{scan:?} at {file:?}, {step} at a time"
+    );
+    Ok(())
 }
 
 /// A file of so many of one byte, and then some others.
@@ -24,20 +57,20 @@ fn many(rt: &HostRuntime, count: usize, byte: u8, others: &[u8]) -> Result<Vec<u
 #[test]
 fn rows(rt: HostRuntime) -> Result<(), Fail> {
     let mut scanner = Scanner::new(rt.alloc())?;
-    for (file, want) in [
-        (&b""[..], text(&rt, &[], 0)?),
-        (&b"\xc3\xa9"[..], text(&rt, &[], 2)?),
-        (&b"\xe9a"[..], Scan::Skip(Reason::Utf8)),
-        (&b"\xc3"[..], text(&rt, &[], 1)?),
-        (&b"a\x00"[..], Scan::Skip(Reason::Nul)),
-        (&b"\xc3\x00"[..], Scan::Skip(Reason::Nul)),
-        (&b"\x80"[..], Scan::Skip(Reason::Utf8)),
-        (&b"abcd\n"[..], text(&rt, &[b"abc", b"bcd", b"cd\n"], 5)?),
-        (&b"zzab"[..], text(&rt, &[b"zab", b"zza"], 4)?),
-        (&b"abababa"[..], text(&rt, &[b"aba", b"bab"], 7)?),
-    ] {
-        let mut source = MemSource::new(file, 65_536, false);
-        assert_eq!(rt; scanner.scan(&mut source)?, want, "at {file:?}");
+    let rows: [(&[u8], Want<'_>); 10] = [
+        (b"", Ok((&[], 0))),
+        (b"\xc3\xa9", Ok((&[], 2))),
+        (b"\xe9a", Err(Reason::Utf8)),
+        (b"\xc3", Ok((&[], 1))),
+        (b"a\x00", Err(Reason::Nul)),
+        (b"\xc3\x00", Err(Reason::Nul)),
+        (b"\x80", Err(Reason::Utf8)),
+        (b"abcd\n", Ok((&[b"abc", b"bcd", b"cd\n"], 5))),
+        (b"zzab", Ok((&[b"zab", b"zza"], 4))),
+        (b"abababa", Ok((&[b"aba", b"bab"], 7))),
+    ];
+    for (file, want) in rows {
+        scans(&rt, &mut scanner, file, 65_536, want)?;
     }
     Ok(())
 }
@@ -45,21 +78,17 @@ fn rows(rt: HostRuntime) -> Result<(), Fail> {
 #[test]
 fn lines(rt: HostRuntime) -> Result<(), Fail> {
     let mut scanner = Scanner::new(rt.alloc())?;
-    for (count, others, want) in [
-        (1999, &b"\n"[..], text(&rt, &[b"aa\n", b"aaa"], 2000)?),
-        (2000, &b""[..], text(&rt, &[b"aaa"], 2000)?),
-        (2000, &b"\n"[..], Scan::Skip(Reason::LongLine)),
-        (2001, &b""[..], Scan::Skip(Reason::LongLine)),
-        (70_000, &b"\x00"[..], Scan::Skip(Reason::LongLine)),
-    ] {
+    let rows: [(usize, &[u8], Want<'_>); 5] = [
+        (1999, b"\n", Ok((&[b"aa\n", b"aaa"], 2000))),
+        (2000, b"", Ok((&[b"aaa"], 2000))),
+        (2000, b"\n", Err(Reason::LongLine)),
+        (2001, b"", Err(Reason::LongLine)),
+        (70_000, b"\x00", Err(Reason::LongLine)),
+    ];
+    for (count, others, want) in rows {
         let file = many(&rt, count, b'a', others)?;
         for step in [1, 1999, 2000, 2001, 65_536] {
-            let mut source = MemSource::new(&file, step, false);
-            assert_eq!(rt;
-                scanner.scan(&mut source)?,
-                want,
-                "at {count} bytes and {others:?}, {step} at a time"
-            );
+            scans(&rt, &mut scanner, &file, step, want)?;
         }
     }
     Ok(())
@@ -98,7 +127,7 @@ fn sums(scan: &Scan) -> Option<(usize, u64, u64)> {
 #[test]
 fn most_trigrams(rt: HostRuntime) -> Result<(), Fail> {
     let mut scanner = Scanner::new(rt.alloc())?;
-    let mut file = by_chance(&rt, 20_243)?;
+    let file = by_chance(&rt, 20_243)?;
     for step in [1, 1000, 65_536] {
         let scan = scanner.scan(&mut MemSource::new(&file, step, false))?;
         assert_eq!(rt;
@@ -107,51 +136,64 @@ fn most_trigrams(rt: HostRuntime) -> Result<(), Fail> {
             "{step} at a time"
         );
     }
-    file = by_chance(&rt, 20_244)?;
+    let mut file = by_chance(&rt, 20_244)?;
     for step in [1, 1000, 65_536] {
-        let scan = scanner.scan(&mut MemSource::new(&file, step, false))?;
-        assert_eq!(rt; scan, Scan::Skip(Reason::ManyTrigrams), "{step} at a time");
+        scans(&rt, &mut scanner, &file, step, Err(Reason::ManyTrigrams))?;
     }
     file.push(0xff)?;
-    let scan = scanner.scan(&mut MemSource::new(&file, 65_536, false))?;
-    assert_eq!(rt; scan, Scan::Skip(Reason::Utf8));
-    Ok(())
+    scans(&rt, &mut scanner, &file, 65_536, Err(Reason::Utf8))
 }
 
 #[test]
 fn used_again(rt: HostRuntime) -> Result<(), Fail> {
     let mut scanner = Scanner::new(rt.alloc())?;
-    for (file, cut, want) in [
-        (&b"abc\x00"[..], false, Ok(Scan::Skip(Reason::Nul))),
-        (&b"ab\xff"[..], false, Ok(Scan::Skip(Reason::Utf8))),
-        (&b"abc"[..], true, Err(ScanFault::Read)),
-        (&b"bcd"[..], false, Ok(text(&rt, &[b"bcd"], 3)?)),
-        (&b"abcd"[..], false, Ok(text(&rt, &[b"abc", b"bcd"], 4)?)),
-    ] {
-        let first = scanner.scan(&mut MemSource::new(file, 2, cut));
-        assert_eq!(rt; first, want, "at {file:?}");
-        let scan = scanner.scan(&mut MemSource::new(b"bcd", 2, false))?;
-        assert_eq!(rt; scan, text(&rt, &[b"bcd"], 3)?, "after {file:?}");
+    let bcd: Want<'_> = Ok((&[b"bcd"], 3));
+    let rows: [(&[u8], Want<'_>); 4] = [
+        (b"abc\x00", Err(Reason::Nul)),
+        (b"ab\xff", Err(Reason::Utf8)),
+        (b"bcd", bcd),
+        (b"abcd", Ok((&[b"abc", b"bcd"], 4))),
+    ];
+    for (file, want) in rows {
+        scans(&rt, &mut scanner, file, 2, want)?;
+        scans(&rt, &mut scanner, b"bcd", 2, bcd)?;
     }
+    fails(&rt, &mut scanner, b"abc");
+    scans(&rt, &mut scanner, b"bcd", 2, bcd)?;
     let file = by_chance(&rt, 60_000)?;
-    let scan = scanner.scan(&mut MemSource::new(&file, 65_536, false))?;
-    assert_eq!(rt; scan, Scan::Skip(Reason::ManyTrigrams));
-    let scan = scanner.scan(&mut MemSource::new(b"bcd", 2, false))?;
-    assert_eq!(rt; scan, text(&rt, &[b"bcd"], 3)?, "after too many trigrams");
-    Ok(())
+    scans(&rt, &mut scanner, &file, 65_536, Err(Reason::ManyTrigrams))?;
+    scans(&rt, &mut scanner, b"bcd", 2, bcd)
+}
+
+/// A scan of a file whose reads fail after these bytes tells that a read failed.
+fn fails(rt: &(impl Abort + AllocGlobal), scanner: &mut Scanner, file: &[u8]) {
+    let scan = scanner.scan(&mut MemSource::new(file, 2, true));
+    assert_eq!(rt; scan, Err(ScanFault::Read), "at {file:?}");
 }
 
 #[test]
 fn failing_reads(rt: HostRuntime) -> Result<(), Fail> {
     let mut scanner = Scanner::new(rt.alloc())?;
-    for (file, want) in [
-        (&b""[..], Err(ScanFault::Read)),
-        (&b"abc"[..], Err(ScanFault::Read)),
-        (&b"ab\x00c"[..], Ok(Scan::Skip(Reason::Nul))),
-    ] {
-        let mut source = MemSource::new(file, 2, true);
-        assert_eq!(rt; scanner.scan(&mut source), want, "at {file:?}");
-    }
+    fails(&rt, &mut scanner, b"");
+    fails(&rt, &mut scanner, b"abc");
+    let scan = scanner.scan(&mut MemSource::new(b"ab\x00c", 2, true));
+    assert_eq!(rt; scan, Ok(Scan::Skip(Reason::Nul)));
+    Ok(())
+}
+
+/// A scan within small limits, so many bytes at a time, answers so.
+fn scans_within(
+    rt: &(impl Abort + AllocGlobal),
+    scanner: &mut BoundedScanner,
+    file: &[u8],
+    step: usize,
+    want: Want<'_>,
+) -> Result<(), Fail> {
+    let scan = scanner.scan(&mut MemSource::new(file, step.max(1), false))?;
+    assert!(rt;
+        is_so(&scan, want),
+        "{scan:?} at {file:?}, {step} at a time"
+    );
     Ok(())
 }
 
@@ -163,30 +205,23 @@ fn small_limits(rt: HostRuntime) -> Result<(), Fail> {
         trigrams: 3,
     };
     let mut scanner = BoundedScanner::new(rt.alloc(), limits)?;
-    for (file, want) in [
-        (&b"aaaa\n"[..], text(&rt, &[b"aa\n", b"aaa"], 5)?),
-        (&b"aaaaa"[..], text(&rt, &[b"aaa"], 5)?),
-        (&b"aaaaa\n"[..], Scan::Skip(Reason::LongLine)),
-        (&b"aaaaaa"[..], Scan::Skip(Reason::LongLine)),
-        (&b"\naaa\naaa\naa\n"[..], Scan::Skip(Reason::ManyTrigrams)),
-        (
-            &b"aa\naa\naa\naa\n"[..],
-            text(&rt, &[b"\naa", b"a\na", b"aa\n"], 12)?,
-        ),
-        (&b"aa\naa\naa\naa\n\n"[..], Scan::Skip(Reason::TooLong)),
-        (&b"aa\naa\naa\naa\n\x00"[..], Scan::Skip(Reason::Nul)),
-        (&b"aa\naa\naa\naa\n\x80"[..], Scan::Skip(Reason::Utf8)),
-        (&b"abcde"[..], text(&rt, &[b"abc", b"bcd", b"cde"], 5)?),
-        (&b"abcd\n\n"[..], Scan::Skip(Reason::ManyTrigrams)),
-        (&b"abcd\n\n\xff"[..], Scan::Skip(Reason::Utf8)),
-    ] {
+    let rows: [(&[u8], Want<'_>); 12] = [
+        (b"aaaa\n", Ok((&[b"aa\n", b"aaa"], 5))),
+        (b"aaaaa", Ok((&[b"aaa"], 5))),
+        (b"aaaaa\n", Err(Reason::LongLine)),
+        (b"aaaaaa", Err(Reason::LongLine)),
+        (b"\naaa\naaa\naa\n", Err(Reason::ManyTrigrams)),
+        (b"aa\naa\naa\naa\n", Ok((&[b"\naa", b"a\na", b"aa\n"], 12))),
+        (b"aa\naa\naa\naa\n\n", Err(Reason::TooLong)),
+        (b"aa\naa\naa\naa\n\x00", Err(Reason::Nul)),
+        (b"aa\naa\naa\naa\n\x80", Err(Reason::Utf8)),
+        (b"abcde", Ok((&[b"abc", b"bcd", b"cde"], 5))),
+        (b"abcd\n\n", Err(Reason::ManyTrigrams)),
+        (b"abcd\n\n\xff", Err(Reason::Utf8)),
+    ];
+    for (file, want) in rows {
         for step in 1..21 {
-            let mut source = MemSource::new(file, step, false);
-            assert_eq!(rt;
-                scanner.scan(&mut source)?,
-                want,
-                "at {file:?}, {step} at a time"
-            );
+            scans_within(&rt, &mut scanner, file, step, want)?;
         }
     }
     Ok(())
@@ -205,27 +240,23 @@ fn letters(rt: &HostRuntime, front: &[u8], count: usize, others: &[u8]) -> Resul
 #[test]
 fn letters_past_ascii(rt: HostRuntime) -> Result<(), Fail> {
     let mut scanner = Scanner::new(rt.alloc())?;
-    let parts = [b"\xa9\xc3\xa9", b"\xc3\xa9\xc3"];
-    for (front, count, others, want) in [
-        (&b""[..], 600, &b""[..], text(&rt, &parts, 1200)?),
-        (&b""[..], 1000, &b""[..], text(&rt, &parts, 2000)?),
-        (&b""[..], 1000, &b"\n"[..], Scan::Skip(Reason::LongLine)),
-        (&b""[..], 600, &b"\x00"[..], Scan::Skip(Reason::Nul)),
-        (&b""[..], 600, &b"\xc3a"[..], Scan::Skip(Reason::Utf8)),
-        (&b""[..], 600, &b"\xf8"[..], Scan::Skip(Reason::Utf8)),
-        (&b""[..], 512, &b"aaa\x80"[..], Scan::Skip(Reason::Utf8)),
-        (&b"\n"[..], 511, &b"\xc3a"[..], Scan::Skip(Reason::Utf8)),
-        (&b"\n"[..], 511, &b"\xc3\x00"[..], Scan::Skip(Reason::Nul)),
-        (&b"\xff"[..], 600, &b"\x00"[..], Scan::Skip(Reason::Utf8)),
-    ] {
+    let parts: &[&[u8; 3]] = &[b"\xa9\xc3\xa9", b"\xc3\xa9\xc3"];
+    let rows: [(&[u8], usize, &[u8], Want<'_>); 10] = [
+        (b"", 600, b"", Ok((parts, 1200))),
+        (b"", 1000, b"", Ok((parts, 2000))),
+        (b"", 1000, b"\n", Err(Reason::LongLine)),
+        (b"", 600, b"\x00", Err(Reason::Nul)),
+        (b"", 600, b"\xc3a", Err(Reason::Utf8)),
+        (b"", 600, b"\xf8", Err(Reason::Utf8)),
+        (b"", 512, b"aaa\x80", Err(Reason::Utf8)),
+        (b"\n", 511, b"\xc3a", Err(Reason::Utf8)),
+        (b"\n", 511, b"\xc3\x00", Err(Reason::Nul)),
+        (b"\xff", 600, b"\x00", Err(Reason::Utf8)),
+    ];
+    for (front, count, others, want) in rows {
         let file = letters(&rt, front, count, others)?;
         for step in [1, 1023, 1024, 65_536] {
-            let mut source = MemSource::new(&file, step, false);
-            assert_eq!(rt;
-                scanner.scan(&mut source)?,
-                want,
-                "at {front:?}, {count} letters and {others:?}, {step} at a time"
-            );
+            scans(&rt, &mut scanner, &file, step, want)?;
         }
     }
     Ok(())
@@ -237,12 +268,10 @@ fn larger_than_a_block(rt: HostRuntime) -> Result<(), Fail> {
     for _line in 0..20_000 {
         file.extend_from_slice(b"abcd\n")?;
     }
-    let parts = [b"\nab", b"abc", b"bcd", b"cd\n", b"d\na"];
-    let want = text(&rt, &parts, 100_000)?;
+    let parts: &[&[u8; 3]] = &[b"\nab", b"abc", b"bcd", b"cd\n", b"d\na"];
     let mut scanner = Scanner::new(rt.alloc())?;
     for step in [7, 65_536, 1_000_000] {
-        let mut source = MemSource::new(&file, step, false);
-        assert_eq!(rt; scanner.scan(&mut source)?, want, "{step} at a time");
+        scans(&rt, &mut scanner, &file, step, Ok((parts, 100_000)))?;
     }
     Ok(())
 }

@@ -2,6 +2,7 @@
 use Rattle.std.proofs.Common.{◌≡◌, ℕ, zero, suc, ◌+◌, ap, arith, true, false, refl, [], ◌∷◌, ◌++◌, replicate}
 use Rattle.std.specs.Prelude.{codes, Some, None}
 use Rattle.std.specs.Char.{encode_utf8}
+use Rattle.std.proofs.lemmas.Fmt.{decimal_digit}
 use Rattle.cs_syntax.specs.Matching.{Trees, empty, one_of, cat, alt, rep, line_start, line_end, word_edge, not_word_edge, none, more, member}
 use Rattle.cs_syntax.specs.ByteSet.{set_of, char_set, dot_set}
 use Rattle.cs_syntax.specs.ClassSets.{class_set, is_in_item}
@@ -12,6 +13,7 @@ use Rattle.cs_syntax.specs.Items.{front}
 use Rattle.cs_syntax.specs.Numbers.{digit_value}
 use Rattle.cs_syntax.specs.Reading.{reading, tree, refused}
 use Rattle.cs_syntax.specs.Signs.{sign_of}
+use Rattle.cs_syntax.specs.Written.{counted, quoted}
 use Rattle.cs_syntax.specs.Weight.{most_weight, weight, weights}
 use Rattle.cs_syntax.specs.declared.class_item.NamedClass.TheVariants.{Digit, Lower, Word}
 use Rattle.cs_syntax.specs.declared.class_item.ClassItem.TheVariants.{Range, Named}
@@ -224,3 +226,9 @@ members :
     × (member (class_set false false (Named Word false ∷ [])) 95 ≡ true)
 unfolding class_set set_of is_in_item char_set dot_set
 members = (refl, refl, refl, refl, refl, refl, refl, refl, refl, refl)
+
+-- how a text is quoted, and how a repeat is written
+written :
+    (quoted (codes "a.b{2}") ≡ codes "a\\.b\\{2}")
+    × (counted 2 7 ≡ codes "{2,7}")
+written = (refl, λ i. 123 ∷ (decimal_digit 2 (omega arith) i ++ 44 ∷ (decimal_digit 7 (omega arith) i ++ 125 ∷ [])))

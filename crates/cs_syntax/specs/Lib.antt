@@ -18,6 +18,8 @@ pub mod Items
 pub mod Reading
 pub mod Decided
 pub mod Refusal
+pub mod Levels
+pub mod Written
 -- What functions inside promise each other.
 pub mod TreeCode
 pub mod ItemViews

@@ -1,7 +1,6 @@
 -- The members of a set of bytes: how many there are, and the one.
-use Rattle.std.specs.Prelude.{◌≡◌, true, ℕ, zero, suc, ◌+◌, ◌-◌, ◌||◌, ◌&&◌, not, nat_eq, nat_le, Bool, List, [], ◌∷◌, count_by, if◌then◌else◌}
+use Rattle.std.specs.Prelude.{◌≡◌, true, ℕ, Bool, List, count_by}
 use Rattle.cs_syntax.specs.Matching.{member}
-use Rattle.cs_syntax.specs.Ranges.{is_in_ranges}
 
 -- how many members there are
 abbrev pub count : List Bool → ℕ

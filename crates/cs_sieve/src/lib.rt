@@ -9,6 +9,3 @@ mod window;
 
 pub use sieve::Sieve;
 pub use window::Window;
-
-#[cfg(test)]
-mod tests;

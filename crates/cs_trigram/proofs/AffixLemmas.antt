@@ -1,6 +1,5 @@
 -- Affixes of texts that are joined, and of trees.
 use Rattle.std.proofs.Common.{◌≡◌, ℕ, zero, suc, ◌+◌, ◌-◌, ◌<◌, ◌≤◌, ◌⊎◌, inl, inr, true, false, List, [], ◌∷◌, ◌++◌, take, drop, length, get_or, refl, sym, ◌∙◌, ap, subst, arith, append_assoc, drop-cons, length-drop, drop_of_length-le}
-use Rattle.cs_syntax.specs.TreeList.{append}
 use Rattle.std.proofs.Math.Seq.{take-length}
 use Rattle.std.specs.Prelude.{Option}
 use Rattle.std.proofs.lemmas.List.{append-nil, take-append-drop}
@@ -120,24 +119,13 @@ module _ (s : List ℕ) where
 pub affixes_none : (side : Side) (affixes : List Affix) → FitsSome side affixes [] → AreAffixesOfAll side affixes none
 affixes_none side affixes h = λ s i j e. subst (FitsSome side affixes) (sym (part_empty s i) ∙ ap (part s i) e) h
 
-pub prefixes_before : (nears fars affixes : List Affix) (t : Tree) (ts : Trees) →
-    ((u v : List ℕ) → FitsSome Prefix nears u → FitsSome Prefix fars v → FitsSome Prefix affixes (laid Prefix u v)) →
-    AreAffixes Prefix nears t → AreAffixesOfAll Prefix fars ts → AreAffixesOfAll Prefix affixes (more t ts)
-prefixes_before nears fars affixes t ts join a b = λ s i j h.
-    subst (FitsSome Prefix affixes) (sym (part_split s i h.0 j (rises s t i h.0 h.1) (rises_all s ts h.0 j h.2)))
+-- one tree more in front of a sequence
+pub affixes_before : (side : Side) (fronts backs affixes : List Affix) (t : Tree) (ts : Trees) →
+    ((u v : List ℕ) → FitsSome side fronts u → FitsSome side backs v → FitsSome side affixes (u ++ v)) →
+    AreAffixes side fronts t → AreAffixesOfAll side backs ts → AreAffixesOfAll side affixes (more t ts)
+affixes_before side fronts backs affixes t ts join a b = λ s i j h.
+    subst (FitsSome side affixes) (sym (part_split s i h.0 j (rises s t i h.0 h.1) (rises_all s ts h.0 j h.2)))
     (join (part s i h.0) (part s h.0 j) (a s i h.0 h.1) (b s h.0 j h.2))
-
-all_split : (s : List ℕ) (ts : Trees) (t : Tree) (i j : ℕ) → TakesAll s (append ts (more t none)) i j → (l : ℕ) × TakesAll s ts i l × Takes s t l j
-all_split s none t i j h = (i, refl, subst (λ n. Takes s t i n) h.2 h.1)
-all_split s (more u ts) t i j h = let r = all_split s ts t h.0 j h.2 in (r.0, (h.0, h.1, r.1), r.2)
-
-pub suffixes_behind : (nears fars affixes : List Affix) (ts : Trees) (t : Tree) →
-    ((u v : List ℕ) → FitsSome Suffix nears u → FitsSome Suffix fars v → FitsSome Suffix affixes (laid Suffix u v)) →
-    AreAffixes Suffix nears t → AreAffixesOfAll Suffix fars ts → AreAffixesOfAll Suffix affixes (append ts (more t none))
-suffixes_behind nears fars affixes ts t join a b = λ s i j h.
-    let r = all_split s ts t i j h in
-    subst (FitsSome Suffix affixes) (sym (part_split s i r.0 j (rises_all s ts i r.0 r.1) (rises s t r.0 j r.2)))
-    (join (part s r.0 j) (part s i r.0) (a s r.0 j r.2) (b s i r.0 r.1))
 
 -- rounds
 abbrev pub AreAffixesOfRounds : Side → List Affix → Tree → ℕ → Type 0

@@ -8,6 +8,7 @@ pub mod SortLemmas
 pub mod TextLemmas
 pub mod ScanLemmas
 mod Examples
+mod QueryExamples
 pub mod QuickTestLemmas
 pub mod OrderLemmas
 pub mod SorterLemmas
@@ -20,6 +21,8 @@ mod PlainTreeLemmas
 mod FewLemmas
 mod PartTrigramLemmas
 mod SpellingLemmas
+mod WindowLemmas
+mod CountLemmas
 mod AffixLemmas
 mod CrossingLemmas
 mod AskedLemmas

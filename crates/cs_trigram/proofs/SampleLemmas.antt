@@ -19,6 +19,18 @@ pub with_words_append : (words us vs : List (List ℕ)) → with_words words (us
 with_words_append words [] vs = refl
 with_words_append words (u ∷ us) vs = with_words_append (with_word words u) us vs
 
+-- there is no room for more words
+pub with_words_full : (words vs : List (List ℕ)) → 20 < length words → with_words words vs ≡ words
+with_words_full words [] lt = refl
+with_words_full words (v ∷ vs) lt = ap (λ (ws : List (List ℕ)). with_words ws vs) same ∙ with_words_full words vs lt
+  where
+    full : (room there : Bool) → nat_le (length words) 20 ≡ room → (if room && not there then words ++ v ∷ [] else words) ≡ words
+    full true there e = let le = leb-true (length words) 20 e in absurd (omega arith)
+    full false there e = refl
+
+    same : with_word words v ≡ words
+    same = full (nat_le (length words) 20) (list_any (λ w. bytes_eq w v) words) refl
+
 pub words_from : (words : List (List ℕ)) (i : ℕ) (word : List ℕ) → i < length words → word ≡ get_or words i word →
     drop i words ≡ word ∷ drop (i + 1) words
 words_from words i word lt is =
@@ -107,7 +119,7 @@ module _ (us vs : List (List ℕ)) (P Q : List ℕ → Type 0) (s : IsSample us 
   few_of = with_words [] (joinings us vs)
 
   -- where one may stand behind, those in front are as few as the joinings
-  fronts_few : (v : List ℕ) → IsMember v vs → length few_of ≤ 20 → length us ≤ 20
+  pub fronts_few : (v : List ℕ) → IsMember v vs → length few_of ≤ 20 → length us ≤ 20
   fronts_few v m le =
       let fits = different_within (map (λ u. u ++ v) us) few_of
       (different_map (λ u. u ++ v) (λ a b e. append_cancel_right a b v e) us s.different)
@@ -115,7 +127,7 @@ module _ (us vs : List (List ℕ)) (P Q : List ℕ → Type 0) (s : IsSample us 
       (sample_of (joinings us vs)).whole le w (subst (λ (x : List ℕ). IsMember x (joinings us vs)) (sym r.2) (joining_member r.0 v us vs r.1 m))) in
       omega (arith, fits, length-map us (λ (u : List ℕ). u ++ v))
 
-  backs_few : (u : List ℕ) → IsMember u us → length few_of ≤ 20 → length vs ≤ 20
+  pub backs_few : (u : List ℕ) → IsMember u us → length few_of ≤ 20 → length vs ≤ 20
   backs_few u m le =
       let fits = different_within (map (λ v. u ++ v) vs) few_of
       (different_map (λ v. u ++ v) (λ a b e. append_cancel_left u a b e) vs t.different)
@@ -176,6 +188,14 @@ set_whole set ws n le s =
       | inl lt ↦ (p.0, lt, p.1, p.2)
       | inr ge ↦ absurd (both_ways (member set p.0) (beyond set p.0 (omega arith)) p.1)
     ])
+
+-- words enough
+pub set_many : (set : List Bool) (ws : List (List ℕ)) (n : ℕ) → 20 < length ws → IsSample ws (SpellsBelow set n) → IsSample ws (HasWord (one_of set))
+set_many set ws n lt s = record {
+  right = λ v m. let p = s.right v m in (p.0, p.2, p.3);
+  different = s.different;
+  whole = λ le v h. absurd (omega (arith, le, lt));
+}
 
 pub set_next : (set : List Bool) (ws : List (List ℕ)) (n : ℕ) → IsSample ws (SpellsBelow set n) →
     IsSample (if member set n then with_word ws (n ∷ []) else ws) (SpellsBelow set (n + 1))

@@ -8,7 +8,7 @@ use Rattle.cs_syntax.specs.Matching.{Tree, Trees, none, more, cat, rep, member, 
 use Rattle.cs_trigram.specs.Trigram.{trigram_sequence}
 use Rattle.cs_trigram.specs.Query.{holds, HasTrigrams}
 use Rattle.cs_trigram.specs.Windows.{IsMember, HasWindows}
-use Rattle.cs_trigram.specs.FiniteWords.{SomeRounds, HasWord, JoinWords, SomeHasWord, HaveFewWords, is_finite, are_finite}
+use Rattle.cs_trigram.specs.FiniteWords.{HasWord, JoinWords, SomeHasWord, HaveFewWords, is_finite, are_finite}
 use Rattle.cs_trigram.specs.declared.queries.Query.{Query}
 
 -- a word more, where there are at most twenty and it is not there
@@ -94,10 +94,6 @@ SamplesChoice words ts = (are_finite ts ≡ true) × IsSample words (SomeHasWord
 -- the word of the byte too, where the set has it
 abbrev pub with_byte : List (List ℕ) → List Bool → ℕ → List (List ℕ)
 with_byte words set byte = if member set byte then with_word words (byte ∷ []) else words
-
--- samples of the words of a tree, joined so many times
-abbrev pub SamplesRounds : List (List ℕ) → Tree → ℕ → ℕ → Type 0
-SamplesRounds words t least most = IsSample words (SomeRounds (HasWord t) least most)
 
 -- the few words of a finite tree, and of a run
 abbrev pub TreeWords : List (List ℕ) → Tree → Type 0

@@ -1,7 +1,8 @@
 // How the texts that a tree takes begin and end.
-ghost use Rattle.std.specs.Prelude.{◌≡◌, ◌<◌, ◌⊎◌, [], ◌∷◌, ℕ, true, List, length, IfOk, OnOk};
+ghost use Rattle.std.specs.Prelude.{◌≡◌, ◌<◌, ◌≤◌, ◌⊎◌, [], ◌∷◌, ℕ, true, List, length, IfOk, IfSome, OnOk};
 ghost use Rattle.cs_trigram.specs.Windows.{IsMember};
 ghost use Rattle.cs_trigram.specs.Affixes.{laid, near_part, are_bare, Fits, FitsSome, IsWider, HaveWider, AreWider, IsAffixOfTwo, AreAffixesOfTwo};
+ghost use Rattle.cs_trigram.specs.Cuts.{AreCutsOf};
 
 use crate::words::Word;
 use std::alloc::{AllocError, Global};
@@ -143,8 +144,62 @@ fn cut_affixes(alloc: Global, side: Side, affixes: &[Affix]) -> Result<Vec<Affix
     Ok(short)
 }
 
-/// Adds the joinings of an affix with each of those behind it.
-fn add_joined(
+/// The affix cut to so many bytes, of a text with any other behind it.
+fn open_affix(alloc: Global, side: Side, affix: &Affix, longest: usize) -> Result<Affix, AllocError>
+    ensures { IfOk result (λ loose. (u v : List ℕ) → Fits side affix.now u →
+        Fits side loose (laid side u v)) }
+{
+    let short = short_affix(alloc, side, affix, longest)?;
+    Ok(Affix {
+        word: short.word,
+        whole: false,
+    })
+}
+
+/// The same affixes, cut to so many bytes each.
+#[derive(Drop)]
+struct Cuts {
+    to_three: Vec<Affix>,
+    to_two: Vec<Affix>,
+    to_one: Vec<Affix>,
+    to_none: Vec<Affix>,
+}
+
+impl Cuts {
+    ghost use Rattle.cs_trigram.specs.Cuts.{AreCutsOf};
+
+    /// Of these.
+    fn new(alloc: Global, side: Side, affixes: &[Affix]) -> Result<Cuts, AllocError>
+        ensures { IfOk result (λ cuts. AreCutsOf side cuts affixes.now) }
+    {
+        let to_three = short_affixes(alloc, side, affixes, 3)?;
+        let to_two = short_affixes(alloc, side, &to_three, 2)?;
+        let to_one = short_affixes(alloc, side, &to_two, 1)?;
+        let to_none = short_affixes(alloc, side, &to_one, 0)?;
+        Ok(Cuts {
+            to_three,
+            to_two,
+            to_one,
+            to_none,
+        })
+    }
+
+    /// Those of so many bytes.
+    fn to(&self, longest: usize) -> &[Affix]
+        ensures { (side : Side) (affixes : List Affix) → AreCutsOf side self.now affixes →
+            AreWider side result.now affixes }
+    {
+        match longest {
+            0 => &self.to_none,
+            1 => &self.to_one,
+            2 => &self.to_two,
+            _ => &self.to_three,
+        }
+    }
+}
+
+/// Adds the joinings of an affix with each of those behind it, until there are too many.
+fn add_joinings(
     alloc: Global,
     side: Side,
     near: &Affix,
@@ -152,16 +207,65 @@ fn add_joined(
     affixes: &mut Vec<Affix>,
 ) -> Result<(), AllocError>
     ensures keeps { OnOk result (AreWider side affixes.new.items affixes.old.items) }
-    ensures joins { OnOk result ((u v : List ℕ) → Fits side near.now u → FitsSome side fars.now v →
+    ensures joins { OnOk result (length affixes.new.items ≤ 20 → (u v : List ℕ) →
+        Fits side near.now u → FitsSome side fars.now v →
         FitsSome side affixes.new.items (laid side u v)) }
 {
     for far in fars {
+        if affixes.len() > MANY {
+            return Ok(());
+        }
         add_affix(affixes, joined_affix(alloc, side, near, far)?)?;
     }
     Ok(())
 }
 
-/// The affixes of the one text at the side, and the other behind it.
+/// Adds the joinings of an affix with each of those behind it, cut to so many bytes, until there
+/// are too many.
+fn add_joined(
+    alloc: Global,
+    side: Side,
+    near: &Affix,
+    fars: &Cuts,
+    longest: usize,
+    affixes: &mut Vec<Affix>,
+) -> Result<(), AllocError>
+    ensures keeps { OnOk result (AreWider side affixes.new.items affixes.old.items) }
+    ensures joins { OnOk result (length affixes.new.items ≤ 20 → (all : List Affix) (u v : List ℕ) →
+        AreCutsOf side fars.now all → Fits side near.now u → FitsSome side all v →
+        FitsSome side affixes.new.items (laid side u v)) }
+{
+    let len = near.word.bytes().len();
+    if !near.whole || len > longest {
+        return add_affix(affixes, open_affix(alloc, side, near, longest)?);
+    }
+    add_joinings(alloc, side, near, fars.to(longest - len), affixes)
+}
+
+/// The affixes of the one text at the side, and the other behind it, cut to so many bytes, where
+/// they are not many.
+fn few_joined(
+    alloc: Global,
+    side: Side,
+    nears: &[Affix],
+    fars: &Cuts,
+    longest: usize,
+) -> Result<Option<Vec<Affix>>, AllocError>
+    ensures { IfOk result (λ found. IfSome found (λ affixes. (all : List Affix) →
+        AreCutsOf side fars.now all → AreAffixesOfTwo side nears.now all affixes.items)) }
+{
+    let mut affixes = Vec::new(alloc);
+    for near in nears {
+        add_joined(alloc, side, near, fars, longest, &mut affixes)?;
+        if affixes.len() > MANY {
+            return Ok(None);
+        }
+    }
+    Ok(Some(affixes))
+}
+
+/// The affixes of the one text at the side, and the other behind it, of as many bytes as leave them
+/// not many.
 pub(crate) fn joined_affixes(
     alloc: Global,
     side: Side,
@@ -170,11 +274,15 @@ pub(crate) fn joined_affixes(
 ) -> Result<Vec<Affix>, AllocError>
     ensures { IfOk result (λ affixes. AreAffixesOfTwo side nears.now fars.now affixes.items) }
 {
-    let mut affixes = Vec::new(alloc);
-    for near in nears {
-        add_joined(alloc, side, near, fars, &mut affixes)?;
+    let cuts = Cuts::new(alloc, side, fars)?;
+    let mut longest = LONGEST;
+    'cut: while longest > 0 {
+        if let Some(affixes) = few_joined(alloc, side, nears, &cuts, longest)? {
+            return Ok(affixes);
+        }
+        longest -= 1;
     }
-    cut_affixes(alloc, side, &affixes)
+    any_affix(alloc)
 }
 
 /// The affixes of the texts of both.

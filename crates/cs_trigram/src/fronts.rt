@@ -6,6 +6,7 @@ ghost use Rattle.cs_syntax.specs.Node.{tree_of, trees_of};
 ghost use Rattle.cs_trigram.specs.FiniteWords.{HasFewWords, HaveFewWords};
 ghost use Rattle.cs_trigram.specs.Sample.{TreeWords, RunWords, IsFront};
 
+use crate::counted::Counted;
 use crate::spelling::{no_bytes, words_of};
 use crate::words::{Word, are_few, joined_words};
 use cs_syntax::Node;
@@ -16,13 +17,15 @@ pub(crate) fn few_words(alloc: Global, node: &Node) -> Result<Option<Vec<Word>>,
     ensures { IfOk result (λ found. MatchOption found (¬ HasFewWords (tree_of node.now))
         (λ words. TreeWords words.items (tree_of node.now))) }
 {
-    let Some(words) = words_of(alloc, node)? else {
-        return Ok(None);
-    };
-    if !are_few(&words) {
-        return Ok(None);
+    match words_of(alloc, node)? {
+        Counted::Few(words) => {
+            if words.is_empty() {
+                return Ok(None);
+            }
+            Ok(Some(words))
+        }
+        _ => Ok(None),
     }
-    Ok(Some(words))
 }
 
 /// The words of a run and the part behind it, where these are few.

@@ -1,11 +1,14 @@
 //! What follows from the definitions alone.
-ghost use Rattle.std.specs.Prelude.{◌≡◌, ◌<◌, ◌++◌, ◌∷◌, ℕ, List, [], Option, Some, None, length, true, false};
+ghost use Rattle.std.specs.Prelude.{◌≡◌, ◌<◌, ◌++◌, ◌∷◌, ℕ, Bool, List, [], Option, Some, None, length, true, false};
 ghost use Rattle.cs_trigram.specs.Scans.{found_at, text, left_out};
 ghost use Rattle.std.specs.List.{AllByRecursion};
 ghost use Rattle.cs_tree.specs.Told.{ends};
+ghost use Rattle.cs_syntax.specs.Matching.{Tree, Found};
 ghost use Rattle.cs_trigram.specs.declared.limits.Limits.{Limits};
 ghost use Rattle.cs_trigram.specs.declared.scan.Reason.{Reason};
 ghost use Rattle.cs_trigram.specs.Trigram.{trigram, tri, closing_trigram, Ascends, has};
+ghost use Rattle.cs_trigram.specs.Query.{HasTrigrams};
+ghost use Rattle.cs_trigram.specs.Windows.{HasWindows};
 ghost use Rattle.cs_trigram.specs.Text.{first_broken, skip, text_trigrams};
 
 /// The trigrams of some bytes ascend, and among them is the number of each part of three bytes.
@@ -35,4 +38,11 @@ pub fn what_is_found_of_a_whole_file()
     ensures left_out { (most : Limits) (bytes : List ℕ) (reason : Reason) →
         left_out reason ≡ found_at most bytes ends →
         skip most bytes ≡ Some reason × text_trigrams most bytes ≡ None }
+{}
+
+/// What has the trigrams of a line in which a tree finds something has the windows of the tree. So a query that asks for
+/// the windows alone loses no line.
+pub fn found_lines_have_the_windows()
+    ensures { (tree : Tree) (line : List ℕ) (set : ℕ → Bool) →
+        Found tree line → HasTrigrams set line → HasWindows set tree }
 {}

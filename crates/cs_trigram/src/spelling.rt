@@ -1,11 +1,13 @@
 // The words of finite trees.
-ghost use Rattle.std.specs.Prelude.{◌≡◌, ◌+◌, [], ◌∷◌, IfOk, OnOk, MatchOption, ℕ, false};
-ghost use Rattle.cs_syntax.specs.Matching.{Tree, one_of, rep};
+ghost use Rattle.std.specs.Prelude.{◌≡◌, ◌≤◌, ◌+◌, [], ◌∷◌, IfOk, OnOk, Some, ℕ, true};
+ghost use Rattle.cs_syntax.specs.Matching.{Tree, one_of, rep, cat, alt};
 ghost use Rattle.cs_syntax.specs.Node.{tree_of, trees_of};
-ghost use Rattle.cs_trigram.specs.FiniteWords.{is_finite, are_finite, HasWord};
-ghost use Rattle.cs_trigram.specs.Sample.{with_byte, IsSample, SamplesTree, SamplesRun, SamplesChoice, SamplesRounds};
+ghost use Rattle.cs_trigram.specs.FiniteWords.{is_finite, HasWord};
+ghost use Rattle.cs_trigram.specs.Sample.{with_byte, IsSample};
+ghost use Rattle.cs_trigram.specs.Counted.{Counts};
 
-use crate::words::{FEW, Word, add_word, add_words, joined_words};
+use crate::counted::Counted;
+use crate::words::{FEW, Word, add_word};
 use cs_syntax::{ByteSet, Node};
 use std::alloc::{AllocError, Global};
 
@@ -29,59 +31,82 @@ fn add_byte(alloc: Global, set: &ByteSet, byte: u8, words: &mut Vec<Word>) -> Re
 }
 
 /// The members of the set as words, up to one more than are few.
-fn words_of_set(alloc: Global, set: &ByteSet) -> Result<Vec<Word>, AllocError>
+pub(crate) fn words_of_set(alloc: Global, set: &ByteSet) -> Result<Vec<Word>, AllocError>
     ensures { IfOk result (λ words. IsSample words.items (HasWord (one_of set.now))) }
 {
     let count = set.len() as usize;
     let mut words = Vec::with_capacity(alloc, count.min(FEW + 1))?;
     for byte in 0..256usize {
+        if words.len() > FEW {
+            return Ok(words);
+        }
         add_byte(alloc, set, byte as u8, &mut words)?;
     }
     Ok(words)
 }
 
-/// The joinings of up to so many of the words, up to one more than are few.
-fn rounds_up_to(alloc: Global, once: &[Word], most: u32) -> Result<Vec<Word>, AllocError>
-    ensures { IfOk result (λ words. (t : Tree) → IsSample once.now (HasWord t) →
-        SamplesRounds words.items t 0 most) }
+/// What is known of the words of each of so many rounds at most, of a finite tree.
+fn rounds_up_to(alloc: Global, once: &Counted, most: u32) -> Result<Counted, AllocError>
+    ensures { IfOk result (λ words. (t : Tree) → Counts once.now t → is_finite t ≡ true →
+        Counts words (rep t 0 (Some most))) }
 {
-    let mut words = no_bytes(alloc)?;
+    let mut words = Counted::Few(no_bytes(alloc)?);
     for _round in 0..most {
-        words = joined_words(alloc, once, &words)?;
-        add_word(&mut words, Word::empty(alloc))?;
+        words = once
+            .joined(alloc, &words)?
+            .or(Counted::Few(no_bytes(alloc)?))?;
     }
     Ok(words)
 }
 
-/// The joinings of so many of the words before each of the others, up to one more than are few.
+/// What is known of the words of so many rounds more, of a finite tree.
 fn rounds_before(
     alloc: Global,
-    once: &[Word],
+    once: &Counted,
     count: u32,
-    backs: Vec<Word>,
-) -> Result<Vec<Word>, AllocError>
-    ensures { IfOk result (λ words. (t : Tree) (least most : ℕ) → IsSample once.now (HasWord t) →
-        SamplesRounds backs.items t least most →
-        SamplesRounds words.items t (least + count) (most + count)) }
+    backs: Counted,
+) -> Result<Counted, AllocError>
+    ensures { IfOk result (λ words. (t : Tree) (least most : ℕ) → Counts once.now t →
+        is_finite t ≡ true → least ≤ most → Counts backs (rep t least (Some most)) →
+        Counts words (rep t (least + count) (Some (most + count)))) }
 {
     let mut words = backs;
     for _round in 0..count {
-        words = joined_words(alloc, once, &words)?;
+        words = once.joined(alloc, &words)?;
     }
     Ok(words)
 }
 
-/// The different words of the tree, up to one more than are few, where it is finite.
+/// What is known of the words of a repeat.
+pub(crate) fn words_of_rounds(
+    alloc: Global,
+    once: &Counted,
+    least: u32,
+    most: Option<u32>,
+) -> Result<Counted, AllocError>
+    ensures { IfOk result (λ words. (t : Tree) → Counts once.now t →
+        Counts words (rep t least most)) }
+{
+    let Some(most) = most else {
+        return Ok(Counted::Endless);
+    };
+    if most < least || once.is_endless() {
+        return Ok(Counted::Endless);
+    }
+    let beyond = rounds_up_to(alloc, once, most - least)?;
+    rounds_before(alloc, once, least, beyond)
+}
+
+/// What is known of the words of the tree.
 #[cycle(spell)]
-pub(crate) fn words_of(alloc: Global, node: &Node) -> Result<Option<Vec<Word>>, AllocError>
-    ensures { IfOk result (λ found. MatchOption found (is_finite (tree_of node.now) ≡ false)
-        (λ words. SamplesTree words.items (tree_of node.now))) }
+pub(crate) fn words_of(alloc: Global, node: &Node) -> Result<Counted, AllocError>
+    ensures { IfOk result (λ words. Counts words (tree_of node.now)) }
 {
     match node {
         Node::Empty | Node::LineStart | Node::LineEnd | Node::WordEdge | Node::NotWordEdge => Ok(
-            Some(no_bytes(alloc)?),
+            Counted::Few(no_bytes(alloc)?),
         ),
-        Node::Set(set) => Ok(Some(words_of_set(alloc, set)?)),
+        Node::Set(set) => Ok(Counted::of(words_of_set(alloc, set)?)),
         Node::Cat(parts) => words_of_run(alloc, parts),
         Node::Alt(parts) => words_of_choice(alloc, parts),
         Node::Rep(x, least, most) => words_of_repeat(alloc, x, *least, *most),
@@ -89,37 +114,37 @@ pub(crate) fn words_of(alloc: Global, node: &Node) -> Result<Option<Vec<Word>>, 
 }
 
 #[cycle(spell)]
-fn words_of_run(alloc: Global, parts: &[Node]) -> Result<Option<Vec<Word>>, AllocError>
-    ensures { IfOk result (λ found. MatchOption found (are_finite (trees_of parts.now) ≡ false)
-        (λ words. SamplesRun words.items (trees_of parts.now))) }
+fn words_of_run(alloc: Global, parts: &[Node]) -> Result<Counted, AllocError>
+    ensures { IfOk result (λ words. Counts words (cat (trees_of parts.now))) }
 {
-    let mut words = no_bytes(alloc)?;
+    let mut words = Counted::Few(no_bytes(alloc)?);
     let mut at = parts.len();
     'parts: while at > 0 {
         at -= 1;
-        let Some(fronts) = words_of(alloc, &parts[at])? else {
-            return Ok(None);
-        };
-        words = joined_words(alloc, &fronts, &words)?;
+        let fronts = words_of(alloc, &parts[at])?;
+        if fronts.is_endless() {
+            return Ok(Counted::Endless);
+        }
+        words = fronts.joined(alloc, &words)?;
     }
-    Ok(Some(words))
+    Ok(words)
 }
 
 #[cycle(spell)]
-fn words_of_choice(alloc: Global, parts: &[Node]) -> Result<Option<Vec<Word>>, AllocError>
-    ensures { IfOk result (λ found. MatchOption found (are_finite (trees_of parts.now) ≡ false)
-        (λ words. SamplesChoice words.items (trees_of parts.now))) }
+fn words_of_choice(alloc: Global, parts: &[Node]) -> Result<Counted, AllocError>
+    ensures { IfOk result (λ words. Counts words (alt (trees_of parts.now))) }
 {
-    let mut words = Vec::new(alloc);
+    let mut words = Counted::Few(Vec::new(alloc));
     let mut at = parts.len();
     'parts: while at > 0 {
         at -= 1;
-        let Some(more) = words_of(alloc, &parts[at])? else {
-            return Ok(None);
-        };
-        add_words(&mut words, more)?;
+        let branch = words_of(alloc, &parts[at])?;
+        if branch.is_endless() {
+            return Ok(Counted::Endless);
+        }
+        words = branch.or(words)?;
     }
-    Ok(Some(words))
+    Ok(words)
 }
 
 #[cycle(spell)]
@@ -128,20 +153,11 @@ fn words_of_repeat(
     node: &Node,
     least: u32,
     most: Option<u32>,
-) -> Result<Option<Vec<Word>>, AllocError>
-    ensures { IfOk result (λ found.
-        MatchOption found (is_finite (rep (tree_of node.now) least most) ≡ false)
-        (λ words. SamplesTree words.items (rep (tree_of node.now) least most))) }
+) -> Result<Counted, AllocError>
+    ensures { IfOk result (λ words. Counts words (rep (tree_of node.now) least most)) }
 {
-    let Some(most) = most else {
-        return Ok(None);
-    };
-    if most < least {
-        return Ok(None);
+    if most.is_none() {
+        return Ok(Counted::Endless);
     }
-    let Some(once) = words_of(alloc, node)? else {
-        return Ok(None);
-    };
-    let beyond = rounds_up_to(alloc, &once, most - least)?;
-    Ok(Some(rounds_before(alloc, &once, least, beyond)?))
+    words_of_rounds(alloc, &words_of(alloc, node)?, least, most)
 }

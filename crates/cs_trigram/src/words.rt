@@ -63,7 +63,7 @@ impl Word {
     pub(crate) fn joining(alloc: Global, front: &Word, back: &Word) -> Result<Word, AllocError>
         ensures { IfOk result (λ word. word ≡ front.now ++ back.now) }
     {
-        let mut bytes = Vec::new(alloc);
+        let mut bytes = Vec::with_capacity(alloc, front.bytes.len() + back.bytes.len())?;
         bytes.extend_from_slice(front.bytes.as_slice())?;
         bytes.extend_from_slice(back.bytes.as_slice())?;
         Ok(Word { bytes })
@@ -137,9 +137,27 @@ fn add_joinings(
         with_words words.old.items (map (λ v. front.now ++ v) backs.now)) }
 {
     for back in backs {
+        if words.len() > FEW {
+            return Ok(());
+        }
         add_word(words, Word::joining(alloc, front, back)?)?;
     }
     Ok(())
+}
+
+/// The joinings of a word with each of the others, which differ where these do.
+pub(crate) fn words_behind_one(
+    alloc: Global,
+    front: &Word,
+    backs: &[Word],
+) -> Result<Vec<Word>, AllocError>
+    ensures { IfOk result (λ words. words.items ≡ map (λ v. front.now ++ v) backs.now) }
+{
+    let mut words = Vec::new(alloc);
+    for back in backs {
+        words.push(Word::joining(alloc, front, back)?)?;
+    }
+    Ok(words)
 }
 
 /// The joinings of a word of the one list with a word of the other, up to one more than are few.
@@ -153,6 +171,9 @@ pub(crate) fn joined_words(
 {
     let mut words = Vec::new(alloc);
     for front in fronts {
+        if words.len() > FEW {
+            return Ok(words);
+        }
         add_joinings(alloc, front, backs, &mut words)?;
     }
     Ok(words)

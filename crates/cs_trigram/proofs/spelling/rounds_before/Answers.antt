@@ -1,17 +1,16 @@
-use Rattle.std.proofs.Common.{◌≡◌, ◌+◌, [], ℕ, List, ◌∙◌, ap, subst, arith}
-use Rattle.cs_trigram.specs.FiniteWords.{HasWord, SomeRounds}
-use Rattle.cs_trigram.specs.Sample.{IsSample, with_words, joinings}
-use Rattle.cs_trigram.proofs.RoundLemmas.{rounds_more, rounds_as}
+use Rattle.std.proofs.Common.{◌≡◌, ◌+◌, subst, arith}
+use Rattle.std.specs.Prelude.{Some}
+use Rattle.cs_syntax.specs.Matching.{rep}
+use Rattle.cs_trigram.specs.Counted.{Counts}
+use Rattle.cs_trigram.proofs.CountLemmas.{counts_round}
 use Rattle.cs_trigram.proofs.spelling.rounds_before.Goals as goal
 
 pub loop-round-preserved : goal.loop-round-preserved
-loop-round-preserved c = λ t least most s r.
+loop-round-preserved c = λ t least most once finite le backs.
     let i = c.loop-round._round in
-    let all = rounds_more (HasWord t) c.args.once.now c.loop-round.words.items s (least + i) (most + i) (c.loop-round.invariant t least most s r) in
-    rounds_as (HasWord t) _ _ _ _ _ _ (c.in_ok-words.ensures ∙ ap (λ (vs : List (List ℕ)). with_words [] (joinings c.args.once.now vs)) c.deref.ensures.value) (omega arith) (omega arith) all
-
-pub returns : goal.returns
-returns c = λ t least most s r.
-    let i = c.loop-round._round in
-    let done : i ≡ c.args.count = omega arith in
-    subst (λ n. IsSample c.loop-round.words.items (SomeRounds (HasWord t) (least + n) (most + n))) done (c.loop-round.invariant t least most s r)
+    let words = c.in_ok-words.words in
+    let before = c.loop-round.invariant t least most once finite le backs in
+    let whole = counts_round words t (least + i) (most + i) finite (omega (arith, le)) (c.in_ok-words.ensures t (rep t (least + i) (Some (most + i))) once before) in
+    let a : least + i + 1 ≡ least + (i + 1) = omega arith in
+    let b : most + i + 1 ≡ most + (i + 1) = omega arith in
+    subst (λ n. Counts words (rep t (least + (i + 1)) (Some n))) b (subst (λ n. Counts words (rep t n (Some (most + i + 1)))) a whole)

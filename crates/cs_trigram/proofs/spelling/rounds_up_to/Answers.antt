@@ -1,17 +1,13 @@
-use Rattle.std.proofs.Common.{◌≡◌, [], ℕ, List, ◌∙◌, ap, subst, arith}
-use Rattle.cs_trigram.specs.FiniteWords.{HasWord, SomeRounds}
-use Rattle.cs_trigram.specs.Sample.{IsSample, with_word, with_words, joinings}
-use Rattle.cs_trigram.proofs.RoundLemmas.{rounds_on, rounds_as}
+use Rattle.std.proofs.Common.{refl}
+use Rattle.std.specs.Prelude.{Some}
+use Rattle.cs_syntax.specs.Matching.{rep, cat, empty}
+use Rattle.cs_trigram.proofs.CountLemmas.{counts_rounds, bare_words, pair}
 use Rattle.cs_trigram.proofs.spelling.rounds_up_to.Goals as goal
 
 pub loop-round-preserved : goal.loop-round-preserved
-loop-round-preserved c = λ t s.
-    let once = c.args.once.now in
-    let joined = c.in_ok-words-2.ensures ∙ ap (λ (vs : List (List ℕ)). with_words [] (joinings once vs)) c.deref.ensures.value in
-    let all = rounds_on (HasWord t) once c.loop-round.words.items s c.loop-round._round (c.loop-round.invariant t s) in
-    rounds_as (HasWord t) _ _ _ _ _ _ (c.in_ok-add_word.ensures ∙ ap (λ (ws : List (List ℕ)). with_word ws c.empty.result) joined ∙ ap (λ (w : List ℕ). with_word (with_words [] (joinings once c.loop-round.words.items)) w) c.empty.ensures) (omega arith) (omega arith) all
-
-pub returns : goal.returns
-returns c = λ t s.
-    let done : c.loop-round._round ≡ c.args.most = omega arith in
-    subst (λ n. IsSample c.loop-round.words.items (SomeRounds (HasWord t) 0 n)) done (c.loop-round.invariant t s)
+loop-round-preserved c = λ t once finite.
+    let i = c.loop-round._round in
+    let r = rep t 0 (Some i) in
+    let joined = c.in_ok-joined.ensures t r once (c.loop-round.invariant t once finite) in
+    let bare = bare_words c.in_ok-no_bytes-2.field-0 empty c.in_ok-no_bytes-2.ensures refl (λ w h. h) refl in
+    counts_rounds c.in_ok-words.words t i finite (c.in_ok-words.ensures (cat (pair t r)) empty joined bare)

@@ -1,7 +1,7 @@
 use Rattle.std.proofs.Common.{ℕ, List, ◌+◌, subst, sym, arith}
 use Rattle.cs_trigram.specs.Sample.{IsSample}
 use Rattle.cs_trigram.proofs.SampleLemmas.{SpellsBelow}
-use Rattle.cs_trigram.proofs.SampleLemmas.{set_next, set_whole}
+use Rattle.cs_trigram.proofs.SampleLemmas.{set_next, set_many, set_whole}
 use Rattle.cs_trigram.proofs.spelling.words_of_set.Goals as goal
 
 pub loop-byte-preserved : goal.loop-byte-preserved
@@ -11,3 +11,6 @@ loop-byte-preserved c =
 
 pub returns : goal.returns
 returns c = set_whole c.args.set.now c.loop-byte.words.items c.loop-byte.byte (omega arith) c.loop-byte.invariant
+
+pub returns-then-len-gt-FEW : goal.returns-then-len-gt-FEW
+returns-then-len-gt-FEW c = set_many c.args.set.now c.loop-byte.words.items c.loop-byte.byte (omega arith) c.loop-byte.invariant

@@ -1,6 +1,6 @@
-use Rattle.std.proofs.Common.{ℕ, List, ◌+◌, ◌++◌, drop, map, sym, ◌∙◌, ap}
+use Rattle.std.proofs.Common.{ℕ, List, ◌+◌, ◌++◌, drop, map, sym, ◌∙◌, ap, arith}
 use Rattle.cs_trigram.specs.Sample.{with_words, joinings}
-use Rattle.cs_trigram.proofs.SampleLemmas.{with_words_append, words_from}
+use Rattle.cs_trigram.proofs.SampleLemmas.{with_words_append, with_words_full, words_from}
 use Rattle.cs_trigram.proofs.words.joined_words.Goals as goal
 
 pub loop-front-preserved : goal.loop-front-preserved
@@ -15,3 +15,7 @@ loop-front-preserved c =
     ∙ sym (with_words_append words (map (λ v. u ++ v) backs) rest)
     ∙ ap (λ (us : List (List ℕ)). with_words words (joinings us backs)) (sym next)
     ∙ c.loop-front.invariant
+
+pub returns-then-len-gt-FEW : goal.returns-then-len-gt-FEW
+returns-then-len-gt-FEW c =
+    sym (with_words_full c.loop-front.words.items (joinings (drop c.loop-front.front-index c.args.fronts.now) c.args.backs.now) (omega arith)) ∙ c.loop-front.invariant

@@ -9,7 +9,7 @@ use Rattle.cs_trigram.specs.Query.{HasTrigrams}
 use Rattle.cs_trigram.specs.Sample.{IsAsked, all_hold}
 use Rattle.cs_trigram.specs.declared.affixes.Side.TheVariants.{Prefix, Suffix}
 use Rattle.cs_trigram.proofs.AskedLemmas.{asked_more}
-use Rattle.cs_trigram.proofs.AffixLemmas.{fits_via, prefixes_before}
+use Rattle.cs_trigram.proofs.AffixLemmas.{fits_via, affixes_before}
 use Rattle.cs_trigram.proofs.CrossingLemmas.{seam_held}
 use Rattle.cs_trigram.proofs.asked.Asked.cross.Goals as goal
 
@@ -30,7 +30,7 @@ returns-clause-asks c = λ ts prefixes asked.
 
 pub returns-clause-prefixes : goal.returns-clause-prefixes
 returns-clause-prefixes c = λ ts prefixes.
-    prefixes_before c.in_ok-nears.nears.items c.args.self.now.prefixes.items c.in_ok-prefixes.prefixes.items (tree_of c.args.part.now) ts
+    affixes_before Prefix c.in_ok-nears.nears.items c.args.self.now.prefixes.items c.in_ok-prefixes.prefixes.items (tree_of c.args.part.now) ts
     (λ u v a b.
     c.in_ok-prefixes.ensures u v (fits_via Prefix _ _ u c.deref-2.ensures.value a)
     (fits_via Prefix _ _ v (c.deref-3.ensures.value ∙ ap (λ v. v.items) c.in_ok-need.ensures.prefixes) b)) c.in_ok-nears.ensures prefixes

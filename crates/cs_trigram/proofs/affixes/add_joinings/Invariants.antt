@@ -1,6 +1,6 @@
 use Rattle.std.proofs.Common.{◌⊎◌, ℕ, List, drop}
 use Rattle.cs_trigram.specs.Affixes.{laid, Fits, FitsSome}
-use Rattle.cs_trigram.proofs.affixes.add_joined.Given as goal
+use Rattle.cs_trigram.proofs.affixes.add_joinings.Given as goal
 
 abbrev pub invariant-loop-far : goal.invariant-loop-far
 invariant-loop-far l =

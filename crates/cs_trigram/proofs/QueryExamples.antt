@@ -1,0 +1,139 @@
+-- Worked rows: what queries lose, and how sharp they are.
+use Rattle.std.proofs.Common.{◌≡◌, ℕ, zero, suc, inl, inr, Bool, true, false, List, [], ◌∷◌, ◌++◌, refl, sym, ap, subst, ◌∙◌, arith, codes, Some, replicate}
+use Rattle.std.specs.Prelude.{◌↔◌}
+use Rattle.std.specs.List.{list_all}
+use Rattle.std.proofs.lemmas.Bool.{true≢false}
+use Rattle.cs_syntax.specs.Matching.{Tree, Trees, one_of, cat, alt, rep, none, more, member, Found, TakesAll}
+use Rattle.cs_trigram.specs.Trigram.{tri}
+use Rattle.cs_trigram.specs.Query.{HasTrigrams, LosesNoLine}
+use Rattle.cs_trigram.specs.Windows.{Joins, IsMember, IsRun, HasWindows, IsSharp}
+use Rattle.cs_trigram.specs.declared.queries.Query.TheVariants.{All, Tri}
+use Rattle.cs_trigram.proofs.QueryLemmas.{holds-All, holds-Tri}
+use Rattle.cs_trigram.proofs.WindowLemmas.{taken_windows}
+
+-- the set of one byte
+abbrev only : ℕ → List Bool
+only b = replicate b false ++ true ∷ []
+
+has_it : (b : ℕ) → member (only b) b ≡ true
+has_it zero = refl
+has_it (suc b) = has_it b
+
+has_no_other : (b n : ℕ) → member (only b) n ≡ true → n ≡ b
+has_no_other zero zero h = refl
+has_no_other zero (suc n) h = cc
+has_no_other (suc b) zero h = cc
+has_no_other (suc b) (suc n) h = ap suc (has_no_other b n h)
+
+-- letters in a row
+abbrev letters : List ℕ → Trees
+letters [] = none
+letters (b ∷ text) = more (one_of (only b)) (letters text)
+
+join : (text : List ℕ) → Joins (letters text) text
+join [] = refl
+join (b ∷ text) = (b ∷ [], text, (b, has_it b, refl), join text, refl)
+
+join_no_other : (text word : List ℕ) → Joins (letters text) word → word ≡ text
+join_no_other [] word j = j
+join_no_other (b ∷ text) word j =
+    let letter = j.2 in
+    let first : j.0 ≡ b ∷ [] = letter.2 ∙ ap (λ n. n ∷ []) (has_no_other b letter.0 letter.1) in
+    let rest = join_no_other text j.1 j.3 in
+    j.4 ∙ (λ i. first i ++ rest i)
+
+-- ---- a word: its windows are its trigrams
+
+abbrev hello : List ℕ
+hello = codes "hello"
+
+hello_is_a_run : IsRun (letters hello)
+hello_is_a_run = (refl, (hello, join hello), (hello ∷ [], omega arith, λ word j. inl (join_no_other hello word j)))
+
+hello_takes_hello : TakesAll hello (letters hello) 0 5
+hello_takes_hello = (
+  1,
+  (omega arith, refl, refl),
+  (
+    2,
+    (omega arith, refl, refl),
+    (
+      3,
+      (omega arith, refl, refl),
+      (
+        4,
+        (omega arith, refl, refl),
+        (5, (omega arith, refl, refl), refl),
+      ),
+    ),
+  ),
+)
+
+trigrams_of_hello : tri hello ≡ 6646892 ∷ 6841708 ∷ 7105647 ∷ []
+trigrams_of_hello = refl
+
+windows_of_hello : (set : ℕ → Bool) → HasWindows set (cat (letters hello)) ↔ (list_all set (6646892 ∷ 6841708 ∷ 7105647 ∷ []) ≡ true)
+windows_of_hello set = (
+  λ windows. let shown = windows.0 none (letters hello) none refl hello_is_a_run in subst (HasTrigrams set) (join_no_other hello shown.0 shown.1) shown.2,
+  λ known. taken_windows hello set known (cat (letters hello)) 0 5 hello_takes_hello,
+)
+
+-- ---- `(ab|cd)ef`: to ask for nothing is not sharp
+
+abbrev choice : Trees
+choice = more (alt (more (cat (letters (codes "ab"))) (more (cat (letters (codes "cd"))) none))) (letters (codes "ef"))
+
+choice_joins : (word : List ℕ) → Joins choice word → IsMember word (codes "abef" ∷ codes "cdef" ∷ [])
+choice_joins word j =
+    let back = join_no_other (codes "ef") j.1 j.3 in
+    elim j.2 [
+      | inl first ↦ let front = join_no_other (codes "ab") j.0 first in inl (j.4 ∙ (λ i. front i ++ back i))
+      | inr rest ↦ elim rest [
+        | inl second ↦ let front = join_no_other (codes "cd") j.0 second in inr (inl (j.4 ∙ (λ i. front i ++ back i)))
+        | inr neither ↦ absurd neither
+      ]
+    ]
+
+choice_is_a_run : IsRun choice
+choice_is_a_run = (
+  refl,
+  (codes "abef", (codes "ab", codes "ef", inl (join (codes "ab")), join (codes "ef"), refl)),
+  (codes "abef" ∷ codes "cdef" ∷ [], omega arith, choice_joins),
+)
+
+asking_nothing_is_not_sharp : IsSharp All (cat choice) → ⊥
+asking_nothing_is_not_sharp sharp =
+    let shown = (sharp (λ n. false) (holds-All (λ n. false))).0 none choice none refl choice_is_a_run in
+    elim (choice_joins shown.0 shown.1) [
+      | inl first ↦ true≢false (sym (subst (HasTrigrams (λ n. false)) first shown.2))
+      | inr rest ↦ elim rest [
+        | inl second ↦ true≢false (sym (subst (HasTrigrams (λ n. false)) second shown.2))
+        | inr neither ↦ absurd neither
+      ]
+    ]
+
+-- ---- `abc?`: to ask for `abc` loses the line `ab`
+
+abbrev optional : Tree
+optional = cat (more (one_of (only 97)) (more (one_of (only 98)) (more (rep (one_of (only 99)) 0 (Some 1)) none)))
+
+ab_is_found : Found optional (codes "ab")
+ab_is_found = (
+  0,
+  2,
+  omega arith,
+  omega arith,
+  (
+    1,
+    (omega arith, refl, refl),
+    (
+      2,
+      (omega arith, refl, refl),
+      (2, (0, omega arith, omega arith, refl), refl),
+    ),
+  ),
+)
+
+asking_for_an_optional_letter_loses_a_line : LosesNoLine (Tri 6382179) optional → ⊥
+asking_for_an_optional_letter_loses_a_line loses =
+    true≢false (sym (loses (codes "ab") (λ n. false) ab_is_found refl) ∙ holds-Tri (λ n. false) 6382179)

@@ -44,6 +44,15 @@ pub after_more : (cells : List ℕ) (row : ℕ) (text : List ℕ) (i : ℕ) → 
 unfolding row_after
 after_more cells row text i l = ap (row_after cells row) (take_more text i 0 l) ∙ after_append cells row (take i text) (get_or text i 0 ∷ [])
 
+-- a row and the next byte
+pub after_next : (cells : List ℕ) (row : ℕ) (text : List ℕ) (i byte : ℕ) → row ≡ row_after cells 0 (take i text) → byte ≡ get_or text i 0 → i < length text
+    → get_or cells (bit_or row byte) 0 ≡ row_after cells 0 (take (i + 1) text)
+after_next cells row text i byte is next l = rw (is, next) (sym (after_more cells 0 text i l))
+
+-- a row, and what a run over the rest comes to
+pub after_rest : (cells : List ℕ) (row i n : ℕ) (text : List ℕ) (end : ℕ) → end ≡ row_after cells row (take (length text - n) (drop n text)) → row ≡ row_after cells 0 (take i text) → i ≡ n → end ≡ row_after cells 0 text
+after_rest cells row i n text end is row_is same = is ∙ after_cut cells row i n text row_is same
+
 module _ (cells : List ℕ) (fits : (at : ℕ) → at < 65536 → get_or cells at 0 < 65536) (absorbs : Absorbs cells) where
   -- a run does not come back from the two rows
   pub stays_noisy : (row : ℕ) (text : List ℕ) → first_noisy ≤ row → row < 65536 → AreBytes text → first_noisy ≤ row_after cells row text

@@ -1,6 +1,6 @@
 -- Standings: what a run over a line has come to at a place of it. Where two runs have come to the same, they find the
 -- same in what follows.
-use Rattle.std.specs.Prelude.{ℕ, Bool, true, false, List, [], ◌∷◌, replicate, length, slice_index, ◌<◌, ◌≢◌, nat_eq, if◌then◌else◌}
+use Rattle.std.specs.Prelude.{ℕ, Bool, true, false, List, [], ◌∷◌, replicate, nat_eq, if◌then◌else◌}
 use Rattle.cs_syntax.specs.Matching.{Tree, is_word, differ}
 use Rattle.cs_match.specs.declared.around.Around.{Around}
 use Rattle.cs_match.specs.declared.standing.Standing.{Standing}
@@ -42,7 +42,3 @@ after t standing b = if nat_eq b 10 then start (places t) else moved t standing 
 -- the tree can be left before the byte b
 abbrev pub is_left_before : Tree → Standing → ℕ → Bool
 is_left_before t standing b = exits t true standing.marks (before standing b)
-
--- no byte of the line is a newline
-abbrev pub HasNoNewline : List ℕ → Type 0
-HasNoNewline line = (k : ℕ) → k < length line → slice_index line k ≢ 10

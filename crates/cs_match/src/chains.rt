@@ -62,7 +62,6 @@ pub(crate) fn cut(block: &[u8], from: usize) -> usize
 }
 
 /// The rows that the runs over six texts come to, side by side, each from the start of a line.
-#[tactic(auto, using(crate::proofs::ChainLemmas::after_more, crate::proofs::ChainLemmas::after_cut), unfolding(crate::specs::Chains::row_after))]
 fn six(cells: &[u16], a: &[u8], b: &[u8], c: &[u8], d: &[u8], e: &[u8], f: &[u8]) -> [u16; 6]
     requires { length cells.now ≡ 65536 }
     ensures { result ≡ map (row_after cells.now 0)

@@ -27,6 +27,3 @@ mod windows;
 
 pub use matcher::Matcher;
 pub use program::Program;
-
-#[cfg(test)]
-mod tests;

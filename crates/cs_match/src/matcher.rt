@@ -12,7 +12,6 @@ use crate::program::Program;
 use crate::rarity::is_worth;
 use crate::table::Table;
 use cs_sieve::Sieve;
-use memchr::memchr;
 use memchr::memmem::Finder;
 use std::alloc::{AllocError, Global};
 use std::marker::Model;
@@ -83,27 +82,23 @@ impl<'a> Matcher<'a> {
         })
     }
 
+    /// How many sets of places are remembered. One is that of a line's start.
+    pub fn state_sets(&self) -> usize
+        ensures some { 1 ≤ result }
+        ensures few { result ≤ 254 }
+    {
+        self.table.used
+    }
+
     /// Whether the program takes some part of the line, whatever lines were asked before. It takes
     /// no memory.
     pub fn is_match(&mut self, line: &[u8]) -> bool
         ensures found { IsTrue result ↔ Found self.old line.now }
         ensures same { self.new ≡ self.old }
     {
-        let found = self.finds_in(line);
+        let found = self.table.is_match(line);
         self.missed = !found;
         found
-    }
-
-    /// Whether something is found in the line.
-    fn finds_in(&mut self, line: &[u8]) -> bool
-        ensures found { IsTrue result ↔ Found self.old line.now }
-        ensures same { self.new ≡ self.old }
-    {
-        // To the table a newline is the end of the line.
-        match memchr(b'\n', line) {
-            Some(_) => self.table.search(line),
-            None => self.table.is_match(line),
-        }
     }
 
     /// A line's start from `from` on, such that nothing is found in the lines before it. The block is whole lines.

@@ -20,9 +20,44 @@ fn weight(byte: u8) -> u64 {
     }
 }
 
-/// The share of the places of a text at which the word's rarest three bytes stand, of 10^12: all,
-/// where there is no byte.
+/// Three letters that follow one another far more often than each alone would tell: parts of the
+/// words that most source texts are full of.
+const COMMON: [[u8; 3]; 44] = [
+    *b"def", *b"efi", *b"fin", *b"ine", *b"int", *b"ion", *b"tio", *b"ing", *b"con", *b"ons",
+    *b"nst", *b"str", *b"tru", *b"ruc", *b"uct", *b"ret", *b"etu", *b"tur", *b"urn", *b"the",
+    *b"for", *b"ter", *b"typ", *b"ype", *b"ent", *b"ame", *b"nam", *b"sta", *b"ate", *b"ati",
+    *b"tat", *b"and", *b"res", *b"tor", *b"set", *b"siz", *b"ize", *b"dat", *b"val", *b"all",
+    *b"loc", *b"ock", *b"inc", *b"clu",
+];
+
+/// The share of the places of a text at which such letters stand, of 10^12.
+const COMMON_SHARE: u64 = 500_000_000;
+
+/// Whether each three bytes of the word that follow one another are common.
+fn is_common(word: &[u8]) -> bool {
+    let mut first = 0;
+    let mut second = 0;
+    for (i, third) in word.iter().enumerate() {
+        if i > 1 && !COMMON.contains(&[first, second, *third]) {
+            return false;
+        }
+        first = second;
+        second = *third;
+    }
+    word.len() > 2
+}
+
+/// The share of the places of a text at which the word may stand, of 10^12: all, where there is no byte.
 pub(crate) fn share(word: &[u8]) -> u64 {
+    if is_common(word) {
+        COMMON_SHARE
+    } else {
+        share_of_rarest(word)
+    }
+}
+
+/// The share of the places at which the word's rarest three bytes stand, of 10^12.
+fn share_of_rarest(word: &[u8]) -> u64 {
     let mut rarest = 10000;
     let mut second = 10000;
     let mut third = 10000;
@@ -69,6 +104,21 @@ pub(crate) fn window_share(window: &Window) -> u64 {
     set_weight(&window.first)
         .saturating_mul(set_weight(&window.second))
         .saturating_mul(set_weight(&window.third))
+        .saturating_add(common_share(window))
+}
+
+/// The share of the places at which common letters stand that are of the window, of 10^12.
+fn common_share(window: &Window) -> u64 {
+    let mut sum = 0u64;
+    for [first, second, third] in COMMON {
+        if window.first.contains(first)
+            && window.second.contains(second)
+            && window.third.contains(third)
+        {
+            sum = sum.saturating_add(COMMON_SHARE);
+        }
+    }
+    sum
 }
 
 /// Whether a search for windows of this share passes most places: they stand at less than one place

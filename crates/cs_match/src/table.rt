@@ -3,7 +3,7 @@ ghost use Rattle.std.specs.Prelude.{◌≡◌, ◌≢◌, ◌↔◌, ◌+◌, �
 ghost use Rattle.cs_syntax.specs.Node.{tree_of};
 ghost use Rattle.cs_syntax.specs.Matching.{Found};
 ghost use Rattle.cs_match.specs.Places.{places, repeats, IsLooped};
-ghost use Rattle.cs_match.specs.Standings.{start, after, is_left_before, HasNoNewline};
+ghost use Rattle.cs_match.specs.Standings.{start, after, is_left_before};
 ghost use Rattle.cs_match.specs.Table.{blank_cell, standing_of};
 ghost use Rattle.cs_match.specs.declared.standing.Standing.{Standing};
 ghost use Rattle.cs_match.specs.Remembering.{IsRight, HasRow, Tells, tree_in, standing_in};
@@ -162,7 +162,9 @@ impl<'a> Table<'a> {
     }
 
     /// Whether the tree takes some part of a line, byte by byte.
-    pub(crate) fn search(&mut self, line: &[u8]) -> bool
+    #[cold]
+    #[inline(never)]
+    fn search(&mut self, line: &[u8]) -> bool
         requires right { IsRight self.old }
         ensures found { IsTrue result ↔ Found (tree_in self.old) line.now }
         ensures right { IsRight self.new }
@@ -171,16 +173,19 @@ impl<'a> Table<'a> {
         self.now.search(self.root, &mut self.loops, line)
     }
 
-    /// Whether the tree takes some part of a line without newlines, by what is known.
+    /// Whether the tree takes some part of a line, by what is known as far as no newline stands in it.
     pub(crate) fn is_match(&mut self, line: &[u8]) -> bool
         requires right { IsRight self.old }
-        requires one { HasNoNewline line.now }
         ensures found { IsTrue result ↔ Found (tree_in self.old) line.now }
         ensures right { IsRight self.new }
         ensures same { tree_in self.new ≡ tree_in self.old }
     {
         let mut at = 0;
         for b in line {
+            // To the table a newline is the end of the line.
+            if *b == b'\n' {
+                return self.search(line);
+            }
             at = self.next(at, *b);
             if at == FOUND {
                 return true;

@@ -27,21 +27,21 @@ list_any-map f [] = refl
 list_any-map f (x ∷ xs) = ap (λ b. f x || b) (list_any-map f xs)
 
 module _ (set : ℕ → Bool) where
-  holds-All : holds All set ≡ true
+  pub holds-All : holds All set ≡ true
   holds-All = ap (λ q. holds q set) (sym rolls-All) ∙ fold-roll-Query Bool (holds_step set) Query-F.All
 
-  holds-Nothing : holds Nothing set ≡ false
+  pub holds-Nothing : holds Nothing set ≡ false
   holds-Nothing = ap (λ q. holds q set) (sym rolls-Nothing) ∙ fold-roll-Query Bool (holds_step set) Query-F.Nothing
 
-  holds-Tri : (n : ℕ) → holds (Tri n) set ≡ set n
+  pub holds-Tri : (n : ℕ) → holds (Tri n) set ≡ set n
   holds-Tri n = ap (λ q. holds q set) (sym (rolls-Tri n)) ∙ fold-roll-Query Bool (holds_step set) (Query-F.Tri n)
 
-  holds-And : (members : Vec Query Global) → holds (And members) set ≡ list_all (λ q. holds q set) members.items
+  pub holds-And : (members : Vec Query Global) → holds (And members) set ≡ list_all (λ q. holds q set) members.items
   holds-And members =
       ap (λ q. holds q set) (sym (rolls-And members)) ∙ fold-roll-Query Bool (holds_step set) (Query-F.And members)
       ∙ list_all-map (λ b. b) (λ q. holds q set) members.items
 
-  holds-Or : (members : Vec Query Global) → holds (Or members) set ≡ list_any (λ q. holds q set) members.items
+  pub holds-Or : (members : Vec Query Global) → holds (Or members) set ≡ list_any (λ q. holds q set) members.items
   holds-Or members =
       ap (λ q. holds q set) (sym (rolls-Or members)) ∙ fold-roll-Query Bool (holds_step set) (Query-F.Or members)
       ∙ list_any-map (λ q. holds q set) members.items
@@ -53,15 +53,15 @@ module _ (g : ℕ) where
   asks-Nothing : asks_for Nothing g ≡ false
   asks-Nothing = ap (λ q. asks_for q g) (sym rolls-Nothing) ∙ fold-roll-Query Bool (asks_step g) Query-F.Nothing
 
-  asks-Tri : (n : ℕ) → asks_for (Tri n) g ≡ eqb g n
+  pub asks-Tri : (n : ℕ) → asks_for (Tri n) g ≡ eqb g n
   asks-Tri n = ap (λ q. asks_for q g) (sym (rolls-Tri n)) ∙ fold-roll-Query Bool (asks_step g) (Query-F.Tri n)
 
-  asks-And : (members : Vec Query Global) → asks_for (And members) g ≡ list_any (λ q. asks_for q g) members.items
+  pub asks-And : (members : Vec Query Global) → asks_for (And members) g ≡ list_any (λ q. asks_for q g) members.items
   asks-And members =
       ap (λ q. asks_for q g) (sym (rolls-And members)) ∙ fold-roll-Query Bool (asks_step g) (Query-F.And members)
       ∙ list_any-map (λ q. asks_for q g) members.items
 
-  asks-Or : (members : Vec Query Global) → asks_for (Or members) g ≡ list_any (λ q. asks_for q g) members.items
+  pub asks-Or : (members : Vec Query Global) → asks_for (Or members) g ≡ list_any (λ q. asks_for q g) members.items
   asks-Or members =
       ap (λ q. asks_for q g) (sym (rolls-Or members)) ∙ fold-roll-Query Bool (asks_step g) (Query-F.Or members)
       ∙ list_any-map (λ q. asks_for q g) members.items
@@ -221,7 +221,7 @@ whole_found f g (e ∷ es) up = elim (cases_Bool (eqb e.trigram g)) [
 
 module _ (parts : Parts) where
   -- what is read of an entry rises
-  entry_rises : (e : ListEntry) → RiseWithin (length parts.names) 0 (ids_read parts e).ids
+  pub entry_rises : (e : ListEntry) → RiseWithin (length parts.names) 0 (ids_read parts e).ids
   entry_rises e =
       cond_both (same (take 3 (drop e.offset parts.postings)) (three_bytes e.trigram)) (read_ids (length parts.names) e.count 0 (drop (e.offset + 3) parts.postings)) damaged (λ (r : Ids). RiseWithin (length parts.names) 0 r.ids)
       (λ _. read_rise (length parts.names) e.count 0 (drop (e.offset + 3) parts.postings)) (λ _. tt)
@@ -240,7 +240,7 @@ module _ (parts : Parts) where
   pub list_below : (g : ℕ) → AllByRecursion (λ id. id < length parts.names) (read_for parts g).ids
   list_below g = rise_below (length parts.names) 0 (read_for parts g).ids (list_rises g)
 
-  candidates_are : (query : Query) → candidates_of parts query ≡ names_that parts (meets parts query)
+  pub candidates_are : (query : Query) → candidates_of parts query ≡ names_that parts (meets parts query)
   unfolding candidates_of
   candidates_are query = refl
 
@@ -285,7 +285,7 @@ module _ (parts : Parts) (up : rises parts.entries ≡ true) where
   unfolding read_for found_ids
   answerable-Tri g = answerable_as parts (Tri g) (λ h. eqb h g) (λ h. asks-Tri h g) ∙ whole_found (ids_read parts) g parts.entries (rise_read parts.entries up)
 
-  set_is : (g k : ℕ) → has (set_at k (lists_in parts)) g ≡ has (whole_ids (read_for parts g)) k
+  pub set_is : (g k : ℕ) → has (set_at k (lists_in parts)) g ≡ has (whole_ids (read_for parts g)) k
   unfolding read_for found_ids
   set_is g k = set_found (ids_read parts) g k parts.entries (rise_read parts.entries up)
 

@@ -1,21 +1,19 @@
 -- Keys, and the lists that they give their ids to.
-use Rattle.std.proofs.Common.{◌≡◌, ℕ, ◌+◌, ◌*◌, ◌<◌, ◌≤◌, Bool, true, false, cond, eqb, ◌||◌, ◌&&◌, List, [], ◌∷◌, ◌++◌, refl, sym, ap, subst, ◌∙◌, inl, inr, arith}
+use Rattle.std.proofs.Common.{◌≡◌, ℕ, ◌+◌, ◌*◌, ◌<◌, ◌≤◌, Bool, true, false, cond, eqb, ◌||◌, ◌&&◌, List, [], ◌∷◌, ◌++◌, length, refl, sym, ap, subst, ◌∙◌, inl, inr, arith}
 use Rattle.std.proofs.Math.Bool.{or-false}
-use Rattle.std.proofs.lemmas.Bool.{true≢false, cases_Bool, eqb-true, eq-eqb, ne_eqb}
-use Rattle.std.proofs.lemmas.List.Sorted.{list_any-IsPermutation}
+use Rattle.std.proofs.lemmas.Bool.{true≢false, cases_Bool, eqb-true, eq-eqb, ne_eqb, or_left, or_right}
 use Rattle.std.specs.List.{AllByRecursion, list_any}
-use Rattle.std.specs.List.Sorted.{IsPermutation, IsSorted}
-use Rattle.std.specs.Ordering.{nat_cmp}
-use Rattle.cs_trigram.specs.Trigram.{has, set_of_numbers, Ascends, closing_trigram}
-use Rattle.cs_trigram.proofs.SetLemmas.{ascends_same, ascends_set, ascends_tail, ascends_head, all_above, all_member, below_none, has-append, has-set_of_numbers, members_all}
+use Rattle.cs_trigram.specs.Trigram.{has, with_number, set_of_numbers, Ascends, closing_trigram}
+use Rattle.cs_trigram.specs.Scans.{AreTrigramsOnce}
+use Rattle.cs_trigram.proofs.SetLemmas.{ascends_set, ascends_tail, ascends_head, all_above, all_member, below_none, has-append, has-set_of_numbers, members_all, with_number-member, length-with_number-le, length-set_of_numbers-le}
 use Rattle.cs_index.specs.Image.{Posting}
 use Rattle.cs_index.specs.IdStream.{next_after}
 use Rattle.cs_index.specs.Gathering.{ids_of, with_id, AreDistinct, GiveSame}
 use Rattle.cs_index.specs.Keys.{keys_of, trigram_of, id_of, with_keys, AreWaiting}
 use Rattle.cs_index.proofs.GatheredLemmas.{rise_beyond}
+use Rattle.cs_index.proofs.GatheringLemmas.{length-ascending}
 use Rattle.cs_index.proofs.BuiltLemmas.{has_gathered, ids_gathered, ids_rise_within, each_gathered, WereGiven}
 use Rattle.cs_index.proofs.BuildingLemmas.{each_further, rise_next}
-use Rattle.cs_index.proofs.SortedLemmas.{sorted_is}
 
 -- ---- which ids keys give
 
@@ -222,9 +220,34 @@ waiting_after names base key lists ks up waits = record {
 
 -- ---- keys put in order
 
-all_moved : (P : ℕ → Type 0) (ks ms : List ℕ) → IsPermutation ks ms → AllByRecursion P ks → AllByRecursion P ms
-all_moved P ks ms moved all =
-    members_all P ms (λ n h. all_member P ks n all (list_any-IsPermutation (λ m. eqb m n) ks ms moved ∙ h))
+any_member : (p : ℕ → Bool) (ys : List ℕ) (n : ℕ) → has ys n ≡ true → p n ≡ true → list_any p ys ≡ true
+any_member p [] n there passes = absurd (true≢false (sym there))
+any_member p (y ∷ ys) n there passes = elim (cases_Bool (eqb y n)) [
+  | inl here ↦ or_left (p y) (list_any p ys) (ap p (eqb-true y n here) ∙ passes)
+  | inr apart ↦ or_right (p y) (list_any p ys) (any_member p ys n (sym (ap (λ b. b || has ys n) apart) ∙ there) passes)
+]
+
+any_within : (p : ℕ → Bool) (xs ys : List ℕ) → ((n : ℕ) → has xs n ≡ true → has ys n ≡ true) → list_any p xs ≡ true → list_any p ys ≡ true
+any_within p [] ys within passes = absurd (true≢false (sym passes))
+any_within p (x ∷ xs) ys within passes = elim (cases_Bool (p x)) [
+  | inl pass ↦ any_member p ys x (within x (or_left (eqb x x) (has xs x) (eq-eqb x x refl))) pass
+  | inr fail ↦ any_within p xs ys (λ n h. within n (or_right (eqb x n) (has xs n) h)) (sym (ap (λ b. b || list_any p xs) fail) ∙ passes)
+]
+
+-- lists with the same members pass a test alike
+any_same : (p : ℕ → Bool) (xs ys : List ℕ) → ((n : ℕ) → has xs n ≡ has ys n) → list_any p xs ≡ list_any p ys
+any_same p xs ys same = elim (cases_Bool (list_any p xs)) [
+  | inl passes ↦ passes ∙ sym (any_within p xs ys (λ n h. sym (same n) ∙ h) passes)
+  | inr fails ↦ elim (cases_Bool (list_any p ys)) [
+    | inl passes ↦ absurd (true≢false (sym (any_within p ys xs (λ n h. same n ∙ h) passes) ∙ fails))
+    | inr none ↦ fails ∙ sym none
+  ]
+]
+
+-- what holds of each number holds of those of its set
+pub all_of_set : (P : ℕ → Type 0) (ns : List ℕ) → AllByRecursion P ns → AllByRecursion P (set_of_numbers ns)
+all_of_set P ns all = members_all P (set_of_numbers ns) (λ n h. all_member P ns n all (sym (has-set_of_numbers n ns)
+    ∙ h))
 
 -- Keys in order give what they gave.
 pub record AreOrdered (names base : ℕ) (lists : List Posting) (ks ms : List ℕ) : Type 0 where
@@ -233,29 +256,48 @@ pub record AreOrdered (names base : ℕ) (lists : List Posting) (ks ms : List �
   pub same : GiveSame (with_keys base lists ms) (with_keys base lists ks)
 
 pub keys_ordered : (names base : ℕ) (lists : List Posting) (ks ms : List ℕ) → AreWaiting names base lists ks →
-    IsPermutation ks ms → IsSorted nat_cmp ms → AreOrdered names base lists ks ms
-keys_ordered names base lists ks ms waits moved sorted =
-    let up : Ascends ms = subst Ascends (sym (sorted_is ks ms waits.distinct moved sorted)) (ascends_set ks) in
+    ms ≡ set_of_numbers ks → AreOrdered names base lists ks ms
+keys_ordered names base lists ks ms waits is =
+    let up : Ascends ms = subst Ascends (sym is) (ascends_set ks) in
     record {
       ascend = up;
       waits = record {
         each = waits.each;
-        ready = all_moved _ ks ms moved waits.ready;
-        named = all_moved _ ks ms moved waits.named;
+        ready = all_moved _ waits.ready;
+        named = all_moved _ waits.named;
         distinct = ascends_distinct ms up;
-        below = all_moved _ ks ms moved waits.below;
+        below = all_moved _ waits.below;
       };
       same = λ g id.
           has_keys base lists ms g id
-          ∙ ap (λ b. has (ids_of lists g) id || b) (sym (list_any-IsPermutation (gives base g id) ks ms moved))
+          ∙ ap (λ b. has (ids_of lists g) id || b) (any_same (gives base g id) ms ks (λ n. ap (λ ns. has ns n) is ∙ has-set_of_numbers n ks))
           ∙ sym (has_keys base lists ks g id);
     }
+  where
+    all_moved : (P : ℕ → Type 0) → AllByRecursion P ks → AllByRecursion P ms
+    all_moved P all = subst (AllByRecursion P) (sym is) (all_of_set P ks all)
 
--- what holds of each number holds of those of its set
-pub all_of_set : (P : ℕ → Type 0) (ns : List ℕ) → AllByRecursion P ns → AllByRecursion P (set_of_numbers ns)
-all_of_set P ns all = members_all P (set_of_numbers ns) (λ n h. all_member P ns n all (sym (has-set_of_numbers n ns)
-    ∙ h))
+-- as many keys as their set has
+pub keys_once : (ks : List ℕ) → AreDistinct ks → length ks ≡ length (set_of_numbers ks)
+keys_once ks distinct = sym (length-ascending ks distinct)
 
--- the set of numbers that ascend is their list
-pub set_is : (ns : List ℕ) → Ascends ns → set_of_numbers ns ≡ ns
-set_is ns up = ascends_same (set_of_numbers ns) ns (ascends_set ns) up (λ g. has-set_of_numbers g ns)
+-- numbers as many as their set are distinct
+as_many_distinct : (ns : List ℕ) → length ns ≡ length (set_of_numbers ns) → AreDistinct ns
+as_many_distinct [] many = tt
+as_many_distinct (n ∷ ns) many = (
+  elim (cases_Bool (has ns n)) [
+    | inl there ↦ absurd (omega (arith, many, stays there, length-set_of_numbers-le ns))
+    | inr apart ↦ apart
+  ],
+  as_many_distinct ns (omega (arith, many, length-with_number-le n (set_of_numbers ns), length-set_of_numbers-le ns)),
+)
+  where
+    stays : has ns n ≡ true → length (with_number n (set_of_numbers ns)) ≡ length (set_of_numbers ns)
+    stays there = ap length (with_number-member n (set_of_numbers ns) (ascends_set ns) (has-set_of_numbers n ns ∙ there))
+
+pub once_distinct : (gs : List ℕ) → AreTrigramsOnce gs → AreDistinct gs
+once_distinct gs once = as_many_distinct gs once.1
+
+pub once_below : (gs : List ℕ) → AreTrigramsOnce gs → AllByRecursion (λ g. g < closing_trigram) gs
+once_below gs once =
+    members_all (λ g. g < closing_trigram) gs (λ g h. all_member (λ g. g < closing_trigram) (set_of_numbers gs) g once.0.1 (has-set_of_numbers g gs ∙ h))

@@ -109,7 +109,7 @@ cut_laid s at short is =
     (slice_laid bytes f3 s.name_index (s.list_index ++ r) d e row3 l3 refl)
     (slice_laid bytes f4 s.list_index r e at row4 l4 last)
 
-cut_spelled : (s : Sections) → length (layout s) < 2 ^ 32 → cut_of (layout s) ≡ Ok s
+pub cut_spelled : (s : Sections) → length (layout s) < 2 ^ 32 → cut_of (layout s) ≡ Ok s
 cut_spelled s short = cut_there (layout s) (has_magic s) (has_end s short) ∙ cut_laid s (length (layout s) - 36) short refl
 
 -- ---- sections that are spelled are read
@@ -120,7 +120,7 @@ starts_small at (text ∷ texts) h =
     let l = length-append (with_nul text) (concat (map with_nul texts)) in
     (omega (arith, h), starts_small (at + length (with_nul text)) texts (omega (arith, h, l)))
 
-name_index_spelled : (names : List (List ℕ)) (last : List ℕ) → length last ≡ 4 → length (concat (map with_nul names)) < 2 ^ 32 → is_name_index (name_offsets names ++ last) names ≡ true
+pub name_index_spelled : (names : List (List ℕ)) (last : List ℕ) → length last ≡ 4 → length (concat (map with_nul names)) < 2 ^ 32 → is_name_index (name_offsets names ++ last) names ≡ true
 unfolding is_name_index
 name_index_spelled names last four short =
     let starts : List ℕ = starts_from 0 (map with_nul names) in
@@ -134,7 +134,7 @@ entries_fit : (postings : List ℕ) (es : List ListEntry) → AllByRecursion (Is
 entries_fit postings [] all = tt
 entries_fit postings (e ∷ es) all = ((all.0.trigram, all.0.count, all.0.offset), entries_fit postings es all.1)
 
-entries_spelled : (postings : List ℕ) (es : List ListEntry) → AllByRecursion (IsEntry postings) es → entries_in (flat_map entry_bytes es) ≡ es
+pub entries_spelled : (postings : List ℕ) (es : List ListEntry) → AllByRecursion (IsEntry postings) es → entries_in (flat_map entry_bytes es) ≡ es
 unfolding entries_in
 entries_spelled postings es all =
     let bytes : List ℕ = flat_map entry_bytes es in
@@ -162,7 +162,7 @@ all_entries postings (e ∷ es) all =
     last : (g : ℕ) → ltb g 16777215 ≡ false → g < 2 ^ 24 → g ≡ 16777215
     last g f h = let more = ltb-false g 16777215 f in omega (arith, more, h)
 
-list_index_spelled : (postings list_index : List ℕ) (es : List ListEntry) → list_index ≡ flat_map entry_bytes es → AllByRecursion (IsEntry postings) es → Ascends (map (λ (e : ListEntry). e.trigram) es) → is_list_index (length postings) list_index ≡ true
+pub list_index_spelled : (postings list_index : List ℕ) (es : List ListEntry) → list_index ≡ flat_map entry_bytes es → AllByRecursion (IsEntry postings) es → Ascends (map (λ (e : ListEntry). e.trigram) es) → is_list_index (length postings) list_index ≡ true
 unfolding is_list_index
 list_index_spelled postings list_index es is all up =
     let entries : entries_in list_index ≡ es = ap entries_in is ∙ entries_spelled postings es all in
@@ -179,7 +179,7 @@ all_tests s parts paths names name_index list_index is =
     (cond (not (list_index i)) (Err BadListIndex) (Ok (is i))))))
 
 -- a section of names with one NUL more, or without
-tail_of : (section : List ℕ) (names : List (List ℕ)) → (section ≡ strings_section names) ⊎ (section ≡ concat (map with_nul names)) → (closing : List ℕ) × ((closing ≡ []) ⊎ (closing ≡ 0 ∷ [])) × (section ≡ concat (map with_nul names) ++ closing)
+pub tail_of : (section : List ℕ) (names : List (List ℕ)) → (section ≡ strings_section names) ⊎ (section ≡ concat (map with_nul names)) → (closing : List ℕ) × ((closing ≡ []) ⊎ (closing ≡ 0 ∷ [])) × (section ≡ concat (map with_nul names) ++ closing)
 tail_of section names (inl e) = (0 ∷ [], inr refl, e)
 tail_of section names (inr e) = ([], inl refl, e ∙ sym (append-nil (concat (map with_nul names))))
 
@@ -226,15 +226,15 @@ between : List ℕ → ℕ → ℕ → ℕ → ℕ → ℕ → ℕ → Sections
 between bytes a b c d e at = record { paths = slice_range bytes a b; names = slice_range bytes b c; postings = slice_range bytes c d; name_index = slice_range bytes d e; list_index = slice_range bytes e at }
 
 -- places that rise from 16 to the start of the trailer
-record Rise (a b c d e at : ℕ) : Type 0 where
-  first : a ≡ 16
-  ab : a ≤ b
-  bc : b ≤ c
-  cd : c ≤ d
-  de : d ≤ e
-  ea : e ≤ at
+pub record Rise (a b c d e at : ℕ) : Type 0 where
+  pub first : a ≡ 16
+  pub ab : a ≤ b
+  pub bc : b ≤ c
+  pub cd : c ≤ d
+  pub de : d ≤ e
+  pub ea : e ≤ at
 
-rise_from : (a b c d e at : ℕ) → are_starts a b c d e at ≡ true → Rise a b c d e at
+pub rise_from : (a b c d e at : ℕ) → are_starts a b c d e at ≡ true → Rise a b c d e at
 rise_from a b c d e at h =
     let one = and_parts (eqb a 16) _ h in
     let two = and_parts (leb a b) _ one.1 in
@@ -274,11 +274,11 @@ laid_between bytes a b c d e at small rise enough is front end numbers =
     ∙ sym (in_a_row s)
 
 -- Sections that were cut from bytes.
-record CutFrom (bytes : List ℕ) (s : Sections) : Type 0 where
-  laid : bytes ≡ layout s
-  short : length bytes < 2 ^ 32
-  name_index : Small s.name_index
-  list_index : Small s.list_index
+pub record CutFrom (bytes : List ℕ) (s : Sections) : Type 0 where
+  pub laid : bytes ≡ layout s
+  pub short : length bytes < 2 ^ 32
+  pub name_index : Small s.name_index
+  pub list_index : Small s.list_index
 
 five_numbers : (bytes : List ℕ) (at : ℕ) → numbers_from bytes at 5 ≡ number_at bytes at ∷ number_at bytes (at + 4) ∷ number_at bytes (at + 8) ∷ number_at bytes (at + 12) ∷ number_at bytes (at + 16) ∷ []
 five_numbers bytes at =
@@ -287,7 +287,7 @@ five_numbers bytes at =
     let five : at + 4 + 4 + 4 + 4 ≡ at + 16 = omega arith in
     λ i. number_at bytes at ∷ number_at bytes (at + 4) ∷ number_at bytes (three i) ∷ number_at bytes (four i) ∷ number_at bytes (five i) ∷ []
 
-cut_from : (bytes : List ℕ) (s : Sections) → Small bytes → cut_of bytes ≡ Ok s → CutFrom bytes s
+pub cut_from : (bytes : List ℕ) (s : Sections) → Small bytes → cut_of bytes ≡ Ok s → CutFrom bytes s
 unfolding cut_of between
 cut_from bytes s small h =
     let at : ℕ = length bytes - 36 in
@@ -329,11 +329,11 @@ pass_from s parts h =
     record { paths = one.0; names = two.0; name_index = three.0; list_index = four.0; are = let o = four.1 in cc }
 
 -- A name index is the offsets of the names and four bytes.
-record Offsets (bytes : List ℕ) (names : List (List ℕ)) (last : List ℕ) : Type 0 where
-  is : bytes ≡ name_offsets names ++ last
-  four : length last ≡ 4
+pub record Offsets (bytes : List ℕ) (names : List (List ℕ)) (last : List ℕ) : Type 0 where
+  pub is : bytes ≡ name_offsets names ++ last
+  pub four : length last ≡ 4
 
-offsets_read : (bytes : List ℕ) (names : List (List ℕ)) → Small bytes → is_name_index bytes names ≡ true → Offsets bytes names (drop (4 * length names) bytes)
+pub offsets_read : (bytes : List ℕ) (names : List (List ℕ)) → Small bytes → is_name_index bytes names ≡ true → Offsets bytes names (drop (4 * length names) bytes)
 unfolding is_name_index
 offsets_read bytes names small h =
     let starts : List ℕ = starts_from 0 (map with_nul names) in
@@ -375,12 +375,12 @@ entries_read postings bytes at (suc n) small h =
     )
 
 -- A list index is its entries.
-record Listed (postings bytes : List ℕ) : Type 0 where
-  is : bytes ≡ flat_map entry_bytes (entries_in bytes)
-  each : AllByRecursion (IsEntry postings) (entries_in bytes)
-  ascend : Ascends (map (λ (e : ListEntry). e.trigram) (entries_in bytes))
+pub record Listed (postings bytes : List ℕ) : Type 0 where
+  pub is : bytes ≡ flat_map entry_bytes (entries_in bytes)
+  pub each : AllByRecursion (IsEntry postings) (entries_in bytes)
+  pub ascend : Ascends (map (λ (e : ListEntry). e.trigram) (entries_in bytes))
 
-list_index_read : (postings bytes : List ℕ) → Small bytes → is_list_index (length postings) bytes ≡ true → Listed postings bytes
+pub list_index_read : (postings bytes : List ℕ) → Small bytes → is_list_index (length postings) bytes ≡ true → Listed postings bytes
 unfolding is_list_index entries_in
 list_index_read postings bytes small h =
     let n : ℕ = length bytes / 11 in
@@ -395,11 +395,11 @@ list_index_read postings bytes small h =
     }
 
 -- names are read with one NUL more, or without
-record NamesRead (section : List ℕ) : Type 0 where
-  are : (section ≡ strings_section (texts_of section)) ⊎ (section ≡ concat (map with_nul (texts_of section)))
-  each : AllByRecursion IsString (texts_of section)
+pub record NamesRead (section : List ℕ) : Type 0 where
+  pub are : (section ≡ strings_section (texts_of section)) ⊎ (section ≡ concat (map with_nul (texts_of section)))
+  pub each : AllByRecursion IsString (texts_of section)
 
-names_read : (section : List ℕ) → (is_section (0 ∷ []) section || is_section [] section) ≡ true → NamesRead section
+pub names_read : (section : List ℕ) → (is_section (0 ∷ []) section || is_section [] section) ≡ true → NamesRead section
 names_read section h = elim (or_cases (is_section (0 ∷ []) section) (is_section [] section) h) [
   | inl closed ↦ let r = section_read (0 ∷ []) section closed in record { are = inl r.bytes; each = r.each }
   | inr bare ↦ let r = section_read [] section bare in record { are = inr (r.bytes ∙ append-nil (concat (map with_nul (texts_of section)))); each = r.each }

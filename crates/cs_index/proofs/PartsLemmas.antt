@@ -9,7 +9,7 @@ use Rattle.cs_index.specs.Parts.{AreParts}
 use Rattle.cs_index.proofs.OpenLemmas.{name_count, entries_rise}
 use Rattle.cs_index.proofs.TextLemmas.{section_read}
 
-entries_fit : (room : ℕ) (bytes : List ℕ) → is_list_index room bytes ≡ true → list_all (λ (e : ListEntry). is_entry room e) (entries_in bytes) ≡ true
+pub entries_fit : (room : ℕ) (bytes : List ℕ) → is_list_index room bytes ≡ true → list_all (λ (e : ListEntry). is_entry room e) (entries_in bytes) ≡ true
 unfolding is_list_index
 entries_fit room bytes h =
     (and_parts (rises (entries_in bytes)) (list_all (is_entry room) (entries_in bytes)) (and_parts (eqb (length bytes % 11) 0) (rises (entries_in bytes) && list_all (is_entry room) (entries_in bytes)) h).1).1

@@ -13,4 +13,5 @@ mod strings;
 mod varint;
 
 pub use builder::Builder;
+pub(crate) use numbers::lay_entry;
 pub use sections::Sections;

@@ -68,7 +68,7 @@ fn cut_there<'a>(bytes: &'a [u8], at: usize) -> Result<Cut<'a>, IndexFault>
 }
 
 /// Whether the places rise from 16 on.
-fn rise(a: usize, b: usize, c: usize, d: usize, e: usize, trailer: usize) -> bool
+pub(crate) fn rise(a: usize, b: usize, c: usize, d: usize, e: usize, trailer: usize) -> bool
     ensures value { result ≡ are_starts a b c d e trailer }
     ensures rise { IsTrue result → (a ≤ b) × (b ≤ c) × (c ≤ d) × (d ≤ e) × (e ≤ trailer) }
 {

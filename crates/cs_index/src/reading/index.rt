@@ -1,5 +1,5 @@
 // The reader of an index.
-ghost use Rattle.std.specs.Prelude.{◌≡◌, ◌==◌, ◌<◌, ◌^◌, length, slice_get, option_map};
+ghost use Rattle.std.specs.Prelude.{◌≡◌, ◌==◌, ◌<◌, ◌^◌, ℕ, List, Err, IfOk, IfErr, length, slice_get, option_map};
 ghost use Rattle.cs_index.specs.Postings.{entry_of};
 ghost use Rattle.cs_tree.specs.NameOrder.{are_ascending};
 ghost use Rattle.cs_index.specs.SectionsRead.{IsRead};
@@ -8,6 +8,7 @@ ghost use Rattle.cs_index.specs.Image.{ListEntry};
 ghost use Rattle.cs_index.specs.Opening.{ids_read, opening, read_sections};
 ghost use Rattle.cs_index.specs.Cut.{lent_sections};
 ghost use Rattle.cs_index.specs.Parts.{AreParts};
+ghost use Rattle.cs_index.specs.Starts.{AreRead, with_lists};
 
 use crate::fault::IndexFault;
 use crate::reading::bytes::{ascend, is_closed, is_complete, read_number, read_trigram};
@@ -152,17 +153,38 @@ fn read<'a>(cut: Cut<'a>) -> Result<Index<'a>, IndexFault>
     requires lists { length cut.list_index.now < 2 ^ 32 }
     ensures { result ≡ read_sections (lent_sections cut.entry) }
 {
-    if !is_closed(cut.paths) {
-        return Err(IndexFault::BadPaths);
-    }
-    if !is_complete(cut.names) {
-        return Err(IndexFault::BadNames);
-    }
-    if !has_offsets(cut.name_index, cut.names) {
-        return Err(IndexFault::BadNameIndex);
-    }
-    if !has_entries(cut.list_index, cut.postings.len()) {
-        return Err(IndexFault::BadListIndex);
+    let room = cut.postings.len();
+    if let Err(fault) = test_sections(cut.paths, cut.names, cut.name_index, cut.list_index, room) {
+        return Err(fault);
     }
     Ok(Index { cut })
+}
+
+/// Tests the sections in their order. Of the lists the length is enough.
+pub(crate) fn test_sections(
+    paths: &[u8],
+    names: &[u8],
+    name_index: &[u8],
+    list_index: &[u8],
+    room: usize,
+) -> Result<(), IndexFault>
+    ensures read { IfOk result
+        (λ _. AreRead paths.now names.now name_index.now list_index.now room) }
+    ensures fault { IfErr result (λ fault. (postings : List ℕ) → length postings ≡ room →
+        read_sections (with_lists paths.now names.now name_index.now list_index.now postings)
+        ≡ Err fault) }
+{
+    if !is_closed(paths) {
+        return Err(IndexFault::BadPaths);
+    }
+    if !is_complete(names) {
+        return Err(IndexFault::BadNames);
+    }
+    if !has_offsets(name_index, names) {
+        return Err(IndexFault::BadNameIndex);
+    }
+    if !has_entries(list_index, room) {
+        return Err(IndexFault::BadListIndex);
+    }
+    Ok(())
 }

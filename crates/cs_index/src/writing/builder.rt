@@ -1,6 +1,7 @@
 // The writer of an index.
 ghost use Rattle.std.specs.Prelude.{◌≡◌, ◌≢◌, ◌<◌, ◌≤◌, ◌^◌, ◌⊎◌, ◌↔◌, [], List, ℕ, true, false, length, map, string_bytes, Err, IfOk, IfErr, OnOk, OnErr};
 ghost use Rattle.cs_trigram.specs.Trigram.{set_of_numbers, Ascends, closing_trigram};
+ghost use Rattle.cs_trigram.specs.Scans.{AreTrigramsOnce};
 ghost use Rattle.std.specs.List.{AllByRecursion};
 ghost use Rattle.cs_index.specs.Image.{image, image_of, names_of};
 ghost use Rattle.cs_index.specs.Gathering.{lists_of, AreDistinct, HaveLists};
@@ -68,12 +69,11 @@ impl Builder {
         })
     }
 
-    /// Adds a name with the trigrams of its text, and answers its id. A refused call changes
-    /// nothing.
+    /// Adds a name with the trigrams of its text, each once and in any order, and answers its id. A
+    /// refused call changes nothing.
     pub fn add(&mut self, name: &str, trigrams: &[u32]) -> Result<u32, BuildFault>
-        requires ascending { Ascends trigrams.now }
-        requires below { AllByRecursion (λ g. g < closing_trigram) trigrams.now }
-        ensures ok { OnOk result (self.new ≡ with_name self.old name.now trigrams.now) }
+        requires once { AreTrigramsOnce trigrams.now }
+        ensures ok { OnOk result (self.new ≡ with_name self.old name.now (set_of_numbers trigrams.now)) }
         ensures id { IfOk result (λ id. id ≡ length self.old.entries) }
         ensures bad_name { (result ≡ Err BuildFault.BadName) ↔ (is_storable name.now ≡ false) }
         ensures out_of_order { (result ≡ Err BuildFault.OutOfOrder) ↔
@@ -119,10 +119,9 @@ impl Builder {
 
     /// Adds a name where there are fewer than a number of them: `add` with a limit of the caller's own.
     pub fn add_within(&mut self, most: u32, name: &str, trigrams: &[u32]) -> Result<u32, BuildFault>
-        requires ascending { Ascends trigrams.now }
-        requires below { AllByRecursion (λ g. g < closing_trigram) trigrams.now }
+        requires once { AreTrigramsOnce trigrams.now }
         requires few { most ≤ most_names }
-        ensures ok { OnOk result (self.new ≡ with_name self.old name.now trigrams.now) }
+        ensures ok { OnOk result (self.new ≡ with_name self.old name.now (set_of_numbers trigrams.now)) }
         ensures id { IfOk result (λ id. id ≡ length self.old.entries) }
         ensures bad_name { (result ≡ Err BuildFault.BadName) ↔ (is_storable name.now ≡ false) }
         ensures out_of_order { (result ≡ Err BuildFault.OutOfOrder) ↔

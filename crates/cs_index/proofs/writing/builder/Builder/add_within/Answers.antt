@@ -1,11 +1,8 @@
-use Rattle.std.proofs.Common.{◌∙◌, ap}
-use Rattle.cs_index.specs.Built.{with_name}
-use Rattle.cs_index.proofs.KeyLemmas.{ascends_distinct, set_is}
+use Rattle.cs_index.proofs.KeyLemmas.{once_distinct, once_below}
 use Rattle.cs_index.proofs.writing.builder.Builder.add_within.Goals as goal
 
 pub add_above-requires-clause-distinct : goal.add_above-requires-clause-distinct
-add_above-requires-clause-distinct c = ascends_distinct c.args.trigrams.now c.requires.ascending
+add_above-requires-clause-distinct c = once_distinct c.args.trigrams.now c.requires.once
 
-pub returns-clause-ok : goal.returns-clause-ok
-returns-clause-ok c = c.in_ok-add_above.ensures.ok
-    ∙ ap (with_name c.args.self.now c.args.name.now) (set_is c.args.trigrams.now c.requires.ascending)
+pub add_above-requires-clause-below : goal.add_above-requires-clause-below
+add_above-requires-clause-below c = once_below c.args.trigrams.now c.requires.once

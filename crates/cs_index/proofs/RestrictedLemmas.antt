@@ -1,0 +1,70 @@
+-- The index whose lists were copied.
+use Rattle.std.proofs.Common.{◌≡◌, ℕ, suc, ◌<◌, ◌≤◌, ◌^◌, true, List, [], ◌∷◌, length, map, drop, refl, ap, subst, ◌∙◌, arith, length-drop}
+use Rattle.std.proofs.lemmas.List.{length-take-le}
+use Rattle.std.specs.List.{AllByRecursion, list_all}
+use Rattle.cs_tree.specs.Store.{part_of}
+use Rattle.cs_trigram.specs.Trigram.{Ascends}
+use Rattle.cs_trigram.specs.declared.queries.Query.{Query}
+use Rattle.cs_trigram.proofs.SetLemmas.{ascends-short}
+use Rattle.cs_index.specs.Candidates.{asks_for}
+use Rattle.cs_index.specs.Image.{ListEntry}
+use Rattle.cs_index.specs.Opening.{entries_in, is_entry, is_list_index, parts_of, texts_of}
+use Rattle.cs_index.specs.SectionsRead.{IsRead}
+use Rattle.cs_index.specs.Spelling.{IsEntry}
+use Rattle.cs_index.specs.Starts.{AreRead, with_lists}
+use Rattle.cs_index.specs.Stored.{Held, LiesBefore, whole_of}
+use Rattle.cs_index.specs.Restriction.{AnswersAs}
+use Rattle.cs_index.specs.Copies.{AreEntries, HasCopy}
+use Rattle.cs_index.proofs.CopiesLemmas.{copies_read}
+use Rattle.cs_index.proofs.OpenedLemmas.{list_index_spelled}
+use Rattle.cs_index.proofs.OpenLemmas.{entries_rise}
+use Rattle.cs_index.proofs.PartsLemmas.{entries_fit}
+use Rattle.cs_index.proofs.PlaceLemmas.{length-entries}
+use Rattle.cs_index.proofs.RestrictionLemmas.{answers_as}
+
+small_trigrams : (postings : List ℕ) (es : List ListEntry) → AllByRecursion (IsEntry postings) es → AllByRecursion (λ g. g < 2 ^ 24) (map (λ (e : ListEntry). e.trigram) es)
+small_trigrams postings [] all = tt
+small_trigrams postings (e ∷ es) all = (all.0.trigram, small_trigrams postings es all.1)
+
+length-trigrams : (es : List ListEntry) → length (map (λ (e : ListEntry). e.trigram) es) ≡ length es
+length-trigrams [] = refl
+length-trigrams (e ∷ es) = ap suc (length-trigrams es)
+
+few_entries : (postings : List ℕ) (es : List ListEntry) → AllByRecursion (IsEntry postings) es → Ascends (map (λ (e : ListEntry). e.trigram) es) → length es ≤ 2 ^ 24
+few_entries postings [] all up = omega arith
+few_entries postings (e ∷ es) all up =
+    let short = ascends-short e.trigram (map (λ (d : ListEntry). d.trigram) es) (2 ^ 24) up (small_trigrams postings (e ∷ es) all) in
+    let long = length-trigrams es in
+    omega (arith, short, long)
+
+module _ (p n i l list_index postings : List ℕ) (start room : ℕ) (read : AreRead p n i l room) (are : AreEntries list_index postings) where
+  entries_are : is_list_index (length postings) list_index ≡ true
+  entries_are = list_index_spelled postings list_index (entries_in list_index) are.laid are.each are.ascend
+
+  pub made_read : length i < 2 ^ 32 → IsRead (with_lists p n i list_index postings)
+  made_read few = record {
+    paths = read.each_path;
+    names = read.each_name;
+    name_index = read.offsets;
+    list_index = entries_are;
+    few_names = few;
+    few_lists = let a = ap length are.laid in let b = length-entries (entries_in list_index) in let d = few_entries postings (entries_in list_index) are.each are.ascend in omega (arith, a, b, d);
+  }
+
+  abbrev held : Held
+  held = record { paths = texts_of p; names = texts_of n; entries = entries_in l; start = start; room = room }
+
+  answers : (query : Query) (bytes : List ℕ) → ((g : ℕ) → asks_for query g ≡ true → HasCopy (part_of bytes start room) (entries_in l) postings (entries_in list_index) g) → LiesBefore held (length bytes)
+      → AnswersAs query (whole_of bytes held) (parts_of (with_lists p n i list_index postings))
+  answers query bytes copies within =
+      let d = length-drop start bytes in
+      let long : length (part_of bytes start room) ≡ room = length-take-le room (drop start bytes) (omega (arith, d, within)) in
+      let fit : list_all (λ (e : ListEntry). is_entry (length (part_of bytes start room)) e) (entries_in l) ≡ true = ap (λ k. list_all (λ (e : ListEntry). is_entry k e) (entries_in l)) long ∙ entries_fit room l read.entries in
+      answers_as (whole_of bytes held) (parts_of (with_lists p n i list_index postings)) (entries_rise room l read.entries) (entries_rise (length postings) list_index entries_are) query refl refl
+      (λ g asks. copies_read (whole_of bytes held) (parts_of (with_lists p n i list_index postings)) g refl fit (copies g asks))
+
+  pub answers_held : (query : Query) (bytes : List ℕ) (now : Held) → held ≡ now → ((g : ℕ) → asks_for query g ≡ true → HasCopy (part_of bytes now.start now.room) now.entries postings (entries_in list_index) g) → LiesBefore now (length bytes)
+      → AnswersAs query (whole_of bytes now) (parts_of (with_lists p n i list_index postings))
+  answers_held query bytes now is =
+      subst (λ (h : Held). ((g : ℕ) → asks_for query g ≡ true → HasCopy (part_of bytes h.start h.room) h.entries postings (entries_in list_index) g) → LiesBefore h (length bytes) → AnswersAs query (whole_of bytes h) (parts_of (with_lists p n i list_index postings))) is
+      (answers query bytes)

@@ -1,0 +1,109 @@
+-- What a query answers depends on the lists that it asks for alone.
+use Rattle.std.proofs.Common.{◌≡◌, ℕ, Bool, true, false, ◌&&◌, ◌||◌, List, [], ◌∷◌, length, map, Vec, Global, refl, sym, ap, subst, ◌∙◌}
+use Rattle.std.proofs.lemmas.Bool.{eq-eqb, or_left}
+use Rattle.std.specs.List.{list_all, list_any, range_with_len}
+use Rattle.std.specs.Prelude.{filter}
+use Rattle.cs_trigram.specs.Trigram.{has}
+use Rattle.cs_trigram.specs.declared.queries.Query.{Query, Query-F, map-Query, roll-Query, ind-Query}
+use Rattle.cs_trigram.specs.declared.queries.Query.TheVariants.{All, Nothing, Tri, And, Or, rolls-All, rolls-Nothing, rolls-Tri, rolls-And, rolls-Or}
+use Rattle.cs_index.specs.PostingLists.{Ids}
+use Rattle.cs_index.specs.Opening.{Parts, rises, whole_ids}
+use Rattle.cs_index.specs.Candidates.{asks_for, is_answerable, meets}
+use Rattle.cs_index.specs.Sifting.{read_for}
+use Rattle.cs_index.specs.Restriction.{AnswersAs, ReadAlike}
+use Rattle.cs_index.proofs.AskedLemmas.{asks-And, asks-Or, asks-Tri, holds-All, holds-And, holds-Nothing, holds-Or, holds-Tri, set_is, candidates_are, answerable-All, answerable-And, answerable-Nothing, answerable-Or, answerable-Tri}
+
+module _ (whole part : Parts) (up : rises whole.entries ≡ true) (up' : rises part.entries ≡ true) where
+  -- the query is answered alike, by each name and of each list
+  record Alike (query : Query) : Type 0 where
+    meets : (id : ℕ) → meets part query id ≡ meets whole query id
+    answerable : is_answerable part query ≡ is_answerable whole query
+
+  abbrev AlikeIf : Query → Type 0
+  AlikeIf query = ReadAlike query whole part → Alike query
+
+  abbrev Member : Type 0
+  Member = (query : Query) × AlikeIf query
+
+  abbrev queries : List Member → List Query
+  queries = map (λ (m : Member). m.0)
+
+  -- what some member asks for is read alike
+  abbrev ReadAll : List Query → Type 0
+  ReadAll ms = (g : ℕ) → list_any (λ q. asks_for q g) ms ≡ true → read_for part g ≡ read_for whole g
+
+  later : (a b : Bool) → b ≡ true → (a || b) ≡ true
+  later true b e = refl
+  later false b e = e
+
+  first : (m : Member) (ms : List Member) → ReadAll (queries (m ∷ ms)) → Alike m.0
+  first m ms read = m.1 (λ g asks. read g (or_left (asks_for m.0 g) (list_any (λ q. asks_for q g) (queries ms)) asks))
+
+  rest : (m : Member) (ms : List Member) → ReadAll (queries (m ∷ ms)) → ReadAll (queries ms)
+  rest m ms read g asks = read g (later (asks_for m.0 g) (list_any (λ q. asks_for q g) (queries ms)) asks)
+
+  each_meets : (ms : List Member) → ReadAll (queries ms) → (id : ℕ) → list_all (λ q. meets part q id) (queries ms) ≡ list_all (λ q. meets whole q id) (queries ms)
+  each_meets [] read id = refl
+  each_meets (m ∷ ms) read id = λ i. (first m ms read).meets id i && each_meets ms (rest m ms read) id i
+
+  some_meets : (ms : List Member) → ReadAll (queries ms) → (id : ℕ) → list_any (λ q. meets part q id) (queries ms) ≡ list_any (λ q. meets whole q id) (queries ms)
+  some_meets [] read id = refl
+  some_meets (m ∷ ms) read id = λ i. (first m ms read).meets id i || some_meets ms (rest m ms read) id i
+
+  each_answerable : (ms : List Member) → ReadAll (queries ms) → list_all (is_answerable part) (queries ms) ≡ list_all (is_answerable whole) (queries ms)
+  each_answerable [] read = refl
+  each_answerable (m ∷ ms) read = λ i. (first m ms read).answerable i && each_answerable ms (rest m ms read) i
+
+  alike_All : Alike All
+  alike_All = record {
+    meets = λ id. holds-All _ ∙ sym (holds-All _);
+    answerable = answerable-All part ∙ sym (answerable-All whole);
+  }
+
+  alike_Nothing : Alike Nothing
+  alike_Nothing = record {
+    meets = λ id. holds-Nothing _ ∙ sym (holds-Nothing _);
+    answerable = answerable-Nothing part ∙ sym (answerable-Nothing whole);
+  }
+
+  alike_Tri : (n : ℕ) → AlikeIf (Tri n)
+  alike_Tri n read =
+      let same : read_for part n ≡ read_for whole n = read n (asks-Tri n n ∙ eq-eqb n n refl) in
+      record {
+        meets = λ id. holds-Tri _ n ∙ set_is part up' n id ∙ ap (λ (r : Ids). has (whole_ids r) id) same ∙ sym (set_is whole up n id) ∙ sym (holds-Tri _ n);
+        answerable = answerable-Tri part up' n ∙ ap (λ (r : Ids). r.whole) same ∙ sym (answerable-Tri whole up n);
+      }
+
+  alike_And : (vs : Vec Query Global) (ms : List Member) → queries ms ≡ vs.items → AlikeIf (And vs)
+  alike_And vs ms are read =
+      let all : ReadAll (queries ms) = λ g asks. read g (asks-And g vs ∙ ap (list_any (λ q. asks_for q g)) (sym are) ∙ asks) in
+      record {
+        meets = λ id. holds-And _ vs ∙ ap (list_all (λ q. meets part q id)) (sym are) ∙ each_meets ms all id ∙ ap (list_all (λ q. meets whole q id)) are ∙ sym (holds-And _ vs);
+        answerable = answerable-And part vs ∙ ap (list_all (is_answerable part)) (sym are) ∙ each_answerable ms all ∙ ap (list_all (is_answerable whole)) are ∙ sym (answerable-And whole vs);
+      }
+
+  alike_Or : (vs : Vec Query Global) (ms : List Member) → queries ms ≡ vs.items → AlikeIf (Or vs)
+  alike_Or vs ms are read =
+      let all : ReadAll (queries ms) = λ g asks. read g (asks-Or g vs ∙ ap (list_any (λ q. asks_for q g)) (sym are) ∙ asks) in
+      record {
+        meets = λ id. holds-Or _ vs ∙ ap (list_any (λ q. meets part q id)) (sym are) ∙ some_meets ms all id ∙ ap (list_any (λ q. meets whole q id)) are ∙ sym (holds-Or _ vs);
+        answerable = answerable-Or part vs ∙ ap (list_all (is_answerable part)) (sym are) ∙ each_answerable ms all ∙ ap (list_all (is_answerable whole)) are ∙ sym (answerable-Or whole vs);
+      }
+
+  alike_rolled : (y : Query-F Member) → AlikeIf (roll-Query (map-Query Member Query (λ (m : Member). m.0) y))
+  alike_rolled Query-F.All = subst AlikeIf (sym rolls-All) (λ read. alike_All)
+  alike_rolled Query-F.Nothing = subst AlikeIf (sym rolls-Nothing) (λ read. alike_Nothing)
+  alike_rolled (Query-F.Tri n) = subst AlikeIf (sym (rolls-Tri n)) (alike_Tri n)
+  alike_rolled (Query-F.And ms) = subst AlikeIf (sym (rolls-And _)) (alike_And _ ms.items refl)
+  alike_rolled (Query-F.Or ms) = subst AlikeIf (sym (rolls-Or _)) (alike_Or _ ms.items refl)
+
+  alike : (query : Query) → AlikeIf query
+  alike = ind-Query AlikeIf (λ x y is. subst (λ z. AlikeIf (roll-Query z)) is (alike_rolled y))
+
+  pub answers_as : (query : Query) → part.paths ≡ whole.paths → part.names ≡ whole.names → ReadAlike query whole part → AnswersAs query whole part
+  answers_as query paths names read = record {
+    paths = paths;
+    names = names;
+    candidates = candidates_are part query ∙ (λ i. filter (λ id. (alike query read).meets id i) (range_with_len 0 (length (names i)))) ∙ sym (candidates_are whole query);
+    answerable = (alike query read).answerable;
+  }

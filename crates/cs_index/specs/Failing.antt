@@ -1,0 +1,77 @@
+-- Why bytes do not open: the first thing of an index that they do not have.
+-- docs/FORMAT.md, "The index as it is read".
+use Rattle.std.specs.Prelude.{◌≡◌, ℕ, ◌<◌, ◌≤◌, ◌^◌, ◌⊎◌, List, ◌++◌, length, map, flat_map}
+use Rattle.std.specs.List.{AllByRecursion}
+use Rattle.cs_trigram.specs.Trigram.{Ascends}
+use Rattle.cs_index.specs.Image.{concat, with_nul, strings_section, Sections, magic, trailer_magic, layout, ListEntry, entry_bytes, name_offsets, IsString}
+use Rattle.cs_index.specs.Spelling.{IsEntry}
+use Rattle.cs_index.specs.declared.fault.IndexFault.{IndexFault}
+use Rattle.cs_index.specs.declared.fault.IndexFault.TheVariants.{BadMagic, BadTrailer, BadOffsets, BadPaths, BadNames, BadNameIndex, BadListIndex, BadList, Memory}
+
+abbrev pub HasMagic : List ℕ → Type 0
+HasMagic bytes = (rest : List ℕ) × (bytes ≡ magic ++ rest)
+
+-- They end as an index does, with room for an empty one, and 32 bits count them.
+pub record HasTrailer (bytes : List ℕ) : Type 0 where
+  pub front : List ℕ
+  pub ends : bytes ≡ front ++ trailer_magic
+  pub room : 52 ≤ length bytes
+  pub short : length bytes < 2 ^ 32
+
+-- the bytes are these sections, laid out
+pub record AreLaid (bytes : List ℕ) (s : Sections) : Type 0 where
+  pub laid : bytes ≡ layout s
+  pub short : length bytes < 2 ^ 32
+
+-- strings, each with its NUL, and one NUL behind them
+abbrev pub ArePaths : List (List ℕ) → List ℕ → Type 0
+ArePaths paths section = AllByRecursion IsString paths × (section ≡ strings_section paths)
+
+-- the NUL behind them may be missing
+abbrev pub AreNames : List (List ℕ) → List ℕ → Type 0
+AreNames names section =
+    AllByRecursion IsString names
+    × ((section ≡ strings_section names) ⊎ (section ≡ concat (map with_nul names)))
+
+-- where each name begins, and any four bytes
+abbrev pub AreOffsets : List (List ℕ) → List ℕ → Type 0
+AreOffsets names section =
+    (last : List ℕ) × (length last ≡ 4) × (section ≡ name_offsets names ++ last)
+
+-- entries of ascending trigrams, each with room for its list
+abbrev pub AreEntries : List ℕ → List ListEntry → List ℕ → Type 0
+AreEntries postings entries section =
+    AllByRecursion (IsEntry postings) entries
+    × Ascends (map (λ (e : ListEntry). e.trigram) entries)
+    × (section ≡ flat_map entry_bytes entries)
+
+-- the sections of the bytes, where the first of them has paths
+pub record HavePaths (bytes : List ℕ) : Type 0 where
+  pub sections : Sections
+  pub are_laid : AreLaid bytes sections
+  pub paths : List (List ℕ)
+  pub are_paths : ArePaths paths sections.paths
+
+-- and the second has names
+pub record HaveNames (bytes : List ℕ) : Type 0 where
+  pub above : HavePaths bytes
+  pub names : List (List ℕ)
+  pub are_names : AreNames names above.sections.names
+
+-- What comes before is there, and this is not.
+abbrev pub Fails : List ℕ → IndexFault → Type 0
+Fails bytes BadMagic = ¬ (HasMagic bytes)
+Fails bytes BadTrailer = HasMagic bytes × ¬ (HasTrailer bytes)
+Fails bytes BadOffsets = HasMagic bytes × HasTrailer bytes × ((s : Sections) → ¬ (AreLaid bytes s))
+Fails bytes BadPaths =
+    (s : Sections) × AreLaid bytes s × ((paths : List (List ℕ)) → ¬ (ArePaths paths s.paths))
+Fails bytes BadNames =
+    (h : HavePaths bytes) × ((names : List (List ℕ)) → ¬ (AreNames names h.sections.names))
+Fails bytes BadNameIndex =
+    (h : HaveNames bytes) × ¬ (AreOffsets h.names h.above.sections.name_index)
+Fails bytes BadListIndex =
+    (h : HaveNames bytes) × AreOffsets h.names h.above.sections.name_index
+    × ((entries : List ListEntry) →
+    ¬ (AreEntries h.above.sections.postings entries h.above.sections.list_index))
+Fails bytes BadList = ⊥
+Fails bytes Memory = ⊥

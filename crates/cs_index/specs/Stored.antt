@@ -1,0 +1,33 @@
+-- An index that lies in a store: what of it is held in memory, and which index that is with the bytes of the store.
+-- docs/FORMAT.md, "The index as it is read".
+use Rattle.std.specs.Prelude.{◌≡◌, ◌≤◌, ℕ, ◌+◌, List, length, Result, Ok, Err}
+use Rattle.cs_tree.specs.Store.{part_of}
+use Rattle.cs_index.specs.declared.fault.IndexFault.{IndexFault}
+use Rattle.cs_index.specs.Image.{ListEntry, Sections}
+use Rattle.cs_index.specs.Opening.{Parts, opening, read_sections}
+
+-- Paths, names and entries; where the section of the lists begins, and how long it is.
+pub record Held : Type 0 where
+  pub paths : List (List ℕ)
+  pub names : List (List ℕ)
+  pub entries : List ListEntry
+  pub start : ℕ
+  pub room : ℕ
+
+-- the index that this is part of, where the lists lie in these bytes
+abbrev pub whole_of : List ℕ → Held → Parts
+whole_of bytes held = record { paths = held.paths; names = held.names; entries = held.entries; postings = part_of bytes held.start held.room }
+
+-- the lists end at this place or before it
+abbrev pub LiesBefore : Held → ℕ → Type 0
+LiesBefore held end = held.start + held.room ≤ end
+
+-- Sections of bytes are read as that index, or have that fault.
+abbrev pub ReadsAs : List ℕ → Sections → Result Held IndexFault → Type 0
+ReadsAs bytes sections (Ok held) = read_sections sections ≡ Ok (whole_of bytes held)
+ReadsAs bytes sections (Err fault) = read_sections sections ≡ Err fault
+
+-- Bytes open as that index, or have that fault.
+abbrev pub OpensAs : List ℕ → Result Held IndexFault → Type 0
+OpensAs bytes (Ok held) = (opening bytes ≡ Ok (whole_of bytes held)) × LiesBefore held (length bytes)
+OpensAs bytes (Err fault) = opening bytes ≡ Err fault

@@ -1,0 +1,117 @@
+// An index that lies in a store: what of it is held in memory.
+ghost use Rattle.std.specs.Prelude.{◌≡◌, ◌≤◌, ◌<◌, ◌^◌, length, IfOk, IfSome};
+ghost use Rattle.cs_tree.specs.Failures.{count_after};
+ghost use Rattle.cs_tree.specs.Transfers.{is_io_failure};
+ghost use Rattle.cs_index.specs.Starts.{AreInOrder, sections_at};
+ghost use Rattle.cs_index.specs.Stored.{LiesBefore, OpensAs, ReadsAs};
+
+use crate::fault::IndexFault;
+use crate::reading::index::test_sections;
+use crate::reading::starts::{Starts, find_starts};
+use crate::reading::texts::Texts;
+use cs_tree::{IoFault, Store, read_part};
+use std::alloc::Global;
+use std::marker::Model;
+
+/// An index that lies in a store. Its paths, its names and the entries of its lists are held in
+/// memory; the lists are not.
+#[derive(Drop)]
+pub struct StoredIndex {
+    pub(crate) paths: Vec<u8>,
+    pub(crate) names: Vec<u8>,
+    pub(crate) name_index: Vec<u8>,
+    pub(crate) list_index: Vec<u8>,
+    pub(crate) start: usize,
+    pub(crate) room: usize,
+}
+
+impl Model for StoredIndex {
+    ghost use Rattle.cs_index.specs.Stored.{Held};
+
+    ghost Value = { Held };
+
+    ghost use Rattle.std.specs.Prelude.{◌<◌, ◌^◌, ◌+◌, length};
+    ghost use Rattle.cs_index.specs.Opening.{entries_in, texts_of};
+    ghost use Rattle.cs_index.specs.Starts.{AreRead};
+
+    ghost view = { λ s. record {
+      paths = texts_of s.paths.items;
+      names = texts_of s.names.items;
+      entries = entries_in s.list_index.items;
+      start = s.start;
+      room = s.room;
+    } };
+
+    ghost invariant = { λ s.
+        AreRead s.paths.items s.names.items s.name_index.items s.list_index.items s.room
+        × (length s.name_index.items < 2 ^ 32) × (length s.list_index.items < 2 ^ 32)
+        × (s.start + s.room < 2 ^ 32) };
+}
+
+impl StoredIndex {
+    /// Opens the index that lies in a store, by the tests that `Index::open` makes, in their order.
+    /// No list is read.
+    pub fn open<S: Store>(
+        alloc: Global,
+        store: &mut S,
+    ) -> Result<Result<StoredIndex, IndexFault>, IoFault>
+        ensures opens { IfSome (S.told store.old) (λ bytes. IfOk result (OpensAs bytes)) }
+        ensures keeps { S.told store.new ≡ S.told store.old }
+        ensures size { S.size store.new ≡ S.size store.old }
+        ensures failed { S.failed store.new
+            ≡ count_after is_io_failure result (S.failed store.old) }
+    {
+        match find_starts(alloc, store)? {
+            Ok(starts) => read_stored(alloc, store, starts),
+            Err(fault) => Ok(Err(fault)),
+        }
+    }
+
+    /// The paths, in their order.
+    pub fn paths(&self) -> Texts<'_>
+        ensures { result ≡ self.now.paths }
+    {
+        Texts::new(&self.paths)
+    }
+}
+
+/// Reads the sections but the lists, and tests them.
+fn read_stored<S: Store>(
+    alloc: Global,
+    store: &mut S,
+    starts: Starts,
+) -> Result<Result<StoredIndex, IndexFault>, IoFault>
+    requires { AreInOrder starts }
+    ensures reads { IfSome (S.told store.old)
+        (λ bytes. starts.trailer ≤ length bytes →
+        IfOk result (ReadsAs bytes (sections_at bytes starts))) }
+    ensures within { IfOk result (λ answer. IfOk answer (λ held. LiesBefore held starts.trailer)) }
+    ensures keeps { S.told store.new ≡ S.told store.old }
+    ensures size { S.size store.new ≡ S.size store.old }
+    ensures failed { S.failed store.new ≡ count_after is_io_failure result (S.failed store.old) }
+{
+    let Starts {
+        paths,
+        names,
+        postings,
+        name_index,
+        list_index,
+        trailer,
+    } = starts;
+    let room = name_index - postings;
+    let path_bytes = read_part(alloc, store, paths, names - paths)?;
+    let name_bytes = read_part(alloc, store, names, postings - names)?;
+    let name_index = read_part(alloc, store, name_index, list_index - name_index)?;
+    let list_index = read_part(alloc, store, list_index, trailer - list_index)?;
+    if let Err(fault) = test_sections(&path_bytes, &name_bytes, &name_index, &list_index, room) {
+        return Ok(Err(fault));
+    }
+    Ok(Ok(StoredIndex {
+        paths: path_bytes,
+        names: name_bytes,
+        name_index,
+        list_index,
+        start: postings,
+        room,
+    }))
+}

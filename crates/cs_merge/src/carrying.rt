@@ -25,7 +25,10 @@ impl<'a, 'b> Model for Carried<'a, 'b> {
 
     ghost Value = { Ids };
 
-    ghost view = { λ s. record { ids = cons_option s.first (renumbered s.new_ids.now s.rest.ids); whole = s.rest.whole } };
+    ghost view = { λ s. record {
+      ids = cons_option s.first (renumbered s.new_ids.now s.rest.ids);
+      whole = s.rest.whole;
+    } };
 
     ghost invariant = { λ s. s.first ≡ None → (s.rest.ids ≡ []) × (s.rest.whole ≡ true) };
 }
@@ -67,7 +70,8 @@ impl<'a, 'b> Carried<'a, 'b> {
     /// Passes the id, if it is the first one.
     pub(crate) fn pass(&mut self, id: u32) -> Result<(), IndexFault>
         ensures ok { OnOk result (self.new ≡ ids_after id self.old) }
-        ensures fault { IfErr result (λ fault. (fault ≡ IndexFault.BadList) × (self.old.whole ≡ false)) }
+        ensures fault { IfErr result
+            (λ fault. (fault ≡ IndexFault.BadList) × (self.old.whole ≡ false)) }
     {
         if self.first == Some(id) {
             self.first = next_kept(&mut self.rest, self.new_ids)?;
@@ -79,10 +83,12 @@ impl<'a, 'b> Carried<'a, 'b> {
 /// The new id of the next one that is kept.
 fn next_kept(ids: &mut Postings<'_>, new_ids: &Renumbering) -> Result<Option<u32>, IndexFault>
     ensures ids { IfOk result (λ next.
-        cons_option next (renumbered new_ids.now ids.new.ids) ≡ renumbered new_ids.now ids.old.ids) }
+        cons_option next (renumbered new_ids.now ids.new.ids)
+        ≡ renumbered new_ids.now ids.old.ids) }
     ensures whole { OnOk result (ids.new.whole ≡ ids.old.whole) }
     ensures end { IfOk result (λ next. next ≡ None → (ids.new.ids ≡ []) × (ids.new.whole ≡ true)) }
-    ensures fault { IfErr result (λ fault. (fault ≡ IndexFault.BadList) × (ids.old.whole ≡ false)) }
+    ensures fault { IfErr result
+        (λ fault. (fault ≡ IndexFault.BadList) × (ids.old.whole ≡ false)) }
 {
     'ids: while let Some(told) = ids.next() {
         let Ok(id) = told else {

@@ -66,7 +66,8 @@ fn take_list<'a, 'b>(
     ensures place { OnOk result (place.new ≡ place_after index.now place.old trigram) }
     ensures ids { MatchResult result
         (λ ids. ids ≡ renumbered_ids new_ids.now (list_ids index.now place.old trigram))
-        (λ fault. (fault ≡ IndexFault.BadList) × ((list_ids index.now place.old trigram).whole ≡ false)) }
+        (λ fault. (fault ≡ IndexFault.BadList)
+        × ((list_ids index.now place.old trigram).whole ≡ false)) }
 {
     if *place < index.lists() {
         if let Some((found, ids)) = index.list_at(*place) {
@@ -90,7 +91,8 @@ fn lay_list(
     requires older_rise { RiseWithin (length sections.old.names) 0 older.ids }
     requires newer_rise { RiseWithin (length sections.old.names) 0 newer.ids }
     requires below { (trigram < closing_trigram) ⊎ ((older.ids ≡ []) × (newer.ids ≡ [])) }
-    ensures ok { OnOk result (IsGiven trigram sections.old sections.new older.entry.ids newer.entry.ids [] []) }
+    ensures ok { OnOk result
+        (IsGiven trigram sections.old sections.new older.entry.ids newer.entry.ids [] []) }
     ensures fault { MatchResult result (λ _. (older.entry.whole && newer.entry.whole) ≡ true)
         (IsListFault (older.entry.whole && newer.entry.whole)) }
 {

@@ -29,7 +29,8 @@ pub(crate) fn lay_names(
     requires tested { AreTested old.now newer.now }
     requires unnamed { sections.old.names ≡ [] }
     requires unlisted { sections.old.lists ≡ [] }
-    ensures named { IfOk result (λ ids. IsNaming old.now newer.now sections.old sections.new ids.older ids.newer) }
+    ensures named { IfOk result
+        (λ ids. IsNaming old.now newer.now sections.old sections.new ids.older ids.newer) }
     ensures all { IfOk result (λ ids. (length old.now.names ≤ length ids.older)
         × (length newer.now.names ≤ length ids.newer)) }
 {
@@ -55,7 +56,8 @@ fn lay_next(
     requires tested { AreTested old.now newer.now }
     requires cover { set.from_list cover.now ≡ paths_in newer.now }
     requires so_far { IsNaming old.now newer.now sections.old sections.old ids.old.older ids.old.newer }
-    ensures so_far { OnOk result (IsNaming old.now newer.now sections.old sections.new ids.new.older ids.new.newer) }
+    ensures so_far { OnOk result
+        (IsNaming old.now newer.now sections.old sections.new ids.new.older ids.new.newer) }
     ensures more { IfOk result (λ more. more ≡ true → length ids.new.older + length ids.new.newer
         ≡ length ids.old.older + length ids.old.newer + 1) }
     ensures all { IfOk result (λ more. more ≡ false → (length old.now.names ≤ length ids.new.older)
@@ -81,7 +83,8 @@ fn lay_next(
 
 /// Whether the name is below the next one, if there is one.
 fn is_below(name: &str, next: Option<&str>) -> bool
-    ensures { result ≡ option_map_or (λ text. is_lt (bytes_cmp name.now text)) (option_copied next.entry) true }
+    ensures { result
+        ≡ option_map_or (λ text. is_lt (bytes_cmp name.now text)) (option_copied next.entry) true }
 {
     match next {
         None => true,

@@ -58,10 +58,11 @@ pub record SearchPremises (tree : Option Snapshot) (index : Option (List ℕ)) (
   pub jobs_left : Premises (tree ∷ []) index earlier
   pub still_reads : StillReads earlier (snapshot_told tree)
 
--- `searched` is what cgrep prints over some names in a tree, with a pattern and a style, and `chosen`
--- is whether `-f` takes a name.
-module _ {Printed : Type 0} (searched : Snapshot → List (List ℕ) → Printed) (chosen : List ℕ → Bool) where
-  -- What is printed is what cgrep prints over the indexed names that are chosen, in their order.
-  abbrev pub SearchesLikeGrep : Option Snapshot → Option (List ℕ) → Printed → Type 0
-  SearchesLikeGrep tree index printed =
-      (earlier : History) → SearchPremises tree index earlier → printed ≡ searched (snapshot_told tree) (filter chosen (indexed_names earlier))
+-- `searched` is what cgrep prints over some names in a tree, with a pattern and a style: on its output, on that of
+-- errors, and whether some line matched. `chosen` is whether `-f` takes a name, and `Prints` says that the search put
+-- just this on both its outputs, and answered so.
+module _ {Printed : Type 0} (searched : Snapshot → List (List ℕ) → Printed) (chosen : List ℕ → Bool) (Prints : Printed → Type 0) where
+  -- It prints what cgrep prints over the indexed names that are chosen, in their order.
+  abbrev pub SearchesLikeGrep : Option Snapshot → Option (List ℕ) → Type 0
+  SearchesLikeGrep tree index =
+      (earlier : History) → SearchPremises tree index earlier → Prints (searched (snapshot_told tree) (filter chosen (indexed_names earlier)))

@@ -97,7 +97,7 @@ unfolding IsIn
 part_known text part is =
     all_of (has (tri text)) (tri part) (λ n there. ap (λ (t : List ℕ). has (tri t) n) is.2 ∙ has-part_of is.0 part is.1 n there)
 
-lines_known : (text : List ℕ) → AllByRecursion (HasTrigrams (has (tri text))) (lines text)
+pub lines_known : (text : List ℕ) → AllByRecursion (HasTrigrams (has (tri text))) (lines text)
 lines_known text = each (lines text) (parts_have (IsIn text) (in_front text) (in_back text) text (in_itself text))
   where
     each : (ls : List (List ℕ)) → AllByRecursion (IsIn text) ls → AllByRecursion (HasTrigrams (has (tri text))) ls
@@ -193,7 +193,7 @@ pub record IsTextOf (bytes trigrams : List ℕ) : Type 0 where
   pub small : length bytes ≤ MOST_SEARCHED
   pub are : tri bytes ≡ trigrams
 
-text_is : (bytes trigrams : List ℕ) → text_trigrams limits bytes ≡ Some trigrams → IsTextOf bytes trigrams
+pub text_is : (bytes trigrams : List ℕ) → text_trigrams limits bytes ≡ Some trigrams → IsTextOf bytes trigrams
 text_is bytes trigrams h = by_skip (skip limits bytes) refl h
   where
     by_skip : (why : Option Reason) → skip limits bytes ≡ why → none_skipped why (tri bytes) ≡ Some trigrams → IsTextOf bytes trigrams
@@ -220,6 +220,16 @@ module _ (style : Style) (finds : List ℕ → Bool) (tree : Snapshot) (name tri
   file_alike other e h a b = cc
   file_alike (bad fault) e h a b = cc
 
+  -- it has no fault
+  pub file_quiet : (item : Item) → item_at tree name ≡ item → read_item (text_trigrams limits) item ≡ Some trigrams → (a : Tool) → (file_printed MOST_SEARCHED a style finds tree name).errors ≡ []
+  file_quiet (file bytes) e h a =
+      let small = (text_is bytes trigrams h).small in
+      ap (λ (p : Printed). p.errors) (opened_at a bytes e ∙ printed_alike MOST_SEARCHED style finds name bytes small a)
+  file_quiet (folder names unnamed) e h a = cc
+  file_quiet (cut bytes) e h a = cc
+  file_quiet other e h a = cc
+  file_quiet (bad fault) e h a = cc
+
   -- where the query leaves it out
   module _ (query : Query) (pattern : Tree) (loses : LosesNoLine query pattern) (decides : Decides finds pattern) where
     pub file_empty : (item : Item) → item_at tree name ≡ item → read_item (text_trigrams limits) item ≡ Some trigrams → holds query (has trigrams) ≡ false → (a : Tool) → file_printed MOST_SEARCHED a style finds tree name ≡ nothing
@@ -234,6 +244,18 @@ module _ (style : Style) (finds : List ℕ → Bool) (tree : Snapshot) (name tri
     file_empty (bad fault) e h out a = cc
 
 -- ---- of all files
+
+module _ (style : Style) (finds keeps : List ℕ → Bool) (tree : Snapshot) (tool : Tool) where
+  -- where all of them read as they were indexed, none has a fault
+  pub search_quiet : (es : List Entry) → AllByRecursion (ReadsAs tree) es → (all_printed (file_printed MOST_SEARCHED tool style finds tree) (filter keeps (map (λ (e : Entry). e.0) es))).errors ≡ []
+  unfolding all_printed
+  search_quiet [] all = refl
+  search_quiet (e ∷ es) all =
+      let rest = search_quiet es all.1 in
+      elim (keeps e.0) as (λ t. (all_printed (file_printed MOST_SEARCHED tool style finds tree) (cond t (e.0 ∷ filter keeps (map (λ (e : Entry). e.0) es)) (filter keeps (map (λ (e : Entry). e.0) es)))).errors ≡ []) [
+        | true ↦ ap (λ first. first ++ (all_printed (file_printed MOST_SEARCHED tool style finds tree) (filter keeps (map (λ (e : Entry). e.0) es))).errors) (file_quiet style finds tree e.0 e.1 (item_at tree e.0) refl all.0 tool) ∙ rest
+        | false ↦ rest
+      ]
 
 module _ (style : Style) (finds keeps : List ℕ → Bool) (tree : Snapshot) (query : Query) (pattern : Tree) (loses : LosesNoLine query pattern) (decides : Decides finds pattern) (a b : Tool) where
   abbrev met : List Entry → List (List ℕ)

@@ -17,7 +17,11 @@ use Rattle.cs_search.specs.declared.status.Status.{Status}
 use Rattle.cs_search.specs.Printed.{Printed, PrintsStatus, status_of, input_printed, file_printed, all_printed, TellsFaults}
 use Rattle.cs_search.specs.Searcher.{Prints}
 use Rattle.cs_search.specs.Cgrep.{cgrep_printed, searched_by_cgrep, standard_name}
-use Rattle.cs_search.specs.CgrepFaults.{PatternFirst, TellsFaultsOf}
+use Rattle.cs_search.specs.CgrepFaults.{TellsFaultsOf}
+use Rattle.cs_search.specs.Programs.{IsProgramOf, RefusesPattern}
+use Rattle.cs_search.specs.Refusals.{QuietAtRefusal}
+use Rattle.cs_words.specs.declared.fault.ToolFault.{ToolFault}
+use Rattle.cs_words.specs.declared.fault.ToolFault.TheVariants.{Pattern, FilePattern, NoIndex, BadIndex}
 use Rattle.cs_search.proofs.PrintedLemmas.{done, Tells-none, Tells-flushed}
 use Rattle.cs_words.specs.Faults.{pattern_fault, pattern_fault_at}
 
@@ -31,12 +35,20 @@ module _ (most : ℕ) (job : GrepJob) (finds : List ℕ → Bool) (snapshot : Op
   cgrep_files e = rw e refl
 
 -- a pattern that is refused
-pattern_refused_at : (text : List ℕ) (fold : Bool) (error : PatternError) (fault : PatternFault) → error.fault ≡ fault → IsRefused text fold error → PatternFirst {A = Status} text fold (Err (pattern_fault_at fault error))
-pattern_refused_at text fold error pattern.Memory is refused = tt
-pattern_refused_at text fold error fault is refused = (refused, λ memory. cc)
+pattern_refused_at : (text : List ℕ) (fold : Bool) (error : PatternError) (fault : PatternFault) → error.fault ≡ fault → IsRefused text fold error → RefusesPattern text fold (pattern_fault_at fault error)
+pattern_refused_at text fold error pattern.Memory is refused = (tt, refl)
+pattern_refused_at text fold error fault is refused = ((refused, λ memory. cc), refl)
 
-pub pattern_refused : (text : List ℕ) (fold : Bool) (error : PatternError) → IsRefused text fold error → PatternFirst {A = Status} text fold (Err (pattern_fault error))
+pub pattern_refused : (text : List ℕ) (fold : Bool) (error : PatternError) → IsRefused text fold error → RefusesPattern text fold (pattern_fault error)
 pattern_refused text fold error refused = pattern_refused_at text fold error error.fault refl refused
+
+-- where nothing was printed
+pub all_quiet : {A : Type 0} (Quiet : Type 0) (answer : Result A ToolFault) → Quiet → QuietAtRefusal answer Quiet
+all_quiet Quiet (Err (Pattern error)) quiet = quiet
+all_quiet Quiet (Err (FilePattern error)) quiet = quiet
+all_quiet Quiet (Err NoIndex) quiet = quiet
+all_quiet Quiet (Err (BadIndex fault)) quiet = quiet
+all_quiet Quiet answer quiet = tt
 
 -- both outputs are flushed
 pub PrintsStatus-flushed : (printed : Option Printed) (out now later err err-now err-later : Option (List ℕ)) (matched : Bool) (status : Status) → Prints printed out now err err-now matched → Grows now later [] → Grows err-now err-later [] → status ≡ status_of matched → PrintsStatus printed out later err err-later status
@@ -79,3 +91,7 @@ read_once text fold t u r s = cc
 pub Decides-program : (finds : List ℕ → Bool) (read compiled wanted : Tree) → ((line : List ℕ) → Found compiled line ↔ Found read line) → read ≡ wanted → Decides finds wanted → Decides finds compiled
 Decides-program finds read compiled wanted same is decides =
     λ line. let d = subst (λ (t : Tree). Decides finds t) (sym is) decides line in (λ h. (same line).1 (d.0 h), λ f. d.1 ((same line).0 f))
+
+-- that it decides it of the program of the text
+pub decides_program : (text : List ℕ) (fold : Bool) (program pattern : Tree) (finds : List ℕ → Bool) → IsProgramOf text fold program → Reads text fold pattern → Decides finds pattern → Decides finds program
+decides_program text fold program pattern finds is reads decides = Decides-program finds is.0 program pattern is.3 (read_once text fold is.0 pattern is.1 reads) decides

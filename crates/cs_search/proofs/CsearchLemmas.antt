@@ -29,11 +29,14 @@ use Rattle.cs_trigram.specs.declared.queries.Query.{Query}
 use Rattle.cs_index.specs.Image.{Entry, Posting}
 use Rattle.cs_index.specs.Opening.{Parts, lists_in, files_read}
 use Rattle.cs_index.specs.Candidates.{candidates_of, is_answerable}
+use Rattle.cs_search.specs.declared.report.TheConstants.{MOST_SEARCHED}
+use Rattle.cs_match.specs.Finding.{Decides}
 use Rattle.cs_search.specs.Refusals.{IsAccepted, QuietAtRefusal}
 use Rattle.cs_search.specs.Searcher.{IsSearchFault, Prints, IsPrinted}
 use Rattle.cs_search.specs.Csearch.{names_meeting, OpensWith, IsQueryOf, Asks, file_text, Keeps, csearch_printed, IsFileAccepted, AreAccepted, IsReady, RefusedInOrder}
+use Rattle.cs_search.specs.Plans.{RefusesPlan}
 use Rattle.cs_search.specs.declared.status.Status.{Status}
-use Rattle.cs_search.proofs.CgrepLemmas.{read_once, Decides-program}
+use Rattle.cs_search.proofs.CgrepLemmas.{read_once, decides_program}
 use Rattle.cs_search.specs.IndexSearch.{FileRefused, OpenRefused, file_fault_at, file_pattern_fault, names_at, IsCompiled, DecidesNames}
 use Rattle.cs_search.specs.Printed.{Printed, PrintsFront, NamedFault, AreFaultsOf, TellsFaults, file_printed, all_printed, then, nothing}
 use Rattle.cs_search.proofs.Printing.{Grows-same}
@@ -146,7 +149,7 @@ right_query brute query text fold read reads right pattern wanted = subst (λ (t
 
 -- ---- refusals, in their order
 
-accepted_file : (text : Option (List ℕ)) (program : Option Tree) → IsCompiled text program → IsFileAccepted text
+pub accepted_file : (text : Option (List ℕ)) (program : Option Tree) → IsCompiled text program → IsFileAccepted text
 accepted_file None None is = tt
 accepted_file (Some text) (Some program) is = (is.0, is.1, is.2)
 accepted_file None (Some program) is = absurd is
@@ -164,35 +167,35 @@ module _ (job : SearchJob) (index : Option (List ℕ)) (text : List ℕ) (same :
   asked parts opens query right = record { parts = parts; opens = opens; query = query; is_right = right_query job.brute query (string_bytes job.pattern) job.fold pattern reads_job right }
 
 module _ (job : SearchJob) (index : Option (List ℕ)) where
-  pattern_first_at : (error : PatternError) (fault : PatternFault) → error.fault ≡ fault → IsRefused (string_bytes job.pattern) job.fold error → RefusedInOrder {A = Status} job index (Err (pattern_fault_at fault error))
-  pattern_first_at error pattern.Memory is refused = tt
-  pattern_first_at error fault is refused = (refused, λ memory. cc)
+  pattern_first_at : (error : PatternError) (fault : PatternFault) → error.fault ≡ fault → IsRefused (string_bytes job.pattern) job.fold error → RefusesPlan job index (pattern_fault_at fault error)
+  pattern_first_at error pattern.Memory is refused = (tt, refl)
+  pattern_first_at error fault is refused = ((refused, λ memory. cc), refl)
 
-  pub pattern_first : (error : PatternError) → IsRefused (string_bytes job.pattern) job.fold error → RefusedInOrder {A = Status} job index (Err (pattern_fault error))
+  pub pattern_first : (error : PatternError) → IsRefused (string_bytes job.pattern) job.fold error → RefusesPlan job index (pattern_fault error)
   pattern_first error refused = pattern_first_at error error.fault refl refused
 
-  pub file_second : (fault : ToolFault) → IsAccepted (string_bytes job.pattern) job.fold → FileRefused (file_text job) fault → RefusedInOrder {A = Status} job index (Err fault)
-  file_second (FilePattern error) accepted refused = (accepted, refused)
-  file_second Memory accepted refused = tt
+  pub file_second : (fault : ToolFault) → IsAccepted (string_bytes job.pattern) job.fold → FileRefused (file_text job) fault → RefusesPlan job index fault
+  file_second (FilePattern error) accepted refused = ((accepted, refused), refl)
+  file_second Memory accepted refused = (tt, refl)
   file_second fault accepted refused = absurd refused
 
-  pub open_third : (fault : ToolFault) → AreAccepted job → OpenRefused index fault → RefusedInOrder {A = Status} job index (Err fault)
+  pub open_third : (fault : ToolFault) → AreAccepted job → OpenRefused index fault → RefusesPlan job index fault
   open_third fault accepted refused = by_index index fault accepted refused
     where
-      by_index : (index : Option (List ℕ)) (fault : ToolFault) → AreAccepted job → OpenRefused index fault → RefusedInOrder {A = Status} job index (Err fault)
-      by_index None NoIndex accepted refused = (accepted, refl)
+      by_index : (index : Option (List ℕ)) (fault : ToolFault) → AreAccepted job → OpenRefused index fault → RefusesPlan job index fault
+      by_index None NoIndex accepted refused = ((accepted, refl), refl)
       by_index None fault accepted refused = absurd refused
-      by_index (Some bytes) (BadIndex fault) accepted refused = (accepted, inl refused)
-      by_index (Some bytes) Memory accepted refused = tt
+      by_index (Some bytes) (BadIndex fault) accepted refused = ((accepted, inl refused), refl)
+      by_index (Some bytes) Memory accepted refused = (tt, refl)
       by_index (Some bytes) fault accepted refused = absurd refused
 
-  bad_list : (bytes : Option (List ℕ)) → AreAccepted job → (asks : Asks job bytes) → is_answerable asks.parts asks.query ≡ false → RefusedInOrder {A = Status} job bytes (Err (BadIndex BadList))
+  bad_list : (bytes : Option (List ℕ)) → AreAccepted job → (asks : Asks job bytes) → is_answerable asks.parts asks.query ≡ false → RefusesPlan job bytes (BadIndex BadList)
   bad_list None accepted asks damaged = absurd asks.opens
-  bad_list (Some bytes) accepted asks damaged = (accepted, inr (refl, (asks, damaged)))
+  bad_list (Some bytes) accepted asks damaged = ((accepted, inr (refl, (asks, damaged))), refl)
 
-  pub lists_fourth : (fault : IndexFault) → AreAccepted job → (asks : Asks job index) → IsListFault (is_answerable asks.parts asks.query) fault → RefusedInOrder {A = Status} job index (Err (index_fault fault))
-  lists_fourth fault accepted asks (inl bad) = subst (λ (f : IndexFault). RefusedInOrder {A = Status} job index (Err (index_fault f))) (sym bad.0) (bad_list index accepted asks bad.1)
-  lists_fourth fault accepted asks (inr memory) = subst (λ (f : IndexFault). RefusedInOrder {A = Status} job index (Err (index_fault f))) (sym memory) tt
+  pub lists_fourth : (fault : IndexFault) → AreAccepted job → (asks : Asks job index) → IsListFault (is_answerable asks.parts asks.query) fault → RefusesPlan job index (index_fault fault)
+  lists_fourth fault accepted asks (inl bad) = subst (λ (f : IndexFault). RefusesPlan job index (index_fault f)) (sym bad.0) (bad_list index accepted asks bad.1)
+  lists_fourth fault accepted asks (inr memory) = subst (λ (f : IndexFault). RefusesPlan job index (index_fault f)) (sym memory) (tt, refl)
 
   pub search_last : (fault : ToolFault) → AreAccepted job → IsReady job index → IsSearchFault {A = Status} (Err fault) → RefusedInOrder {A = Status} job index (Err fault)
   search_last Write accepted ready is = (accepted, ready)
@@ -210,7 +213,7 @@ search_quiet Quiet fault is = absurd is
 pub names_decided : (text : Option (List ℕ)) (program : Option Tree) (keeps : List ℕ → Bool) → IsCompiled text program → Keeps text keeps → DecidesNames keeps program
 names_decided None None keeps is names = names
 names_decided (Some text) (Some program) keeps is names =
-    Decides-program keeps is.0 program names.0 is.3 (read_once text false is.0 names.0 is.1 names.1) names.2
+    decides_program text false program names.0 keeps is names.1 names.2
 names_decided None (Some program) keeps is names = absurd is
 names_decided (Some text) None keeps is names = absurd is
 
@@ -220,6 +223,20 @@ unfolding csearch_printed
 chosen most style finds keeps parts query tree ids is =
     ap (λ (names : List (List ℕ)). option_map (λ (s : Snapshot). all_printed (file_printed most Csearch style finds s) (filter keeps names)) tree)
     (ap (names_at parts.names) is ∙ candidates_named parts query)
+
+-- what a searcher prints of the names with some ids, where its tool, its style and what it finds by are these
+module _ (Holds : Option Printed → Type 0) (tree : Option Snapshot) (names : List (List ℕ)) where
+  abbrev By : Tool → Style → List ℕ → (List ℕ → Bool) → (List ℕ → Bool) → Type 0
+  By tool style ids finds keeps = Holds (option_map (λ (s : Snapshot). all_printed (file_printed MOST_SEARCHED tool style finds s) (filter keeps (names_at names ids))) tree)
+
+  pub by_csearch : (tool : Tool) (style wanted : Style) (matcher program : Tree) (kept file : Option Tree) (ids plan : List ℕ) → tool ≡ Csearch → style ≡ wanted → matcher ≡ program → kept ≡ file → ids ≡ plan →
+      ((finds keeps : List ℕ → Bool) → Decides finds matcher → DecidesNames keeps kept → By tool style ids finds keeps) →
+      (finds keeps : List ℕ → Bool) → Decides finds program → DecidesNames keeps file → By Csearch wanted plan finds keeps
+  by_csearch tool style wanted matcher program kept file ids plan is_tool is_style matches named same prints finds keeps decides decides_names =
+      subst (λ t. By t wanted plan finds keeps) is_tool
+      (subst (λ t. By tool t plan finds keeps) is_style
+      (subst (λ l. By tool style l finds keeps) same
+      (prints finds keeps (subst (Decides finds) (sym matches) decides) (subst (DecidesNames keeps) (sym named) decides_names))))
 
 -- ---- what was printed of a name
 

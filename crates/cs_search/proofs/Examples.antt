@@ -7,7 +7,7 @@ use Rattle.cs_search.specs.declared.grep_fault.ReadFault.{ReadFault}
 use Rattle.cs_search.specs.declared.grep_fault.ReadFault.TheVariants.{Read}
 use Rattle.cs_match.specs.Lines.{lines, ended_lines}
 use Rattle.cs_words.specs.declared.fault.FileFault.TheVariants.{Missing, Denied, InputTooLong}
-use Rattle.cs_search.specs.Fronts.{TakesFront}
+use Rattle.cs_tree.specs.Taken.{TakesFront}
 use Rattle.cs_search.specs.Printed.{AreFaultsOf, failures_of}
 use Rattle.cs_search.specs.Report.{report, printed, hits_from, hit_line, name_line, count_line}
 

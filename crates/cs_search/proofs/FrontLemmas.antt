@@ -15,7 +15,7 @@ use Rattle.cs_match.specs.Lines.{newline, lines, ended_lines}
 use Rattle.cs_match.specs.Unended.{unended, last_line}
 use Rattle.cs_match.proofs.LinesLemmas.{lines-split, ended_lines-append}
 use Rattle.cs_search.specs.Report.{Hit, hits_from, some_hit, hit_line, printed, tested, report}
-use Rattle.cs_search.specs.Fronts.{TakesFront}
+use Rattle.cs_tree.specs.Taken.{TakesFront}
 use Rattle.cs_search.specs.GrepReports.{ReportsFront}
 use Rattle.cs_search.specs.InputReport.{told_report, fault_within}
 use Rattle.cs_search.specs.TestedLines.{shown, total, Tests, TestsFront}

@@ -20,7 +20,7 @@ use Rattle.cs_search.specs.declared.grep_fault.ReadFault.TheVariants.{Read, TooL
 use Rattle.cs_search.specs.declared.grepped.Grepped.{Grepped}
 use Rattle.cs_search.specs.GrepReports.{Reports, ReportsFront}
 use Rattle.cs_search.specs.InputReport.{told_report}
-use Rattle.cs_search.specs.Fronts.{TakesFront, TakesAll}
+use Rattle.cs_tree.specs.Taken.{TakesFront, TakesAll}
 use Rattle.cs_search.specs.GrepFaults.{is_failed_read}
 use Rattle.cs_search.specs.Printed.{left_fault, fault_text, Printed, then, nothing, all_printed, input_printed, opened_printed, file_printed, PrintsFront, NamedFault, fault_lines, failures_of, AreFaultsOf, TellsFaults, is_file_failure}
 use Rattle.cs_search.specs.Searcher.{Prints, IsPrinted}

@@ -3,7 +3,7 @@ use Rattle.std.proofs.Common.{◌≡◌, ℕ, zero, suc, ◌+◌, List, [], ◌�
 use Rattle.std.proofs.lemmas.List.{take_all}
 use Rattle.cs_tree.specs.Told.{Grows}
 use Rattle.cs_tree.proofs.Growing.{Grows-chain}
-use Rattle.cs_search.specs.Fronts.{TakesFront, TakesAll}
+use Rattle.cs_tree.specs.Taken.{TakesFront, TakesAll}
 
 pub Grows-same : (a : Option (List ℕ)) → Grows a a []
 Grows-same None = tt

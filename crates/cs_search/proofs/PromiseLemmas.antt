@@ -1,14 +1,12 @@
 -- csearch prints what cgrep does where the files still read as they were indexed, and so where jobs left the index.
-use Rattle.std.proofs.Common.{◌≡◌, ℕ, ◌<◌, ◌^◌, List, length, refl, sym, ap, subst, ◌∙◌, Bool, true, false, Option, Some, None, Ok}
+use Rattle.std.proofs.Common.{◌≡◌, ℕ, ◌<◌, ◌^◌, List, length, refl, sym, ap, subst, ◌∙◌, Bool, true, false, Option, Some, None, Result, Ok}
 use Rattle.cs_index.specs.Roundtrip.{parts_written, Has}
-use Rattle.std.specs.Prelude.{filter, option_map, string_bytes, ◌↔◌}
+use Rattle.std.specs.Prelude.{filter, option_map, string_bytes}
 use Rattle.std.specs.List.{AllByRecursion}
 use Rattle.std.specs.FinMap as map'
 use Rattle.cs_tree.specs.PathSet as set
-use Rattle.cs_syntax.specs.Matching.{Tree, Found}
-use Rattle.cs_syntax.specs.Reading.{Reads}
+use Rattle.cs_syntax.specs.Matching.{Tree}
 use Rattle.cs_match.specs.Finding.{Decides}
-use Rattle.cs_index.specs.Candidates.{candidates_of, is_answerable}
 use Rattle.cs_tree.specs.Snapshot.{Snapshot, item_at}
 use Rattle.cs_tree.specs.Reached.{read_item}
 use Rattle.cs_trigram.specs.Text.{text_trigrams, limits}
@@ -22,22 +20,22 @@ use Rattle.cs_index.proofs.WrittenLemmas.{image_opens, image_has}
 use Rattle.cs_merge.proofs.ContentLemmas.{content_indexable, ascending_sets, each_of_map}
 use Rattle.cs_history.specs.History.{History, index_of, paths_of, files_of}
 use Rattle.cs_history.specs.Jobs.{snapshot_told}
-use Rattle.cs_history.specs.Headline.{IsShort, StillReads, indexed_names, SearchesLikeGrep}
+use Rattle.cs_history.specs.Headline.{IsShort, StillReads, indexed_names, SearchPremises}
 use Rattle.cs_history.specs.WellFormed.{IsHistory}
 use Rattle.cs_history.proofs.HistoryLemmas.{history_content, index_is}
 use Rattle.cs_words.specs.declared.jobs.Tool.TheVariants.{Csearch, Cgrep}
 use Rattle.cs_words.specs.declared.jobs.SearchJob.{SearchJob}
-use Rattle.cs_words.specs.declared.jobs.Tool.{Tool}
-use Rattle.cs_words.specs.declared.jobs.Style.{Style}
 use Rattle.cs_search.specs.declared.report.TheConstants.{MOST_SEARCHED}
 use Rattle.cs_search.specs.Cgrep.{searched_by_cgrep}
-use Rattle.cs_search.specs.IndexSearch.{names_at, IsCompiled, DecidesNames}
-use Rattle.cs_search.specs.Csearch.{file_text, OpensWith, IsQueryOf, Asks, Seeks, ReadsAs, Agrees, names_meeting, csearch_printed, PrintsAsked, PrintsLikeCgrep, PrintsAsPromised}
-use Rattle.cs_search.specs.Printed.{Printed, PrintsFront, all_printed, file_printed}
+use Rattle.cs_search.specs.IndexSearch.{names_at, DecidesNames}
+use Rattle.cs_search.specs.Plans.{IsPlan}
+use Rattle.cs_search.specs.declared.plan.Plan.{Plan}
+use Rattle.cs_search.specs.Csearch.{file_text, OpensWith, IsQueryOf, Asks, Seeks, ReadsAs, Agrees, names_meeting, csearch_printed, AreAccepted, IsReady, PrintsAsked, PrintsLikeCgrep, PrintsAsPromised}
+use Rattle.cs_search.specs.Printed.{Printed, PrintsFront, TellsFaults, all_printed, file_printed}
 use Rattle.cs_search.proofs.AgreementLemmas.{search_alike}
 use Rattle.cs_search.proofs.PrintedLemmas.{PrintsFront-none}
-use Rattle.cs_search.proofs.CgrepLemmas.{read_once, Decides-program}
-use Rattle.cs_search.proofs.CsearchLemmas.{names_of_files, names_decided, chosen}
+use Rattle.cs_search.proofs.CgrepLemmas.{decides_program}
+use Rattle.cs_search.proofs.CsearchLemmas.{names_of_files, names_decided, accepted_file, chosen, Tells-chosen}
 
 -- by `-brute` too no line is lost
 loses : (brute : Bool) (pattern : Tree) (query : Query) → IsQueryOf brute pattern query → LosesNoLine query pattern
@@ -57,23 +55,34 @@ module _ (job : SearchJob) (index : Option (List ℕ)) (finds keeps : List ℕ �
       search_alike job.style finds keeps tree asks.query tests.pattern (loses job.brute tests.pattern asks.query (asks.is_right tests.pattern tests.reads)) tests.decides Csearch Cgrep (files_read asks.parts) agrees
       ∙ ap (λ (names : List (List ℕ)). all_printed (file_printed MOST_SEARCHED Cgrep job.style finds tree) (filter keeps names)) (names_of_files 0 asks.parts.names (lists_in asks.parts))
 
--- what is printed of the files that are chosen, by what was compiled
-module _ (job : SearchJob) (index : Option (List ℕ)) (tree : Option Snapshot) (Prints : Option Printed → Type 0) (asks : Asks job index) (whole : is_answerable asks.parts asks.query ≡ true)
-    (pattern : Tree) (reads : Reads (string_bytes job.pattern) job.fold pattern) (program matcher : Tree) (same : (line : List ℕ) → Found program line ↔ Found pattern line) (matches : matcher ≡ program)
-    (file names : Option Tree) (compiled : IsCompiled (file_text job) file) (named_by : names ≡ file) (ids : List ℕ) (are : ids ≡ candidates_of asks.parts asks.query) (tool : Tool) (is_tool : tool ≡ Csearch) (style : Style) (is_style : style ≡ job.style) where
-  abbrev Searched : (List ℕ → Bool) → (List ℕ → Bool) → Tool → Style → Option Printed
-  Searched finds keeps by in_style = option_map (λ (s : Snapshot). all_printed (file_printed MOST_SEARCHED by in_style finds s) (filter keeps (names_at asks.parts.names ids))) tree
+-- what is printed of the files that are chosen, by what a plan has
+module _ (job : SearchJob) (index : Option (List ℕ)) (tree : Option Snapshot) (Prints : Option Printed → Type 0) (plan : Plan) (is : IsPlan job index plan) where
+  abbrev Planned : (List ℕ → Bool) → (List ℕ → Bool) → Parts → Option Printed
+  Planned finds keeps parts = option_map (λ (s : Snapshot). all_printed (file_printed MOST_SEARCHED Csearch job.style finds s) (filter keeps (names_at parts.names plan.ids.items))) tree
 
-  pub searched : ((finds keeps : List ℕ → Bool) → Decides finds matcher → DecidesNames keeps names → Prints (option_map (λ (s : Snapshot). all_printed (file_printed MOST_SEARCHED tool style finds s) (filter keeps (names_at asks.parts.names ids))) tree)) → PrintsAsked MOST_SEARCHED job index tree Prints
+  pub searched : ((finds keeps : List ℕ → Bool) → Decides finds plan.program → DecidesNames keeps plan.file → Prints (Planned finds keeps plan.index)) → PrintsAsked MOST_SEARCHED job index tree Prints
   searched prints = (
-    asks,
-    whole,
+    is.asks,
+    is.whole,
     λ finds keeps seeks.
-        let decides = subst (Decides finds) (sym matches) (Decides-program finds pattern program seeks.pattern same (read_once (string_bytes job.pattern) job.fold pattern seeks.pattern reads seeks.reads) seeks.decides) in
-        let kept = subst (DecidesNames keeps) (sym named_by) (names_decided (file_text job) file keeps compiled seeks.names) in
-        subst Prints (ap (λ t. Searched finds keeps t style) is_tool ∙ ap (λ t. Searched finds keeps Csearch t) is_style ∙ chosen MOST_SEARCHED job.style finds keeps asks.parts asks.query tree ids are)
+        let decides = decides_program (string_bytes job.pattern) job.fold plan.program seeks.pattern finds is.program seeks.reads seeks.decides in
+        let kept = names_decided (file_text job) plan.file keeps is.file seeks.names in
+        subst Prints (ap (Planned finds keeps) is.parts ∙ chosen MOST_SEARCHED job.style finds keeps is.asks.parts is.asks.query tree plan.ids.items is.ids)
         (prints finds keeps decides kept),
   )
+
+module _ (job : SearchJob) (index : Option (List ℕ)) (plan : Plan) (is : IsPlan job index plan) where
+  -- both patterns are accepted, the index opens, and its lists are whole
+  pub ready : AreAccepted job × IsReady job index
+  ready = (((is.program.0, is.program.1, is.program.2), accepted_file (file_text job) plan.file is.file), (is.asks, is.whole))
+
+  -- faults of the names that a plan has are faults of indexed names
+  pub faults_planned : {A E : Type 0} (r : Result A E) (opened : Parts) (failed failed' : ℕ) (err err' : Option (List ℕ)) → OpensWith index opened →
+      TellsFaults Csearch (names_at plan.index.names plan.ids.items) failed failed' err err' r → TellsFaults Csearch opened.names failed failed' err err' r
+  faults_planned r opened failed failed' err err' opens told =
+      subst (λ (p : Parts). TellsFaults Csearch p.names failed failed' err err' r) (opens_once index is.asks.parts opened is.asks.opens opens)
+      (Tells-chosen r Csearch is.asks.parts is.asks.query plan.ids.items failed failed' err err' is.ids
+      (subst (λ (p : Parts). TellsFaults Csearch (names_at p.names plan.ids.items) failed failed' err err' r) is.parts told))
 
 module _ (job : SearchJob) (index : Option (List ℕ)) (tree : Option Snapshot) (Prints : Option Printed → Type 0) (by_index : PrintsAsked MOST_SEARCHED job index tree Prints) where
   -- what was printed, where the tree tells its snapshot
@@ -96,20 +105,20 @@ like_cgrep_quiet job index tree out err parts snapshot finds keeps opens is agre
 -- ---- an index that jobs left
 
 module _ (history : History) (bytes : List ℕ) (is : IsHistory history) (left : index_of history ≡ Some bytes) (short : length bytes < 2 ^ 32) where
-  written : Parts
+  pub written : Parts
   written = parts_written (set.items (paths_of history)) (map'.entries (files_of history))
 
   there : image_of (set.items (paths_of history)) (map'.entries (files_of history)) ≡ bytes
   unfolding image
   there = index_is history bytes left
 
-  opens_so : opening bytes ≡ Ok written
+  pub opens_so : opening bytes ≡ Ok written
   unfolding written
   opens_so =
       let small = subst (λ (b : List ℕ). length b < 2 ^ 32) (sym there) short in
       ap opening (sym there) ∙ image_opens (set.items (paths_of history)) (map'.entries (files_of history)) (content_indexable (paths_of history) (files_of history) (history_content history is) small)
 
-  has_so : Has written (set.items (paths_of history)) (map'.entries (files_of history))
+  pub has_so : Has written (set.items (paths_of history)) (map'.entries (files_of history))
   unfolding written
   has_so =
       let small = subst (λ (b : List ℕ). length b < 2 ^ 32) (sym there) short in
@@ -127,9 +136,9 @@ module _ (history : History) (bytes : List ℕ) (is : IsHistory history) (left :
       let files = has_so.has_files (ascending_sets (files_of history) (history_content history is).sets_are) in
       subst (λ (p : Parts). Agrees p tree) same (subst (AllByRecursion (ReadsAs tree)) (sym files) each)
 
-module _ (job : SearchJob) (index : Option (List ℕ)) (tree : Option Snapshot) (finds keeps : List ℕ → Bool) (asks : Asks job index) (tests : Seeks job finds keeps) where
-  promised : (snapshot : Snapshot) → tree ≡ Some snapshot → SearchesLikeGrep (searched_by_cgrep MOST_SEARCHED job.style finds) keeps tree index (all_printed (file_printed MOST_SEARCHED Csearch job.style finds snapshot) (filter keeps (names_meeting asks.query (files_read asks.parts))))
-  promised snapshot tells earlier premises = by_bytes index refl asks.opens premises.jobs_left.they_left premises.jobs_left.short
+module _ (job : SearchJob) (index : Option (List ℕ)) (tree : Option Snapshot) (finds keeps : List ℕ → Bool) (asks : Asks job index) (tests : Seeks job finds keeps) (snapshot : Snapshot) (tells : tree ≡ Some snapshot) (earlier : History) (premises : SearchPremises tree index earlier) where
+  promised : all_printed (file_printed MOST_SEARCHED Csearch job.style finds snapshot) (filter keeps (names_meeting asks.query (files_read asks.parts))) ≡ searched_by_cgrep MOST_SEARCHED job.style finds (snapshot_told tree) (filter keeps (indexed_names earlier))
+  promised = by_bytes index refl asks.opens premises.jobs_left.they_left premises.jobs_left.short
     where
       snapshot_is : snapshot ≡ snapshot_told tree
       snapshot_is = sym (ap snapshot_told tells)
@@ -147,8 +156,6 @@ module _ (job : SearchJob) (index : Option (List ℕ)) (tree : Option Snapshot) 
 
 module _ (job : SearchJob) (index : Option (List ℕ)) (tree : Option Snapshot) (Prints : Option Printed → Type 0) (by_index : PrintsAsked MOST_SEARCHED job index tree Prints) where
   pub as_promised : PrintsAsPromised MOST_SEARCHED job index tree Prints
-  as_promised snapshot finds keeps tells tests = (
-    all_printed (file_printed MOST_SEARCHED Csearch job.style finds snapshot) (filter keeps (names_meeting by_index.0.query (files_read by_index.0.parts))),
-    told_printed job index tree Prints by_index snapshot finds keeps tells tests,
-    promised job index tree finds keeps by_index.0 tests snapshot tells,
-  )
+  as_promised snapshot finds keeps tells tests earlier premises =
+      subst (λ (p : Printed). Prints (Some p)) (promised job index tree finds keeps by_index.0 tests snapshot tells earlier premises)
+      (told_printed job index tree Prints by_index snapshot finds keeps tells tests)

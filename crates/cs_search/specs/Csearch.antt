@@ -110,8 +110,7 @@ module _ (most : ℕ) (job : SearchJob) (index : Option (List ℕ)) (tree : Opti
   abbrev pub PrintsAsPromised : Type 0
   PrintsAsPromised =
       (snapshot : Snapshot) (finds keeps : List ℕ → Bool) → tree ≡ Some snapshot → Seeks job finds keeps →
-      (printed : Printed) × Prints (Some printed)
-      × SearchesLikeGrep (searched_by_cgrep most job.style finds) keeps tree index printed
+      SearchesLikeGrep (searched_by_cgrep most job.style finds) keeps (λ printed. Prints (Some printed)) tree index
 
 -- ---- refusals
 

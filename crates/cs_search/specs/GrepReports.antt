@@ -3,7 +3,7 @@ use Rattle.std.specs.Prelude.{ℕ, ◌≡◌, List, Option, Some, None}
 use Rattle.cs_tree.specs.Told.{Told, Grows}
 use Rattle.cs_search.specs.declared.grep_fault.ReadFault.{ReadFault}
 use Rattle.cs_search.specs.declared.grepped.Grepped.{Grepped}
-use Rattle.cs_search.specs.Fronts.{TakesFront}
+use Rattle.cs_tree.specs.Taken.{TakesFront}
 use Rattle.cs_search.specs.Report.{Report}
 
 -- The report's output was written, and the answer has its mark and its fault.

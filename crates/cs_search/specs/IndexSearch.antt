@@ -1,8 +1,6 @@
 -- What functions inside a search of an index promise each other: which names are chosen, and by what.
-use Rattle.std.specs.Prelude.{ℕ, ◌≡◌, ◌≤◌, ◌↔◌, Bool, true, false, List, filter_map, Option, Some, None, slice_get, Err}
-use Rattle.cs_syntax.specs.Matching.{Tree, Found}
-use Rattle.cs_syntax.specs.Reading.{Reads}
-use Rattle.cs_syntax.specs.Weight.{weight, most_weight}
+use Rattle.std.specs.Prelude.{ℕ, ◌≡◌, Bool, true, false, List, filter_map, Option, Some, None, slice_get, Err}
+use Rattle.cs_syntax.specs.Matching.{Tree}
 use Rattle.cs_syntax.specs.declared.fault.PatternFault.{PatternFault}
 use Rattle.cs_syntax.specs.declared.fault.PatternFault.TheVariants as pattern
 use Rattle.cs_syntax.specs.declared.fault.PatternError.{PatternError}
@@ -11,6 +9,7 @@ use Rattle.cs_index.specs.Opening.{opening}
 use Rattle.cs_words.specs.declared.fault.ToolFault.{ToolFault}
 use Rattle.cs_words.specs.declared.fault.ToolFault.TheVariants.{FilePattern, NoIndex, BadIndex, Memory}
 use Rattle.cs_search.specs.Csearch.{IsFileRefused}
+use Rattle.cs_search.specs.Programs.{IsProgramOf}
 
 -- the names that have these ids
 unfoldable pub names_at : List (List ℕ) → List ℕ → List (List ℕ)
@@ -24,8 +23,7 @@ DecidesNames keeps (Some program) = Decides keeps program
 -- There is a program where there is a text, and it finds what the pattern does that the text reads as.
 abbrev pub IsCompiled : Option (List ℕ) → Option Tree → Type 0
 IsCompiled None None = Unit {0}
-IsCompiled (Some text) (Some program) =
-    (pattern : Tree) × Reads text false pattern × (weight pattern ≤ most_weight) × ((line : List ℕ) → Found program line ↔ Found pattern line)
+IsCompiled (Some text) (Some program) = IsProgramOf text false program
 IsCompiled text program = ⊥
 
 abbrev pub file_fault_at : PatternFault → PatternError → ToolFault

@@ -3,6 +3,7 @@ pub use Rattle.cs_index.specs.Image
 pub use Rattle.cs_trigram.specs.Query
 pub use Rattle.cs_tree.specs.Transfers
 pub use Rattle.cs_tree.specs.Told
+pub use Rattle.cs_tree.specs.Taken
 pub use Rattle.cs_tree.specs.Failures
 pub use Rattle.cs_tree.specs.Snapshot
 pub use Rattle.cs_syntax.specs.Matching
@@ -19,9 +20,11 @@ pub mod Cgrep
 pub mod CgrepFaults
 pub mod Csearch
 pub mod Buffer
-pub mod Fronts
+pub mod SameSearch
 -- What functions inside promise each other.
 pub mod TestedLines
 pub mod Progress
 pub mod Searcher
+pub mod Programs
 pub mod IndexSearch
+pub mod Plans

@@ -16,7 +16,7 @@ use Rattle.cs_search.specs.declared.grep_fault.ReadFault.{ReadFault}
 use Rattle.cs_search.specs.declared.grep_fault.ReadFault.TheVariants.{Read, TooLong}
 use Rattle.cs_search.specs.declared.status.Status.{Status}
 use Rattle.cs_search.specs.declared.status.Status.TheVariants.{Matched, NoMatch}
-use Rattle.cs_search.specs.Fronts.{TakesFront, TakesAll}
+use Rattle.cs_tree.specs.Taken.{TakesFront, TakesAll}
 use Rattle.cs_search.specs.Report.{Report}
 use Rattle.cs_search.specs.InputReport.{told_report}
 

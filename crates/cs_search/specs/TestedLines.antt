@@ -5,7 +5,7 @@ use Rattle.cs_tree.specs.Told.{Grows}
 use Rattle.cs_words.specs.declared.jobs.Style.{Style}
 use Rattle.cs_search.specs.declared.tally.Tally.{Tally}
 use Rattle.cs_match.specs.Lines.{newline}
-use Rattle.cs_search.specs.Fronts.{TakesFront}
+use Rattle.cs_tree.specs.Taken.{TakesFront}
 use Rattle.cs_search.specs.Report.{Hit, hits_from, hit_line, some_hit, printed}
 
 -- what is printed at a hit

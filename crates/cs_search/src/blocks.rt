@@ -111,8 +111,8 @@ fn search_lines<O: Sink>(
         (Tests form.now.style form.now.name.now finds (ended_lines block.now)
         tally.old tally.new (O.taken out.old) (O.taken out.new))) }
     ensures front { OnErr result ((finds : List ℕ → Bool) → Decides finds matcher.old →
-        TestsFront form.now.style form.now.name.now finds (ended_lines block.now) (tally.old.lines + 1)
-        (O.taken out.old) (O.taken out.new)) }
+        TestsFront form.now.style form.now.name.now finds (ended_lines block.now)
+        (tally.old.lines + 1) (O.taken out.old) (O.taken out.new)) }
     ensures unlisted { IfOk result (λ listed. listed ≡ false →
         form.now.style.list ≡ true → tally.new.hits ≡ 0) }
     ensures same { matcher.new ≡ matcher.old }
@@ -154,8 +154,8 @@ pub(crate) fn search_block<O: Sink>(
         (λ start. Tests form.now.style form.now.name.now finds (ended_lines block.now)
         tally.old tally.new (O.taken out.old) (O.taken out.new))) }
     ensures front { OnErr result ((finds : List ℕ → Bool) → Decides finds matcher.old →
-        TestsFront form.now.style form.now.name.now finds (ended_lines block.now) (tally.old.lines + 1)
-        (O.taken out.old) (O.taken out.new)) }
+        TestsFront form.now.style form.now.name.now finds (ended_lines block.now)
+        (tally.old.lines + 1) (O.taken out.old) (O.taken out.new)) }
     ensures unlisted { IfOk result (λ answer. IfSome answer
         (λ start. form.now.style.list ≡ true → tally.new.hits ≡ 0)) }
     ensures same { matcher.new ≡ matcher.old }

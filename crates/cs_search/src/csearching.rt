@@ -1,5 +1,5 @@
 // The tool that searches by an index.
-ghost use Rattle.std.specs.Prelude.{◌≡◌, ◌⊎◌, ℕ, Bool, List, [], ◌∷◌, IfOk, IfErr, OnErr, option_map, option_copied, filter};
+ghost use Rattle.std.specs.Prelude.{◌≡◌, ◌⊎◌, ℕ, Bool, List, [], ◌∷◌, IfOk, OnErr, option_map, option_copied, filter};
 ghost use Rattle.cs_tree.specs.Failures.{CountsOne};
 ghost use Rattle.cs_match.specs.Finding.{Decides};
 ghost use Rattle.cs_index.specs.Opening.{Parts};
@@ -7,22 +7,20 @@ ghost use Rattle.cs_tree.specs.Snapshot.{Snapshot};
 ghost use Rattle.cs_words.specs.declared.jobs.Tool.TheVariants.{Csearch};
 ghost use Rattle.cs_search.specs.Searcher.{IsSearchFault, IsKept, Prints};
 ghost use Rattle.cs_search.specs.Refusals.{has_write_failed, QuietAtRefusal};
-ghost use Rattle.cs_search.specs.Csearch.{OpensWith, IsQueryOf, PrintsAsked, PrintsLikeCgrep, PrintsAsPromised, AreAccepted, RefusedInOrder};
-ghost use Rattle.cs_search.specs.IndexSearch.{names_at, DecidesNames, OpenRefused};
+ghost use Rattle.cs_search.specs.Csearch.{OpensWith, PrintsAsked, PrintsLikeCgrep, PrintsAsPromised, AreAccepted, RefusedInOrder};
+ghost use Rattle.cs_search.specs.IndexSearch.{names_at, DecidesNames};
 ghost use Rattle.cs_search.specs.Printed.{PrintsStatus, PrintsNothing, PrintsFront, TellsFaults, all_printed, file_printed};
 
-use crate::names::{NameFilter, compile_file};
+use crate::names::NameFilter;
+use crate::plan::Plan;
 use crate::report::MOST_SEARCHED;
 use crate::searcher::Searcher;
 use crate::searching::finish;
 use crate::status::Status;
 use cs_index::Index;
-use cs_match::Program;
-use cs_syntax::{Pattern, parse};
 use cs_tree::{Sink, Tree};
-use cs_trigram::{Query, query};
-use cs_words::{SearchJob, Tool, ToolFault};
-use std::alloc::{AllocError, Global};
+use cs_words::{SearchJob, ToolFault};
+use std::alloc::Global;
 
 /// Prints the lines that match the pattern of the job, in the indexed files that may have one, in the order of their
 /// ids. A line on `err` names each file that could not be searched to its end. At the end both outputs are flushed,
@@ -69,44 +67,14 @@ pub fn csearch<T: Tree, O: Sink, E: Sink>(
         (O.failed out.old) (O.failed out.new) (E.failed err.old) (E.failed err.new) }
     ensures keeps { T.snapshot tree.new ≡ T.snapshot tree.old }
 {
-    let pattern = parse(alloc, job.pattern.as_str(), job.fold)?;
-    let file = compile_file(alloc, job)?;
-    let index = open(index)?;
-    let query = query_of(alloc, job.brute, &pattern)?;
-    let ids = index.candidates(alloc, &query)?;
-    let program = Program::compile(alloc, &pattern)?;
-    let mut searcher = Searcher::new(alloc, Tool::Csearch, job.style, &program)?;
-    let mut kept = NameFilter::new(alloc, file.as_ref())?;
-    let matched = search_ids(&mut searcher, &mut kept, &index, &ids, tree, out, err)?;
+    let plan = Plan::new(alloc, job, index)?;
+    let matched = plan.search(alloc, job.style, tree, out, err)?;
     let status = finish(matched, out, err)?;
     Ok(status)
 }
 
-/// The index, where there is one.
-fn open<'a>(index: Option<&'a [u8]>) -> Result<Index<'a>, ToolFault>
-    ensures opens { IfOk result (OpensWith (option_copied index.entry)) }
-    ensures refused { IfErr result (OpenRefused (option_copied index.entry)) }
-{
-    let Some(bytes) = index else {
-        return Err(ToolFault::NoIndex);
-    };
-    let index = Index::open(bytes)?;
-    Ok(index)
-}
-
-/// The query of a pattern, or with `-brute` that which every file meets.
-fn query_of(alloc: Global, brute: bool, pattern: &Pattern) -> Result<Query, AllocError>
-    ensures { IfOk result (IsQueryOf brute pattern.now) }
-{
-    if brute {
-        return Ok(Query::All);
-    }
-    let query = query(alloc, pattern)?;
-    Ok(query)
-}
-
 /// Searches the files that have the ids and whose names are kept. Answers whether some line of some file matched.
-fn search_ids<T: Tree, O: Sink, E: Sink>(
+pub(crate) fn search_ids<T: Tree, O: Sink, E: Sink>(
     searcher: &mut Searcher<'_>,
     kept: &mut NameFilter<'_>,
     index: &Index<'_>,

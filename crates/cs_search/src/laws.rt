@@ -1,16 +1,36 @@
 // Laws of the definitions.
-ghost use Rattle.std.specs.Prelude.{◌≡◌, ℕ, Bool, List, map, filter};
-ghost use Rattle.std.specs.List.{AllByRecursion};
+ghost use Rattle.std.specs.Prelude.{◌≡◌, ◌≢◌, ◌<◌, ℕ, Bool, true, List, [], length, map, filter, string_bytes, Option, Some, Result, Ok, Err};
+ghost use Rattle.std.specs.List.{AllByRecursion, list_any};
 ghost use Rattle.cs_syntax.specs.Matching.{Tree};
+ghost use Rattle.cs_syntax.specs.Reading.{Reads};
 ghost use Rattle.cs_match.specs.Finding.{Decides};
+ghost use Rattle.cs_match.specs.Lines.{lines};
+ghost use Rattle.cs_tree.specs.Told.{Told};
 ghost use Rattle.cs_tree.specs.Snapshot.{Snapshot};
 ghost use Rattle.cs_trigram.specs.declared.queries.Query.{Query};
+ghost use Rattle.cs_trigram.specs.Trigram.{has};
+ghost use Rattle.cs_trigram.specs.Text.{text_trigrams, limits};
 ghost use Rattle.cs_trigram.specs.Query.{LosesNoLine};
+ghost use Rattle.cs_trigram.specs.Windows.{HasWindows, IsSharp};
 ghost use Rattle.cs_index.specs.Image.{Entry};
+ghost use Rattle.cs_index.specs.PostingLists.{set_at};
+ghost use Rattle.cs_index.specs.Opening.{Parts, opening, are_whole, lists_in};
+ghost use Rattle.cs_index.specs.Candidates.{candidates_of};
+ghost use Rattle.cs_index.specs.declared.fault.IndexFault.{IndexFault};
+ghost use Rattle.cs_history.specs.History.{History};
+ghost use Rattle.cs_history.specs.Left.{HasLeft};
+ghost use Rattle.cs_history.specs.Headline.{SearchPremises, indexed_names};
 ghost use Rattle.cs_words.specs.declared.jobs.Tool.{Tool};
 ghost use Rattle.cs_words.specs.declared.jobs.Style.{Style};
-ghost use Rattle.cs_search.specs.Csearch.{ReadsAs, names_meeting};
-ghost use Rattle.cs_search.specs.Printed.{all_printed, file_printed};
+ghost use Rattle.cs_words.specs.declared.jobs.SearchJob.{SearchJob};
+ghost use Rattle.cs_words.specs.declared.jobs.GrepJob.{GrepJob};
+ghost use Rattle.cs_words.specs.declared.fault.ToolFault.{ToolFault};
+ghost use Rattle.cs_words.specs.declared.fault.ToolFault.TheVariants.{NoIndex, BadIndex};
+ghost use Rattle.cs_search.specs.declared.status.Status.{Status};
+ghost use Rattle.cs_search.specs.Cgrep.{searched_by_cgrep, cgrep_printed};
+ghost use Rattle.cs_search.specs.Csearch.{ReadsAs, names_meeting, Seeks, RefusedInOrder, PrintsAsPromised};
+ghost use Rattle.cs_search.specs.Printed.{PrintsStatus, all_printed, file_printed};
+ghost use Rattle.cs_search.specs.SameSearch.{IsSameSearch};
 
 use crate::report::MOST_SEARCHED;
 
@@ -24,4 +44,61 @@ pub fn files_may_be_left_out()
         (filter keeps (names_meeting query files))
         ≡ all_printed (file_printed MOST_SEARCHED b style finds tree)
         (filter keeps (map (λ (e : Entry). e.0) files)) }
+{}
+
+/// The index that some jobs left opens and each list of it is whole, so that no search is refused for it.
+pub fn left_indexes_are_never_refused()
+    ensures whole { (history : History) (bytes : List ℕ) → HasLeft history bytes →
+        (parts : Parts) × (opening bytes ≡ Ok parts) × (are_whole parts ≡ true) }
+    ensures there { (job : SearchJob) (history : History) (bytes : List ℕ)
+        (answer : Result Status ToolFault) → HasLeft history bytes →
+        RefusedInOrder job (Some bytes) answer → answer ≢ Err NoIndex }
+    ensures good { (job : SearchJob) (history : History) (bytes : List ℕ)
+        (answer : Result Status ToolFault) (fault : IndexFault) → HasLeft history bytes →
+        RefusedInOrder job (Some bytes) answer → answer ≢ Err (BadIndex fault) }
+{}
+
+/// Where each indexed file still reads as it was indexed, a search prints no line of a fault.
+pub fn files_that_still_read_have_no_fault()
+    ensures { (style : Style) (finds keeps : List ℕ → Bool) (tree : Snapshot)
+        (index : Option (List ℕ)) (earlier : History) →
+        SearchPremises (Some tree) index earlier →
+        (searched_by_cgrep MOST_SEARCHED style finds tree
+        (filter keeps (indexed_names earlier))).errors ≡ [] }
+{}
+
+/// What is promised of a search is what the clause `prints` of `cgrep` says of the same search over the chosen names,
+/// whatever standard input has: `sought` finds the premises of that clause.
+pub fn searches_are_those_of_cgrep()
+    ensures sought { (job : SearchJob) (names : List (List ℕ)) (like : GrepJob)
+        (finds keeps : List ℕ → Bool) → IsSameSearch job names like → Seeks job finds keeps →
+        (pattern : Tree) × Reads (string_bytes like.pattern) like.fold pattern
+        × Decides finds pattern }
+    ensures files { (job : SearchJob) (names : List (List ℕ)) (like : GrepJob)
+        (finds : List ℕ → Bool) (tree : Snapshot) (input : Option Told) →
+        IsSameSearch job names like → cgrep_printed MOST_SEARCHED like finds (Some tree) input ≡
+        Some (searched_by_cgrep MOST_SEARCHED job.style finds tree names) }
+    ensures promised { (job : SearchJob) (index : Option (List ℕ)) (tree : Snapshot)
+        (input : Option Told) (out out' err err' : Option (List ℕ)) (status : Status)
+        (finds keeps : List ℕ → Bool) (earlier : History) (like : GrepJob) →
+        PrintsAsPromised MOST_SEARCHED job index (Some tree)
+        (λ printed. PrintsStatus printed out out' err err' status) → Seeks job finds keeps →
+        SearchPremises (Some tree) index earlier →
+        IsSameSearch job (filter keeps (indexed_names earlier)) like →
+        PrintsStatus (cgrep_printed MOST_SEARCHED like finds (Some tree) input)
+        out out' err err' status }
+{}
+
+/// Each file with a line in which the pattern finds something is a candidate, where it reads as it was indexed; and each
+/// candidate has the windows of the pattern.
+pub fn candidates_lie_between()
+    ensures matching { (query : Query) (pattern : Tree) (parts : Parts) (id : ℕ)
+        (finds : List ℕ → Bool) (bytes : List ℕ) → id < length parts.names →
+        LosesNoLine query pattern → Decides finds pattern →
+        text_trigrams limits bytes ≡ Some (set_at id (lists_in parts)) →
+        list_any finds (lines bytes) ≡ true → has (candidates_of parts query) id ≡ true }
+    ensures windows { (query : Query) (pattern : Tree) (parts : Parts) (id : ℕ) →
+        id < length parts.names → IsSharp query pattern →
+        has (candidates_of parts query) id ≡ true →
+        HasWindows (has (set_at id (lists_in parts))) pattern }
 {}

@@ -11,6 +11,7 @@ mod grep_fault;
 mod grepped;
 pub mod laws;
 mod names;
+mod plan;
 mod reading;
 mod report;
 mod searcher;

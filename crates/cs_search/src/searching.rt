@@ -1,5 +1,5 @@
 // The tools that search.
-ghost use Rattle.std.specs.Prelude.{◌≡◌, ◌+◌, ◌⊎◌, ℕ, Bool, List, [], IfOk, OnErr, string_bytes};
+ghost use Rattle.std.specs.Prelude.{◌≡◌, ◌+◌, ◌⊎◌, ℕ, Bool, List, [], IfOk, IfErr, OnErr, string_bytes};
 ghost use Rattle.cs_tree.specs.Failures.{CountsOne};
 ghost use Rattle.cs_tree.specs.Transfers.{LosesAtMost};
 ghost use Rattle.cs_syntax.specs.Matching.{Tree as PatternTree};
@@ -9,6 +9,7 @@ ghost use Rattle.cs_tree.specs.Told.{Grows};
 ghost use Rattle.cs_search.specs.Cgrep.{cgrep_printed};
 ghost use Rattle.cs_search.specs.CgrepFaults.{PatternFirst, TellsFaultsOf};
 ghost use Rattle.cs_search.specs.Refusals.{IsAccepted, QuietAtRefusal, has_write_failed};
+ghost use Rattle.cs_search.specs.Programs.{IsProgramOf, RefusesPattern};
 ghost use Rattle.cs_search.specs.Searcher.{IsSearchFault, Prints};
 ghost use Rattle.cs_search.specs.Printed.{PrintsStatus, PrintsNothing, PrintsFront, status_of};
 
@@ -58,12 +59,21 @@ pub fn cgrep<T: Tree, R: Source, O: Sink, E: Sink>(
     ensures tree_keeps { T.snapshot tree.new ≡ T.snapshot tree.old }
     ensures input_keeps { R.Keeps input.old input.new }
 {
-    let pattern = parse(alloc, job.pattern.as_str(), job.fold)?;
-    let program = Program::compile(alloc, &pattern)?;
+    let program = compile(alloc, job)?;
     let mut searcher = Searcher::new(alloc, Tool::Cgrep, job.style, &program)?;
     let matched = search_job(&mut searcher, job, tree, input, out, err)?;
     let status = finish(matched, out, err)?;
     Ok(status)
+}
+
+/// The program of the pattern of the job, where the pattern is accepted.
+fn compile(alloc: Global, job: &GrepJob) -> Result<Program, ToolFault>
+    ensures compiled { IfOk result (IsProgramOf (string_bytes job.now.pattern) job.now.fold) }
+    ensures refused { IfErr result (RefusesPattern (string_bytes job.now.pattern) job.now.fold) }
+{
+    let pattern = parse(alloc, job.pattern.as_str(), job.fold)?;
+    let program = Program::compile(alloc, &pattern)?;
+    Ok(program)
 }
 
 /// The end of a search: both outputs are flushed.

@@ -1,7 +1,7 @@
 use Rattle.std.proofs.Common.{◌++◌, ◌∷◌, [], Bool, sym, subst, if◌then◌else◌}
 use Rattle.std.proofs.lemmas.Result.{err_from_is_err_and}
 use Rattle.cs_tree.specs.Told.{Grows}
-use Rattle.cs_search.specs.Fronts.{TakesFront}
+use Rattle.cs_tree.specs.Taken.{TakesFront}
 use Rattle.cs_search.proofs.Printing.{refused, front_right, front_written}
 use Rattle.cs_search.proofs.form.Form.print_front.Goals as goal
 

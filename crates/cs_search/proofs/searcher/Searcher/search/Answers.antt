@@ -6,7 +6,7 @@ use Rattle.cs_tree.specs.Failures.{count_if}
 use Rattle.std.specs.Prelude.{option_map}
 use Rattle.cs_tree.specs.Told.{Grows}
 use Rattle.cs_search.specs.Printed.{left_fault, fault_text}
-use Rattle.cs_search.specs.Fronts.{TakesFront}
+use Rattle.cs_tree.specs.Taken.{TakesFront}
 use Rattle.cs_search.proofs.FrontLemmas.{any_err}
 use Rattle.cs_search.proofs.Printing.{Grows-same}
 use Rattle.cs_search.proofs.PrintedLemmas.{Prints-input, PrintsFront-input, PrintsFront-fault, done, undone, Tells-none, Tells-left, Tells-refused}

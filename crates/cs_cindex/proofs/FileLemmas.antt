@@ -15,12 +15,14 @@ use Rattle.std.proofs.lemmas.List.Elements.{filter_map-append}
 use Rattle.cs_tree.specs.Cover.{is_among, same}
 use Rattle.cs_tree.specs.Snapshot.{Snapshot}
 use Rattle.cs_tree.specs.Told.{Grows}
+use Rattle.cs_trigram.specs.Trigram.{set_of_numbers}
 use Rattle.cs_index.specs.Image.{Entry, names_of}
 use Rattle.cs_index.specs.Built.{is_storable, is_above}
 use Rattle.cs_words.specs.declared.fault.FileFault.TheVariants.{Unnamed}
 use Rattle.cs_cindex.specs.declared.reading.Verdict.{Verdict}
 use Rattle.cs_cindex.specs.declared.reading.Verdict.TheVariants.{Text, Skipped, Left}
-use Rattle.cs_cindex.specs.Notices.{TakesFront, Line, faulted, file_line, text_of, AreCounted, Prints, PrintsFront}
+use Rattle.cs_tree.specs.Taken.{TakesFront}
+use Rattle.cs_cindex.specs.Notices.{Line, faulted, file_line, text_of, AreCounted, Prints, PrintsFront}
 use Rattle.cs_cindex.specs.Verdicts.{trigrams_told, line_told, file_trigrams, IsVerdict, IsVerdictIn, IsVerdictCounted, one_line, noted_line, added_entries, noted_entries}
 use Rattle.cs_cindex.specs.Files.{texts_at, are_storable, AreTextsIn, AreTooManyIn, AreFileLinesIn, BeginFileLinesIn, AreAbove, HaveNamesOf}
 use Rattle.cs_cindex.proofs.FrontLemmas.{grows_none, front_all}
@@ -70,7 +72,7 @@ abbrev pub with_name : List ℕ → Option (List ℕ) → Option Entry
 with_name name trigrams = option_map (λ (trigrams : List ℕ). (name, trigrams)) trigrams
 
 entries_told : (name : List ℕ) (verdict : Verdict) → is_storable name ≡ true → noted_entries name verdict ≡ cons_option (with_name name (trigrams_told verdict)) []
-entries_told name (Text trigrams) h = ap (λ b. cond b ((name, trigrams.items) ∷ []) []) h
+entries_told name (Text trigrams) h = ap (λ b. cond b ((name, (set_of_numbers trigrams.now)) ∷ []) []) h
 entries_told name (Skipped reason) h = refl
 entries_told name (Left why) h = refl
 
@@ -220,7 +222,7 @@ above_same entries rest all = subst (λ es. AreAbove es rest) (sym (append-nil e
 
 pub above_step : (entries : List Entry) (name : List ℕ) (verdict : Verdict) (rest : List (List ℕ)) → are_ascending (name ∷ rest) ≡ true → AreAbove entries (name ∷ rest) → AreAbove (entries ++ noted_entries name verdict) rest
 above_step entries name (Text trigrams) rest up all =
-    elim (is_storable name) as (λ b. AreAbove (entries ++ cond b ((name, trigrams.items) ∷ []) []) rest) [ true ↦ above_new entries name trigrams.items rest (ascend_after name rest up) | false ↦ above_same entries rest all.1 ]
+    elim (is_storable name) as (λ b. AreAbove (entries ++ cond b ((name, (set_of_numbers trigrams.now)) ∷ []) []) rest) [ true ↦ above_new entries name (set_of_numbers trigrams.now) rest (ascend_after name rest up) | false ↦ above_same entries rest all.1 ]
 above_step entries name (Skipped reason) rest up all = above_same entries rest all.1
 above_step entries name (Left why) rest up all = above_same entries rest all.1
 
@@ -249,7 +251,7 @@ names_step names entries name verdict have = before entries have
     added trigrams = elim (is_storable name) as (λ b. HaveNamesOf (names ++ name ∷ []) (cond b ((name, trigrams) ∷ []) [])) [ true ↦ (last, tt) | false ↦ tt ]
 
     noted : (v : Verdict) → HaveNamesOf (names ++ name ∷ []) (noted_entries name v)
-    noted (Text trigrams) = added trigrams.items
+    noted (Text trigrams) = added (set_of_numbers trigrams.now)
     noted (Skipped reason) = tt
     noted (Left why) = tt
 

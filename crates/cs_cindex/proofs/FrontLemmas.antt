@@ -3,7 +3,7 @@ use Rattle.std.proofs.Common.{◌≡◌, ℕ, zero, suc, ◌+◌, List, [], ◌�
 use Rattle.std.proofs.lemmas.List.{take_all}
 use Rattle.cs_tree.specs.Told.{Grows}
 use Rattle.cs_tree.proofs.Growing.{Grows-chain}
-use Rattle.cs_cindex.specs.Notices.{TakesFront}
+use Rattle.cs_tree.specs.Taken.{TakesFront}
 
 pub grows_none : (taken : Option (List ℕ)) → Grows taken taken []
 grows_none None = tt

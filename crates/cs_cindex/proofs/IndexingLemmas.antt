@@ -9,7 +9,8 @@ use Rattle.cs_tree.specs.Told.{Grows}
 use Rattle.cs_tree.specs.Walks.{Left, FindsIn, CountsFaults}
 use Rattle.cs_tree.proofs.Growing.{Grows-chain}
 use Rattle.cs_index.specs.Built.{are_paths}
-use Rattle.cs_cindex.specs.Notices.{TakesFront, Line, left_line, file_line, text_of, AreLinesIn, BeginLinesIn, AreCounted, Prints, PrintsFront}
+use Rattle.cs_tree.specs.Taken.{TakesFront}
+use Rattle.cs_cindex.specs.Notices.{Line, left_line, file_line, text_of, AreLinesIn, BeginLinesIn, AreCounted, Prints, PrintsFront}
 use Rattle.cs_index.specs.Image.{Entry}
 use Rattle.cs_cindex.specs.Files.{AreFileLinesIn, BeginFileLinesIn, AreTextsIn, AreTooManyIn}
 use Rattle.cs_cindex.proofs.FrontLemmas.{front_all}

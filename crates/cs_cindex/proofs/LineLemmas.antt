@@ -20,7 +20,8 @@ use Rattle.cs_words.specs.declared.jobs.Tool.TheVariants.{Cindex}
 use Rattle.cs_words.specs.declared.fault.FileFault.{FileFault}
 use Rattle.cs_words.specs.declared.fault.FileFault.TheVariants.{Missing, Denied, Failed, Unnamed, PathTooLong, InputTooLong}
 use Rattle.cs_cindex.proofs.FrontLemmas.{front_none, front_left, front_right}
-use Rattle.cs_cindex.specs.Notices.{TakesFront, Line, faulted, skipped, line_text, text_of, left_line, walk_fault, BeginLinesIn, PrintsFront, IsCounted, IsLineCounted, AreCounted}
+use Rattle.cs_tree.specs.Taken.{TakesFront}
+use Rattle.cs_cindex.specs.Notices.{Line, faulted, skipped, line_text, text_of, left_line, walk_fault, BeginLinesIn, PrintsFront, IsCounted, IsLineCounted, AreCounted}
 use Rattle.cs_cindex.specs.Verdicts.{PrintsAll}
 
 -- ---- the text of lines

@@ -21,7 +21,7 @@ use Rattle.cs_history.specs.Jobs.{given_texts, has_no_path, IsTaken, visit_of, s
 use Rattle.cs_history.specs.Headline.{Indexes}
 use Rattle.cs_history.specs.Replies.{Walks}
 use Rattle.cs_cindex.specs.Bytes.{index_bytes, lent_bytes}
-use Rattle.cs_cindex.specs.Notices.{TakesFront}
+use Rattle.cs_tree.specs.Taken.{TakesFront}
 use Rattle.cs_cindex.specs.Next.{IsNext}
 use Rattle.cs_cindex.specs.Output.{TellsBy, WalkPrints, WalkPrintsSome, index_lines, list_lines, is_failed_write}
 use Rattle.cs_cindex.specs.Refusals.{JobKind, lists, clears, walks, job_kind, base, list_fault, early_walk_fault, early_fault_of, IsOutputFault, IsWalkFault, IsLateFault, EarlyOr}

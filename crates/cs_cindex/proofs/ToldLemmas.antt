@@ -14,7 +14,8 @@ use Rattle.cs_words.specs.declared.jobs.IndexJob.{IndexJob}
 use Rattle.cs_words.specs.declared.jobs.Reply.TheVariants.{Done, Refused}
 use Rattle.cs_words.specs.declared.fault.CindexFault.{CindexFault}
 use Rattle.cs_history.specs.Jobs.{given_paths, given_texts}
-use Rattle.cs_cindex.specs.Notices.{TakesFront, AreLinesIn, BeginLinesIn, Prints, PrintsFront}
+use Rattle.cs_tree.specs.Taken.{TakesFront}
+use Rattle.cs_cindex.specs.Notices.{AreLinesIn, BeginLinesIn, Prints, PrintsFront}
 use Rattle.cs_cindex.specs.Indexed.{IsIndexingFault}
 use Rattle.cs_cindex.specs.Refusals.{JobKind, lists, clears, walks, base, early_fault_of, early_walk_fault, base_fault, EarlyOr, IsOutputFault}
 use Rattle.cs_cindex.specs.JobPaths.{AreCleanFault, AreCleaned, starts}

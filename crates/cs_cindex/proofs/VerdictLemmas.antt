@@ -1,9 +1,8 @@
 -- What becomes of a file, by what stands at its name.
-use Rattle.std.proofs.Common.{◌≡◌, ◌≢◌, ℕ, Bool, List, [], refl, sym, subst, ◌∙◌, Option, Some, None, Result, Ok, Err, Vec}
+use Rattle.std.proofs.Common.{◌≡◌, ◌≢◌, ℕ, Bool, List, [], refl, sym, subst, ◌∙◌, Option, Some, None, Result, Ok, Err, Bor}
 use Rattle.cs_tree.specs.TreeAnswers.{opening_of}
 use Rattle.cs_words.specs.FileFaults.{file_fault_of}
-use Rattle.cs_trigram.specs.Scans.{Finding, found_or, finding, Says, IsRight, text, left_out, unread}
-use Rattle.std.specs.declared.alloc.Global.{Global}
+use Rattle.cs_trigram.specs.Scans.{Finding, found_or, finding, SaysInAnyOrder, IsRightGathering, text, left_out, unread}
 use Rattle.cs_tree.specs.Snapshot.{Snapshot, Item, folder, file, cut, other, bad, item_at}
 use Rattle.cs_tree.specs.Told.{Told}
 use Rattle.cs_tree.specs.Reached.{read_item}
@@ -13,9 +12,9 @@ use Rattle.cs_tree.specs.declared.fault.TreeFault.TheVariants as tree
 use Rattle.cs_trigram.specs.Text.{limits, text_trigrams, skip, first_broken, none_skipped}
 use Rattle.cs_trigram.specs.Trigram.{tri}
 use Rattle.cs_trigram.specs.declared.scan.Reason.{Reason}
-use Rattle.cs_trigram.specs.declared.scan.Scan.{Scan}
+use Rattle.cs_trigram.specs.declared.scan.Gathered.{Gathered}
 use Rattle.cs_trigram.specs.declared.scan.ScanFault.{ScanFault}
-use Rattle.cs_trigram.specs.declared.scan.Scan.TheVariants as answer
+use Rattle.cs_trigram.specs.declared.scan.Gathered.TheVariants as answer
 use Rattle.cs_trigram.specs.declared.scan.ScanFault.TheVariants as fault
 use Rattle.cs_words.specs.declared.fault.FileFault.TheVariants.{Failed}
 use Rattle.cs_cindex.specs.declared.reading.Verdict.{Verdict}
@@ -84,18 +83,18 @@ verdict_opened : (snapshot : Option Snapshot) (name : List ℕ) (verdict : Verdi
 verdict_opened None name verdict later opens finds = tt
 verdict_opened (Some tree) name verdict later opens finds = verdict_is tree name verdict (opened_at name verdict (opening_of (item_at tree name)) later opens finds)
 
-right_at : (read : Option Told) (told : Told) (scan : Result Scan ScanFault) → read ≡ Some told → IsRight limits read scan → Says scan (finding limits told)
+right_at : (read : Option Told) (told : Told) (scan : Result Gathered ScanFault) → read ≡ Some told → IsRightGathering limits read scan → SaysInAnyOrder scan (finding limits told)
 right_at read told scan is right = rw is at right
 
 module _ (snapshot : Option Snapshot) (name : List ℕ) (later : Option Told) (opens : Opens snapshot name (Ok tt) later) where
-  pub verdict_text : (trigrams : Vec ℕ Global) (bytes : ℕ) → IsRight limits (open_told snapshot later) (Ok (answer.Text trigrams bytes)) → IsVerdictIn snapshot name (Text trigrams)
+  pub verdict_text : (trigrams : Bor (List ℕ)) (bytes : ℕ) → IsRightGathering limits (open_told snapshot later) (Ok (answer.Text trigrams bytes)) → IsVerdictIn snapshot name (Text trigrams)
   verdict_text trigrams bytes right = verdict_opened snapshot name (Text trigrams) later opens (λ told is.
       subst (Finds name (Text trigrams)) (right_at (open_told snapshot later) told (Ok (answer.Text trigrams bytes)) is right) (record { trigrams = refl; line = λ log_skip. refl }))
 
-  pub verdict_skipped : (reason : Reason) → IsRight limits (open_told snapshot later) (Ok (answer.Skip reason)) → IsVerdictIn snapshot name (Skipped reason)
+  pub verdict_skipped : (reason : Reason) → IsRightGathering limits (open_told snapshot later) (Ok (answer.Skip reason)) → IsVerdictIn snapshot name (Skipped reason)
   verdict_skipped reason right = verdict_opened snapshot name (Skipped reason) later opens (λ told is.
       subst (Finds name (Skipped reason)) (right_at (open_told snapshot later) told (Ok (answer.Skip reason)) is right) (record { trigrams = refl; line = λ log_skip. refl }))
 
-  pub verdict_unread : IsRight limits (open_told snapshot later) (Err fault.Read) → IsVerdictIn snapshot name (Left Failed)
+  pub verdict_unread : IsRightGathering limits (open_told snapshot later) (Err fault.Read) → IsVerdictIn snapshot name (Left Failed)
   verdict_unread right = verdict_opened snapshot name (Left Failed) later opens (λ told is.
       subst (Finds name (Left Failed)) (right_at (open_told snapshot later) told (Err fault.Read) is right) (record { trigrams = refl; line = λ log_skip. refl }))

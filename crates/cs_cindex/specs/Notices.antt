@@ -1,7 +1,7 @@
 -- What is printed while the files of a tree are indexed: a line for each path that a walk leaves, in the
 -- order of the paths, and then one for each file that is left out, in the order of the names.
 -- docs/PROMISES.md, "What is printed"; docs/FORMAT.md, "Which files are text".
-use Rattle.std.specs.Prelude.{◌≡◌, ℕ, Bool, if◌then◌else◌, List, ◌++◌, map, filter_map, take, length, Option, Some, None, Result, Ok, Err, MatchResult}
+use Rattle.std.specs.Prelude.{◌≡◌, ℕ, Bool, if◌then◌else◌, List, ◌++◌, map, filter_map, take, length, Option, Some, None, Result, Ok, Err}
 use Rattle.cs_words.specs.SkipLines.{skip_line_of}
 use Rattle.cs_tree.specs.TreeAnswers.{opening_of}
 use Rattle.cs_tree.specs.Folders.{IsTree}
@@ -12,6 +12,7 @@ use Rattle.cs_tree.specs.Failures.{HasFailed}
 use Rattle.std.specs.List.{AllByRecursion, flat_map}
 use Rattle.cs_tree.specs.Snapshot.{Snapshot, item_at}
 use Rattle.cs_tree.specs.Told.{Told, Grows}
+use Rattle.cs_tree.specs.Taken.{TakesFront}
 use Rattle.cs_tree.specs.Walks.{Left, Finds}
 use Rattle.cs_tree.specs.declared.fault.TreeFault.{TreeFault}
 use Rattle.cs_tree.specs.declared.walking.WalkFault.{WalkFault}
@@ -86,15 +87,6 @@ BeginLinesIn log_skip None paths lines = Unit {0}
 BeginLinesIn log_skip (Some tree) paths lines = IsTree tree → (all : List Line) → AreLines log_skip tree paths all → lines ≡ take (length lines) all
 
 -- ---- what was printed
-
--- an output has taken a front of these bytes
-pub record TakesFront (bytes : List ℕ) (taken later : Option (List ℕ)) : Type 0 where
-  pub count : ℕ
-  pub grows : Grows taken later (take count bytes)
-
--- It has taken all of them, and where the call was refused, a front of them.
-abbrev pub TakesAll : {A E : Type 0} → List ℕ → Option (List ℕ) → Option (List ℕ) → Result A E → Type 0
-TakesAll bytes taken later result = MatchResult result (λ _. Grows taken later bytes) (λ _. TakesFront bytes taken later)
 
 -- `no such file`, `permission denied` and `cannot be read` tell of a call that has failed, and that was counted
 abbrev pub IsCounted : FileFault → ℕ → ℕ → Type 0

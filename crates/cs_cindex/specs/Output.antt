@@ -16,7 +16,8 @@ use Rattle.cs_words.specs.declared.jobs.Reply.{Reply}
 use Rattle.cs_words.specs.declared.jobs.Reply.TheVariants.{Done, Refused}
 use Rattle.cs_words.specs.declared.fault.CindexFault.{CindexFault}
 use Rattle.cs_words.specs.declared.fault.CindexFault.TheVariants.{NoIndex, BadIndex, Unsorted, TooLarge, BadPath, Write, Memory}
-use Rattle.cs_cindex.specs.Notices.{TakesFront, AreLinesIn, BeginLinesIn, Prints, PrintsFront}
+use Rattle.cs_tree.specs.Taken.{TakesFront}
+use Rattle.cs_cindex.specs.Notices.{AreLinesIn, BeginLinesIn, Prints, PrintsFront}
 use Rattle.cs_cindex.specs.Next.{paths_walked}
 use Rattle.cs_cindex.specs.Refusals.{JobKind, lists, clears, walks, base, early_walk_fault}
 

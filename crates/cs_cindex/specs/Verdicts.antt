@@ -1,6 +1,7 @@
 -- What becomes of a file that a walk finds, once it was read.
 use Rattle.std.specs.Prelude.{◌≡◌, ℕ, Bool, if◌then◌else◌, List, [], ◌∷◌, Option, Some, None, Result}
-use Rattle.cs_trigram.specs.Trigram.{IsTrigramSet}
+use Rattle.cs_trigram.specs.Trigram.{set_of_numbers}
+use Rattle.cs_trigram.specs.Scans.{AreTrigramsOnce}
 use Rattle.cs_tree.specs.Snapshot.{Snapshot, item_at}
 use Rattle.cs_tree.specs.Reached.{read_item}
 use Rattle.cs_trigram.specs.Text.{limits, text_trigrams}
@@ -9,12 +10,13 @@ use Rattle.cs_index.specs.Built.{is_storable}
 use Rattle.cs_words.specs.declared.fault.FileFault.TheVariants.{Unnamed}
 use Rattle.cs_cindex.specs.declared.reading.Verdict.{Verdict}
 use Rattle.cs_cindex.specs.declared.reading.Verdict.TheVariants.{Text, Skipped, Left}
-use Rattle.cs_cindex.specs.Notices.{Line, faulted, skipped, file_line, text_of, TakesAll, IsCounted}
+use Rattle.cs_tree.specs.Taken.{TakesAll}
+use Rattle.cs_cindex.specs.Notices.{Line, faulted, skipped, file_line, text_of, IsCounted}
 
 -- ---- what it says
 
 abbrev pub trigrams_told : Verdict → Option (List ℕ)
-trigrams_told (Text trigrams) = Some trigrams.items
+trigrams_told (Text trigrams) = Some (set_of_numbers trigrams.now)
 trigrams_told (Skipped reason) = None
 trigrams_told (Left why) = None
 
@@ -36,10 +38,11 @@ abbrev pub IsVerdictIn : Option Snapshot → List ℕ → Verdict → Type 0
 IsVerdictIn None name verdict = Unit {0}
 IsVerdictIn (Some tree) name verdict = IsVerdict tree name verdict
 
-abbrev pub HasSet : Verdict → Type 0
-HasSet (Text trigrams) = IsTrigramSet trigrams.items
-HasSet (Skipped reason) = Unit {0}
-HasSet (Left why) = Unit {0}
+-- its trigrams stand there once
+abbrev pub HasTrigramsOnce : Verdict → Type 0
+HasTrigramsOnce (Text trigrams) = AreTrigramsOnce trigrams.now
+HasTrigramsOnce (Skipped reason) = Unit {0}
+HasTrigramsOnce (Left why) = Unit {0}
 
 -- a call that has failed was counted
 abbrev pub IsVerdictCounted : Verdict → ℕ → ℕ → Type 0
@@ -65,7 +68,7 @@ noted_line log_skip name (Skipped reason) = if log_skip then Some (skipped name 
 noted_line log_skip name (Left why) = Some (faulted name why)
 
 abbrev pub noted_entries : List ℕ → Verdict → List Entry
-noted_entries name (Text trigrams) = added_entries name trigrams.items
+noted_entries name (Text trigrams) = added_entries name (set_of_numbers trigrams.now)
 noted_entries name (Skipped reason) = []
 noted_entries name (Left why) = []
 

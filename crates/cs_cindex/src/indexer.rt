@@ -2,7 +2,8 @@
 ghost use Rattle.std.specs.Prelude.{◌≡◌, ◌<◌, ◌≤◌, ◌^◌, ◌⊎◌, ◌++◌, true, [], map, string_bytes, length, Some, IfOk, IfErr, OnOk, OnErr};
 ghost use Rattle.cs_tree.specs.NameOrder.{are_ascending};
 ghost use Rattle.cs_tree.specs.Failures.{count_after};
-ghost use Rattle.cs_trigram.specs.Trigram.{IsTrigramSet};
+ghost use Rattle.cs_trigram.specs.Trigram.{set_of_numbers};
+ghost use Rattle.cs_trigram.specs.Scans.{AreTrigramsOnce};
 ghost use Rattle.cs_index.specs.Built.{are_paths, is_above, IsBuilt, most_names};
 ghost use Rattle.cs_index.specs.Image.{image_of, names_of};
 ghost use Rattle.cs_history.specs.Replies.{IsLong};
@@ -10,7 +11,7 @@ ghost use Rattle.cs_cindex.specs.Output.{is_failed_write};
 ghost use Rattle.cs_cindex.specs.Indexed.{IsIndexingFault};
 ghost use Rattle.cs_cindex.specs.Notices.{Prints, PrintsFront};
 ghost use Rattle.cs_cindex.specs.Refusals.{IsOutputFault};
-ghost use Rattle.cs_cindex.specs.Verdicts.{HasSet, added_entries, added_line, noted_entries, noted_line, one_line, PrintsAll};
+ghost use Rattle.cs_cindex.specs.Verdicts.{HasTrigramsOnce, added_entries, added_line, noted_entries, noted_line, one_line, PrintsAll};
 ghost use Rattle.cs_cindex.specs.Files.{AreTextsIn, AreTooManyIn, AreFileLinesIn, BeginFileLinesIn, HaveNamesOf};
 
 use crate::printing::{print_fault, print_skipped};
@@ -26,7 +27,6 @@ use std::alloc::Global;
 pub(crate) struct Indexer {
     alloc: Global,
     log_skip: bool,
-    scanner: Scanner,
     builder: Builder,
 }
 
@@ -43,7 +43,6 @@ impl Indexer {
         ensures log_skip { IfOk result (λ indexer. indexer.log_skip ≡ log_skip) }
         ensures refused { IfErr result (λ fault. fault ≡ CindexFault.Memory) }
     {
-        let scanner = Scanner::new(alloc)?;
         // The paths can be those of an index, so that at most memory is wanting.
         let Ok(builder) = Builder::new(alloc, paths) else {
             return Err(CindexFault::Memory);
@@ -51,7 +50,6 @@ impl Indexer {
         Ok(Indexer {
             alloc,
             log_skip,
-            scanner,
             builder,
         })
     }
@@ -59,6 +57,7 @@ impl Indexer {
     /// Reads the files at the names, adds those that are text, and prints the lines for the others.
     pub(crate) fn index_files<T: Tree, E: Sink>(
         &mut self,
+        scanner: &mut Scanner,
         tree: &mut T,
         names: &[String],
         err: &mut E,
@@ -84,7 +83,7 @@ impl Indexer {
         ensures keeps { T.snapshot tree.new ≡ T.snapshot tree.old }
     {
         for name in names {
-            let verdict = read_file(&mut self.scanner, tree, name.as_str())?;
+            let verdict = read_file(scanner, tree, name.as_str())?;
             self.note(name.as_str(), verdict, err)?;
         }
         Ok(())
@@ -94,14 +93,14 @@ impl Indexer {
     fn note<E: Sink>(
         &mut self,
         name: &str,
-        verdict: Verdict,
+        verdict: Verdict<'_>,
         err: &mut E,
     ) -> Result<(), CindexFault>
-        requires set { HasSet verdict }
+        requires once { HasTrigramsOnce verdict }
         requires above { is_above (names_of self.old.builder.entries) name.now ≡ true }
         ensures entries { OnOk result (self.new.builder.entries ≡
-            self.old.builder.entries ++ noted_entries name.now verdict) }
-        ensures prints { PrintsAll (one_line (noted_line self.old.log_skip name.now verdict))
+            self.old.builder.entries ++ noted_entries name.now verdict.entry) }
+        ensures prints { PrintsAll (one_line (noted_line self.old.log_skip name.now verdict.entry))
             (E.taken err.old) (E.taken err.new) result }
         ensures too_large { result ≡ Err CindexFault.TooLarge →
             most_names ≤ length self.old.builder.entries }
@@ -111,7 +110,7 @@ impl Indexer {
         ensures only { IfErr result IsIndexingFault }
     {
         match verdict {
-            Verdict::Text(trigrams) => self.add(name, &trigrams, err),
+            Verdict::Text(trigrams) => self.add(name, trigrams, err),
             Verdict::Skipped(reason) => self.note_skipped(name, reason, err),
             Verdict::Left(fault) => print_fault(self.alloc, name, fault, err),
         }
@@ -138,10 +137,10 @@ impl Indexer {
 
     /// Adds a text, or prints a line where no index can hold its name.
     fn add<E: Sink>(&mut self, name: &str, trigrams: &[u32], err: &mut E) -> Result<(), CindexFault>
-        requires set { IsTrigramSet trigrams.now }
+        requires once { AreTrigramsOnce trigrams.now }
         requires above { is_above (names_of self.old.builder.entries) name.now ≡ true }
         ensures entries { OnOk result (self.new.builder.entries ≡
-            self.old.builder.entries ++ added_entries name.now trigrams.now) }
+            self.old.builder.entries ++ added_entries name.now (set_of_numbers trigrams.now)) }
         ensures prints { PrintsAll (one_line (added_line name.now))
             (E.taken err.old) (E.taken err.new) result }
         ensures too_large { result ≡ Err CindexFault.TooLarge →

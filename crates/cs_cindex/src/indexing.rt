@@ -11,6 +11,7 @@ ghost use Rattle.cs_cindex.specs.Notices.{AreLinesIn, BeginLinesIn, Prints, Prin
 use crate::indexer::Indexer;
 use crate::printing::print_left;
 use cs_tree::{Sink, Tree, walk};
+use cs_trigram::Scanner;
 use cs_words::CindexFault;
 use std::alloc::Global;
 
@@ -57,9 +58,10 @@ pub(crate) fn index_paths<T: Tree, E: Sink>(
     ensures keeps { T.snapshot tree.new ≡ T.snapshot tree.old }
 {
     let mut indexer = Indexer::new(alloc, paths, log_skip)?;
+    let mut scanner = Scanner::new(alloc)?;
     let walked = walk(alloc, tree, paths)?;
     print_left(alloc, &walked.faults, err)?;
-    indexer.index_files(tree, &walked.names, err)?;
+    indexer.index_files(&mut scanner, tree, &walked.names, err)?;
     let index = indexer.finish()?;
     Ok(index)
 }

@@ -9,7 +9,7 @@ ghost use Rattle.cs_cindex.specs.Refusals.{AnswersFor, HasAbsoluteFolder, HasCau
 ghost use Rattle.cs_cindex.specs.Outcomes.{IsStepTo};
 ghost use Rattle.cs_cindex.specs.Steps.{IsStep, KeepsIndex, RightAfter, job_tree, outputs, standing};
 ghost use Rattle.cs_cindex.specs.Bytes.{index_bytes, lent_bytes};
-ghost use Rattle.cs_cindex.specs.Notices.{TakesAll};
+ghost use Rattle.cs_tree.specs.Taken.{TakesAll};
 
 use crate::outcome::{Outcome, index_and_reply};
 use crate::walked::walked_index;

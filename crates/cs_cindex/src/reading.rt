@@ -1,17 +1,17 @@
 // The reading of a file that a walk finds.
 ghost use Rattle.std.specs.Prelude.{◌≡◌, ◌≤◌, IfOk};
-ghost use Rattle.cs_cindex.specs.Verdicts.{IsVerdictIn, HasSet, IsVerdictCounted};
+ghost use Rattle.cs_cindex.specs.Verdicts.{IsVerdictIn, HasTrigramsOnce, IsVerdictCounted};
 
 use cs_tree::{Tree, TreeReader};
-use cs_trigram::{Reason, Scan, ScanFault, Scanner};
+use cs_trigram::{Gathered, Reason, ScanFault, Scanner};
 use cs_words::FileFault;
 use std::alloc::AllocError;
 
 /// What becomes of a file.
 #[derive(Drop)]
-pub(crate) enum Verdict {
-    /// It is indexed, with these trigrams.
-    Text(Vec<u32>),
+pub(crate) enum Verdict<'a> {
+    /// It is indexed, with these trigrams, each once, which the scanner lends.
+    Text(&'a [u32]),
     /// It is no text that is indexed.
     Skipped(Reason),
     /// It cannot be read to its end.
@@ -19,13 +19,13 @@ pub(crate) enum Verdict {
 }
 
 /// Reads the file at a name. A byte that breaks a rule is the last thing that is read.
-pub(crate) fn read_file<T: Tree>(
-    scanner: &mut Scanner,
+pub(crate) fn read_file<'a, T: Tree>(
+    scanner: &'a mut Scanner,
     tree: &mut T,
     name: &str,
-) -> Result<Verdict, AllocError>
+) -> Result<Verdict<'a>, AllocError>
     ensures told { IfOk result (λ verdict. IsVerdictIn (T.snapshot tree.old) name.now verdict) }
-    ensures set { IfOk result HasSet }
+    ensures once { IfOk result HasTrigramsOnce }
     ensures counted { IfOk result
         (λ verdict. IsVerdictCounted verdict (T.failed tree.old) (T.failed tree.new)) }
     ensures rises { T.failed tree.old ≤ T.failed tree.new }
@@ -36,9 +36,9 @@ pub(crate) fn read_file<T: Tree>(
         return Ok(Verdict::Left(fault));
     }
     let mut reader = TreeReader::new(tree);
-    match scanner.scan(&mut reader) {
-        Ok(Scan::Text { trigrams, .. }) => Ok(Verdict::Text(trigrams)),
-        Ok(Scan::Skip(reason)) => Ok(Verdict::Skipped(reason)),
+    match scanner.gather(&mut reader) {
+        Ok(Gathered::Text { trigrams, .. }) => Ok(Verdict::Text(trigrams)),
+        Ok(Gathered::Skip(reason)) => Ok(Verdict::Skipped(reason)),
         Err(ScanFault::Read) => Ok(Verdict::Left(FileFault::Failed)),
         Err(ScanFault::Memory) => Err(AllocError),
     }

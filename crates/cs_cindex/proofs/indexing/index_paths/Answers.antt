@@ -1,9 +1,13 @@
-use Rattle.std.proofs.Common.{◌∙◌, ap, subst, map, string_bytes, inl, inr}
+use Rattle.std.proofs.Common.{◌≡◌, ◌∙◌, ℕ, Result, Err, sym, ap, subst, map, string_bytes, inl, inr}
 use Rattle.std.proofs.lemmas.Result.{err_from_is_err_and}
 use Rattle.cs_tree.specs.PathSet as set
+use Rattle.cs_tree.specs.Failures.{count_if, count_after}
 use Rattle.cs_tree.specs.Told.{Grows}
 use Rattle.cs_tree.specs.Walks.{left_entry, names_walked, faults_walked}
-use Rattle.cs_cindex.specs.Notices.{TakesFront, left_line, text_of}
+use Rattle.cs_words.specs.declared.fault.CindexFault.{CindexFault}
+use Rattle.cs_cindex.specs.Output.{is_failed_write}
+use Rattle.cs_tree.specs.Taken.{TakesFront}
+use Rattle.cs_cindex.specs.Notices.{left_line, text_of}
 use Rattle.cs_cindex.specs.Files.{HaveNamesOf}
 use Rattle.cs_cindex.proofs.LineLemmas.{any_err, Front-none}
 use Rattle.cs_cindex.proofs.IndexLemmas.{index_is, lies_under, index_built, too_large, too_many, many_found}
@@ -13,6 +17,10 @@ use Rattle.cs_cindex.proofs.indexing.index_paths.Goals as goal
 pub returns-in_err-indexer-clause-front : goal.returns-in_err-indexer-clause-front
 returns-in_err-indexer-clause-front g c =
     any_err c.from_residual.result (Front-none c.args.log_skip (set.from_list (map string_bytes c.args.paths.now)) (g.T.Tree.snapshot c.args.tree.now) (g.T.Tree.failed c.args.tree.now) (g.T.Tree.failed c.args.tree.now) (g.E.Sink.taken c.args.err.now))
+
+pub returns-in_err-scanner-clause-front : goal.returns-in_err-scanner-clause-front
+returns-in_err-scanner-clause-front g c =
+    any_err c.from_residual-in_err-scanner.result (Front-none c.args.log_skip (set.from_list (map string_bytes c.args.paths.now)) (g.T.Tree.snapshot c.args.tree.now) (g.T.Tree.failed c.args.tree.now) (g.T.Tree.failed c.args.tree.now) (g.E.Sink.taken c.args.err.now))
 
 pub returns-in_err-walked-clause-front : goal.returns-in_err-walked-clause-front
 returns-in_err-walked-clause-front g c =
@@ -76,3 +84,13 @@ returns-in_err-index-clause-whole g c = λ is.
     let printed = subst (λ fs. Grows (g.E.Sink.taken c.args.err.now) (g.E.Sink.taken c.print_left.new.err) (text_of (map left_line (map left_entry fs)))) c.deref.ensures.value c.in_ok-print_left.ensures.prints in
     let files = files_printed _ _ _ _ _ _ _ _ _ _ c.in_ok-indexer.ensures.log_skip c.walk.ensures.keeps (ap (map string_bytes) c.deref-2.ensures.value) c.in_ok-index_files.ensures.prints in
     inr (prints_all _ _ _ _ _ c.requires c.in_ok-walked.ensures.finds _ _ _ _ c.in_ok-walked.ensures.counted _ _ c.in_ok-walked.ensures.rises c.index_files.ensures.rises printed files)
+
+-- a refusal that is passed on is counted as it was
+counted_on : {A : Type 0} (r : Result A CindexFault) (fault was : CindexFault) (before now later : ℕ) → r ≡ Err fault → fault ≡ was → later ≡ count_if (is_failed_write was) now → now ≡ before → later ≡ count_after is_failed_write r before
+counted_on r fault was before now later is same counted begun =
+    counted ∙ ap (count_if (is_failed_write was)) begun ∙ sym (ap (λ f. count_if (is_failed_write f) before) same) ∙ sym (ap (λ x. count_after is_failed_write x before) is)
+
+pub returns-in_err-index_files-clause-writes : goal.returns-in_err-index_files-clause-writes
+returns-in_err-index_files-clause-writes g c =
+    let p = err_from_is_err_and c.from_residual-in_err-index_files.result c.from_residual-in_err-index_files.ensures.1 in
+    counted_on c.from_residual-in_err-index_files.result p.0 _ _ _ _ p.1 p.2 c.in_err-index_files.ensures.writes c.in_ok-print_left.ensures.writes

@@ -4,7 +4,8 @@ use Rattle.std.proofs.lemmas.Result.{err_from_is_err_and}
 use Rattle.cs_tree.specs.Told.{Grows}
 use Rattle.cs_index.specs.Image.{names_of}
 use Rattle.cs_index.specs.Built.{is_above}
-use Rattle.cs_cindex.specs.Notices.{TakesFront, Line, Prints, text_of}
+use Rattle.cs_tree.specs.Taken.{TakesFront}
+use Rattle.cs_cindex.specs.Notices.{Line, Prints, text_of}
 use Rattle.cs_cindex.specs.Verdicts.{noted_entries}
 use Rattle.cs_cindex.specs.Files.{AreTextsIn, AreFileLinesIn, AreAbove, HaveNamesOf}
 use Rattle.cs_cindex.proofs.LineLemmas.{any_err}

@@ -1,7 +1,7 @@
 // What tests of several libraries are given.
 use cs_index::Builder;
 use cs_tree::{Item, MemSource, MemTree};
-use cs_trigram::{Scan, Scanner};
+use cs_trigram::{Gathered, Scanner};
 use cs_words::Style;
 use std::alloc::{AllocError, Global};
 use std::test::Fail;
@@ -56,6 +56,22 @@ pub fn number(text: &[u8]) -> u32 {
     }
 }
 
+/// Bytes 21 to 7e by chance, each eightieth a newline.
+pub fn by_chance(alloc: Global, count: usize) -> Result<Vec<u8>, Fail> {
+    let mut file = Vec::new(alloc);
+    let mut state = 1u32;
+    for at in 0..count {
+        state = state.wrapping_mul(1_103_515_245).wrapping_add(12_345);
+        let byte = if at % 80 == 79 {
+            b'\n'
+        } else {
+            b'!' + ((state >> 16) % 94) as u8
+        };
+        file.push(byte)?;
+    }
+    Ok(file)
+}
+
 /// A tree with a folder that has files with these bytes.
 pub fn tree_of(alloc: Global, folder: &str, files: Files<'_>) -> Result<MemTree, Fail> {
     let mut tree = MemTree::new(alloc, 4)?;
@@ -88,15 +104,15 @@ fn add_files(alloc: Global, builder: &mut Builder, files: Files<'_>) -> Result<(
 }
 
 /// Adds a file, which has to be text.
-fn add_file(
+pub fn add_file(
     builder: &mut Builder,
     scanner: &mut Scanner,
     name: &str,
     text: &[u8],
 ) -> Result<(), Fail> {
-    match scanner.scan(&mut MemSource::new(text, 4, false)) {
-        Ok(Scan::Text { trigrams, .. }) => {
-            let _id = builder.add(name, &trigrams)?;
+    match scanner.gather(&mut MemSource::new(text, 4, false)) {
+        Ok(Gathered::Text { trigrams, .. }) => {
+            let _id = builder.add(name, trigrams)?;
             Ok(())
         }
         _ => Err(Fail::from("text")),

@@ -1,4 +1,5 @@
 // The index: written, read, and asked.
+mod batches;
 mod building;
 mod candidates;
 mod reading;

@@ -1,6 +1,6 @@
 //! The tests of the libraries, one module for each: what no clause says, and rows from outside. They call public
-//! functions alone, so that a library has no test of its own and is proved once. What is private to `cs_match` is
-//! tested there, and the whole program in `codesearch`.
+//! functions alone, so that a library has no test of its own and is proved once. The whole program is tested in
+//! `codesearch`.
 #![tactic(auto)]
 
 #[cfg(test)]
@@ -10,9 +10,13 @@ mod index;
 #[cfg(test)]
 mod indexing;
 #[cfg(test)]
+mod matching;
+#[cfg(test)]
 mod merging;
 #[cfg(test)]
 mod searching;
+#[cfg(test)]
+mod sieve;
 #[cfg(test)]
 mod syntax;
 #[cfg(test)]

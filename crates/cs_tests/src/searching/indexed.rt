@@ -53,6 +53,11 @@ fn search(
     Ok(csearch(alloc, &job, Some(index), tree, out, err))
 }
 
+/// What an output has taken.
+fn has_taken(rt: &impl Abort, words: &str, output: &MemSink, want: &str) {
+    assert_eq!(rt; output.bytes(), want.as_bytes(), "of {words:?}");
+}
+
 /// What such a search prints and answers.
 fn run(
     rt: &impl Abort,
@@ -65,8 +70,8 @@ fn run(
     let mut out = MemSink::new(alloc, 1000);
     let mut err = MemSink::new(alloc, 1000);
     let status = search(alloc, words, index, tree, &mut out, &mut err)?;
-    assert_eq!(rt; out.bytes(), wanted.0.as_bytes(), "of {words:?}");
-    assert_eq!(rt; err.bytes(), wanted.1.as_bytes(), "of {words:?}");
+    has_taken(rt, words, &out, wanted.0);
+    has_taken(rt, words, &err, wanted.1);
     assert_eq!(rt; status, wanted.2, "of {words:?}");
     Ok(())
 }

@@ -2,6 +2,8 @@
 use crate::fixtures::number;
 use cs_syntax::parse;
 use cs_trigram::{Query, query};
+use std::alloc::Global;
+use std::process::Abort;
 use std::test::Fail;
 
 /// Whether the query holds of the set of these trigrams, which stand one after another with a blank
@@ -37,87 +39,120 @@ fn some_holds(queries: &[Query], set: &str) -> bool {
     false
 }
 
-fn query_holds(rt: &HostRuntime, pattern: &str, fold: bool, set: &str) -> Result<bool, Fail> {
-    let pattern = parse(rt.alloc(), pattern, fold).ok().ok_or("pattern")?;
-    Ok(holds(&query(rt.alloc(), &pattern)?, set))
+fn query_holds(alloc: Global, pattern: &str, fold: bool, set: &str) -> Result<bool, Fail> {
+    let pattern = parse(alloc, pattern, fold).ok().ok_or("pattern")?;
+    Ok(holds(&query(alloc, &pattern)?, set))
 }
 
-#[test]
-fn queries_of_patterns(rt: HostRuntime) -> Result<(), Fail> {
-    for (pattern, set, want) in [
-        ("abc", "", false),
-        ("a(bc)", "", false),
-        ("a(bc)", "abc", true),
-        ("(abc)*", "", true),
-        ("abc|x", "", true),
-        ("abc|abd", "", false),
-        ("abc|abd", "abd", true),
-        ("^$", "", true),
-        ("ab*", "", true),
-        ("hello", "hel ell llo", true),
-        ("hello", "ell llo", false),
-        ("hello", "hel llo", false),
-        ("hello", "hel ell", false),
-        ("(ab|cd)ef", "abe bef", true),
-        ("(ab|cd)ef", "cde def", true),
-        ("(ab|cd)ef", "abe def", false),
-        ("abc.def", "abc def", true),
-        ("abc.def", "abc", false),
-        ("abc?", "", true),
-        ("x(abc)+", "", false),
-        ("x(abc)+", "abc", false),
-        ("x(abc)+", "abc xab", true),
-        ("(abc){2,}", "abc", true),
-        ("a[bc]d", "", false),
-        ("a[bc]d", "acd", true),
-        ("[ab][ab][ab]", "", false),
-        ("[ab][ab][ab]", "bab", true),
-        ("(?i)abc", "", false),
-        ("(?i)abc", "ABc", true),
-        ("[abc][abc][abc]", "", false),
-        ("[abc][abc][abc]", "cab", true),
-        ("[a-z][a-z][a-z]", "", true),
-        ("ab$", "", true),
-        ("abc$", "abc", true),
-        ("\\bab\\b|abc", "", true),
-        ("colou?r", "col olo lor", true),
-        ("colou?r", "col olo lou our", true),
-        ("colou?r", "col olo our", false),
-        ("ab{3}c", "abb bbb bbc", true),
-        ("ab{3}c", "abb bbc", false),
-        ("(foo){2}", "foo oof ofo", true),
-        ("(foo){2}", "foo", false),
-        ("fo+bar", "fob oba bar", true),
-        ("fo+bar", "foo oob oba bar", true),
-        ("fo+bar", "foo oob bar", false),
-        ("xab*cd", "xac acd", true),
-        ("xab*cd", "xab", true),
-        ("xab*cd", "", false),
-        ("foo(bar|baz)+qux", "foo oob oba bar arq rqu qux", true),
-        ("foo(bar|baz)+qux", "foo oob oba bar qux", false),
-        ("0x[0-9a-f]+", "0x7", true),
-        ("0x[0-9a-f]+", "", false),
-        ("[0-9]{3}-[0-9]{4}", "012 12- 2-3 -34 345 456", true),
-        ("[0-9]{3}-[0-9]{4}", "", false),
-        ("[a-h]bc", "hbc", true),
-        ("[a-h]bc", "ibc", false),
-        ("[a-h]bc", "", false),
-        // Nine words: a sharp query may leave them out, and this one asks for them up to twenty.
-        ("[a-i]bc", "abc", true),
-        ("[a-i]bc", "ibc", true),
-        ("[a-i]bc", "", false),
-    ] {
+/// A pattern, the trigrams of a text, and whether the query of the pattern holds of them.
+type Row<'a> = (&'a str, &'a str, bool);
+
+fn hold(rt: &(impl Abort + AllocGlobal), rows: &[Row<'_>]) -> Result<(), Fail> {
+    for (pattern, set, want) in rows {
         assert_eq!(rt;
-            query_holds(&rt, pattern, false, set)?,
-            want,
+            query_holds(rt.alloc(), pattern, false, set)?,
+            *want,
             "{pattern} of {set}"
         );
     }
+    Ok(())
+}
+
+#[test]
+fn queries_of_words(rt: HostRuntime) -> Result<(), Fail> {
+    hold(
+        &rt,
+        &[
+            ("abc", "", false),
+            ("a(bc)", "", false),
+            ("a(bc)", "abc", true),
+            ("abc|x", "", true),
+            ("abc|abd", "", false),
+            ("abc|abd", "abd", true),
+            ("^$", "", true),
+            ("hello", "hel ell llo", true),
+            ("hello", "ell llo", false),
+            ("hello", "hel llo", false),
+            ("hello", "hel ell", false),
+            ("(ab|cd)ef", "abe bef", true),
+            ("(ab|cd)ef", "cde def", true),
+            ("(ab|cd)ef", "abe def", false),
+            ("abc.def", "abc def", true),
+            ("abc.def", "abc", false),
+            ("ab$", "", true),
+            ("abc$", "abc", true),
+            ("\\bab\\b|abc", "", true),
+        ],
+    )
+}
+
+#[test]
+fn queries_of_repeats(rt: HostRuntime) -> Result<(), Fail> {
+    hold(
+        &rt,
+        &[
+            ("(abc)*", "", true),
+            ("ab*", "", true),
+            ("abc?", "", true),
+            ("x(abc)+", "", false),
+            ("x(abc)+", "abc", false),
+            ("x(abc)+", "abc xab", true),
+            ("(abc){2,}", "abc", true),
+            ("colou?r", "col olo lor", true),
+            ("colou?r", "col olo lou our", true),
+            ("colou?r", "col olo our", false),
+            ("ab{3}c", "abb bbb bbc", true),
+            ("ab{3}c", "abb bbc", false),
+            ("(foo){2}", "foo oof ofo", true),
+            ("(foo){2}", "foo", false),
+            ("fo+bar", "fob oba bar", true),
+            ("fo+bar", "foo oob oba bar", true),
+            ("fo+bar", "foo oob bar", false),
+            ("xab*cd", "xac acd", true),
+            ("xab*cd", "xab", true),
+            ("xab*cd", "", false),
+            ("foo(bar|baz)+qux", "foo oob oba bar arq rqu qux", true),
+            ("foo(bar|baz)+qux", "foo oob oba bar qux", false),
+        ],
+    )
+}
+
+#[test]
+fn queries_of_classes(rt: HostRuntime) -> Result<(), Fail> {
+    hold(
+        &rt,
+        &[
+            ("a[bc]d", "", false),
+            ("a[bc]d", "acd", true),
+            ("[ab][ab][ab]", "", false),
+            ("[ab][ab][ab]", "bab", true),
+            ("(?i)abc", "", false),
+            ("(?i)abc", "ABc", true),
+            ("[abc][abc][abc]", "", false),
+            ("[abc][abc][abc]", "cab", true),
+            ("[a-z][a-z][a-z]", "", true),
+            ("0x[0-9a-f]+", "0x7", true),
+            ("0x[0-9a-f]+", "", false),
+            ("[0-9]{3}-[0-9]{4}", "012 12- 2-3 -34 345 456", true),
+            ("[0-9]{3}-[0-9]{4}", "", false),
+            ("[a-h]bc", "hbc", true),
+            ("[a-h]bc", "ibc", false),
+            ("[a-h]bc", "", false),
+            // Nine words: a sharp query may leave them out, and this one asks for them up to twenty.
+            ("[a-i]bc", "abc", true),
+            ("[a-i]bc", "ibc", true),
+            ("[a-i]bc", "", false),
+        ],
+    )
+}
+
+#[test]
+fn query_in_both_cases(rt: HostRuntime) -> Result<(), Fail> {
     for (set, want) in [("abc", true), ("aBC", true), ("abd", false)] {
         assert_eq!(rt;
-            query_holds(&rt, "abc", true, set)?,
+            query_holds(rt.alloc(), "abc", true, set)?,
             want,
-            "in both cases of {set}"
+            "of {set}"
         );
     }
     Ok(())
@@ -138,7 +173,11 @@ fn query_of_two_words_apart(rt: HostRuntime) -> Result<(), Fail> {
         ("Goo oog ogl gle Sea ear rch", false),
         ("Goo oog ogl gle Sea ear arc", false),
     ] {
-        assert_eq!(rt; query_holds(&rt, pattern, false, set)?, want, "of {set}");
+        assert_eq!(rt;
+            query_holds(rt.alloc(), pattern, false, set)?,
+            want,
+            "of {set}"
+        );
     }
     Ok(())
 }
@@ -182,7 +221,7 @@ fn query_of_a_long_word(rt: HostRuntime) -> Result<(), Fail> {
     for _i in 0..3000 {
         text.push_str("abc")?;
     }
-    assert!(rt; query_holds(&rt, text.as_str(), false, "abc bca cab")?);
-    assert!(rt; !query_holds(&rt, text.as_str(), false, "abc bca")?);
+    assert!(rt; query_holds(rt.alloc(), text.as_str(), false, "abc bca cab")?);
+    assert!(rt; !query_holds(rt.alloc(), text.as_str(), false, "abc bca")?);
     Ok(())
 }

@@ -1,5 +1,5 @@
 // Rows from outside, and files of which each byte, or each piece, is read apart.
-use crate::fixtures::number;
+use crate::fixtures::{by_chance, number};
 use cs_tree::MemSource;
 use cs_trigram::{BoundedScanner, Limits, Reason, Scan, ScanFault, Scanner};
 use std::process::Abort;
@@ -94,22 +94,6 @@ fn lines(rt: HostRuntime) -> Result<(), Fail> {
     Ok(())
 }
 
-/// Bytes 21 to 7e by chance, each eightieth a newline.
-fn by_chance(rt: &HostRuntime, count: usize) -> Result<Vec<u8>, Fail> {
-    let mut file = Vec::new(rt.alloc());
-    let mut state = 1u32;
-    for at in 0..count {
-        state = state.wrapping_mul(1_103_515_245).wrapping_add(12_345);
-        let byte = if at % 80 == 79 {
-            b'\n'
-        } else {
-            b'!' + ((state >> 16) % 94) as u8
-        };
-        file.push(byte)?;
-    }
-    Ok(file)
-}
-
 /// How many trigrams a scan answers, their sum, and how many bytes.
 fn sums(scan: &Scan) -> Option<(usize, u64, u64)> {
     match scan {
@@ -127,7 +111,7 @@ fn sums(scan: &Scan) -> Option<(usize, u64, u64)> {
 #[test]
 fn most_trigrams(rt: HostRuntime) -> Result<(), Fail> {
     let mut scanner = Scanner::new(rt.alloc())?;
-    let file = by_chance(&rt, 20_243)?;
+    let file = by_chance(rt.alloc(), 20_243)?;
     for step in [1, 1000, 65_536] {
         let scan = scanner.scan(&mut MemSource::new(&file, step, false))?;
         assert_eq!(rt;
@@ -136,7 +120,7 @@ fn most_trigrams(rt: HostRuntime) -> Result<(), Fail> {
             "{step} at a time"
         );
     }
-    let mut file = by_chance(&rt, 20_244)?;
+    let mut file = by_chance(rt.alloc(), 20_244)?;
     for step in [1, 1000, 65_536] {
         scans(&rt, &mut scanner, &file, step, Err(Reason::ManyTrigrams))?;
     }
@@ -160,7 +144,7 @@ fn used_again(rt: HostRuntime) -> Result<(), Fail> {
     }
     fails(&rt, &mut scanner, b"abc");
     scans(&rt, &mut scanner, b"bcd", 2, bcd)?;
-    let file = by_chance(&rt, 60_000)?;
+    let file = by_chance(rt.alloc(), 60_000)?;
     scans(&rt, &mut scanner, &file, 65_536, Err(Reason::ManyTrigrams))?;
     scans(&rt, &mut scanner, b"bcd", 2, bcd)
 }

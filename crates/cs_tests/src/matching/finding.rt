@@ -1,0 +1,153 @@
+// Lines that are found: rows from outside.
+use cs_match::{Matcher, Program, laws};
+use cs_syntax::parse;
+use std::alloc::Global;
+use std::test::Fail;
+
+fn found(alloc: Global, pattern: &str, line: &[u8]) -> Result<bool, Fail> {
+    let pattern = parse(alloc, pattern, false).ok().ok_or("pattern")?;
+    let program = Program::compile(alloc, &pattern)?;
+    let mut matcher = Matcher::new(alloc, &program)?;
+    Ok(matcher.is_match(line))
+}
+
+#[test]
+fn rows_of_patterns_and_lines(rt: HostRuntime) -> Result<(), Fail> {
+    laws::finding_is_decided();
+    for (pattern, line, want) in [
+        ("", "", true),
+        ("a||b", "x", true),
+        ("^(a|b)*c$", "ababc", true),
+        ("^(a|b)*c$", "abxbc", false),
+        ("a.c", "xxabcxx", true),
+        ("a.c", "xxac", false),
+        ("^b", "ab", false),
+        ("a$", "ab", false),
+        ("(^a|b$)*c", "cb", true),
+        ("^(a*)*$", "aaab", false),
+        ("a.c", "a\nc", false),
+        ("a$", "a\nb", false),
+        ("^b", "a\nb", false),
+        ("^\\xe9$", "é", true),
+        ("^a{2,3}$", "aa", true),
+        ("^a{2,3}$", "aaa", true),
+        ("^a{2,3}$", "a", false),
+        ("^a{2,3}$", "aaaa", false),
+        ("^(ab){2,}$", "ababab", true),
+        ("^(ab){2,}$", "ab", false),
+        ("^x{0}y?$", "", true),
+        ("(?i:a)b", "Ab", true),
+        ("(?i:a)b", "aB", false),
+        ("a(?i)b|c", "C", true),
+        ("a(?i)b|c", "Ab", false),
+        ("\\bfoo\\b", "a foo", true),
+        ("\\bfoo\\b", "foo1", false),
+        ("^\\B", "a", false),
+        ("^[[:^digit:]]$", "x", true),
+        ("^[[:^digit:]]$", "5", false),
+    ] {
+        assert_eq!(rt;
+            found(rt.alloc(), pattern, line.as_bytes())?,
+            want,
+            "{pattern} in {line}"
+        );
+    }
+    // The pattern asks for the character, which is two bytes, and not for the byte.
+    assert!(rt; !found(rt.alloc(), "^\\xe9$", &[0xe9])?);
+    Ok(())
+}
+
+/// One matcher answers for each line alone.
+#[test]
+fn lines_one_after_another(rt: HostRuntime) -> Result<(), Fail> {
+    let pattern = parse(rt.alloc(), "^ab*c", false).ok().ok_or("pattern")?;
+    let program = Program::compile(rt.alloc(), &pattern)?;
+    let mut matcher = Matcher::new(rt.alloc(), &program)?;
+    for (line, want) in [
+        ("ab", false),
+        ("c", false),
+        ("abbcx", true),
+        ("bc", false),
+        ("", false),
+        ("ac", true),
+    ] {
+        assert_eq!(rt; matcher.is_match(line.as_bytes()), want, "{line}");
+    }
+    Ok(())
+}
+
+/// Eleven letters, each of them `a` or `b`.
+fn letters(number: usize) -> [u8; 11] {
+    let mut line = [b'a'; 11];
+    for k in 0..11 {
+        if (number >> (10 - k)) & 1 == 1 {
+            line[k] = b'b';
+        }
+    }
+    line
+}
+
+/// More sets than the table has rows for, in ascending order and in descending order.
+#[test]
+fn more_sets_than_rows(rt: HostRuntime) -> Result<(), Fail> {
+    let pattern = parse(rt.alloc(), "a(a|b){9}$", false)
+        .ok()
+        .ok_or("pattern")?;
+    let program = Program::compile(rt.alloc(), &pattern)?;
+    let mut matcher = Matcher::new(rt.alloc(), &program)?;
+    for i in 0..4096usize {
+        let line = letters(if i < 2048 { i } else { 4095 - i });
+        assert_eq!(rt; matcher.is_match(&line), line[1] == b'a', "line {i}");
+        assert!(rt; matcher.state_sets() > 1);
+    }
+    Ok(())
+}
+
+fn repeated(
+    alloc: Global,
+    before: &str,
+    n: usize,
+    middle: &str,
+    after: &str,
+) -> Result<String, Fail> {
+    let mut text = String::new(alloc);
+    for _i in 0..n {
+        text.push_str(before)?;
+    }
+    text.push_str(middle)?;
+    for _i in 0..n {
+        text.push_str(after)?;
+    }
+    Ok(text)
+}
+
+/// Loops in one another to the parser's depth, a pattern of nearly the greatest weight, and many
+/// loops that stay open.
+#[test]
+fn large_patterns(rt: HostRuntime) -> Result<(), Fail> {
+    let nested = repeated(rt.alloc(), "(", 200, "a", ")*b")?;
+    assert!(rt;
+        found(
+            rt.alloc(),
+            nested.as_str(),
+            repeated(rt.alloc(), "a", 100, "", "b")?.as_bytes()
+        )?
+    );
+    let long = repeated(rt.alloc(), "a", 9998, "", "")?;
+    assert!(rt;
+        !found(
+            rt.alloc(),
+            long.as_str(),
+            repeated(rt.alloc(), "a", 100, "", "")?.as_bytes()
+        )?
+    );
+    let many = repeated(rt.alloc(), "(a|b)*c", 20, "x", "")?;
+    assert!(rt;
+        !found(
+            rt.alloc(),
+            many.as_str(),
+            repeated(rt.alloc(), "ab", 200, "", "cc")?.as_bytes()
+        )?
+    );
+    Ok(())
+}

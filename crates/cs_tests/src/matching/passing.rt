@@ -1,0 +1,185 @@
+// Lines that are passed over: by a word, by windows of three sets, or by the table of state sets.
+ghost use Rattle.std.specs.Prelude.{◌≤◌, length, drop};
+ghost use Rattle.cs_match.specs.Skipping.{AreWhole};
+
+use cs_match::{Matcher, Program};
+use cs_syntax::parse;
+use memchr::{memchr, memrchr};
+use std::alloc::Global;
+use std::test::Fail;
+
+/// The lines that end in the text.
+fn whole(text: &[u8]) -> &[u8]
+    ensures { AreWhole result.now }
+{
+    match memrchr(b'\n', text) {
+        Some(at) => &text[..at + 1],
+        None => &[],
+    }
+}
+
+/// One number for the starts of lines, as they come.
+pub fn noted(sum: usize, start: usize) -> usize {
+    sum.wrapping_mul(1031).wrapping_add(start).wrapping_add(1)
+}
+
+/// The line to look at next, where lines are passed over or each is looked at.
+fn next_line(matcher: &mut Matcher<'_>, block: &[u8], from: usize, passes: bool) -> usize
+    requires within { from ≤ length block.now }
+    requires whole { AreWhole (drop from block.now) }
+    ensures low { from ≤ result }
+    ensures high { result ≤ length block.now }
+{
+    if passes {
+        matcher.skip(block, from)
+    } else {
+        from
+    }
+}
+
+/// The starts of the lines in which something is found, as one number.
+fn hits(matcher: &mut Matcher<'_>, block: &[u8], passes: bool) -> usize
+    requires { AreWhole block.now }
+{
+    let mut sum = 0;
+    let mut at = 0;
+    'lines: while at < block.len() {
+        let next = next_line(matcher, block, at, passes);
+        let Some(len) = memchr(b'\n', &block[next..]) else {
+            return sum;
+        };
+        if matcher.is_match(&block[next..next + len]) {
+            sum = noted(sum, next);
+        }
+        at = next + len + 1;
+    }
+    sum
+}
+
+/// What is found in a block, where lines are passed over or each is looked at.
+fn found(alloc: Global, pattern: &str, block: &[u8], passes: bool) -> Result<usize, Fail> {
+    let pattern = parse(alloc, pattern, false).ok().ok_or("pattern")?;
+    let program = Program::compile(alloc, &pattern)?;
+    let mut matcher = Matcher::new(alloc, &program)?;
+    Ok(hits(&mut matcher, whole(block), passes))
+}
+
+/// The pattern, or a branch that no line has.
+fn or_newlines(alloc: Global, pattern: &str, newlines: &str) -> Result<String, Fail> {
+    let mut text = String::from_str(alloc, "(")?;
+    text.push_str(pattern)?;
+    text.push_str(")|")?;
+    text.push_str(newlines)?;
+    Ok(text)
+}
+
+/// What is found where each line is looked at, where lines are passed over by what the pattern has, where it has a
+/// branch without its word, and where it has one without any windows.
+pub fn each_way(alloc: Global, pattern: &str, block: &[u8]) -> Result<[usize; 4], Fail> {
+    let no_word = or_newlines(alloc, pattern, "\\n\\n\\n")?;
+    let no_windows = or_newlines(alloc, pattern, "\\n")?;
+    Ok([
+        found(alloc, pattern, block, false)?,
+        found(alloc, pattern, block, true)?,
+        found(alloc, no_word.as_str(), block, true)?,
+        found(alloc, no_windows.as_str(), block, true)?,
+    ])
+}
+
+/// Twice a line of so many bytes, with the part in it, each before a line that has the part alone.
+fn lines_with(alloc: Global, part: &str, len: usize) -> Result<Vec<u8>, Fail> {
+    let mut text = Vec::new(alloc);
+    for _ in 0..2 {
+        for _ in 0..len / 2 {
+            text.push(b' ')?;
+        }
+        text.extend_from_slice(part.as_bytes())?;
+        for _ in 0..len - len / 2 {
+            text.push(b' ')?;
+        }
+        text.push(b'\n')?;
+        text.extend_from_slice(part.as_bytes())?;
+        text.push(b'\n')?;
+    }
+    Ok(text)
+}
+
+/// Lines that end around the borders of lanes and of parts.
+#[test]
+fn ways_to_pass_lines(rt: HostRuntime) -> Result<(), Fail> {
+    for (pattern, part) in [
+        ("[0-9]{3}-[0-9]{4}", "123-4567"),
+        ("[0-9]{3}-[0-9]{4}", "123-456"),
+        ("(?i)copyright", "copyRight"),
+        ("alpha|beta|gamma", "beta"),
+        ("alpha|be?ta|gamma$", "gamma"),
+        ("(ab|cd)x*[0-9]+ef", "cd17ef"),
+        ("^(ab+c|qz.)$", "abbbc"),
+        ("\\bq(xy|wz)+\\b", "qxywz"),
+        ("", ""),
+    ] {
+        for len in [
+            0, 1, 29, 30, 31, 62, 63, 64, 65, 66, 67, 68, 69, 70, 510, 511, 512, 513, 514,
+        ] {
+            let text = lines_with(rt.alloc(), part, len)?;
+            let found = each_way(rt.alloc(), pattern, &text)?;
+            assert_eq!(rt; found, [found[0]; 4], "{pattern} in lines of {len} bytes");
+        }
+    }
+    Ok(())
+}
+
+/// The number of the line at which passing stops, of two lines in which nothing is found.
+fn stop(alloc: Global, pattern: &str, first: &str, second: &str) -> Result<usize, Fail> {
+    let pattern = parse(alloc, pattern, false).ok().ok_or("pattern")?;
+    let program = Program::compile(alloc, &pattern)?;
+    let mut matcher = Matcher::new(alloc, &program)?;
+    let mut text = String::from_str(alloc, first)?;
+    text.push_str("\n")?;
+    text.push_str(second)?;
+    text.push_str("\n")?;
+    let at = matcher.skip(whole(text.as_bytes()), 0);
+    if at == text.len() {
+        return Ok(2);
+    }
+    Ok(if at > first.len() { 1 } else { 0 })
+}
+
+// No clause says by what lines are passed: that shows where a line has the word or a window, and nothing is found.
+#[test]
+fn what_lines_are_passed_by(rt: HostRuntime) -> Result<(), Fail> {
+    for (pattern, passed, stopped) in [
+        // A word.
+        ("^#include$", "#includ", "#includes"),
+        ("static.*struct", "struct", "static"),
+        ("struct.*block", "struct", "block"),
+        ("\\binline\\b", "in line", "inlined"),
+        ("(alpha|beta)gamma", "alpha", "gamma"),
+        ("^(a|b)*q.*d$", "abd", "q"),
+        ("ab+cq", "ab", "bcq"),
+        ("e(qz)+e$", "qze", "eqz"),
+        ("(eq)+z$", "eq z", "eqz."),
+        ("x(.q)+z", "x.q", "qz"),
+        ("ab*zq", "ab", "zq"),
+        ("ab?zq", "ab", "zq"),
+        ("(ax){3}$", "axax", "axaxax."),
+        ("a{2,}zq", "zq", "azq"),
+        ("q$z^\\b\\Bj", "qz", "qzj"),
+        // Windows.
+        ("[0-9]{3}-[0-9]{4}", "1-3456", "123-45"),
+        ("alpha|beta|gamma", "alp eta amm", "alph"),
+        ("alpha|beta|gamma", "amma", "gamme"),
+        ("(?i)zeal", "eAl", "zEAr"),
+        ("(static.*struct)|\\n\\n\\n", "stat struct", "tic"),
+        ("(?i)zebra|crossing", "missing", "acRo"),
+    ] {
+        let line = stop(rt.alloc(), pattern, passed, stopped)?;
+        assert_eq!(rt; line, 1, "{pattern:?} over {passed:?} and {stopped:?}");
+    }
+    // The table.
+    assert_eq!(rt;
+        stop(rt.alloc(), "(static.*struct)|\\n", "static", "struct")?,
+        2
+    );
+    Ok(())
+}

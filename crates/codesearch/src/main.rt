@@ -7,12 +7,12 @@ mod storage;
 
 use cs_tools::Tool;
 use cs_tree::{DiskTree, StdSink, StdSource, is_absolute};
-use program::{FIRST_WORD, NO_FOLDER, OUT_OF_MEMORY, Ran, refuse, run, tool_of};
+use program::{FIRST_WORD, NO_FOLDER, OUT_OF_MEMORY, Ran, asks_for_index, refuse, run, tool_of};
 use std::alloc::AllocError;
 use std::env;
 use std::io::{BufWriter, ErrorKind, Write};
 use std::process::ExitCode;
-use storage::{FileFault, index_file, load, store};
+use storage::{FileFault, Found, index_file, load, store};
 
 /// How many bytes of output are gathered before the system is asked to take them.
 const OUTPUT_BYTES: usize = 65536;
@@ -49,6 +49,7 @@ fn start(rt: &HostRuntime) -> Result<u8, AllocError> {
 fn words_of(rt: &HostRuntime) -> Result<Vec<String>, AllocError> {
     match env::args(rt) {
         Ok(all) => all.skip(1).collect(rt.alloc()),
+        Err(error) if error.kind() == ErrorKind::OutOfMemory => Err(AllocError),
         Err(_) => Ok(Vec::new(rt.alloc())),
     }
 }
@@ -75,12 +76,12 @@ fn run_indexed<W: Write + Drop>(
         Ok(file) => file,
         Err(fault) => return blame(rt, err, "cannot read", "CSEARCHINDEX", fault),
     };
-    let index = match load(rt, file.as_str()) {
-        Ok(index) => index,
+    let Found { bytes, seen } = match load(rt, file.as_str(), asks_for_index(rt.alloc(), words)) {
+        Ok(found) => found,
         Err(fault) => return blame(rt, err, "cannot read", file.as_str(), fault),
     };
-    let ran = run_over(rt, words, folder, index, err)?;
-    match store(rt, file.as_str(), &ran.index) {
+    let ran = run_over(rt, words, folder, bytes, err)?;
+    match store(rt, file.as_str(), seen.as_ref(), &ran.index) {
         Ok(()) => Ok(ran.status),
         Err(fault) => blame(rt, err, "cannot write", file.as_str(), fault),
     }

@@ -58,8 +58,22 @@ pub fn tool_of(word: &str) -> Option<Tool> {
     }
 }
 
-/// Does what the words ask, over the bytes of the index file, where there is one. `folder` is the
-/// current folder, of which `cindex` alone makes use.
+/// Whether the bytes of the index file are asked for: by all words but those of a `-reset`.
+pub fn asks_for_index(alloc: Global, words: &[String]) -> bool {
+    let Some((first, words)) = words.split_first() else {
+        return true;
+    };
+    let Some(tool) = tool_of(first.as_str()) else {
+        return true;
+    };
+    match read_words(alloc, tool, "/", words) {
+        Ok(Job::Index(job)) => job.list || !job.reset,
+        _ => true,
+    }
+}
+
+/// Does what the words ask, over the bytes of the index file, where there is one and they are asked for.
+/// `folder` is the current folder, of which `cindex` alone makes use.
 pub fn run<T: Tree, R: Source, O: Sink, E: Sink>(
     alloc: Global,
     words: &[String],

@@ -1,13 +1,25 @@
 // The index file: where it lies, how it is read, and how a new one takes its place.
 use std::alloc::AllocError;
 use std::env::{self, VarError};
-use std::fs::{self, File, Metadata, TryLockError};
+use std::fs::{self, File, Metadata, Permissions, TryLockError};
 use std::io::{self, ErrorKind, Read, Write};
-use std::os::unix::fs::MetadataExt;
+use std::os::unix::fs::{MetadataExt, OpenOptionsExt, PermissionsExt, fchown};
 use std::path::Path;
 
-/// One more byte than an index may have. A longer file is not read further, and does not open.
-const MOST_READ: u64 = 1 << 32;
+/// One more byte than an index may have. A file of so many is not read.
+const TOO_LONG: u64 = 1 << 32;
+
+/// Who may read and write a new index, but for what the system's mask takes away.
+const NEW_MODE: u32 = 0o666;
+
+/// What a file has until it gets the mode of the index that it replaces.
+const CLOSED_MODE: u32 = 0o600;
+
+/// The bits of a mode that a replaced index hands on.
+const HANDED_ON: u32 = 0o777;
+
+/// The super-user, who may give a file to another.
+const ROOT: u32 = 0;
 
 /// What is to become of the index file.
 #[derive(Drop)]
@@ -75,97 +87,213 @@ fn variable(rt: &HostRuntime, name: &str) -> Result<String, FileFault> {
     }
 }
 
-/// The bytes of the index file, where there is one.
-pub fn load(rt: &HostRuntime, file: &str) -> Result<Option<Vec<u8>>, FileFault> {
-    let opened = match fs::open(rt, file) {
-        Ok(opened) => opened,
-        Err(error) if error.kind() == ErrorKind::NotFound => return Ok(None),
-        Err(error) => return Err(FileFault::from(error)),
-    };
-    let length = opened.metadata()?.len().min(MOST_READ);
-    let mut bytes = Vec::with_capacity(rt.alloc(), length as usize)?;
-    opened.take(MOST_READ).read_to_end(&mut bytes)?;
-    Ok(Some(bytes))
+/// The index file as it was found.
+#[derive(Drop)]
+pub struct Found {
+    /// Its bytes, where there is one and they are asked for.
+    pub bytes: Option<Vec<u8>>,
+    /// What the system said of it before it was read.
+    pub seen: Option<Metadata>,
 }
 
-/// Does with the index file what a run asks.
-pub fn store(rt: &HostRuntime, file: &str, after: &After) -> Result<(), FileFault> {
+/// Opens the index file, where there is one, and reads its bytes where they are asked for. What is no regular
+/// file is not opened: a pipe would wait, and a device may do anything.
+pub fn load(rt: &HostRuntime, file: &str, asks: bool) -> Result<Found, FileFault> {
+    match fs::metadata(rt, file) {
+        Ok(there) if is_readable(&there) => {}
+        Ok(_) => return Err(FileFault::Failed),
+        Err(error) if error.kind() == ErrorKind::NotFound => {
+            return Ok(Found {
+                bytes: None,
+                seen: None,
+            });
+        }
+        Err(error) => return Err(FileFault::from(error)),
+    }
+    let opened = fs::open(rt, file)?;
+    let seen = opened.metadata()?;
+    if !is_readable(&seen) {
+        return Err(FileFault::Failed);
+    }
+    let bytes = if asks {
+        Some(read_whole(rt, opened, seen.len() as usize)?)
+    } else {
+        None
+    };
+    Ok(Found {
+        bytes,
+        seen: Some(seen),
+    })
+}
+
+/// The bytes of a file that had so many when it was opened.
+fn read_whole(rt: &HostRuntime, opened: File, len: usize) -> Result<Vec<u8>, FileFault> {
+    let mut bytes = Vec::with_capacity(rt.alloc(), len)?;
+    opened.take(TOO_LONG).read_to_end(&mut bytes)?;
+    Ok(bytes)
+}
+
+/// Whether it is a regular file that may be as long as an index.
+fn is_readable(there: &Metadata) -> bool {
+    there.is_file() && there.len() < TOO_LONG
+}
+
+/// Does with the index file what a run asks that has found it so.
+pub fn store(
+    rt: &HostRuntime,
+    file: &str,
+    seen: Option<&Metadata>,
+    after: &After,
+) -> Result<(), FileFault> {
     match after {
         After::Kept => Ok(()),
-        After::Write(bytes) => replace(rt, file, bytes),
-        After::Remove => remove(rt, file),
+        After::Remove if is_unchanged(rt, file, None) => Ok(()),
+        After::Remove => change(rt, file, seen, None),
+        After::Write(bytes) => change(rt, file, seen, Some(bytes)),
     }
 }
 
-/// Removes the file, if it is there.
-fn remove(rt: &HostRuntime, file: &str) -> Result<(), FileFault> {
-    match fs::remove_file(rt, file) {
-        Err(error) if error.kind() != ErrorKind::NotFound => Err(FileFault::from(error)),
-        _ => Ok(()),
-    }
-}
-
-/// Writes the bytes to a file beside this one, and renames that: whatever goes wrong, this one is
-/// whole, with its old bytes or its new ones.
-fn replace(rt: &HostRuntime, file: &str, bytes: &[u8]) -> Result<(), FileFault> {
+/// Gives the index file these bytes, or removes it. The bytes go to a file beside it, which is then
+/// renamed: whatever goes wrong, the index is whole, with its old bytes or its new ones.
+fn change(
+    rt: &HostRuntime,
+    file: &str,
+    seen: Option<&Metadata>,
+    bytes: Option<&[u8]>,
+) -> Result<(), FileFault> {
     let mut beside = String::from_str(rt.alloc(), file)?;
     beside.push('~')?;
-    let made = claim(rt, beside.as_str())?;
-    let moved = match fill(&made, bytes) {
-        Ok(()) => fs::rename(rt, beside.as_str(), file),
-        Err(error) => Err(error),
-    };
-    match moved {
-        Ok(()) => sync_folder(rt, file),
-        Err(_) => {
-            let _ = fs::remove_file(rt, beside.as_str());
-        }
+    let made = claim(rt, beside.as_str(), seen)?;
+    let changed = settle(rt, file, beside.as_str(), &made, seen, bytes);
+    // After a rename nothing of ours stands there.
+    if stands(rt, beside.as_str(), &made).is_ok() {
+        let _ = fs::remove_file(rt, beside.as_str());
     }
-    Ok(moved?)
+    changed?;
+    sync_folder(rt, file);
+    Ok(())
 }
 
-/// The file beside the index, held by a lock so that no other run writes to it.
-fn claim(rt: &HostRuntime, beside: &str) -> io::Result<File> {
-    // What is no file of ours is left alone: opening a link makes the file that it names, and opening
-    // a pipe waits.
-    match fs::symlink_metadata(rt, beside) {
-        Ok(there) if !is_single(&there) => return Err(taken()),
-        Err(error) if error.kind() != ErrorKind::NotFound => return Err(error),
-        _ => {}
+/// Changes the index file while the file beside it is held, unless it is no more as it was found.
+fn settle(
+    rt: &HostRuntime,
+    file: &str,
+    beside: &str,
+    made: &File,
+    seen: Option<&Metadata>,
+    bytes: Option<&[u8]>,
+) -> io::Result<()> {
+    if !is_unchanged(rt, file, seen) {
+        return Err(taken());
     }
-    let made = File::options().write(true).create(true).open(rt, beside)?;
-    // A system without locks does not hinder a run.
+    match bytes {
+        Some(bytes) => {
+            fill(made, bytes)?;
+            hand_on(made, seen)?;
+            stands(rt, beside, made)?;
+            fs::rename(rt, beside, file)
+        }
+        None => fs::remove_file(rt, file),
+    }
+}
+
+/// Whether the index file is as it was found: the same file, that nobody has changed since, or none.
+fn is_unchanged(rt: &HostRuntime, file: &str, seen: Option<&Metadata>) -> bool {
+    match (fs::metadata(rt, file), seen) {
+        (Ok(there), Some(seen)) => {
+            is_same(&there, seen)
+                && there.len() == seen.len()
+                && (there.mtime(), there.mtime_nsec()) == (seen.mtime(), seen.mtime_nsec())
+                && (there.ctime(), there.ctime_nsec()) == (seen.ctime(), seen.ctime_nsec())
+        }
+        (Err(error), None) => error.kind() == ErrorKind::NotFound,
+        _ => false,
+    }
+}
+
+/// Makes the file beside the index, held by a lock so that no other run takes it away. A system without
+/// locks does not hinder a run, as no other run makes the file while it is there.
+fn claim(rt: &HostRuntime, beside: &str, seen: Option<&Metadata>) -> io::Result<File> {
+    clear(rt, beside)?;
+    let mode = if seen.is_some() {
+        CLOSED_MODE
+    } else {
+        NEW_MODE
+    };
+    let made = File::options()
+        .write(true)
+        .create_new(true)
+        .mode(mode)
+        .open(rt, beside)?;
     if let Err(TryLockError::WouldBlock) = made.try_lock() {
         return Err(taken());
     }
-    // Another run may have moved it away before the lock was had.
-    let there = fs::symlink_metadata(rt, beside)?;
-    if is_single(&there) && is_same(&there, &made.metadata()?) {
-        Ok(made)
-    } else {
-        Err(taken())
+    stands(rt, beside, &made)?;
+    Ok(made)
+}
+
+/// Takes away what a run of ours has left there and no run holds. Nothing else is opened or taken away.
+fn clear(rt: &HostRuntime, beside: &str) -> io::Result<()> {
+    match fs::symlink_metadata(rt, beside) {
+        Ok(there) if is_left_over(rt, &there) => {
+            let left = fs::open(rt, beside)?;
+            if left.try_lock().is_err() {
+                return Err(taken());
+            }
+            stands(rt, beside, &left)?;
+            fs::remove_file(rt, beside)
+        }
+        Ok(_) => Err(taken()),
+        Err(error) if error.kind() == ErrorKind::NotFound => Ok(()),
+        Err(error) => Err(error),
     }
 }
 
-/// Whether it is a regular file with no second name, so that to write to it changes no other file.
-fn is_single(there: &Metadata) -> bool {
-    there.is_file() && there.nlink() == 1
+/// Whether a run of ours may have left it: a regular file with no second name that belongs to the user
+/// who runs this, which the system's folder of processes says.
+fn is_left_over(rt: &HostRuntime, there: &Metadata) -> bool {
+    match fs::metadata(rt, "/proc/self") {
+        Ok(process) => there.is_file() && there.nlink() <= 1 && there.uid() == process.uid(),
+        Err(_) => false,
+    }
+}
+
+/// Whether the file that is open still stands there: another run may have taken it away before the lock
+/// was had, and where a folder is open to all, a stranger at any time.
+fn stands(rt: &HostRuntime, beside: &str, opened: &File) -> io::Result<()> {
+    let there = fs::symlink_metadata(rt, beside)?;
+    if is_same(&there, &opened.metadata()?) {
+        Ok(())
+    } else {
+        Err(taken())
+    }
 }
 
 fn is_same(one: &Metadata, other: &Metadata) -> bool {
     one.dev() == other.dev() && one.ino() == other.ino()
 }
 
-/// The file beside the index is another's.
+/// Another run, or somebody else, is at work there.
 fn taken() -> io::Error {
     io::Error::from(ErrorKind::WouldBlock)
 }
 
-/// Gives a file these bytes, down to the disk.
+/// Gives a new file these bytes, down to the disk.
 fn fill(mut made: &File, bytes: &[u8]) -> io::Result<()> {
-    made.set_len(0)?;
     made.write_all(bytes)?;
     made.sync_all()
+}
+
+/// Gives a new file the mode of the index that it replaces, and as root its owner.
+fn hand_on(made: &File, seen: Option<&Metadata>) -> io::Result<()> {
+    let Some(seen) = seen else {
+        return Ok(());
+    };
+    let own = made.metadata()?;
+    if own.uid() == ROOT && (own.uid(), own.gid()) != (seen.uid(), seen.gid()) {
+        fchown(made, Some(seen.uid()), Some(seen.gid()))?;
+    }
+    made.set_permissions(Permissions::from_mode(seen.mode() & HANDED_ON))
 }
 
 /// Brings the new name down to the disk. Where that fails the index is whole all the same.

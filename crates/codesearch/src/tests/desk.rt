@@ -32,7 +32,7 @@ pub enum Step<'a> {
 pub fn tells(rt: &(impl Abort + AllocGlobal), steps: &[Step<'_>]) -> Result<(), Fail> {
     let mut desk = Desk::new(rt)?;
     for step in steps {
-        desk.takes_step(rt, *step)?;
+        desk.takes_step(rt, step)?;
     }
     Ok(())
 }
@@ -52,7 +52,7 @@ impl Desk {
         })
     }
 
-    fn takes_step(&mut self, rt: &(impl Abort + AllocGlobal), step: Step<'_>) -> Result<(), Fail> {
+    fn takes_step(&mut self, rt: &(impl Abort + AllocGlobal), step: &Step<'_>) -> Result<(), Fail> {
         match step {
             Step::Folder(path) => self.folder(path),
             Step::File(path, text) => self.file(rt, path, text),
@@ -63,10 +63,10 @@ impl Desk {
                 self.tree.remove(path);
                 Ok(())
             }
-            Step::Index(bytes) => self.set_index(rt, bytes),
-            Step::Call(words, status, out, err) => self.call(rt, words, status, out, err),
+            Step::Index(bytes) => self.set_index(rt, *bytes),
+            Step::Call(words, status, out, err) => self.call(rt, words, *status, out, err),
             Step::Left(bytes) => {
-                assert_eq!(rt; self.index.as_deref(), bytes);
+                assert_eq!(rt; self.index.as_deref(), *bytes);
                 Ok(())
             }
         }

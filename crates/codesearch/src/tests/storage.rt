@@ -1,6 +1,5 @@
-// The real disk: what a tree of it answers, and how an index file is written, read and removed.
+// The real disk: how an index file is written, read and removed.
 use crate::storage::{After, FileFault, load, store};
-use cs_tree::{DiskTree, Kind, Tree, TreeFault};
 use std::fs;
 use std::os::unix::fs::symlink;
 use std::test::Fail;
@@ -12,57 +11,23 @@ fn begin(rt: &HostRuntime, folder: &str) -> Result<(), Fail> {
     Ok(())
 }
 
-/// Whether the folder lists just these names.
-fn lists(
-    rt: &HostRuntime,
-    tree: &mut DiskTree<HostRuntime>,
-    folder: &str,
-    want: &[&str],
-) -> Result<bool, Fail> {
-    let mut listing = tree.entries(rt.alloc(), folder).ok().ok_or("no entries")?;
-    listing.names.sort()?;
-    for (name, want) in listing.names.iter().zip(want) {
-        if name.as_str() != *want {
-            return Ok(false);
-        }
-    }
-    Ok(listing.names.len() == want.len() && !listing.unnamed)
-}
-
-#[test]
-fn a_folder_on_disk(rt: HostRuntime) -> Result<(), Fail> {
-    begin(&rt, "codesearch_tree")?;
-    fs::write(&rt, "codesearch_tree/x", "abcd\n")?;
-    fs::create_dir(&rt, "codesearch_tree/d")?;
-    let mut tree = DiskTree::new(rt.clone()?);
-    for (path, kind) in [
-        ("codesearch_tree/x", Ok(Kind::File)),
-        ("codesearch_tree/d", Ok(Kind::Folder)),
-        ("codesearch_tree/y", Err(TreeFault::Missing)),
-    ] {
-        assert_eq!(&rt; tree.kind(path), kind, "{path}");
-    }
-    assert!(&rt; lists(&rt, &mut tree, "codesearch_tree", &["d", "x"])?);
-    assert_eq!(&rt; tree.open("codesearch_tree/x"), Ok(()));
-    let mut bytes = [0u8; 16];
-    assert_eq!(&rt; tree.read(&mut bytes), Ok(5));
-    assert_eq!(&rt; &bytes[..5], b"abcd\n".as_slice());
-    assert_eq!(&rt; tree.read(&mut bytes), Ok(0));
-    assert_eq!(&rt; tree.failures(), 1);
-    fs::remove_dir_all(&rt, "codesearch_tree")?;
-    Ok(())
-}
-
 /// Whether the index file has these bytes, or is not there.
 fn holds(rt: &HostRuntime, file: &str, want: Option<&[u8]>) -> Result<bool, Fail> {
-    let bytes = load(rt, file).ok().ok_or("not read")?;
-    Ok(bytes.as_deref() == want)
+    let found = load(rt, file, true).ok().ok_or("not read")?;
+    Ok(found.bytes.as_deref() == want)
 }
 
-/// Stores an index of these bytes.
+/// Stores an index of these bytes in the place of what is there.
 fn writes(rt: &HostRuntime, file: &str, bytes: &[u8]) -> Result<Result<(), FileFault>, Fail> {
     let after = After::Write(bytes.to_vec(rt.alloc())?);
-    Ok(store(rt, file, &after))
+    let seen = fs::metadata(rt, file).ok();
+    Ok(store(rt, file, seen.as_ref(), &after))
+}
+
+/// Removes the index in the same way.
+fn removes(rt: &HostRuntime, file: &str) -> Result<(), FileFault> {
+    let seen = fs::metadata(rt, file).ok();
+    store(rt, file, seen.as_ref(), &After::Remove)
 }
 
 #[test]
@@ -75,10 +40,10 @@ fn an_index_file(rt: HostRuntime) -> Result<(), Fail> {
         assert!(&rt; holds(&rt, file, Some(text))?);
         assert!(&rt; !fs::exists(&rt, "codesearch_index/index~")?);
     }
-    assert_eq!(&rt; store(&rt, file, &After::Kept), Ok(()));
+    assert_eq!(&rt; store(&rt, file, None, &After::Kept), Ok(()));
     assert!(&rt; holds(&rt, file, Some(b"new"))?);
     for _ in 0..2 {
-        assert_eq!(&rt; store(&rt, file, &After::Remove), Ok(()));
+        assert_eq!(&rt; removes(&rt, file), Ok(()));
         assert!(&rt; holds(&rt, file, None)?);
     }
     fs::remove_dir_all(&rt, "codesearch_index")?;
@@ -86,10 +51,28 @@ fn an_index_file(rt: HostRuntime) -> Result<(), Fail> {
 }
 
 #[test]
+fn an_index_file_that_has_changed(rt: HostRuntime) -> Result<(), Fail> {
+    let file = "codesearch_changed/index";
+    begin(&rt, "codesearch_changed")?;
+    fs::write(&rt, file, "first")?;
+    let found = load(&rt, file, true).ok().ok_or("not read")?;
+    assert_eq!(&rt; writes(&rt, file, b"other")?, Ok(()));
+    for after in [After::Remove, After::Write(b"new".to_vec(rt.alloc())?)] {
+        for seen in [found.seen.as_ref(), None] {
+            assert_eq!(&rt; store(&rt, file, seen, &after), Err(FileFault::Failed));
+            assert!(&rt; holds(&rt, file, Some(b"other"))?);
+            assert!(&rt; !fs::exists(&rt, "codesearch_changed/index~")?);
+        }
+    }
+    fs::remove_dir_all(&rt, "codesearch_changed")?;
+    Ok(())
+}
+
+#[test]
 fn an_index_file_that_is_no_file(rt: HostRuntime) -> Result<(), Fail> {
     begin(&rt, "codesearch_folder")?;
     assert_eq!(&rt;
-        load(&rt, "codesearch_folder").err(),
+        load(&rt, "codesearch_folder", false).err(),
         Some(FileFault::Failed)
     );
     assert_eq!(&rt;

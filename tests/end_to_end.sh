@@ -218,8 +218,20 @@ if [ -w /dev/full ]; then
 else
     skipped 'a full output: there is no /dev/full'
 fi
-# Where the output is closed early the program ends at once, by the signal or with the line that output failed.
-try 0 'files/many/10000:line\n' '' "timeout 20 \"\$program\" cgrep line files/many/* 2>/dev/null | head -n 1"
+# A closed output is one that fails, in each style.
+for style in '' -c -h -i -l -n; do
+    try 2 '' 'cgrep: output failed\n' "cgrep $style one files/p >&-"
+    try 2 '' 'cgrep: output failed\n' "cat files/p | cgrep $style one >&-"
+    [ ! -w /dev/full ] || try 2 '' 'cgrep: output failed\n' "cgrep $style one files/p > /dev/full"
+done
+# Where standard error fails there is nothing left to say.
+try 2 '' '' "cgrep 'a**' 2>&-"
+try 2 '' '' "cgrep one files/none 2>&-"
+# Where the output is closed early the program says so, and ends at once.
+# closed TOOL: the last run of the tool said so
+closed() { [ "$(cat results/status)" -eq 2 ] && [ "$(cat results/said)" = "$1: output failed" ]; }
+try 0 'files/many/10000:line\n' '' "{ timeout 20 \"\$program\" cgrep line files/many/* 2> results/said; echo \$? > results/status; } | head -n 1"
+holds "closed cgrep"
 holds "seq 1 3000000 | timeout 20 \"\$program\" cgrep '' 2>/dev/null | head -n 1 | grep -qx '<standard input>:1'"
 
 # ---- the same lines as grep, over the sources of this repository --------------------------------------------------------

@@ -96,6 +96,10 @@ mkdir trees/moving
         for name in 1 2 3 4 5 6 7 8 9; do
             printf 'words\n' > trees/moving/d/$name
             mkdir trees/moving/d/below$name
+            rm trees/moving/d/$name
+            mkdir trees/moving/d/$name
+            rmdir trees/moving/d/$name
+            ln -s below$name trees/moving/d/$name
         done
         rm -r trees/moving/d
     done
@@ -105,7 +109,7 @@ time=0
 while [ $time -lt 20 ]; do
     time=$((time + 1))
     holds "cindex -reset trees/moving 2> results/said"
-    holds "! grep -v \"^cindex: \$home/trees/moving/d.*: no such file\\\$\" results/said"
+    holds "! grep -v \"^cindex: \$home/trees/moving/d.*: \(no such file\|cannot be read\)\\\$\" results/said"
     try 0 "$home/trees/moving\n" '' "cindex -list"
 done
 : > results/stop
@@ -166,6 +170,78 @@ for command in 'ln -s index index~' 'ln index index~' 'ln -s results/other index
     holds "cmp -s index results/old && cmp -s results/other results/kept && [ ! -e results/none ]"
     rm -r index~
 done
+# FILE has to be a regular file.
+mkfifo results/odd
+try 2 '' "codesearch: cannot read $home/results/odd\n" "CSEARCHINDEX=\$home/results/odd timeout 20 \"\$program\" cindex -reset"
+try 2 '' "codesearch: cannot read $home/results/odd\n" "CSEARCHINDEX=\$home/results/odd timeout 20 \"\$program\" csearch x"
+holds "[ -p results/odd ] && rm results/odd"
+if mknod results/odd c 1 3 2>/dev/null; then
+    for command in 'cindex -reset' 'cindex trees/a' 'csearch x'; do
+        try 2 '' "codesearch: cannot read $home/results/odd\n" "CSEARCHINDEX=\$home/results/odd timeout 20 \"\$program\" $command"
+    done
+    holds "[ -c results/odd ] && [ ! -e results/odd~ ] && rm results/odd"
+else
+    skipped 'a device as the index: this user may not make one'
+fi
+# One longer than an index can be is not read.
+if truncate -s 5G results/odd 2>/dev/null; then
+    try 2 '' "codesearch: cannot read $home/results/odd\n" "(ulimit -v 1000000; CSEARCHINDEX=\$home/results/odd \"\$program\" cindex trees/a)"
+    rm results/odd
+else
+    skipped 'an index of 5 GB: the system makes no such file'
+fi
+# The mode: that of the index which is replaced, or else what the mask leaves; never that of a file that was left behind.
+for mode in 600 640 444; do
+    cp results/old index
+    chmod $mode index
+    printf 'left\n' > index~
+    chmod 4755 index~
+    try 0 '' '' "cindex trees/b"
+    holds "[ \$(stat -c %a index) = $mode ] && rm -f index"
+done
+for mask in 077 022 002; do
+    try 0 '' '' "(umask $mask; rm -f index; cindex trees/a)"
+    holds "[ \$(printf '%o' \$((0666 & ~0$mask))) = \$(stat -c %a index) ]"
+done
+if [ "$(id -u)" -eq 0 ] && chown 12345:12345 index 2>/dev/null; then
+    try 0 '' '' "cindex trees/b"
+    holds "[ \$(stat -c %u:%g index) = 12345:12345 ]"
+    cp results/old index
+    chown 0:0 index
+    # A stranger's file at FILE~ stays, and FILE too.
+    printf 'left\n' > index~
+    chown 12345:12345 index~
+    chmod 666 index~
+    try 2 '' "$refused" "cindex trees/b"
+    try 2 '' "$refused" "cindex -reset"
+    holds "cmp -s index results/old && [ \"\$(cat index~)\" = left ] && rm index~"
+    # One who puts files and links there again and again, in a folder like /tmp, comes to hold no index.
+    if command -v setpriv > /dev/null; then
+        chmod 711 "$home"
+        mkdir -m 1777 results/sticky
+        cp results/old results/sticky/index
+        rm -f results/stop
+        setpriv --reuid 12345 --regid 12345 --clear-groups sh -c 'cd results/sticky && while [ ! -e ../stop ]; do
+            echo left > index~
+            echo left > mine && mv -f mine index~
+            ln -s none mine && mv -fT mine index~
+            rm -f index~
+        done' 2>/dev/null &
+        time=0
+        while [ $time -lt 40 ]; do
+            time=$((time + 1))
+            CSEARCHINDEX=$home/results/sticky/index "$program" cindex trees/b 2> results/said
+            holds "[ \$(stat -c %u results/sticky/index) = 0 ] && [ ! -h results/sticky/index ] && [ ! -e results/sticky/none ]"
+            holds "CSEARCHINDEX=\$home/results/sticky/index cindex -list > results/listed && ! grep -vx \"codesearch: cannot write \$home/results/sticky/index\" results/said"
+        done
+        : > results/stop
+        wait $!
+    fi
+else
+    skipped 'an index of another user: this user is not root'
+fi
+cp results/old index
+chmod 644 index
 if shuts; then
     mkdir results/fixed
     cp results/old results/fixed/index
@@ -199,7 +275,13 @@ try 2 '' 'cindex: bad index: trailer\n' "cindex -list"
 holds "head -c 100 results/old | cmp -s - index"
 try 0 '' '' "cindex -reset trees/a"
 holds "cmp -s index results/old"
-try 2 '' 'cindex: output failed\n' "cindex -list > /dev/full"
+[ ! -w /dev/full ] || try 2 '' 'cindex: output failed\n' "cindex -list > /dev/full"
+try 2 '' 'cindex: output failed\n' "cindex -list >&-"
+for command in 'cindex -logskip trees/odd' 'cindex trees/none' 'cindex -reset trees/none'; do
+    [ ! -w /dev/full ] || try 2 '' '' "$command 2> /dev/full"
+    try 2 '' '' "$command 2>&-"
+    holds "cmp -s index results/old"
+done
 try 2 '' 'codesearch: no current folder\n' "(mkdir gone && cd gone && rmdir ../gone && cindex trees/a)"
 
 # ---- histories: after each job the index is the one built at once ---------------------------------------------------------
@@ -287,7 +369,7 @@ moment() {
 }
 # Every other run is killed as it writes.
 time=0
-while [ $time -lt 20 ]; do
+while [ $time -lt 100 ]; do
     time=$((time + 1))
     rm -f index~
     cp results/old index
@@ -311,6 +393,18 @@ for time in 1 2 3 4 5; do
     "$program" cindex -reset trees/real trees/b 2> results/two &
     wait
     holds "cmp -s index results/new || cmp -s index results/both"
+    holds "[ ! -e index~ ] && ! cat results/one results/two | grep -vx \"codesearch: cannot write \$home/index\""
+done
+# Of two runs that add to the same index none is lost: one that finds it changed refuses.
+for time in 1 2 3 4 5 6 7 8 9 10 11 12 13 14 15 16 17 18 19 20; do
+    rm -f index
+    "$program" cindex trees/a 2> results/one &
+    one=$!
+    "$program" cindex trees/b 2> results/two &
+    two=$!
+    wait $one && echo "$home/trees/a" > results/wanted || : > results/wanted
+    wait $two && echo "$home/trees/b" >> results/wanted
+    holds "cindex -list | cmp - results/wanted && [ -s results/wanted ]"
     holds "[ ! -e index~ ] && ! cat results/one results/two | grep -vx \"codesearch: cannot write \$home/index\""
 done
 cp results/old index

@@ -28,9 +28,10 @@ try 2 '' 'csearch: option -f needs a value\n' "csearch -f"
 try 2 '' 'csearch: pattern at 2: stacked repeat\n' "csearch -f '(' 'a**'"
 try 2 '' 'csearch: file pattern at 0: group not closed\n' "csearch -f '(' x"
 try 2 '' 'csearch: pattern at 2: stacked repeat\n' "CSEARCHINDEX=\$home/none csearch 'a**'"
-if [ -w /dev/full ]; then
-    try 2 '' 'csearch: output failed\n' "csearch one > /dev/full"
-fi
+for style in '' -c -h -i -l -n -brute; do
+    try 2 '' 'csearch: output failed\n' "csearch $style one >&-"
+    [ ! -w /dev/full ] || try 2 '' 'csearch: output failed\n' "csearch $style one > /dev/full"
+done
 
 # ---- files that have changed since --------------------------------------------------------------------------------------
 printf 'four\n' > trees/s/p
@@ -104,3 +105,5 @@ String::from_str
 PATTERNS
 same "csearch -i REQUIRES" "LC_ALL=C xargs grep -aiEH REQUIRES < results/names"
 same "csearch -l -f '\.rt\$' unwrap_or" "grep '\.rt\$' results/names | LC_ALL=C xargs grep -aEl unwrap_or"
+holds "{ timeout 20 \"\$program\" csearch . 2> results/said; echo \$? > results/status; } | head -n 1 | grep -q ."
+holds "closed csearch"

@@ -1,0 +1,32 @@
+# Completion of codesearch, cindex, csearch and cgrep in bash: the tool, options, and names of files.
+
+_codesearch() {
+    local tool=${1##*/} first=1 word=${COMP_WORDS[COMP_CWORD]} options at
+    COMPREPLY=()
+    if [[ $tool == codesearch ]]; then
+        if ((COMP_CWORD == 1)); then
+            mapfile -t COMPREPLY < <(compgen -W 'cindex csearch cgrep' -- "$word")
+            return
+        fi
+        tool=${COMP_WORDS[1]}
+        first=2
+    fi
+    case $tool in
+        cindex) options='-list -logskip -reset' ;;
+        csearch) options='-brute -c -f -h -i -l -n' ;;
+        cgrep) options='-c -h -i -l -n' ;;
+        *) return ;;
+    esac
+    # Options come first. What follows is a name of a file, which bash itself completes where nothing stands here.
+    for ((at = first; at < COMP_CWORD; at++)); do
+        case ${COMP_WORDS[at]} in
+            -f) [[ $tool == csearch ]] && ((at++)) ;;
+            -- | - | [!-]* | '') return ;;
+        esac
+    done
+    if ((at == COMP_CWORD)) && [[ $word == -* ]]; then
+        mapfile -t COMPREPLY < <(compgen -W "$options" -- "$word")
+    fi
+}
+
+complete -o bashdefault -o default -F _codesearch codesearch cindex csearch cgrep

@@ -1,0 +1,287 @@
+#!/usr/bin/env -S python3 -B
+"""Runs the program over random, cut, spliced and flipped indexes, always the same ones, and compares each answer with a plain
+reading of docs/FORMAT.md, "The index as it is read".
+usage: tests/damage.py PROGRAM
+
+Each run has 2 GB of addresses and 5 seconds. Its status is 0 to 2. Where the bytes do not open, each tool is refused by the name
+of the fault, and the file stays as it was. Where they do, `cindex -list` lists their paths, `csearch -brute` is done, `csearch` is
+refused where its list is damaged, and `cindex PATH` is refused, by the right name and with the file as it was, or leaves the index
+of the names that remain and the new ones."""
+import os
+import random
+import resource
+import sys
+
+import running
+from running import complain, home, leave, read, run, write
+
+INDEXES = 2500
+FRESH = b""  # the index of t/d
+GIGABYTE = 1 << 30
+
+MAGIC = b"csearch index 1\n"
+TRAILER = b"\ncsearch trailr\n"
+
+
+class Fault(Exception):
+    pass
+
+
+def number(data, at):
+    return int.from_bytes(data[at : at + 4], "big")
+
+
+def texts(section):
+    """The texts of a section of them, each ended by a NUL, and what stands behind the last."""
+    parts = section.split(b"\0")
+    whole = parts[: parts.index(b"") if b"" in parts else len(parts) - 1]
+    rest = section[sum(len(text) + 1 for text in whole) :]
+    return whole, rest if all(map(is_text, whole)) else None
+
+
+def is_text(data):
+    try:
+        data.decode()
+        return True
+    except UnicodeDecodeError:
+        return False
+
+
+def opened(data):
+    """The paths, the names, the entries by their trigrams, and the lists of an index."""
+    if data[:16] != MAGIC:
+        raise Fault("magic")
+    if len(data) < 52 or data[-16:] != TRAILER:
+        raise Fault("trailer")
+    end = len(data) - 36
+    offsets = [number(data, end + 4 * place) for place in range(5)] + [end]
+    if offsets[0] != 16 or offsets != sorted(offsets):
+        raise Fault("offsets")
+    paths, names, lists, name_index, list_index = (data[a:b] for a, b in zip(offsets, offsets[1:]))
+    paths, rest = texts(paths)
+    if rest != b"\0":
+        raise Fault("paths")
+    names, rest = texts(names)
+    if rest not in (b"", b"\0"):
+        raise Fault("names")
+    place = 0
+    if len(name_index) != 4 * (len(names) + 1):
+        raise Fault("name index")
+    for at, name in enumerate(names):
+        if number(name_index, 4 * at) != place:
+            raise Fault("name index")
+        place += len(name) + 1
+    entries = {}
+    last = b""
+    if len(list_index) % 11:
+        raise Fault("list index")
+    for at in range(0, len(list_index), 11):
+        trigram, count, offset = list_index[at : at + 3], number(list_index, at + 3), number(list_index, at + 7)
+        if trigram <= last and at or trigram == b"\xff\xff\xff" and count or offset + 4 > len(lists):
+            raise Fault("list index")
+        entries[trigram] = count, offset
+        last = trigram
+    return paths, names, entries, lists
+
+
+def varint(data, at):
+    """A number of seven bits a byte, and the place behind it; None where there is none."""
+    value = 0
+    for place in range(5):
+        if at + place >= len(data):
+            return None, at
+        value |= (data[at + place] & 127) << 7 * place
+        if data[at + place] < 128:
+            return (value if value < 1 << 32 else None), at + place + 1
+    return None, at
+
+
+def ids_of(trigram, count, offset, lists, names):
+    """The ids of a posting list; None where it is damaged."""
+    if lists[offset : offset + 3] != trigram:
+        return None
+    at, ids = offset + 3, [-1]
+    for _ in range(count):
+        delta, at = varint(lists, at)
+        if not delta or ids[-1] + delta >= names:
+            return None
+        ids.append(ids[-1] + delta)
+    return ids[1:] if varint(lists, at)[0] == 0 else None
+
+
+def trigrams(names, entries, lists):
+    """The trigrams of each name; those whose list is damaged."""
+    sets = {name: set() for name in names}
+    damaged = set()
+    for trigram, entry in entries.items():
+        ids = ids_of(trigram, *entry, lists, len(names))
+        if ids is None:
+            damaged.add(trigram)
+        for at in ids or ():
+            sets[names[at]].add(trigram)
+    return sets, damaged
+
+
+def is_clean(path):
+    elements = path.split(b"/")
+    return path == b"/" or path[:1] == b"/" and not {b"", b".", b".."}.intersection(elements[1:])
+
+
+def is_below(name, paths):
+    return any(path in (name, b"/") or name.startswith(path + b"/") for path in paths)
+
+
+def spliced(chance, whole):
+    """An index with a part of some index in the place of a part of it."""
+    one, other = chance.choice(whole), chance.choice(whole)
+    a, b = sorted(chance.randrange(len(one) + 1) for _ in range(2))
+    c = chance.randrange(len(other) + 1)
+    return one[:a] + other[c : c + chance.randrange(40)] + one[b:]
+
+
+def flipped(chance, whole):
+    """An index with some bytes changed, mostly by one bit or to what is special."""
+    data = bytearray(chance.choice(whole))
+    for _ in range(chance.choice((1, 1, 1, 2, 4))):
+        at = chance.randrange(len(data))
+        data[at] = chance.choice((data[at] ^ 1 << chance.randrange(8), 0, 1, 127, 128, 255, chance.randrange(256)))
+    return bytes(data)
+
+
+def shifted(chance, whole):
+    """An index with an offset or a count changed by a little, or to much."""
+    data = bytearray(chance.choice(whole))
+    end = len(data) - 36
+    places = [end + 4 * place for place in range(5)]
+    places += range(number(data, end + 12), number(data, end + 16), 4)
+    for entry in range(number(data, end + 16), end, 11):
+        places += [entry + 3, entry + 7]
+    at = chance.choice(places)
+    value = chance.choice((number(data, at) + chance.choice((-11, -4, -1, 1, 4, 11)), 0, 1 << 31, (1 << 32) - 1))
+    data[at : at + 4] = (value % (1 << 32)).to_bytes(4, "big")
+    return bytes(data)
+
+
+def framed(chance, whole):
+    """Random bytes where the sections are, with offsets that may be right."""
+    sections = [bytes(chance.choice(b"\0\0\1\2ab/\x80\xff") for _ in range(chance.randrange(14))) for _ in range(5)]
+    sections[0] = b"/a\0" * chance.randrange(3) + b"\0" + sections[0][: chance.choice((0, 0, 1))]
+    offsets = [16]
+    for section in sections[:4]:
+        offsets.append(offsets[-1] + len(section))
+    return MAGIC + b"".join(sections) + b"".join(at.to_bytes(4, "big") for at in offsets) + TRAILER
+
+
+def renamed(chance, whole):
+    """An index with one letter of a path or a name changed."""
+    data = bytearray(chance.choice(whole))
+    letters = [at for at in range(16, number(data, len(data) - 28)) if data[at : at + 1].isalpha()]
+    data[chance.choice(letters)] = chance.choice(b"abz")
+    return bytes(data)
+
+
+def shapes(chance, whole):
+    """One more index."""
+    kind = chance.randrange(9)
+    if kind == 0:
+        return chance.randbytes(chance.randrange(200))
+    if kind == 1:
+        one = chance.choice(whole)
+        return one[: chance.randrange(len(one))]
+    if kind == 2:
+        return spliced(chance, whole)
+    if kind == 3:
+        return framed(chance, whole)
+    if kind == 8:
+        return renamed(chance, whole)
+    return (flipped if kind < 6 else shifted)(chance, whole)
+
+
+def ends(words, index):
+    """The answer of a run over these bytes of the index file, and the fault that it names."""
+    leave(index)
+    status, out, err = run(words, seconds=5)
+    if status not in (0, 1, 2):
+        complain(f"{words} over {index!r}: its status", (status, err))
+    lines = err.decode("latin-1").splitlines()
+    fault = lines[-1].split(": ", 1)[1] if status == 2 and lines else None
+    if status == 2 and (read("index") != index or os.path.lexists("index~")):
+        complain(f"{words} over {index!r}: it is refused, and the file has changed", fault)
+    return status, out, fault
+
+
+def judge(index):
+    """Runs each tool over the bytes. Answers how they were taken."""
+    answers = {words: ends(words.split(), index) for words in ("cindex -list", "csearch one", "csearch -brute one", "cindex t/d")}
+    joined = read("index")
+    try:
+        paths, names, entries, lists = opened(index)
+    except Fault as fault:
+        want = f"bad index: {fault}"
+        for words, (status, out, came) in answers.items():
+            if (status, out, came) != (2, b"", want):
+                complain(f"{words} over {index!r}: wanted {want}", (status, out, came))
+        return want
+    sets, damaged = trigrams(names, entries, lists)
+    refusal = None
+    if not all(map(is_clean, paths)):
+        refusal = "bad index: paths"
+    elif names != sorted(set(names)):
+        refusal = "index names are not in order"
+    elif damaged:
+        refusal = "bad index: list"
+    wanted = {
+        "cindex -list": None,
+        "csearch one": "bad index: list" if b"one" in damaged else None,
+        "csearch -brute one": None,
+        "cindex t/d": refusal,
+    }
+    for words, (status, out, came) in answers.items():
+        listed = b"".join(path + b"\n" for path in paths)
+        if came != wanted[words] or words == "cindex -list" and out != listed:
+            complain(f"{words} over {index!r}: wanted {wanted[words]}", (status, out, came))
+    if refusal is None and not is_joined(paths, sets, joined):
+        complain(f"cindex t/d over {index!r}: another index", joined)
+    return f"open, cindex {refusal or 'done'}"
+
+
+def is_joined(paths, sets, joined):
+    """Whether the index is that of these paths and names, joined with the new ones of t/d."""
+    new = [f"{home}/t/d".encode()]
+    fresh, _ = trigrams(*opened(FRESH)[1:])
+    wanted = {name: parts for name, parts in sets.items() if not is_below(name, new)}
+    wanted.update(fresh)
+    paths = set(paths + new)
+    paths = sorted(path for path in paths if not is_below(path, paths - {path}))
+    try:
+        names = opened(joined)
+    except Fault:
+        return False
+    return names[0] == paths and names[1] == sorted(wanted) and trigrams(*names[1:]) == (wanted, set())
+
+
+def main():
+    global FRESH
+    resource.setrlimit(resource.RLIMIT_AS, (2 * GIGABYTE, 2 * GIGABYTE))
+    os.makedirs("t/d")
+    write("t/p", b"one\ntwo\none\n")
+    write("t/d/r", b"three\none")
+    write("t/d/s", b"bone alone\n")
+    whole = []
+    for words in (["-reset", "t/d"], ["-reset", "t"], ["-reset", "t/d", "t/none", "t/p"]):
+        run(["cindex"] + words)
+        whole.append(read("index"))
+    FRESH = whole[0]
+    chance = random.Random(2500)
+    counts = {}
+    for _ in range(INDEXES):
+        taken = judge(shapes(chance, whole))
+        counts[taken] = counts.get(taken, 0) + 1
+    if "-v" in sys.argv:
+        for taken, count in sorted(counts.items()):
+            print(f"{count:6} {taken}")
+    print(f"damaged indexes: {INDEXES} indexes, {4 * INDEXES} runs, {running.wrong} wrong")
+    return running.wrong != 0
+
+
+sys.exit(main())

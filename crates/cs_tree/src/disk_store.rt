@@ -3,6 +3,7 @@ ghost use Rattle.std.specs.Prelude.{◌≡◌, ◌≢◌, ◌≤◌, IfOk, Err, 
 ghost use Rattle.cs_tree.specs.Transfers.{is_io_failure};
 ghost use Rattle.cs_tree.specs.Failures.{count_after};
 
+use crate::again::read_at_again;
 use crate::disk_tree::fault_of;
 use crate::fault::{IoFault, TreeFault};
 use crate::std_io::counted_read;
@@ -12,7 +13,7 @@ use std::os::unix::fs::FileExt;
 
 /// A file of the disk that was opened once: what takes its name later changes nothing of what is read.
 /// It tells nothing. A file that has shrunk gives fewer bytes than its length says, and each of the
-/// system's errors is `Failed`.
+/// system's errors is `Failed`, but that a read is made again where a signal interrupts it.
 #[derive(Drop)]
 pub struct DiskStore<F: Drop> {
     file: F,
@@ -58,7 +59,7 @@ impl<F: OpenFile + FileExt + Drop> Store for DiskStore<F> {
             ≡ count_after is_io_failure result (⟦<DiskStore<F> as Store>⟧.failed self.old) }
         ensures no_memory { result ≢ Err IoFault.Memory }
     {
-        let answer = self.file.read_at(buf, at as u64);
+        let answer = read_at_again(&self.file, buf, at as u64);
         counted_read(&mut self.failed, answer)
     }
 

@@ -1,36 +1,66 @@
 // The real disk as a tree.
-ghost use Rattle.std.specs.Prelude.{◌≡◌, ◌≤◌, ℕ, IfOk, length, map, string_bytes, None};
-ghost use Rattle.cs_tree.specs.NameOrder.{bytes_cmp};
-ghost use Rattle.std.specs.List.Sorted.{IsStrictlySortedBy};
+ghost use Rattle.std.specs.Prelude.{◌≡◌, ◌≤◌, ◌≢◌, ℕ, [], IfOk, IfErr, OnOk, length, map, string_bytes, true, None};
+ghost use Rattle.std.specs.IoError.{error_kind};
+ghost use Rattle.std.specs.List.{list_all};
+ghost use Rattle.cs_tree.specs.Folders.{is_name as is_name', are_names};
 ghost use Rattle.cs_tree.specs.Failures.{count_after};
-ghost use Rattle.cs_tree.specs.Trees.{is_tree_failure};
+ghost use Rattle.cs_tree.specs.Trees.{is_tree_failure, names_told, IsReadFault};
 
+use crate::again::{gave_up, is_interrupted, read_again};
 use crate::disk_store::DiskStore;
 use crate::fault::{TreeFault, counted_answer};
+use crate::ordering::order_names;
+use crate::paths::is_name;
 use crate::tree::{Kind, Listing, Tree};
 use std::alloc::Global;
-use std::fs::{Metadata, OpenFile};
+use std::fs::{DirEntry, Metadata, OpenFile};
 use std::io::{ErrorKind, Read};
 use std::os::unix::fs::FileExt;
 use std::rt::Files;
 use std::{fs, io};
 
 /// The real disk, by a runtime. It tells nothing. Paths go to the system as they are, so that one
-/// which does not begin with `/` is taken from the current folder.
+/// which does not begin with `/` is taken from the current folder. A call that a signal interrupts is
+/// made again.
 #[derive(Drop)]
 pub struct DiskTree<R: Files + Drop> {
     rt: R,
+    opens: Opens,
     opened: Option<R::File>,
     failed: u64,
 }
 
+/// What `open` opens.
+#[derive(Clone, Copy, Debug, PartialEq, Eq)]
+enum Opens {
+    /// All but folders, as a pipe or a terminal. It may wait.
+    Anything,
+    /// Regular files alone.
+    Files,
+}
+
 impl<R: Files + AllocGlobal + Clone + Drop> DiskTree<R> {
-    /// Takes no memory.
+    /// The disk, of which `open` opens whatever is no folder, and waits at a pipe until it is written
+    /// to. Takes no memory.
     pub fn new(rt: R) -> DiskTree<R>
         ensures { ⟦<DiskTree<R> as Tree>⟧.failed result ≡ 0 }
     {
         DiskTree {
             rt,
+            opens: Opens::Anything,
+            opened: None,
+            failed: 0,
+        }
+    }
+
+    /// The disk, of which `open` opens regular files alone, and links to them. All else is `Failed`,
+    /// and a pipe is not waited for. Takes no memory.
+    pub fn of_files(rt: R) -> DiskTree<R>
+        ensures { ⟦<DiskTree<R> as Tree>⟧.failed result ≡ 0 }
+    {
+        DiskTree {
+            rt,
+            opens: Opens::Files,
             opened: None,
             failed: 0,
         }
@@ -65,14 +95,17 @@ impl<R: Files + AllocGlobal + Clone + Drop> Tree for DiskTree<R> {
     }
 
     fn entries(&mut self, alloc: Global, path: &str) -> Result<Listing, TreeFault> {
-        let answer = list_folder(alloc, &self.rt, path);
+        let answer = match list_folder(alloc, &self.rt, path) {
+            Ok(listing) => Ok(listing),
+            Err(error) => Err(fault_of(error.kind())),
+        };
         counted_answer(&mut self.failed, answer)
     }
 
-    /// Follows links. A pipe or a device is opened like a file.
+    /// Follows links.
     fn open(&mut self, path: &str) -> Result<(), TreeFault> {
         self.opened = None;
-        match open_file(&self.rt, path) {
+        match open_file(&self.rt, self.opens, path) {
             Ok(file) => {
                 self.opened = Some(file);
                 Ok(())
@@ -114,55 +147,98 @@ pub(crate) fn fault_of(kind: ErrorKind) -> TreeFault {
     }
 }
 
+/// What a folder lists. Where a signal interrupts it, the folder is read again from its start.
 fn list_folder<R: Files + AllocGlobal + Clone + Drop>(
     alloc: Global,
     rt: &R,
     path: &str,
-) -> Result<Listing, TreeFault> {
-    let entries = match fs::read_dir(rt, path) {
-        Ok(entries) => entries,
-        Err(error) => return Err(fault_of(error.kind())),
-    };
-    let mut names = Vec::new(alloc);
-    let mut unnamed = false;
-    for entry in entries {
-        match entry {
-            Ok(entry) => names.push(String::from_str(alloc, entry.file_name())?)?,
-            // A name that is not text.
-            Err(error) if error.kind() == ErrorKind::InvalidFilename => unnamed = true,
-            Err(error) => return Err(fault_of(error.kind())),
+) -> io::Result<Listing>
+    ensures names { IfOk result (λ listing. are_names (names_told listing) ≡ true) }
+    ensures again { IfErr result (λ error. error_kind error ≢ ErrorKind.Interrupted) }
+{
+    'tries: for _ in 0..u64::MAX {
+        match list_once(alloc, rt, path) {
+            Err(error) if is_interrupted(&error) => {}
+            answer => return answer,
         }
     }
-    order_names(&mut names);
-    Ok(Listing { names, unnamed })
+    Err(gave_up())
 }
 
-/// Has each name once: a folder that changes while it is read may give one twice.
-fn order_names(names: &mut Vec<String>)
-    ensures { IsStrictlySortedBy bytes_cmp (map string_bytes names.new.items) }
+fn list_once<R: Files + AllocGlobal + Clone + Drop>(
+    alloc: Global,
+    rt: &R,
+    path: &str,
+) -> io::Result<Listing>
+    ensures { IfOk result (λ listing. are_names (names_told listing) ≡ true) }
 {
-    names.sort_unstable();
-    names.dedup();
+    let mut listing = Listing {
+        names: Vec::new(alloc),
+        unnamed: false,
+    };
+    'entries: for entry in fs::read_dir(rt, path)? {
+        list_entry(alloc, &mut listing, entry)?;
+    }
+    // A folder that changes while it is read may give a name twice.
+    order_names(&mut listing.names);
+    Ok(listing)
 }
 
-/// Opens what stands at a path, unless it is a folder.
-fn open_file<R: Files + Drop>(rt: &R, path: &str) -> Result<R::File, TreeFault> {
+/// Lists one more entry, whose name may be none.
+fn list_entry<R: Files + AllocGlobal + Clone + Drop>(
+    alloc: Global,
+    listing: &mut Listing,
+    entry: io::Result<DirEntry<R, Global>>,
+) -> io::Result<()>
+    requires { list_all is_name' (names_told listing.old) ≡ true }
+    ensures { OnOk result (list_all is_name' (names_told listing.new) ≡ true) }
+{
+    match entry {
+        Ok(entry) if is_name(entry.file_name()) => {
+            listing
+                .names
+                .push(String::from_str(alloc, entry.file_name())?)?;
+        }
+        Ok(_) => listing.unnamed = true,
+        // A name that is not text.
+        Err(error) if error.kind() == ErrorKind::InvalidFilename => listing.unnamed = true,
+        Err(error) => return Err(error),
+    }
+    Ok(())
+}
+
+/// Opens what stands at a path, unless it is a folder, or no regular file where these are opened alone. Of
+/// these it is asked before it is opened, so that a pipe is not waited for, and once more when it is open.
+fn open_file<R: Files + Drop>(rt: &R, opens: Opens, path: &str) -> Result<R::File, TreeFault> {
+    if opens == Opens::Files {
+        is_opened(fs::metadata(rt, path), opens)?;
+    }
     let file = match fs::open(rt, path) {
         Ok(file) => file,
         Err(error) => return Err(fault_of(error.kind())),
     };
-    match file.metadata() {
-        Ok(metadata) if metadata.is_dir() => Err(TreeFault::Failed),
-        Ok(_) => Ok(file),
+    is_opened(file.metadata(), opens)?;
+    Ok(file)
+}
+
+/// Refuses what is not opened.
+fn is_opened(metadata: io::Result<Metadata>, opens: Opens) -> Result<(), TreeFault> {
+    match metadata {
+        Ok(metadata) if metadata.is_file() => Ok(()),
+        Ok(metadata) if opens == Opens::Anything && !metadata.is_dir() => Ok(()),
+        Ok(_) => Err(TreeFault::Failed),
         Err(error) => Err(fault_of(error.kind())),
     }
 }
 
+/// A read that is refused has failed, whatever the system's error says, unless memory ran out.
 fn read_some<F: Read>(file: &mut F, buf: &mut [u8]) -> Result<usize, TreeFault>
-    ensures { IfOk result (λ n. n ≤ length buf.new) }
+    ensures within { IfOk result (λ n. n ≤ length buf.new) }
+    ensures fault { IfErr result IsReadFault }
 {
-    match file.read(buf) {
+    match read_again(file, buf) {
         Ok(n) => Ok(n),
-        Err(error) => Err(fault_of(error.kind())),
+        Err(error) if error.kind() == ErrorKind::OutOfMemory => Err(TreeFault::Memory),
+        Err(_) => Err(TreeFault::Failed),
     }
 }

@@ -1,12 +1,12 @@
 // The items of a tree in memory.
 ghost use Rattle.std.specs.Prelude.{◌≡◌, ◌≢◌, ◌<◌, ◌∷◌, [], string_bytes, true, false, ◌&&◌, ◌||◌, not, ℕ, Option, Some, None, Ok, Err, MatchOption, MatchResult, OnOk, OnErr, map, filter, vec_len, vec_capacity, IfOk};
 ghost use Rattle.cs_tree.specs.TreeAnswers.{opening_of};
-ghost use Rattle.cs_tree.specs.Folders.{is_name};
+ghost use Rattle.cs_tree.specs.Folders.{is_name, are_names};
 ghost use Rattle.std.specs.List.{list_any};
 ghost use Rattle.std.specs.FinMap as map';
 ghost use Rattle.cs_tree.specs.Snapshot.{item_at};
 ghost use Rattle.cs_tree.specs.Changes.{is_folder as is_folder', has_entries as has_entries', unlisting, with_name, goes_with as goes_with'};
-ghost use Rattle.cs_tree.specs.Trees.{listing_told, answered, OrMemory, kind_of, listing_of};
+ghost use Rattle.cs_tree.specs.Trees.{listing_told, names_told, answered, OrMemory, kind_of, listing_of};
 ghost use Rattle.cs_tree.specs.Stored.{item_of, item_put, place_at, pair_of, snapshot_of, left_at, left_of, unlisted_pair, IsOpening};
 
 use crate::fault::TreeFault;
@@ -115,8 +115,9 @@ pub(crate) fn kind_at(items: &[Stored], path: &str) -> Result<Kind, TreeFault>
 
 /// What `entries` answers.
 pub(crate) fn listing_at(alloc: Global, items: &[Stored], path: &str) -> Result<Listing, TreeFault>
-    ensures { OrMemory (answered listing_told result)
+    ensures answer { OrMemory (answered listing_told result)
         (listing_of (item_at (snapshot_of items.now) path.now)) }
+    ensures names { IfOk result (λ listing. are_names (names_told listing) ≡ true) }
 {
     match find_item(items, path) {
         Some(StoredItem::Folder(names)) => Ok(Listing {

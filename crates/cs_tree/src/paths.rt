@@ -1,7 +1,8 @@
 // What a path covers, and the elements of a path.
-ghost use Rattle.std.specs.Prelude.{◌≡◌, ◌≢◌, ◌++◌, ◌∷◌, [], true, false, MatchOption, IsTrue, ◌↔◌, List, ℕ, length, ◌<◌, ◌&&◌, not};
+ghost use Rattle.std.specs.Prelude.{◌≡◌, ◌≢◌, ◌++◌, ◌∷◌, [], true, false, MatchOption, IsTrue, ◌↔◌, List, ℕ, length, ◌<◌, ◌&&◌, not, nat_eq};
 ghost use Rattle.cs_tree.specs.Covering.{ends_element as ends_element'};
-ghost use Rattle.cs_tree.specs.Folders.{stem_of, child, name_of};
+ghost use Rattle.cs_tree.specs.Folders.{stem_of, child, name_of, is_name as is_name'};
+ghost use Rattle.std.specs.List.{list_any};
 ghost use Rattle.cs_tree.specs.Cover.{covers as covers', same, begins, slash};
 ghost use Rattle.cs_tree.specs.Changes.{parent_of};
 ghost use Rattle.cs_tree.specs.Clean.{is_clean as is_clean', has_nul as has_nul'};
@@ -98,6 +99,19 @@ pub(crate) fn has_nul(text: &str) -> bool
     ensures { result ≡ has_nul' text.now }
 {
     text.as_bytes().iter().any(|byte| *byte == 0)
+}
+
+/// Whether a folder may list the name: it is not empty, and has no `/` and no NUL.
+pub(crate) fn is_name(name: &str) -> bool
+    ensures { result ≡ is_name' name.now }
+{
+    !name.is_empty() && !has_slash(name) && !has_nul(name)
+}
+
+fn has_slash(text: &str) -> bool
+    ensures { result ≡ list_any (λ b. nat_eq b slash) text.now }
+{
+    text.as_bytes().iter().any(|byte| *byte == b'/')
 }
 
 /// The folder that a path stands in, and its name there.

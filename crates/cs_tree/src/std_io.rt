@@ -4,6 +4,7 @@ ghost use Rattle.cs_tree.specs.Transfers.{ReadGives, Writes, is_io_failure};
 ghost use Rattle.cs_tree.specs.Failures.{count_after};
 ghost use Rattle.cs_tree.specs.Told.{Told, Grows};
 
+use crate::again::{flush_again, read_again, write_again};
 use crate::fault::{IoFault, io_failure};
 use crate::sink::Sink;
 use crate::source::Source;
@@ -20,7 +21,8 @@ pub(crate) fn counted_read(failed: &mut u64, answer: io::Result<usize>) -> Resul
     }
 }
 
-/// A reader of std as a source. It tells nothing, and each of the reader's errors is `Failed`.
+/// A reader of std as a source. It tells nothing, and each of the reader's errors is `Failed`, but that a
+/// read is made again where a signal interrupts it.
 #[derive(Drop)]
 pub struct StdSource<R: Drop> {
     inner: R,
@@ -48,7 +50,7 @@ impl<R: Read + Drop> Source for StdSource<R> {
             ≡ count_after is_io_failure result (⟦<StdSource<R> as Source>⟧.failed self.old) }
         ensures no_memory { result ≢ Err IoFault.Memory }
     {
-        let answer = self.inner.read(buf);
+        let answer = read_again(&mut self.inner, buf);
         counted_read(&mut self.failed, answer)
     }
 
@@ -58,7 +60,7 @@ impl<R: Read + Drop> Source for StdSource<R> {
 }
 
 /// A writer of std as a sink. It tells nothing. Each of the writer's errors is `Failed`, and so is a
-/// write of some bytes that took none.
+/// write of some bytes that took none. A call that a signal interrupts is made again.
 #[derive(Drop)]
 pub struct StdSink<W: Drop> {
     inner: W,
@@ -83,7 +85,7 @@ impl<W: Write + Drop> Sink for StdSink<W> {
             ≡ count_after is_io_failure result (⟦<StdSink<W> as Sink>⟧.failed self.old) }
         ensures no_memory { result ≢ Err IoFault.Memory }
     {
-        match self.inner.write(buf) {
+        match write_again(&mut self.inner, buf) {
             Ok(n) if n > 0 || buf.is_empty() => Ok(n),
             _ => Err(io_failure(&mut self.failed)),
         }
@@ -94,7 +96,7 @@ impl<W: Write + Drop> Sink for StdSink<W> {
             ≡ count_after is_io_failure result (⟦<StdSink<W> as Sink>⟧.failed self.old) }
         ensures no_memory { result ≢ Err IoFault.Memory }
     {
-        match self.inner.flush() {
+        match flush_again(&mut self.inner) {
             Ok(()) => Ok(()),
             Err(_) => Err(io_failure(&mut self.failed)),
         }

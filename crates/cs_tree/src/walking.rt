@@ -1,5 +1,5 @@
 // What stands below paths.
-ghost use Rattle.std.specs.Prelude.{◌≡◌, ◌≢◌, ◌≤◌, ◌++◌, ℕ, List, true, map, string_bytes, OnOk, IfOk, MatchResult, Contains};
+ghost use Rattle.std.specs.Prelude.{◌≡◌, ◌≢◌, ◌≤◌, ◌++◌, ℕ, List, true, map, string_bytes, OnOk, IfOk, MatchResult, Contains, ◌<◌, ◌^◌, length};
 ghost use Rattle.cs_tree.specs.Folders.{child, name_of};
 ghost use Rattle.cs_tree.specs.Clean.{longest_path};
 ghost use Rattle.cs_tree.specs.NameOrder.{are_ascending};
@@ -13,6 +13,7 @@ ghost use Rattle.cs_tree.specs.Visits.{covered_by, GathersIn, KeepsCounts, Keeps
 
 use crate::cleaning::LONGEST_PATH;
 use crate::fault::TreeFault;
+use crate::ordering::order_names;
 use crate::tree::{Kind, Listing, Tree};
 use std::alloc::{AllocError, Global};
 
@@ -122,26 +123,28 @@ fn visit_named<T: Tree>(
     visit(alloc, tree, String::from_str(alloc, path)?, walked)
 }
 
-/// Gathers what stands at a path and below it.
+/// Gathers what stands at a path and below it. The paths at which the walk goes on wait in a list, so that
+/// a deep tree takes no more of the stack than a flat one.
 fn visit<T: Tree>(
     alloc: Global,
     tree: &mut T,
-    path: String,
+    start: String,
     walked: &mut Walked,
 ) -> Result<(), AllocError>
     ensures gathers { OnOk result (GathersIn (T.snapshot tree.old)
-        (λ told. comes told (string_bytes path)) walked.old walked.new) }
-    ensures under { OnOk result (KeepsTo (covers (string_bytes path)) walked.old walked.new) }
+        (λ told. comes told (string_bytes start)) walked.old walked.new) }
+    ensures under { OnOk result (KeepsTo (covers (string_bytes start)) walked.old walked.new) }
     ensures counted { OnOk result
         (KeepsCounts (T.failed tree.old) (T.failed tree.new) walked.old walked.new) }
     ensures rises { T.failed tree.old ≤ T.failed tree.new }
     ensures asked { AsksWithin longest_path (T.longest_asked tree.old) (T.longest_asked tree.new) }
     ensures keeps { T.snapshot tree.new ≡ T.snapshot tree.old }
 {
-    let sight = look(alloc, tree, path.as_str())?;
-    let deeper = walked.note(alloc, path, sight)?;
-    'deeper: for path in deeper {
-        visit(alloc, tree, path, walked)?;
+    let mut waiting = Vec::new(alloc);
+    waiting.push(start)?;
+    'waiting: while let Some(path) = waiting.pop() {
+        let sight = look(alloc, tree, path.as_str())?;
+        walked.note(alloc, path, sight, &mut waiting)?;
     }
     Ok(())
 }
@@ -183,20 +186,28 @@ fn left_for(fault: TreeFault) -> Result<Sight, AllocError>
 }
 
 impl Walked {
-    /// Takes down what was seen at a path, and gives the paths at which the walk goes on.
-    fn note(&mut self, alloc: Global, path: String, sight: Sight) -> Result<Vec<String>, AllocError>
+    /// Takes down what was seen at a path, and puts the paths at which the walk goes on behind those that
+    /// wait.
+    fn note(
+        &mut self,
+        alloc: Global,
+        path: String,
+        sight: Sight,
+        waiting: &mut Vec<String>,
+    ) -> Result<(), AllocError>
         ensures names { OnOk result (names_walked self.new
             ≡ names_walked self.old ++ named_if (is_file_seen sight) (string_bytes path)) }
         ensures faults { OnOk result (faults_walked self.new
             ≡ faults_walked self.old ++ left_if (fault_seen sight) (string_bytes path)) }
-        ensures children { IfOk result (λ deeper. map string_bytes deeper.items
-            ≡ children (string_bytes path) (names_seen sight)) }
+        ensures waiting { OnOk result (map string_bytes waiting.new.items
+            ≡ map string_bytes waiting.old.items ++ children (string_bytes path) (names_seen sight)) }
+        ensures few { OnOk result
+            (length (children (string_bytes path) (names_seen sight)) < 2 ^ 64) }
     {
-        let mut deeper = Vec::new(alloc);
         match sight {
             Sight::File => self.names.push(path)?,
             Sight::Folder(listing) => {
-                deeper = children_of(alloc, path.as_str(), &listing.names)?;
+                wait_for_children(alloc, path.as_str(), &listing.names, waiting)?;
                 if listing.unnamed {
                     self.faults.push((path, WalkFault::Unnamed))?;
                 }
@@ -204,22 +215,27 @@ impl Walked {
             Sight::Other => {}
             Sight::Left(fault) => self.faults.push((path, fault))?,
         }
-        Ok(deeper)
+        Ok(())
     }
 }
 
-/// The paths of what a folder lists, without what is left out.
-fn children_of(alloc: Global, folder: &str, names: &[String]) -> Result<Vec<String>, AllocError>
-    ensures { IfOk result (λ paths. map string_bytes paths.items
-        ≡ children folder.now (map string_bytes names.now)) }
+/// Puts the paths of what a folder lists behind those that wait, without what is left out.
+fn wait_for_children(
+    alloc: Global,
+    folder: &str,
+    names: &[String],
+    waiting: &mut Vec<String>,
+) -> Result<(), AllocError>
+    ensures waiting { OnOk result (map string_bytes waiting.new.items
+        ≡ map string_bytes waiting.old.items ++ children folder.now (map string_bytes names.now)) }
+    ensures few { OnOk result (length (children folder.now (map string_bytes names.now)) < 2 ^ 64) }
 {
-    let mut paths = Vec::new(alloc);
     'names: for name in names {
         if is_walked(name.as_str()) {
-            paths.push(child_path(alloc, folder, name.as_str())?)?;
+            waiting.push(child_path(alloc, folder, name.as_str())?)?;
         }
     }
-    Ok(paths)
+    Ok(())
 }
 
 /// The path of what a folder lists under a name.
@@ -270,16 +286,6 @@ fn last_element(path: &str) -> &str
         Some((_, name)) => name,
         None => path,
     }
-}
-
-/// Puts names in order, each once.
-fn order_names(names: &mut Vec<String>)
-    ensures ascend { are_ascending (map string_bytes names.new.items) ≡ true }
-    ensures same { (name : List ℕ) → is_among (map string_bytes names.new.items) name
-        ≡ is_among (map string_bytes names.old.items) name }
-{
-    names.sort_unstable();
-    names.dedup();
 }
 
 /// Puts faults in the order of their paths, each path once.

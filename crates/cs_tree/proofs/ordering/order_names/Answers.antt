@@ -6,7 +6,7 @@ use Rattle.std.specs.Prelude.{string_bytes}
 use Rattle.std.specs.List.{list_any}
 use Rattle.cs_tree.specs.Cover.{same}
 use Rattle.cs_tree.proofs.InOrder.{sorted_once, once_same, same_key, among-map}
-use Rattle.cs_tree.proofs.walking.order_names.Goals as goal
+use Rattle.cs_tree.proofs.ordering.order_names.Goals as goal
 
 pub returns-clause-ascend : goal.returns-clause-ascend
 returns-clause-ascend c =

@@ -1,0 +1,66 @@
+-- Names in order are distinct, so that a folder may list them.
+use Rattle.std.proofs.Common.{◌≡◌, ℕ, Bool, true, false, not, ◌||◌, List, [], ◌∷◌, ◌++◌, refl, sym, ap, subst, ◌∙◌, inl, inr}
+use Rattle.cs_tree.specs.NameOrder.{bytes_cmp, are_ascending}
+use Rattle.std.proofs.lemmas.Bool.{true≢false, false_from_ne_true, and_parts, and_from, or_cases, or_left, or_right}
+use Rattle.std.specs.Cmp.Lexicographic.{bytes_decides, nat_list_cmp_total}
+use Rattle.std.specs.List.{list_all}
+use Rattle.std.specs.Ordering.{is_lt}
+use Rattle.std.specs.declared.cmp.Ordering.{Ordering}
+use Rattle.std.specs.declared.cmp.Ordering.TheVariants.{Less, Equal, Greater}
+use Rattle.std.specs.Cmp.{tied_itself}
+use Rattle.std.proofs.lemmas.List.Folds.{list_all-append}
+use Rattle.cs_tree.specs.Cover.{same, is_among}
+use Rattle.cs_tree.specs.Folders.{is_name, are_distinct, are_names}
+
+less : (r : Ordering) → is_lt r ≡ true → r ≡ Less
+less Less h = refl
+less Equal h = absurd (true≢false (sym h))
+less Greater h = absurd (true≢false (sym h))
+
+chain : (a b c : List ℕ) → is_lt (bytes_cmp a b) ≡ true → is_lt (bytes_cmp b c) ≡ true → is_lt (bytes_cmp a c) ≡ true
+chain a b c h g = ap is_lt (nat_list_cmp_total.trans a b c (less _ h) (less _ g))
+
+apart : (a b : List ℕ) → is_lt (bytes_cmp a b) ≡ true → same b a ≡ false
+apart a b h = false_from_ne_true _ (λ tied.
+    true≢false (sym (subst (λ x. is_lt (bytes_cmp a x) ≡ true) ((bytes_decides b a).0 tied) h) ∙ ap is_lt (tied_itself nat_list_cmp_total a)))
+
+-- what lies below the first of some ascending names is none of them
+none_below : (a : List ℕ) (names : List (List ℕ)) (b : List ℕ) → is_lt (bytes_cmp a b) ≡ true → are_ascending (b ∷ names) ≡ true → is_among (b ∷ names) a ≡ false
+none_below a [] b less up = ap (λ x. x || false) (apart a b less)
+none_below a (c ∷ names) b less up =
+    let parts = and_parts (is_lt (bytes_cmp b c)) (are_ascending (c ∷ names)) up in
+    ap (λ x. x || is_among (c ∷ names) a) (apart a b less) ∙ none_below a names c (chain a b c less parts.0) parts.1
+
+pub ascending_distinct : (names : List (List ℕ)) → are_ascending names ≡ true → are_distinct names ≡ true
+ascending_distinct [] up = refl
+ascending_distinct (a ∷ []) up = refl
+ascending_distinct (a ∷ b ∷ names) up =
+    let parts = and_parts (is_lt (bytes_cmp a b)) (are_ascending (b ∷ names)) up in
+    and_from (not (is_among (b ∷ names) a)) _ (ap not (none_below a names b parts.0 parts.1)) (ascending_distinct (b ∷ names) parts.1)
+
+-- a test of each of some names passes for one of them
+passes_one : (test : List ℕ → Bool) (names : List (List ℕ)) (name : List ℕ) → list_all test names ≡ true → is_among names name ≡ true → test name ≡ true
+passes_one test [] name all h = absurd (true≢false (sym h))
+passes_one test (x ∷ names) name all h =
+    let parts = and_parts (test x) (list_all test names) all in
+    elim (or_cases (same x name) _ h) [
+      | inl here ↦ subst (λ n. test n ≡ true) ((bytes_decides x name).0 here) parts.0
+      | inr there ↦ passes_one test names name parts.1 there
+    ]
+
+passes_all : (test : List ℕ → Bool) (names : List (List ℕ)) → ((name : List ℕ) → is_among names name ≡ true → test name ≡ true) → list_all test names ≡ true
+passes_all test [] each = refl
+passes_all test (x ∷ names) each =
+    and_from (test x) _ (each x (or_left (same x x) _ ((bytes_decides x x).1 refl)))
+    (passes_all test names (λ name there. each name (or_right (same x name) _ there)))
+
+-- the same names in order
+pub names_in_order : (old new : List (List ℕ)) → list_all is_name old ≡ true → are_ascending new ≡ true → ((name : List ℕ) → is_among new name ≡ is_among old name) → are_names new ≡ true
+names_in_order old new good up alike =
+    and_from (list_all is_name new) _
+    (passes_all is_name new (λ name there. passes_one is_name old name good (sym (alike name) ∙ there)))
+    (ascending_distinct new up)
+
+-- one more name
+pub name_pushed : (names : List (List ℕ)) (name : List ℕ) → list_all is_name names ≡ true → is_name name ≡ true → list_all is_name (names ++ name ∷ []) ≡ true
+name_pushed names name good one = list_all-append is_name names (name ∷ []) ∙ and_from (list_all is_name names) _ good (and_from (is_name name) true one refl)

@@ -1,0 +1,134 @@
+-- A walk whose paths wait in a list: what it has gathered, what it comes to by those that wait, and that it ends.
+use Rattle.std.proofs.Common.{◌≡◌, ℕ, ◌+◌, ◌-◌, ◌*◌, ◌^◌, ◌<◌, ◌≤◌, Bool, true, false, ◌||◌, List, [], ◌∷◌, ◌++◌, length, refl, sym, ap, subst, ◌∙◌, arith, Option, Some, None, pow_pos, pow_mono, pow-add}
+use Rattle.std.proofs.Math.Nat.{mul-lt-mul_of_pos_right}
+use Rattle.std.proofs.lemmas.List.Folds.{list_any-append}
+use Rattle.std.specs.List.{AllByRecursion}
+use Rattle.cs_tree.specs.Cover.{same, covers}
+use Rattle.cs_tree.specs.Folders.{IsTree}
+use Rattle.cs_tree.specs.Snapshot.{Snapshot}
+use Rattle.cs_tree.specs.Walks.{names_walked, faults_walked}
+use Rattle.cs_tree.specs.Visits.{comes, comes_by, Gathers, GathersIn, KeepsTo, ShowsIn, Shows, is_file_seen, fault_seen, names_seen, children, named_if, left_if, AreBelow, AreDeeper}
+use Rattle.cs_tree.specs.declared.walking.Walked.{Walked}
+use Rattle.cs_tree.specs.declared.walking.Sight.{Sight}
+use Rattle.cs_tree.proofs.Coming.{comes_unfolds}
+use Rattle.cs_tree.proofs.Covering.{covers_chain}
+use Rattle.cs_tree.proofs.Gathering.{gathers_chain, gathers_none, gathers_one, gathers_same}
+use Rattle.cs_tree.proofs.Under.{below_children, keeps_deeper, keeps_path}
+
+-- ---- what is gathered
+
+-- From a start: what was come to so far is gathered, and the paths that wait lead to all the rest.
+pub record Underway (tree : Snapshot) (start : List ℕ) (waiting : List (List ℕ)) (old new : Walked) : Type 0 where
+  pub seen : List ℕ → Bool
+  pub gathered : Gathers tree seen old new
+  pub rest : (q : List ℕ) → comes tree start q ≡ (seen q || comes_by tree waiting q)
+
+abbrev pub UnderwayIn : Option Snapshot → List ℕ → List (List ℕ) → Walked → Walked → Type 0
+UnderwayIn None start waiting old new = Unit {0}
+UnderwayIn (Some tree) start waiting old new = IsTree tree → Underway tree start waiting old new
+
+pub starts_in : (told : Option Snapshot) (start : List ℕ) (walked : Walked) → UnderwayIn told start (start ∷ []) walked walked
+starts_in None start walked = tt
+starts_in (Some tree) start walked = λ good. record {
+  seen = λ q. false;
+  gathered = gathers_none tree walked;
+  rest = λ q. right_false (comes tree start q);
+}
+  where
+    right_false : (b : Bool) → b ≡ (b || false)
+    right_false true = refl
+    right_false false = refl
+
+-- one more path is looked at, and what it leads to waits
+goes_on : (tree : Snapshot) (start path : List ℕ) (sight : Sight) (rest : List (List ℕ)) (old mid new : Walked) → IsTree tree → Shows tree path sight → names_walked new ≡ names_walked mid ++ named_if (is_file_seen sight) path → faults_walked new ≡ faults_walked mid ++ left_if (fault_seen sight) path → Underway tree start (rest ++ path ∷ []) old mid → Underway tree start (rest ++ children path (names_seen sight)) old new
+goes_on tree start path sight rest old mid new good shows names faults so_far = record {
+  seen = λ q. so_far.seen q || same path q;
+  gathered = gathers_chain tree so_far.gathered (gathers_one tree path sight mid new shows names faults);
+  rest = λ q.
+      so_far.rest q
+      ∙ ap (λ b. so_far.seen q || b) (list_any-append (λ p. comes tree p q) rest (path ∷ []))
+      ∙ ap (λ b. so_far.seen q || (comes_by tree rest q || (b || false))) (comes_unfolds tree path q good ∙ ap (λ names. same path q || comes_by tree (children path names) q) (sym shows.names))
+      ∙ turned (so_far.seen q) (comes_by tree rest q) (same path q) (comes_by tree (children path (names_seen sight)) q)
+      ∙ ap (λ b. (so_far.seen q || same path q) || b) (sym (list_any-append (λ p. comes tree p q) rest (children path (names_seen sight))));
+}
+  where
+    turned : (s r p c : Bool) → (s || (r || ((p || c) || false))) ≡ ((s || p) || (r || c))
+    turned true r p c = refl
+    turned false true true c = refl
+    turned false true false c = refl
+    turned false false true c = refl
+    turned false false false true = refl
+    turned false false false false = refl
+
+pub goes_on_in : (told later : Option Snapshot) (start path : List ℕ) (sight : Sight) (rest waiting : List (List ℕ)) (old mid new : Walked) → later ≡ told → ShowsIn later path sight → names_walked new ≡ names_walked mid ++ named_if (is_file_seen sight) path → faults_walked new ≡ faults_walked mid ++ left_if (fault_seen sight) path → waiting ≡ rest ++ children path (names_seen sight) → UnderwayIn told start (rest ++ path ∷ []) old mid → UnderwayIn told start waiting old new
+goes_on_in told later start path sight rest waiting old mid new e shows names faults waits so_far =
+    subst (λ paths. UnderwayIn told start paths old new) (sym waits) (by_told told (subst (λ o. ShowsIn o path sight) e shows) so_far)
+  where
+    by_told : (o : Option Snapshot) → ShowsIn o path sight → UnderwayIn o start (rest ++ path ∷ []) old mid → UnderwayIn o start (rest ++ children path (names_seen sight)) old new
+    by_told None shows so_far = tt
+    by_told (Some tree) shows so_far = λ good. goes_on tree start path sight rest old mid new good shows names faults (so_far good)
+
+pub ends_in : (told : Option Snapshot) (start : List ℕ) (old new : Walked) → UnderwayIn told start [] old new → GathersIn told (λ tree. comes tree start) old new
+ends_in None start old new h = tt
+ends_in (Some tree) start old new h = λ good. let all = h good in gathers_same tree (λ q. sym (all.rest q ∙ right_false (all.seen q))) all.gathered
+  where
+    right_false : (b : Bool) → (b || false) ≡ b
+    right_false true = refl
+    right_false false = refl
+
+-- ---- below the start
+
+module _ (P : List ℕ → Type 0) where
+  all_split : (xs ys : List (List ℕ)) → AllByRecursion P (xs ++ ys) → AllByRecursion P xs × AllByRecursion P ys
+  all_split [] ys all = (tt, all)
+  all_split (x ∷ xs) ys all = let rest = all_split xs ys all.1 in ((all.0, rest.0), rest.1)
+
+  all_joined : (xs ys : List (List ℕ)) → AllByRecursion P xs → AllByRecursion P ys → AllByRecursion P (xs ++ ys)
+  all_joined [] ys h k = k
+  all_joined (x ∷ xs) ys h k = (h.0, all_joined xs ys h.1 k)
+
+below_chain : (start path : List ℕ) (paths : List (List ℕ)) → covers start path ≡ true → AreBelow path paths → AreBelow start paths
+below_chain start path [] below all = tt
+below_chain start path (p ∷ paths) below all = (covers_chain start path p below all.0, below_chain start path paths below all.1)
+
+pub last_below : (start path : List ℕ) (rest : List (List ℕ)) → AreBelow start (rest ++ path ∷ []) → covers start path ≡ true
+last_below start path rest all = (all_split (λ below. covers start below ≡ true) rest (path ∷ []) all).1.0
+
+pub waiting_below : (start path : List ℕ) (names rest : List (List ℕ)) → AreBelow start (rest ++ path ∷ []) → AreBelow start (rest ++ children path names)
+waiting_below start path names rest all =
+    all_joined (λ below. covers start below ≡ true) rest (children path names) (all_split (λ below. covers start below ≡ true) rest (path ∷ []) all).0
+    (below_chain start path (children path names) (last_below start path rest all) (below_children path names))
+
+pub keeps_on : (start path : List ℕ) (named : Bool) (old mid new : Walked) → covers start path ≡ true → names_walked new ≡ names_walked mid ++ named_if named path → KeepsTo (covers start) old mid → KeepsTo (covers start) old new
+keeps_on start path named old mid new below names keeps = keeps_deeper start path old mid new below keeps (keeps_path path named mid new new names (λ test h all. all))
+
+-- ---- how far it is to the end
+
+-- A path weighs more than all that it leads to: fewer than 2^64 paths, each of them longer.
+abbrev pub path_weight : List ℕ → ℕ
+path_weight path = 2 ^ (64 * (4096 - length path))
+
+abbrev pub weight : List (List ℕ) → ℕ
+weight [] = 0
+weight (path ∷ paths) = path_weight path + weight paths
+
+weight-append : (xs ys : List (List ℕ)) → weight (xs ++ ys) ≡ weight xs + weight ys
+weight-append [] ys = omega arith
+weight-append (x ∷ xs) ys = omega (arith, weight-append xs ys)
+
+-- the weight of a path that is one byte longer
+deeper_weight : (path : List ℕ) (paths : List (List ℕ)) → AreDeeper path paths → weight paths ≤ length paths * 2 ^ (64 * (4095 - length path))
+deeper_weight path [] deeper = omega arith
+deeper_weight path (p ∷ paths) deeper =
+    let room : 64 * (4096 - length p) ≤ 64 * (4095 - length path) = omega (arith, deeper.0.1) in
+    omega (arith, pow_mono room, deeper_weight path paths deeper.1)
+
+pub lighter : (path : List ℕ) (paths rest : List (List ℕ)) → AreDeeper path paths → length paths < 2 ^ 64 → weight (rest ++ paths) < weight (rest ++ path ∷ [])
+lighter path paths rest deeper few = omega (arith, weight-append rest paths, weight-append rest (path ∷ []), less paths deeper few)
+  where
+    less : (paths : List (List ℕ)) → AreDeeper path paths → length paths < 2 ^ 64 → weight paths < path_weight path
+    less [] deeper few = pow_pos (64 * (4096 - length path))
+    less (p ∷ paths) deeper few =
+        let wide : 2 ^ (64 * (4096 - length path)) ≡ 2 ^ 64 * 2 ^ (64 * (4095 - length path)) = ap (λ n. 2 ^ n) (omega (arith, deeper.0.0)) ∙ pow-add 2 64 (64 * (4095 - length path)) in
+        let each = mul-lt-mul_of_pos_right few (pow_pos (64 * (4095 - length path))) in
+        omega (arith, wide, each, deeper_weight path (p ∷ paths) deeper)

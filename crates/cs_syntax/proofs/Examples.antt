@@ -230,5 +230,23 @@ members = (refl, refl, refl, refl, refl, refl, refl, refl, refl, refl)
 -- how a text is quoted, and how a repeat is written
 written :
     (quoted (codes "a.b{2}") ≡ codes "a\\.b\\{2}")
+    -- a character past ASCII stays as it is
+    × (quoted (195 ∷ 169 ∷ codes ".") ≡ 195 ∷ 169 ∷ codes "\\.")
     × (counted 2 7 ≡ codes "{2,7}")
-written = (refl, λ i. 123 ∷ (decimal_digit 2 (omega arith) i ++ 44 ∷ (decimal_digit 7 (omega arith) i ++ 125 ∷ [])))
+written = (refl, refl, λ i. 123 ∷ (decimal_digit 2 (omega arith) i ++ 44 ∷ (decimal_digit 7 (omega arith) i ++ 125 ∷ [])))
+
+-- texts with bars: where the one before a bar is not simple, the bar is no choice of what both read as
+bars :
+    -- one choice of three
+    (reading (codes "a|b|c") false ≡ tree (alt (more (one_of (char_set false 97)) (more (one_of (char_set false 98)) (more (one_of (char_set false 99)) none)))))
+    -- a choice that stands in a group is one branch
+    × (reading (codes "(a|b)|c") false ≡ tree (alt (more (alt (more (one_of (char_set false 97)) (more (one_of (char_set false 98)) none))) (more (one_of (char_set false 99)) none))))
+    -- flags reach over the bar
+    × (reading (codes "(?i)a|b") false ≡ tree (alt (more (one_of (char_set true 97)) (more (one_of (char_set true 98)) none))))
+    × (reading (codes "b") false ≡ tree (one_of (char_set false 98)))
+    -- a `[:` finds its `:]` behind the bar
+    × (reading (codes "[[:a]") false ≡ tree (one_of (class_set false false (Range 91 91 ∷ Range 58 58 ∷ Range 97 97 ∷ []))))
+    × (reading (codes ":]") false ≡ tree (cat (more (one_of (char_set false 58)) (more (one_of (char_set false 93)) none))))
+    × (reading (codes "[[:a]|:]") false ≡ refused BadRange 1)
+unfolding sign_of front char_front escaped_class escaped_tree is_flag is_cleared_flag digit_value class_by_name
+bars = (refl, refl, refl, refl, refl, refl, refl)

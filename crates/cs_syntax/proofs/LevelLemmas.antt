@@ -1,5 +1,5 @@
 -- The rest of a text has one level more than there are open groups.
-use Rattle.std.proofs.Common.{ℕ, zero, suc, ◌+◌, true, false, List, [], ◌∷◌, length, Option, refl, arith}
+use Rattle.std.proofs.Common.{◌≡◌, ◌≢◌, ℕ, zero, suc, ◌+◌, true, false, List, [], ◌∷◌, length, Option, refl, subst, arith}
 use Rattle.std.specs.Prelude.{nat_eq, if◌then◌else◌}
 use Rattle.cs_syntax.specs.Fronts.{Front, Item, unit, repeat, bar, group_start, group_end, flags_from_here, item, fault}
 use Rattle.cs_syntax.specs.Items.{front}
@@ -84,3 +84,14 @@ has_levels (suc skip) at before groups flags (b ∷ text) = has_levels skip (at 
 has_levels zero at before groups flags (b ∷ text) =
     has_front at before flags (front flags b text) groups (λ len before' groups' flags'. rest len (at + 1) before' groups' flags' text)
     (λ len before' groups' flags'. has_levels len (at + 1) before' groups' flags' text)
+
+pub never_without : (skip at : ℕ) (before : Before) (group : Group) (groups : List Group) (flags : Flags) (text : List ℕ) (level : Level) → rest skip at before (group ∷ groups) flags text ≢ levels level []
+never_without skip at before group groups flags text level e =
+    let n : 0 ≡ suc (length groups) = subst (λ r. HasLevels r (group ∷ groups)) e (has_levels skip at before (group ∷ groups) flags text) in
+    absurd (omega (arith, n))
+
+pub alone : (skip at : ℕ) (before : Before) (flags : Flags) (text : List ℕ) (level : Level) (more : List Level) → rest skip at before [] flags text ≡ levels level more → more ≡ []
+alone skip at before flags text level [] e = refl
+alone skip at before flags text level (outer ∷ more) e =
+    let n : suc (length more) ≡ 0 = subst (λ r. HasLevels r []) e (has_levels skip at before [] flags text) in
+    absurd (omega (arith, n))

@@ -1,36 +1,33 @@
--- Counted repeats and quoted texts read as they are written.
-use Rattle.std.proofs.Common.{◌≡◌, ℕ, zero, suc, ◌+◌, ◌-◌, ◌*◌, ◌<◌, ◌≤◌, ◌^◌, Bool, true, false, cond, ◌&&◌, ◌||◌, List, [], ◌∷◌, ◌++◌, length, take, drop, get_or, Option, Some, None, refl, sym, ap, subst, ◌∙◌, inl, inr, arith, length-append}
-use Rattle.std.specs.Prelude.{decimal, nat_eq, nat_lt, nat_le, if◌then◌else◌}
-use Rattle.std.specs.List.{AllByRecursion}
-use Rattle.std.proofs.lemmas.Bool.{and_from, le-leb, lt-ltb, le-ltb, ltb-false, ne_eqb, eqb-true, or_cases, true≢false, lt-leb}
+-- Counted repeats read as they are written.
+use Rattle.std.proofs.Common.{◌≡◌, ℕ, zero, suc, ◌+◌, ◌-◌, ◌*◌, ◌<◌, ◌≤◌, ◌^◌, Bool, true, false, cond, ◌&&◌, ◌||◌, List, [], ◌∷◌, ◌++◌, length, take, drop, get_or, Option, Some, None, refl, ap, ◌∙◌, arith, length-append}
+use Rattle.std.specs.Prelude.{decimal, nat_eq, nat_lt, nat_le}
+use Rattle.std.proofs.lemmas.Bool.{and_from, le-leb, lt-ltb, le-ltb, ltb-false, ne_eqb}
 use Rattle.std.proofs.lemmas.List.{take_at, drop_at, drop_all}
 use Rattle.std.specs.Str.Parse.{AllDigits}
 use Rattle.std.proofs.lemmas.Fmt.{decimal_nonempty, digits_decimal, decimal_digit, first_decimal, digits_value-decimal}
 use Rattle.std.proofs.lemmas.Str.Parse.{FoldsDigits, numerals_by_fold, tells_digits, IsNumeralModel, digit_from_value}
-use Rattle.cs_syntax.specs.Matching.{Tree, one_of, rep, none}
-use Rattle.cs_syntax.specs.Ranges.{has}
+use Rattle.cs_syntax.specs.Matching.{Tree, one_of, rep}
 use Rattle.cs_syntax.specs.ByteSet.{char_set}
 use Rattle.cs_syntax.specs.Numbers.{digit_value, is_digit, count_digits, value_in, value_after}
-use Rattle.cs_syntax.specs.Fronts.{sequence, item, fault, unit, repeat, is_front}
+use Rattle.cs_syntax.specs.Fronts.{item, fault, unit, repeat, is_front}
 use Rattle.cs_syntax.specs.Repeats.{lazy, number, counts_to, counts_from, counts, is_bad, brace}
-use Rattle.cs_syntax.specs.Escapes.{escape, escaped_tree, escaped_class, char_front}
 use Rattle.cs_syntax.specs.Items.{front, item_by}
 use Rattle.cs_syntax.specs.Signs.{sign_of}
-use Rattle.cs_syntax.specs.Reading.{Rest, Group, levels, inside, with_unit, with_repeat, at_end, rest, answer, flags_at_start, Reads, Breaks, broken}
-use Rattle.cs_syntax.specs.Written.{counted, signs, quoted, units_of}
+use Rattle.cs_syntax.specs.Reading.{Group, inside, with_unit, with_repeat, at_end, rest, answer, flags_at_start, Reads, Breaks, broken}
+use Rattle.cs_syntax.specs.Written.{counted}
 use Rattle.cs_syntax.specs.declared.repeats.Number.{Number}
 use Rattle.cs_syntax.specs.declared.repeats.Counts.{Counts}
 use Rattle.cs_syntax.specs.declared.flags.Flags.{Flags}
-use Rattle.cs_syntax.specs.declared.sign.Sign.TheVariants.{Star, Plus, Question, Brace, Dot, Caret, Dollar, Bar, Open, Close, Class, Backslash, Wide, Plain}
+use Rattle.cs_syntax.specs.declared.sign.Sign.TheVariants.{Plain}
 use Rattle.cs_syntax.specs.declared.before.Before.{Before}
 use Rattle.cs_syntax.specs.declared.before.Before.TheVariants.{Start, Operand, Counted}
 use Rattle.cs_syntax.specs.declared.fault.PatternFault.{PatternFault}
 use Rattle.cs_syntax.specs.declared.fault.PatternFault.TheVariants.{BadRepeat}
 
-taken : {A : Type 0} (b : Bool) (x y : A) → b ≡ true → cond b x y ≡ x
+pub taken : {A : Type 0} (b : Bool) (x y : A) → b ≡ true → cond b x y ≡ x
 taken b x y h = ap (λ t. cond t x y) h
 
-left : {A : Type 0} (b : Bool) (x y : A) → b ≡ false → cond b x y ≡ y
+pub left : {A : Type 0} (b : Bool) (x y : A) → b ≡ false → cond b x y ≡ y
 left b x y h = ap (λ t. cond t x y) h
 
 -- ---- decimal numbers
@@ -159,20 +156,20 @@ module _ (n m : ℕ) (n_small : n < 2 ^ 64) (m_small : m < 2 ^ 64) where
 -- ---- how items are read
 
 module _ (at : ℕ) (groups : List Group) (flags : Flags) (b : ℕ) (text : List ℕ) where
-  unit_read : (before : Before) (t : Tree) (len : ℕ) → front flags b text ≡ item (unit t) len → rest 0 at before groups flags (b ∷ text) ≡ inside (with_unit t) (rest len (at + 1) Operand groups flags text)
+  pub unit_read : (before : Before) (t : Tree) (len : ℕ) → front flags b text ≡ item (unit t) len → rest 0 at before groups flags (b ∷ text) ≡ inside (with_unit t) (rest len (at + 1) Operand groups flags text)
   unit_read before t len e = rw (e, rest) refl
 
-  repeat_read : (n : ℕ) (m : Option ℕ) (len : ℕ) → front flags b text ≡ item (repeat n m) len → rest 0 at Operand groups flags (b ∷ text) ≡ inside (with_repeat n m) (rest len (at + 1) Counted groups flags text)
+  pub repeat_read : (n : ℕ) (m : Option ℕ) (len : ℕ) → front flags b text ≡ item (repeat n m) len → rest 0 at Operand groups flags (b ∷ text) ≡ inside (with_repeat n m) (rest len (at + 1) Counted groups flags text)
   repeat_read n m len e = rw (e, rest) refl
 
-  fault_read : (before : Before) (k : PatternFault) (behind : ℕ) → front flags b text ≡ fault k behind → rest 0 at before groups flags (b ∷ text) ≡ broken k (at + behind)
+  pub fault_read : (before : Before) (k : PatternFault) (behind : ℕ) → front flags b text ≡ fault k behind → rest 0 at before groups flags (b ∷ text) ≡ broken k (at + behind)
   fault_read before k behind e = rw (e, rest) refl
 
 all_skipped : (text : List ℕ) (at : ℕ) (before : Before) (groups : List Group) (flags : Flags) → rest (length text) at before groups flags text ≡ at_end groups
 all_skipped [] at before groups flags = refl
 all_skipped (b ∷ text) at before groups flags = all_skipped text (at + 1) before groups flags
 
-plain_front : (flags : Flags) (b : ℕ) (text : List ℕ) → sign_of b ≡ Plain → front flags b text ≡ item (unit (one_of (char_set flags.fold b))) 0
+pub plain_front : (flags : Flags) (b : ℕ) (text : List ℕ) → sign_of b ≡ Plain → front flags b text ≡ item (unit (one_of (char_set flags.fold b))) 0
 unfolding front
 plain_front flags b text plain = ap (λ s. item_by s flags b text) plain
 
@@ -200,61 +197,3 @@ module _ (b n m : ℕ) (fold : Bool) (plain : sign_of b ≡ Plain) (n_small : n 
   repeat_out_of_order apart =
       ap answer (behind_it
       ∙ ap (inside (with_unit one)) (fault_read 1 [] start 123 (tail n m n_small m_small) Operand BadRepeat 0 (brace_front start (tail n m n_small m_small) ∙ brace_breaks n m n_small m_small apart)))
-
--- ---- quoted texts
-
-abbrev ReadsQuoted : ℕ → Type 0
-ReadsQuoted b = (fold : Bool) (text : List ℕ) → escape fold (b ∷ text) ≡ item (unit (one_of (char_set fold b))) 1
-
-each_sign : AllByRecursion ReadsQuoted signs
-unfolding escaped_tree escaped_class char_front digit_value
-each_sign = (λ fold text. refl, (λ fold text. refl, (λ fold text. refl, (λ fold text. refl, (λ fold text. refl, (λ fold text. refl, (λ fold text. refl, (λ fold text. refl, (λ fold text. refl, (λ fold text. refl, (λ fold text. refl, (λ fold text. refl, tt))))))))))))
-
-of_each : (P : ℕ → Type 0) (ks : List ℕ) (b : ℕ) → AllByRecursion P ks → has ks b ≡ true → P b
-of_each P [] b all there = cc
-of_each P (k ∷ ks) b all there = elim (or_cases (nat_eq k b) (has ks b) there) [
-  | inl here ↦ subst P (eqb-true k b here) all.0
-  | inr later ↦ of_each P ks b all.1 later
-]
-
-escape_front : (flags : Flags) (text : List ℕ) → front flags 92 text ≡ escape flags.fold text
-unfolding front sign_of
-escape_front flags text = refl
-
--- a byte that is no sign
-module _ (b : ℕ) (ascii : b < 128) (apart : has signs b ≡ false) where
-  no_sign : (k : ℕ) → has signs k ≡ true → nat_eq b k ≡ false
-  no_sign k is = ne_eqb b k (λ e. true≢false (sym is ∙ ap (has signs) (sym e) ∙ apart))
-
-  no_wide : nat_le 128 b ≡ false
-  no_wide = lt-leb 128 b ascii
-
-  is_plain : sign_of b ≡ Plain
-  unfolding sign_of
-  is_plain = λ i.
-      cond (no_sign 42 refl i) Star (cond (no_sign 43 refl i) Plus (cond (no_sign 63 refl i) Question (cond (no_sign 123 refl i) Brace
-      (cond (no_sign 46 refl i) Dot (cond (no_sign 94 refl i) Caret (cond (no_sign 36 refl i) Dollar (cond (no_sign 124 refl i) Bar
-      (cond (no_sign 40 refl i) Open (cond (no_sign 41 refl i) Close (cond (no_sign 91 refl i) Class (cond (no_sign 92 refl i) Backslash
-      (cond (no_wide i) Wide Plain))))))))))))
-
-module _ (flags : Flags) where
-  abbrev Units : List ℕ → Rest
-  Units text = levels (record { units = units_of flags.fold text; branches = none; repeats = [] }) []
-
-  abbrev unit_of : ℕ → Tree
-  unit_of b = one_of (char_set flags.fold b)
-
-  by_sign : (at : ℕ) (before : Before) (b : ℕ) (text : List ℕ) (sign : Bool) → b < 128 → has signs b ≡ sign → ((at : ℕ) → rest 0 at Operand [] flags (quoted text) ≡ Units text) → rest 0 at before [] flags ((if sign then 92 ∷ b ∷ [] else b ∷ []) ++ quoted text) ≡ Units (b ∷ text)
-  by_sign at before b text true ascii is later =
-      unit_read at [] flags 92 (b ∷ quoted text) before (unit_of b) 1 (escape_front flags (b ∷ quoted text) ∙ of_each ReadsQuoted signs b each_sign is flags.fold (quoted text))
-      ∙ ap (inside (with_unit (unit_of b))) (later (at + 1 + 1))
-  by_sign at before b text false ascii is later =
-      unit_read at [] flags b (quoted text) before (unit_of b) 0 (plain_front flags b (quoted text) (is_plain b ascii is))
-      ∙ ap (inside (with_unit (unit_of b))) (later (at + 1))
-
-  quoted_rest : (at : ℕ) (before : Before) (text : List ℕ) → AllByRecursion (λ b. b < 128) text → rest 0 at before [] flags (quoted text) ≡ Units text
-  quoted_rest at before [] all = refl
-  quoted_rest at before (b ∷ text) all = by_sign at before b text (has signs b) all.0 refl (λ later. quoted_rest later Operand text all.1)
-
-pub quoted_reads : (text : List ℕ) (fold : Bool) → AllByRecursion (λ b. b < 128) text → Reads (quoted text) fold (sequence (units_of fold text))
-quoted_reads text fold all = ap answer (quoted_rest (flags_at_start fold) 0 Start text all)

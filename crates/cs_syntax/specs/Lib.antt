@@ -20,6 +20,7 @@ pub mod Decided
 pub mod Refusal
 pub mod Levels
 pub mod Written
+pub mod Choices
 -- What functions inside promise each other.
 pub mod TreeCode
 pub mod ItemViews

@@ -1,9 +1,9 @@
 -- How patterns are written: a text quoted, and a counted repeat.
 -- docs/PATTERNS.md, "Items" and "Repeats".
 use Rattle.std.specs.Prelude.{ℕ, Bool, List, [], ◌∷◌, ◌++◌, codes, decimal, flat_map, if◌then◌else◌}
-use Rattle.cs_syntax.specs.Matching.{Trees, one_of, none, more}
+use Rattle.cs_syntax.specs.Matching.{Trees, none, more}
 use Rattle.cs_syntax.specs.Ranges.{has}
-use Rattle.cs_syntax.specs.ByteSet.{char_set}
+use Rattle.cs_syntax.specs.Fronts.{char_tree}
 
 -- `{n,m}`
 abbrev pub counted : ℕ → ℕ → List ℕ
@@ -17,7 +17,7 @@ signs = codes "*+?{.^$|()[\\"
 abbrev pub quoted : List ℕ → List ℕ
 quoted text = flat_map (λ b. if has signs b then 92 ∷ b ∷ [] else b ∷ []) text
 
--- one unit for each byte, in order
+-- one unit for each character, in order
 abbrev pub units_of : Bool → List ℕ → Trees
 units_of fold [] = none
-units_of fold (b ∷ text) = more (one_of (char_set fold b)) (units_of fold text)
+units_of fold (c ∷ chars) = more (char_tree fold c) (units_of fold chars)

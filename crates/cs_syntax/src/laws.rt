@@ -1,8 +1,10 @@
 // Laws of the definitions.
-ghost use Rattle.std.specs.Prelude.{◌≡◌, ◌<◌, ◌≤◌, ◌^◌, ◌∷◌, ℕ, Bool, List, Some};
+ghost use Rattle.std.specs.Prelude.{◌≡◌, ◌≢◌, ◌<◌, ◌≤◌, ◌^◌, [], ◌∷◌, ◌++◌, ℕ, Bool, List, Some, IsUtf8};
+ghost use Rattle.std.specs.Str.{chars};
 ghost use Rattle.cs_syntax.specs.Decided.{IsDecided};
 ghost use Rattle.cs_syntax.specs.Levels.{HasLevels};
-ghost use Rattle.cs_syntax.specs.Matching.{one_of, rep};
+ghost use Rattle.cs_syntax.specs.Matching.{Tree, one_of, rep};
+ghost use Rattle.cs_syntax.specs.Choices.{IsSimple, TakesEither};
 ghost use Rattle.cs_syntax.specs.ByteSet.{char_set};
 ghost use Rattle.cs_syntax.specs.Signs.{sign_of};
 ghost use Rattle.cs_syntax.specs.Fronts.{sequence};
@@ -10,7 +12,7 @@ ghost use Rattle.cs_syntax.specs.Written.{counted, quoted, units_of};
 ghost use Rattle.std.specs.List.{AllByRecursion};
 ghost use Rattle.cs_syntax.specs.declared.sign.Sign.TheVariants.{Plain};
 ghost use Rattle.cs_syntax.specs.declared.fault.PatternFault.TheVariants.{BadRepeat};
-ghost use Rattle.cs_syntax.specs.Reading.{Reads, Breaks, IsTextFault, Group, rest};
+ghost use Rattle.cs_syntax.specs.Reading.{Reads, Breaks, IsTextFault, Group, Level, levels, rest};
 ghost use Rattle.cs_syntax.specs.declared.before.Before.{Before};
 ghost use Rattle.cs_syntax.specs.declared.flags.Flags.{Flags};
 ghost use Rattle.cs_syntax.specs.declared.fault.PatternFault.{PatternFault};
@@ -26,10 +28,16 @@ pub fn texts_break_by_their_own_faults()
         → Breaks text fold fault at → IsTextFault fault }
 {}
 
-/// The rest of a text has one level more than there are open groups, so that a group never ends without one around it.
+/// The rest of a text has one level more than there are open groups, so that a group never ends without one around it, and
+/// a whole text has one level.
 pub fn each_open_group_has_a_level()
-    ensures { (skip at : ℕ) (before : Before) (groups : List Group) (flags : Flags) (text : List ℕ)
-        → HasLevels (rest skip at before groups flags text) groups }
+    ensures one_more { (skip at : ℕ) (before : Before) (groups : List Group) (flags : Flags)
+        (text : List ℕ) → HasLevels (rest skip at before groups flags text) groups }
+    ensures never { (skip at : ℕ) (before : Before) (group : Group) (groups : List Group)
+        (flags : Flags) (text : List ℕ) (level : Level)
+        → rest skip at before (group ∷ groups) flags text ≢ levels level [] }
+    ensures alone { (skip at : ℕ) (before : Before) (flags : Flags) (text : List ℕ) (level : Level)
+        (more : List Level) → rest skip at before [] flags text ≡ levels level more → more ≡ [] }
 {}
 
 /// A letter with counts behind it, as in `x{2,3}`, reads as that repeat exactly where the counts are in order and at most
@@ -41,8 +49,17 @@ pub fn counted_repeats_read_as_written()
         → (n ≤ m → m ≤ 1000 → ⊥) → Breaks (b ∷ counted n m) fold BadRepeat 1 }
 {}
 
-/// A quoted ASCII text reads as its characters in their order.
+/// A quoted text reads as its characters in their order, and an ASCII text so as its bytes.
 pub fn quoted_texts_read_as_themselves()
-    ensures { (text : List ℕ) (fold : Bool) → AllByRecursion (λ b. b < 128) text
+    ensures ascii { (text : List ℕ) (fold : Bool) → AllByRecursion (λ b. b < 128) text
         → Reads (quoted text) fold (sequence (units_of fold text)) }
+    ensures characters { (text : List ℕ) (fold : Bool) → IsUtf8 text
+        → Reads (quoted text) fold (sequence (units_of fold (chars text))) }
+{}
+
+/// A simple text, a bar and a text read as a tree that takes just what one of their two trees takes.
+pub fn bars_read_as_choices()
+    ensures { (s t : List ℕ) (fold : Bool) (x y : Tree) → IsSimple s
+        → Reads s fold x → Reads t fold y
+        → (z : Tree) × Reads (s ++ 124 ∷ t) fold z × TakesEither z x y }
 {}

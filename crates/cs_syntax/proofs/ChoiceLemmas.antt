@@ -1,0 +1,943 @@
+-- A pattern, a bar and another pattern: the branches of both.
+use Rattle.std.proofs.Common.{◌≡◌, ℕ, zero, suc, ◌+◌, ◌<◌, ◌≤◌, ◌⊎◌, ◌↔◌, Bool, true, false, cond, ◌&&◌, ◌||◌, List, [], ◌∷◌, ◌++◌, length, take, drop, refl, sym, ap, subst, ◌∙◌, inl, inr, arith, Option, Some, None}
+use Rattle.std.specs.Prelude.{nat_eq, nat_lt, nat_le, not, min, if◌then◌else◌}
+use Rattle.std.specs.List.{prefix_len}
+use Rattle.std.proofs.lemmas.Bool.{true≢false, cases_Bool, or_parts, ltb-true, eqb-true}
+use Rattle.std.proofs.lemmas.List.Sums.{prefix_len-le-length}
+use Rattle.std.proofs.Common.{length-drop}
+use Rattle.cs_syntax.specs.Matching.{Tree, Trees, one_of, none, more, Takes, TakesSome}
+use Rattle.cs_syntax.specs.Ranges.{has}
+use Rattle.cs_syntax.specs.Fronts.{Front, Item, unit, repeat, bar, group_start, group_end, flags_from_here, item, fault, sequence, is_front, bytes_tree, char_tree}
+use Rattle.cs_syntax.specs.ByteSet.{is_letter, char_set}
+use Rattle.cs_syntax.specs.Numbers.{digit_value, is_digit, count_digits, value_in}
+use Rattle.cs_syntax.specs.Classes.{ClassFront, piece, misread, ClassChar, one, wrong, class_escape, class_char, range_to, range_from, span, after_colon, after_backslash, class_front, ClassRest, closed, failed, with_item, items_from, class_of, class}
+use Rattle.cs_syntax.specs.declared.class_item.ClassItem.{ClassItem}
+use Rattle.cs_syntax.specs.declared.class_item.ClassItem.TheVariants.{Range}
+use Rattle.cs_syntax.specs.Repeats.{lazy, number, counts_to, counts_from, counts, is_bad, brace}
+use Rattle.cs_syntax.specs.declared.repeats.Number.{Number}
+use Rattle.cs_syntax.specs.declared.repeats.Counts.{Counts}
+use Rattle.cs_syntax.specs.Escapes.{is_scalar, char_by_number, octal_char, hex_char_in_braces, hex_char, control_char, escaped_char, is_left_out, escaped_class, escaped_tree, char_front, escape}
+use Rattle.cs_syntax.specs.declared.escapes.EscapedChar.{EscapedChar}
+use Rattle.cs_syntax.specs.Items.{front, item_by, is_continuation}
+use Rattle.cs_syntax.specs.Signs.{sign_of}
+use Rattle.cs_syntax.specs.TreeList.{append}
+use Rattle.cs_syntax.specs.Reading.{Level, Rest, Group, tree, levels, broken, inside, with_close, with_open, with_unit, with_repeat, with_bar, whole_group, choice, most_open, rest, at_end, answer, flags_at_start, Reads}
+use Rattle.cs_syntax.specs.Choices.{has_pair, IsSimple, TakesEither}
+use Rattle.cs_syntax.specs.Written.{signs}
+use Rattle.cs_syntax.proofs.QuotedLemmas.{of_each, by_width}
+use Rattle.cs_syntax.proofs.LevelLemmas.{alone}
+use Rattle.cs_syntax.specs.declared.flags.Flags.{Flags}
+use Rattle.cs_syntax.specs.declared.sign.Sign.{Sign}
+use Rattle.cs_syntax.specs.declared.sign.Sign.TheVariants.{Wide, Plain}
+use Rattle.cs_syntax.specs.declared.before.Before.{Before}
+use Rattle.cs_syntax.specs.declared.before.Before.TheVariants.{Start, Operand, Counted}
+use Rattle.cs_syntax.specs.declared.fault.PatternFault.TheVariants.{NoOperand, StackedRepeat, StrayClose, TooDeep, NotInProfile, BadEscape, BadRepeat}
+
+-- ---- readings that are no fault
+
+abbrev pub IsRead : Rest → Type 0
+IsRead (levels l ls) = Unit {0}
+IsRead (broken k at) = ⊥
+
+abbrev IsItem : Front → Type 0
+IsItem (item x len) = Unit {0}
+IsItem (fault k behind) = ⊥
+
+inside_read : (f : Level → Level) (r : Rest) → IsRead (inside f r) → IsRead r
+inside_read f (levels l ls) h = tt
+inside_read f (broken k at) h = h
+
+close_read : (r : Rest) → IsRead (with_close r) → IsRead r
+close_read (levels l ls) h = tt
+close_read (broken k at) h = h
+
+open_read : (r : Rest) → IsRead (with_open r) → IsRead r
+open_read (levels l ls) h = tt
+open_read (broken k at) h = h
+
+-- ---- classes that are closed
+
+abbrev IsClosed : ClassRest → Type 0
+IsClosed (closed items len) = Unit {0}
+IsClosed (failed k behind) = ⊥
+
+abbrev ClosedBefore : ℕ → ClassRest → Type 0
+ClosedBefore n (closed items len) = len < n
+ClosedBefore n (failed k behind) = Unit {0}
+
+item_before : (i : ClassItem) (n : ℕ) (r : ClassRest) → ClosedBefore n r → ClosedBefore n (with_item i r)
+item_before i n (closed items len) h = h
+item_before i n (failed k behind) h = tt
+
+item_closed : (i : ClassItem) (r : ClassRest) → IsClosed (with_item i r) → IsClosed r
+item_closed i (closed items len) h = tt
+item_closed i (failed k behind) h = h
+
+closed_before : (skip behind : ℕ) (start : Bool) (text : List ℕ) → ClosedBefore (behind + length text) (items_from skip behind start text)
+closed_before skip behind start [] = tt
+closed_before (suc skip) behind start (b ∷ text) =
+    subst (λ n. ClosedBefore n (items_from skip (behind + 1) start text)) (let e : behind + 1 + length text ≡ behind + suc (length text) = omega arith in e) (closed_before skip (behind + 1) start text)
+closed_before zero behind start (b ∷ text) = by (nat_eq b 93 && not start) (class_front b text) (λ len. closed_before len (behind + 1) false text)
+  where
+    later : behind + 1 + length text ≡ behind + suc (length text)
+    later = omega arith
+
+    by : (now : Bool) (f : ClassFront) → ((len : ℕ) → ClosedBefore (behind + 1 + length text) (items_from len (behind + 1) false text)) →
+        ClosedBefore (behind + suc (length text)) (cond now (closed [] behind) (elim f [ misread k by ↦ failed k (behind + by) | piece i len ↦ with_item i (items_from len (behind + 1) false text) ]))
+    by true f goes = omega arith
+    by false (misread k at) goes = tt
+    by false (piece i len) goes = item_before i (behind + suc (length text)) (items_from len (behind + 1) false text) (subst (λ n. ClosedBefore n (items_from len (behind + 1) false text)) later (goes len))
+
+-- behind an item the class goes on, and is closed
+closed_behind : (len behind : ℕ) (text : List ℕ) → IsClosed (items_from len behind false text) → (from : ℕ) × IsClosed (items_from 0 from false (drop len text))
+closed_behind zero behind text h = (behind, h)
+closed_behind (suc len) behind [] h = absurd h
+closed_behind (suc len) behind (b ∷ text) h = closed_behind len (behind + 1) text h
+
+-- ---- how long escapes are
+
+min_within : (n len : ℕ) → n ≤ len → min n 3 ≤ len
+min_within n len h = omega (arith, h)
+
+-- two hexadecimal digits at the front
+abbrev two_digits : List ℕ → Option EscapedChar
+two_digits text = cond (nat_lt 1 (count_digits 16 text)) (char_by_number (value_in 16 (take 2 text)) 3) None
+
+abbrev Within : ℕ → Option EscapedChar → Type 0
+Within n None = Unit {0}
+Within n (Some c) = c.len ≤ n
+
+number_within : (value len n : ℕ) → len ≤ n → Within n (char_by_number value len)
+number_within value len n h = elim (is_scalar value) as (λ b. Within n (cond b (Some (record { char = value; len = len })) None)) [ true ↦ h | false ↦ tt ]
+
+octal_within : (text : List ℕ) → Within (length text) (octal_char text)
+octal_within text =
+    let len : ℕ = min (count_digits 8 text) 3 in
+    elim (is_front 48 text || nat_lt 1 len) as (λ b. Within (length text) (cond b (char_by_number (value_in 8 (take len text)) len) None)) [
+      | true ↦ number_within (value_in 8 (take len text)) len (length text) (min_within (count_digits 8 text) (length text) (prefix_len-le-length (is_digit 8) text))
+      | false ↦ tt
+    ]
+
+front_there : (c n : ℕ) (text : List ℕ) → is_front c (drop n text) ≡ true → n < length text
+front_there c zero [] h = absurd (true≢false (sym h))
+front_there c zero (d ∷ text) h = omega arith
+front_there c (suc n) [] h = absurd (true≢false (sym h))
+front_there c (suc n) (d ∷ text) h = let less = front_there c n text h in omega (arith, less)
+
+braces_within : (text : List ℕ) → Within (length text + 2) (hex_char_in_braces text)
+braces_within text = by (nat_lt 0 len) (is_front 125 (drop len text)) refl
+  where
+    len : ℕ
+    len = count_digits 16 text
+
+    by : (x y : Bool) → is_front 125 (drop (count_digits 16 text) text) ≡ y → Within (length text + 2) (cond (x && y) (char_by_number (value_in 16 (take (count_digits 16 text) text)) (count_digits 16 text + 3)) None)
+    by true true h = number_within (value_in 16 (take (count_digits 16 text) text)) (count_digits 16 text + 3) (length text + 2) (let less = front_there 125 (count_digits 16 text) text h in omega (arith, less))
+    by true false h = tt
+    by false y h = tt
+
+two_within : (text : List ℕ) → Within (suc (length text)) (two_digits text)
+two_within text = by (nat_lt 1 (count_digits 16 text)) refl
+  where
+    by : (b : Bool) → nat_lt 1 (count_digits 16 text) ≡ b → Within (suc (length text)) (cond b (char_by_number (value_in 16 (take 2 text)) 3) None)
+    by true h = number_within (value_in 16 (take 2 text)) 3 (suc (length text)) (let some = ltb-true 1 (count_digits 16 text) h in let le = prefix_len-le-length (is_digit 16) text in omega (arith, some, le))
+    by false h = tt
+
+hex_within : (text : List ℕ) → Within (suc (length text)) (hex_char text)
+hex_within [] = two_within []
+hex_within (d ∷ text) =
+    elim (nat_eq d 123) as (λ b. Within (suc (suc (length text))) (cond b (hex_char_in_braces text) (two_digits (d ∷ text)))) [
+      | true ↦ subst (λ n. Within n (hex_char_in_braces text)) (let e : length text + 2 ≡ suc (suc (length text)) = omega arith in e) (braces_within text)
+      | false ↦ two_within (d ∷ text)
+    ]
+
+escaped_within : (e : ℕ) (text : List ℕ) → Within (suc (length text)) (escaped_char (e ∷ text))
+escaped_within e text =
+    elim (control_char e) as (λ (o : Option ℕ). Within (suc (length text)) (elim o [
+      | Some c ↦ Some (record { char = c; len = 1 })
+      | None ↦ cond (nat_eq e 120) (hex_char text) (cond (is_digit 8 e) (octal_char (e ∷ text)) (cond (nat_lt e 128 && not (is_letter e || is_digit 10 e)) (Some (record { char = e; len = 1 })) None))
+    ])) [
+      | Some c ↦ omega arith
+      | None ↦
+          elim (nat_eq e 120) as (λ b. Within (suc (length text)) (cond b (hex_char text) (cond (is_digit 8 e) (octal_char (e ∷ text)) (cond (nat_lt e 128 && not (is_letter e || is_digit 10 e)) (Some (record { char = e; len = 1 })) None)))) [
+            | true ↦ hex_within text
+            | false ↦
+                elim (is_digit 8 e) as (λ b. Within (suc (length text)) (cond b (octal_char (e ∷ text)) (cond (nat_lt e 128 && not (is_letter e || is_digit 10 e)) (Some (record { char = e; len = 1 })) None))) [
+                  | true ↦ octal_within (e ∷ text)
+                  | false ↦ elim (nat_lt e 128 && not (is_letter e || is_digit 10 e)) as (λ b. Within (suc (length text)) (cond b (Some (record { char = e; len = 1 })) None)) [ true ↦ omega arith | false ↦ tt ]
+                ]
+          ]
+    ]
+
+-- ---- how long counts are
+
+abbrev NumberWithin : ℕ → Option Number → Type 0
+NumberWithin n None = Unit {0}
+NumberWithin n (Some number) = number.len ≤ n
+
+abbrev CountsWithin : ℕ → Option Counts → Type 0
+CountsWithin n None = Unit {0}
+CountsWithin n (Some c) = c.len ≤ n
+
+digits_within : (text : List ℕ) → NumberWithin (length text) (number text)
+digits_within text =
+    let len : ℕ = count_digits 10 text in
+    elim (nat_eq len 0 || (nat_lt 1 len && is_front 48 text)) as (λ b. NumberWithin (length text) (cond b None (Some (record { value = value_in 10 (take len text); len = len })))) [
+      | true ↦ tt
+      | false ↦ prefix_len-le-length (is_digit 10) text
+    ]
+
+-- behind a comma
+counts_to_within : (k : Number) (text : List ℕ) → CountsWithin (k.len + 1 + length text) (counts_to k text)
+counts_to_within k text = by (is_front 125 text) refl (number text)
+  where
+    by_end : (m : Number) (b : Bool) → is_front 125 (drop m.len text) ≡ b → CountsWithin (k.len + 1 + length text) (cond b (Some (record { least = k.value; most = Some m.value; len = k.len + 2 + m.len })) None)
+    by_end m true h = let less = front_there 125 m.len text h in omega (arith, less)
+    by_end m false h = tt
+
+    by : (b : Bool) → is_front 125 text ≡ b → (o : Option Number) →
+        CountsWithin (k.len + 1 + length text) (cond b (Some (record { least = k.value; most = None; len = k.len + 2 }))
+        (elim o [ None ↦ None | Some m ↦ cond (is_front 125 (drop m.len text)) (Some (record { least = k.value; most = Some m.value; len = k.len + 2 + m.len })) None ]))
+    by true h o = let less = front_there 125 0 text h in omega (arith, less)
+    by false h None = tt
+    by false h (Some m) = by_end m (is_front 125 (drop m.len text)) refl
+
+counts_from_within : (k : Number) (text : List ℕ) → CountsWithin (k.len + length text) (counts_from k text)
+counts_from_within k [] = tt
+counts_from_within k (d ∷ text) =
+    elim (nat_eq d 125) as (λ b. CountsWithin (k.len + suc (length text)) (cond b (Some (record { least = k.value; most = Some k.value; len = k.len + 1 })) (cond (nat_eq d 44) (counts_to k text) None))) [
+      | true ↦ omega arith
+      | false ↦ elim (nat_eq d 44) as (λ b. CountsWithin (k.len + suc (length text)) (cond b (counts_to k text) None)) [
+        | true ↦ subst (λ n. CountsWithin n (counts_to k text)) (let e : k.len + 1 + length text ≡ k.len + suc (length text) = omega arith in e) (counts_to_within k text)
+        | false ↦ tt
+      ]
+    ]
+
+counts_within : (text : List ℕ) → CountsWithin (length text) (counts text)
+counts_within text =
+    elim (number text) as (λ (o : Option Number). NumberWithin (length text) o → CountsWithin (length text) (elim o [ None ↦ None | Some k ↦ counts_from k (drop k.len text) ])) [
+      | None ↦ λ h. tt
+      | Some k ↦ λ h.
+          subst (λ n. CountsWithin n (counts_from k (drop k.len text))) (let e : k.len + length (drop k.len text) ≡ length text = let long = length-drop k.len text in omega (arith, long, h) in e) (counts_from_within k (drop k.len text))
+    ] (digits_within text)
+
+-- ---- a bar behind a text
+
+module _ (t : List ℕ) where
+  abbrev after : List ℕ → List ℕ
+  after text = text ++ 124 ∷ t
+
+  is_front_after : (c : ℕ) (text : List ℕ) → nat_eq 124 c ≡ false → is_front c (after text) ≡ is_front c text
+  is_front_after c [] h = h
+  is_front_after c (d ∷ text) h = refl
+
+  prefix_after : (p : ℕ → Bool) (text : List ℕ) → p 124 ≡ false → prefix_len p (after text) ≡ prefix_len p text
+  prefix_after p [] h = ap (λ b. cond b (1 + prefix_len p t) 0) h
+  prefix_after p (d ∷ text) h = ap (λ n. cond (p d) (1 + n) 0) (prefix_after p text h)
+
+  take_after : (n : ℕ) (text : List ℕ) → n ≤ length text → take n (after text) ≡ take n text
+  take_after zero text h = refl
+  take_after (suc n) [] h = absurd (omega (arith, h))
+  take_after (suc n) (d ∷ text) h = ap (λ rest. d ∷ rest) (take_after n text (omega (arith, h)))
+
+  drop_after : (n : ℕ) (text : List ℕ) → n ≤ length text → drop n (after text) ≡ after (drop n text)
+  drop_after zero text h = refl
+  drop_after (suc n) [] h = absurd (omega (arith, h))
+  drop_after (suc n) (d ∷ text) h = drop_after n text (omega (arith, h))
+
+  -- ---- escapes
+
+  module _ (base : ℕ) (no_digit : is_digit base 124 ≡ false) where
+    count_after : (text : List ℕ) → count_digits base (after text) ≡ count_digits base text
+    count_after text = prefix_after (is_digit base) text no_digit
+
+    digits_after : (text : List ℕ) → take (count_digits base (after text)) (after text) ≡ take (count_digits base text) text
+    digits_after text = ap (λ n. take n (after text)) (count_after text) ∙ take_after (count_digits base text) text (prefix_len-le-length (is_digit base) text)
+
+    behind_digits : (c : ℕ) (text : List ℕ) → nat_eq 124 c ≡ false → is_front c (drop (count_digits base (after text)) (after text)) ≡ is_front c (drop (count_digits base text) text)
+    behind_digits c text h =
+        ap (λ n. is_front c (drop n (after text))) (count_after text)
+        ∙ ap (is_front c) (drop_after (count_digits base text) text (prefix_len-le-length (is_digit base) text))
+        ∙ is_front_after c (drop (count_digits base text) text) h
+
+  no_octal : is_digit 8 124 ≡ false
+  unfolding digit_value
+  no_octal = refl
+
+  no_hex : is_digit 16 124 ≡ false
+  unfolding digit_value
+  no_hex = refl
+
+  octal_after : (text : List ℕ) → octal_char (after text) ≡ octal_char text
+  octal_after text =
+      let n : ℕ = count_digits 8 text in
+      let le = prefix_len-le-length (is_digit 8) text in
+      let taken : take (min (count_digits 8 (after text)) 3) (after text) ≡ take (min n 3) text = ap (λ k. take (min k 3) (after text)) (count_after 8 no_octal text) ∙ take_after (min n 3) text (min_within n (length text) le) in
+      λ i. cond (is_front_after 48 text refl i || nat_lt 1 (min (count_after 8 no_octal text i) 3)) (char_by_number (value_in 8 (taken i)) (min (count_after 8 no_octal text i) 3)) None
+
+  braces_after : (text : List ℕ) → hex_char_in_braces (after text) ≡ hex_char_in_braces text
+  braces_after text = λ i.
+      cond (nat_lt 0 (count_after 16 no_hex text i) && behind_digits 16 no_hex 125 text refl i) (char_by_number (value_in 16 (digits_after 16 no_hex text i)) (count_after 16 no_hex text i + 3)) None
+
+  two_after : (text : List ℕ) → two_digits (after text) ≡ two_digits text
+  two_after text =
+      ap (λ n. cond (nat_lt 1 n) (char_by_number (value_in 16 (take 2 (after text))) 3) None) (count_after 16 no_hex text)
+      ∙ by (nat_lt 1 (count_digits 16 text)) refl
+    where
+      by : (b : Bool) → nat_lt 1 (count_digits 16 text) ≡ b → cond b (char_by_number (value_in 16 (take 2 (after text))) 3) None ≡ cond b (char_by_number (value_in 16 (take 2 text)) 3) None
+      by true h = ap (λ bs. char_by_number (value_in 16 bs) 3) (take_after 2 text (let some = ltb-true 1 (count_digits 16 text) h in let le = prefix_len-le-length (is_digit 16) text in omega (arith, some, le)))
+      by false h = refl
+
+  hex_after : (text : List ℕ) → hex_char (after text) ≡ hex_char text
+  hex_after [] = two_after []
+  hex_after (d ∷ text) = λ i. cond (nat_eq d 123) (braces_after text i) (two_after (d ∷ text) i)
+
+  escaped_after : (e : ℕ) (text : List ℕ) → escaped_char (e ∷ after text) ≡ escaped_char (e ∷ text)
+  escaped_after e text = λ i.
+      elim (control_char e) [
+        | Some c ↦ Some (record { char = c; len = 1 })
+        | None ↦
+            cond (nat_eq e 120) (hex_after text i)
+            (cond (is_digit 8 e) (octal_after (e ∷ text) i)
+            (cond (nat_lt e 128 && not (is_letter e || is_digit 10 e)) (Some (record { char = e; len = 1 })) None))
+      ]
+
+  escape_after : (fold : Bool) (e : ℕ) (text : List ℕ) → escape fold (e ∷ after text) ≡ escape fold (e ∷ text)
+  unfolding char_front
+  escape_after fold e text =
+      ap (λ (o : Option EscapedChar). cond (is_left_out e) (fault NotInProfile 0)
+      (elim (escaped_tree e) [ Some t ↦ item (unit t) 1 | None ↦ elim o [ None ↦ fault BadEscape 0 | Some c ↦ item (unit (char_tree fold c.char)) c.len ] ])) (escaped_after e text)
+
+  -- ---- braces
+
+  no_decimal : is_digit 10 124 ≡ false
+  unfolding digit_value
+  no_decimal = refl
+
+  front_behind : (c n : ℕ) (text : List ℕ) → nat_eq 124 c ≡ false → n ≤ length text → is_front c (drop n (after text)) ≡ is_front c (drop n text)
+  front_behind c n text h le = ap (is_front c) (drop_after n text le) ∙ is_front_after c (drop n text) h
+
+  number_after : (text : List ℕ) → number (after text) ≡ number text
+  number_after text = λ i.
+      cond (nat_eq (count_after 10 no_decimal text i) 0 || (nat_lt 1 (count_after 10 no_decimal text i) && is_front_after 48 text refl i)) None
+      (Some (record { value = value_in 10 (digits_after 10 no_decimal text i); len = count_after 10 no_decimal text i }))
+
+  -- behind a comma: the second number, and what ends the counts
+  abbrev second_in : Number → List ℕ → Option Number → Option Counts
+  second_in k text o =
+      elim o [ None ↦ None | Some m ↦ cond (is_front 125 (drop m.len text)) (Some (record { least = k.value; most = Some m.value; len = k.len + 2 + m.len })) None ]
+
+  counts_to_after : (k : Number) (text : List ℕ) → counts_to k (after text) ≡ counts_to k text
+  counts_to_after k text = λ i. cond (is_front_after 125 text refl i) (Some (record { least = k.value; most = None; len = k.len + 2 })) (second i)
+    where
+      by : (o : Option Number) → NumberWithin (length text) o → second_in k (after text) o ≡ second_in k text o
+      by None h = refl
+      by (Some m) h = ap (λ b. cond b (Some (record { least = k.value; most = Some m.value; len = k.len + 2 + m.len })) None) (front_behind 125 m.len text refl h)
+
+      second : second_in k (after text) (number (after text)) ≡ second_in k text (number text)
+      second = ap (second_in k (after text)) (number_after text) ∙ by (number text) (digits_within text)
+
+  counts_from_after : (k : Number) (text : List ℕ) → counts_from k (after text) ≡ counts_from k text
+  counts_from_after k [] = refl
+  counts_from_after k (d ∷ text) = λ i.
+      cond (nat_eq d 125) (Some (record { least = k.value; most = Some k.value; len = k.len + 1 })) (cond (nat_eq d 44) (counts_to_after k text i) None)
+
+  counts_after : (text : List ℕ) → counts (after text) ≡ counts text
+  counts_after text =
+      ap (λ (o : Option Number). elim o [ None ↦ None | Some k ↦ counts_from k (drop k.len (after text)) ]) (number_after text)
+      ∙ elim (number text) as (λ (o : Option Number). NumberWithin (length text) o → ◌≡◌ {A = Option Counts} (elim o [ None ↦ None | Some k ↦ counts_from k (drop k.len (after text)) ]) (elim o [ None ↦ None | Some k ↦ counts_from k (drop k.len text) ])) [
+        | None ↦ λ h. refl
+        | Some k ↦ λ h. ap (counts_from k) (drop_after k.len text h) ∙ counts_from_after k (drop k.len text)
+      ] (digits_within text)
+
+  abbrev brace_by : List ℕ → Option Counts → Front
+  brace_by text o = elim o [ None ↦ item (unit (one_of (char_set false 123))) 0 | Some c ↦ cond (is_bad c) (fault BadRepeat 0) (lazy c.least c.most c.len text) ]
+
+  brace_after : (text : List ℕ) → brace (after text) ≡ brace text
+  brace_after text = ap (brace_by (after text)) (counts_after text) ∙ by (counts text) (counts_within text)
+    where
+      by : (o : Option Counts) → CountsWithin (length text) o → brace_by (after text) o ≡ brace_by text o
+      by None h = refl
+      by (Some c) h = ap (λ b. cond (is_bad c) (fault BadRepeat 0) (item (repeat c.least c.most) (c.len + cond b 1 0))) (front_behind 63 c.len text refl h)
+
+  -- ---- classes
+
+  abbrev IsOne : ClassChar → Type 0
+  IsOne (one c len) = Unit {0}
+  IsOne (wrong k) = ⊥
+
+  abbrev CharWithin : ℕ → ClassChar → Type 0
+  CharWithin n (one c len) = len ≤ n
+  CharWithin n (wrong k) = Unit {0}
+
+  abbrev class_escape_by : ℕ → Option EscapedChar → ClassChar
+  class_escape_by e o =
+      cond (is_left_out e) (wrong NotInProfile) (elim o [ None ↦ wrong BadEscape | Some c ↦ cond (nat_lt c.char 128) (one c.char c.len) (wrong NotInProfile) ])
+
+  class_escape_within : (text : List ℕ) → CharWithin (length text) (class_escape text)
+  class_escape_within [] = tt
+  class_escape_within (e ∷ text) = by (is_left_out e) (escaped_char (e ∷ text)) (escaped_within e text)
+    where
+      by_char : (c : EscapedChar) → c.len ≤ suc (length text) → (b : Bool) → CharWithin (suc (length text)) (cond b (one c.char c.len) (wrong NotInProfile))
+      by_char c h true = h
+      by_char c h false = tt
+
+      by : (b : Bool) (o : Option EscapedChar) → Within (suc (length text)) o → CharWithin (suc (length text)) (cond b (wrong NotInProfile) (elim o [ None ↦ wrong BadEscape | Some c ↦ cond (nat_lt c.char 128) (one c.char c.len) (wrong NotInProfile) ]))
+      by true o h = tt
+      by false None h = tt
+      by false (Some c) h = by_char c h (nat_lt c.char 128)
+
+  class_escape_after : (text : List ℕ) → IsOne (class_escape text) → class_escape (after text) ≡ class_escape text
+  class_escape_after [] is = absurd is
+  class_escape_after (e ∷ text) is = ap (class_escape_by e) (escaped_after e text)
+
+  class_char_after : (c : ℕ) (text : List ℕ) → IsOne (class_char c text) → class_char c (after text) ≡ class_char c text
+  class_char_after c text = by (nat_eq c 92)
+    where
+      by : (b : Bool) → IsOne (cond b (class_escape text) (cond (nat_lt c 128) (one c 0) (wrong NotInProfile))) →
+          cond b (class_escape (after text)) (cond (nat_lt c 128) (one c 0) (wrong NotInProfile)) ≡ cond b (class_escape text) (cond (nat_lt c 128) (one c 0) (wrong NotInProfile))
+      by true is = class_escape_after text is
+      by false is = refl
+
+  -- behind this item the class goes on, and is closed
+  abbrev GoesOn : ℕ → List ℕ → ClassFront → Type 0
+  GoesOn behind text (piece i len) = IsClosed (items_from len behind false text)
+  GoesOn behind text (misread k at) = ⊥
+
+  range_at_bar : (low len : ℕ) (behind_it : List ℕ) → range_from low len (124 ∷ behind_it) ≡ piece (Range low low) len
+  range_at_bar low len [] = refl
+  range_at_bar low len (c ∷ behind_it) = refl
+
+  range_goes : (low n behind : ℕ) (text : List ℕ) (c : ClassChar) → GoesOn behind text (range_to low n c) → IsOne c
+  range_goes low n behind text (one c len) h = tt
+  range_goes low n behind text (wrong k) h = h
+
+  range_after : (low len behind : ℕ) (text rest : List ℕ) → drop len text ≡ rest → GoesOn behind text (range_from low len rest) → range_from low len (after rest) ≡ range_from low len rest
+  range_after low len behind text [] e h = range_at_bar low len t
+  range_after low len behind text (b ∷ []) e h = by (nat_eq b 45) refl
+    where
+      no_dash : b ≡ 45 → ⊥
+      no_dash is =
+          let goes = closed_behind len behind text h in
+          subst (λ c. IsClosed (items_from 0 goes.0 false (c ∷ []))) is (subst (λ x. IsClosed (items_from 0 goes.0 false x)) e goes.1)
+
+      by : (d : Bool) → nat_eq b 45 ≡ d → cond (d && not (nat_eq 124 93)) (range_to low (len + 2) (class_char 124 t)) (piece (Range low low) len) ≡ piece (Range low low) len
+      by true is = absurd (no_dash (eqb-true b 45 is))
+      by false is = refl
+  range_after low len behind text (b ∷ c ∷ rest) e h = by (nat_eq b 45 && not (nat_eq c 93)) h
+    where
+      by : (d : Bool) → GoesOn behind text (cond d (range_to low (len + 2) (class_char c rest)) (piece (Range low low) len)) →
+          cond d (range_to low (len + 2) (class_char c (after rest))) (piece (Range low low) len) ≡ cond d (range_to low (len + 2) (class_char c rest)) (piece (Range low low) len)
+      by true h = ap (range_to low (len + 2)) (class_char_after c rest (range_goes low (len + 2) behind text (class_char c rest) h))
+      by false h = refl
+
+  span_after : (c : ClassChar) (behind : ℕ) (text : List ℕ) → CharWithin (length text) c → GoesOn behind text (span c text) → span c (after text) ≡ span c text
+  span_after (wrong k) behind text within h = refl
+  span_after (one low len) behind text within h = ap (range_from low len) (drop_after len text within) ∙ range_after low len behind text (drop len text) refl h
+
+  backslash_after : (behind : ℕ) (text : List ℕ) → GoesOn behind text (after_backslash text) → after_backslash (after text) ≡ after_backslash text
+  backslash_after behind [] h = absurd h
+  backslash_after behind (e ∷ text) h = by (escaped_class e) h
+    where
+      one_there : (c : ClassChar) → GoesOn behind (e ∷ text) (span c (e ∷ text)) → IsOne c
+      one_there (one c len) h = tt
+      one_there (wrong k) h = h
+
+      by : (o : Option ClassItem) → GoesOn behind (e ∷ text) (elim o [ None ↦ span (class_escape (e ∷ text)) (e ∷ text) | Some i ↦ piece i 1 ]) →
+          ◌≡◌ {A = ClassFront} (elim o [ None ↦ span (class_escape (e ∷ after text)) (e ∷ after text) | Some i ↦ piece i 1 ]) (elim o [ None ↦ span (class_escape (e ∷ text)) (e ∷ text) | Some i ↦ piece i 1 ])
+      by (Some i) h = refl
+      by None h =
+          ap (λ c. span c (e ∷ after text)) (class_escape_after (e ∷ text) (one_there (class_escape (e ∷ text)) h))
+          ∙ span_after (class_escape (e ∷ text)) behind (e ∷ text) (class_escape_within (e ∷ text)) h
+
+  -- an item that begins with no `[:`
+  abbrev class_front_by : Bool → ℕ → List ℕ → ClassFront
+  class_front_by d b text = cond d (after_backslash text) (span (cond d (class_escape text) (cond (nat_lt b 128) (one b 0) (wrong NotInProfile))) text)
+
+  front_by_after : (d : Bool) (b behind : ℕ) (text : List ℕ) → GoesOn behind text (class_front_by d b text) → class_front_by d b (after text) ≡ class_front_by d b text
+  front_by_after true b behind text h = backslash_after behind text h
+  front_by_after false b behind text h = span_after (cond (nat_lt b 128) (one b 0) (wrong NotInProfile)) behind text (within (nat_lt b 128)) h
+    where
+      within : (low : Bool) → CharWithin (length text) (cond low (one b 0) (wrong NotInProfile))
+      within true = omega arith
+      within false = tt
+
+  class_front_after : (b behind : ℕ) (text : List ℕ) → (nat_eq b 91 && is_front 58 text) ≡ false → GoesOn behind text (class_front b text) → class_front b (after text) ≡ class_front b text
+  class_front_after b behind text apart h =
+      ap (λ (x : Bool). cond (nat_eq b 91 && x) (after_colon (drop 1 (after text))) (class_front_by (nat_eq b 92) b (after text))) (is_front_after 58 text refl)
+      ∙ ap (λ (x : Bool). cond x (after_colon (drop 1 (after text))) (class_front_by (nat_eq b 92) b (after text))) apart
+      ∙ front_by_after (nat_eq b 92) b behind text (subst (λ (x : Bool). GoesOn behind text (cond x (after_colon (drop 1 text)) (class_front_by (nat_eq b 92) b text))) apart h)
+      ∙ ap (λ (x : Bool). cond x (after_colon (drop 1 text)) (class_front_by (nat_eq b 92) b text)) (sym apart)
+
+  abbrev items_by : ℕ → List ℕ → ClassFront → ClassRest
+  items_by behind text f = elim f [ misread k by ↦ failed k (behind + by) | piece i len ↦ with_item i (items_from len (behind + 1) false text) ]
+
+  item_after : (behind : ℕ) (text : List ℕ) → ((len : ℕ) → IsClosed (items_from len (behind + 1) false text) → items_from len (behind + 1) false (after text) ≡ items_from len (behind + 1) false text) →
+      (f g : ClassFront) → (GoesOn (behind + 1) text f → g ≡ f) → IsClosed (items_by behind text f) → items_by behind (after text) g ≡ items_by behind text f
+  item_after behind text later (misread k at) g same h = absurd h
+  item_after behind text later (piece i len) g same h =
+      let goes = item_closed i (items_from len (behind + 1) false text) h in
+      ap (items_by behind (after text)) (same goes) ∙ ap (with_item i) (later len goes)
+
+  now_after : (behind : ℕ) (text : List ℕ) (f g : ClassFront) → (IsClosed (items_by behind text f) → items_by behind (after text) g ≡ items_by behind text f) → (now : Bool) →
+      IsClosed (cond now (closed [] behind) (items_by behind text f)) → cond now (closed [] behind) (items_by behind (after text) g) ≡ cond now (closed [] behind) (items_by behind text f)
+  now_after behind text f g same true h = refl
+  now_after behind text f g same false h = same h
+
+  items_after : (skip behind : ℕ) (start : Bool) (text : List ℕ) → has_pair 91 58 text ≡ false → IsClosed (items_from skip behind start text) → items_from skip behind start (after text) ≡ items_from skip behind start text
+  items_after skip behind start [] apart h = absurd h
+  items_after (suc skip) behind start (b ∷ text) apart h = items_after skip (behind + 1) start text (or_parts (nat_eq b 91 && is_front 58 text) (has_pair 91 58 text) apart).1 h
+  items_after zero behind start (b ∷ text) apart h =
+      let parts = or_parts (nat_eq b 91 && is_front 58 text) (has_pair 91 58 text) apart in
+      now_after behind text (class_front b text) (class_front b (after text))
+      (item_after behind text (λ len closed. items_after len (behind + 1) false text parts.1 closed) (class_front b text) (class_front b (after text)) (class_front_after b (behind + 1) text parts.0))
+      (nat_eq b 93 && not start) h
+
+  of_closed : (fold negated : Bool) (r : ClassRest) → IsItem (class_of fold negated r) → IsClosed r
+  of_closed fold negated (closed items len) h = tt
+  of_closed fold negated (failed k behind) h = h
+
+  class_after : (fold : Bool) (text : List ℕ) → has_pair 91 58 text ≡ false → IsItem (class fold text) → class fold (after text) ≡ class fold text
+  class_after fold [] apart is = absurd is
+  class_after fold (d ∷ text) apart is = by (nat_eq d 94) is
+    where
+      by : (b : Bool) → IsItem (cond b (class_of fold true (items_from 0 2 true text)) (class_of fold false (items_from 0 1 true (d ∷ text)))) →
+          cond b (class_of fold true (items_from 0 2 true (after text))) (class_of fold false (items_from 0 1 true (d ∷ after text))) ≡
+          cond b (class_of fold true (items_from 0 2 true text)) (class_of fold false (items_from 0 1 true (d ∷ text)))
+      by true is = ap (class_of fold true) (items_after 0 2 true text (or_parts (nat_eq d 91 && is_front 58 text) (has_pair 91 58 text) apart).1 (of_closed fold true (items_from 0 2 true text) is))
+      by false is = ap (class_of fold false) (items_after 0 1 true (d ∷ text) apart (of_closed fold false (items_from 0 1 true (d ∷ text)) is))
+
+  -- ---- items
+
+  -- an item that does not touch the flags
+  abbrev IsQuiet : Flags → Item → Type 0
+  IsQuiet flags (group_start inner) = inner ≡ flags
+  IsQuiet flags (flags_from_here new) = ⊥
+  IsQuiet flags _ = Unit {0}
+
+  -- its bytes are there, and it does not touch the flags
+  abbrev Fits : Flags → List ℕ → Front → Type 0
+  Fits flags text (item x len) = (len ≤ length text) × IsQuiet flags x
+  Fits flags text (fault k behind) = Unit {0}
+
+  record Ends (flags : Flags) (b : ℕ) (text : List ℕ) : Type 0 where
+    same : IsItem (front flags b text) → front flags b (after text) ≡ front flags b text
+    fits : Fits flags text (front flags b text)
+
+  -- by what the first byte means
+  record EndsBy (sign : Sign) (flags : Flags) (b : ℕ) (text : List ℕ) : Type 0 where
+    same : IsItem (item_by sign flags b text) → item_by sign flags b (after text) ≡ item_by sign flags b text
+    fits : Fits flags text (item_by sign flags b text)
+
+  -- a `?` behind a repeat
+  lazy_fits : (text : List ℕ) → 0 + cond (is_front 63 text) 1 0 ≤ length text
+  lazy_fits [] = omega arith
+  lazy_fits (d ∷ text) = elim (nat_eq d 63) as (λ b. 0 + cond b 1 0 ≤ suc (length text)) [ true ↦ omega arith | false ↦ omega arith ]
+
+  module _ (flags : Flags) where
+    abbrev EndsThere : ℕ → Type 0
+    EndsThere b = (text : List ℕ) → IsSimple (b ∷ text) → Ends flags b text
+
+    repeated : (n : ℕ) (m : Option ℕ) (text : List ℕ) → item (repeat n m) (0 + cond (is_front 63 (after text)) 1 0) ≡ item (repeat n m) (0 + cond (is_front 63 text) 1 0)
+    repeated n m text = ap (λ b. item (repeat n m) (0 + cond b 1 0)) (is_front_after 63 text refl)
+
+    star : EndsThere 42
+    unfolding front sign_of
+    star text simple = record { same = λ is. repeated 0 None text; fits = (lazy_fits text, tt) }
+
+    plus : EndsThere 43
+    unfolding front sign_of
+    plus text simple = record { same = λ is. repeated 1 None text; fits = (lazy_fits text, tt) }
+
+    question : EndsThere 63
+    unfolding front sign_of
+    question text simple = record { same = λ is. repeated 0 (Some 1) text; fits = (lazy_fits text, tt) }
+
+    brace_fits : (text : List ℕ) → Fits flags text (brace text)
+    brace_fits text = by (counts text) (counts_within text)
+      where
+        long : (n : ℕ) → n ≤ length text → (b : Bool) → is_front 63 (drop n text) ≡ b → n + cond b 1 0 ≤ length text
+        long n h true e = let less = front_there 63 n text e in omega (arith, less)
+        long n h false e = omega (arith, h)
+
+        by_bad : (c : Counts) → c.len ≤ length text → (b : Bool) → Fits flags text (cond b (fault BadRepeat 0) (lazy c.least c.most c.len text))
+        by_bad c h true = tt
+        by_bad c h false = (long c.len h (is_front 63 (drop c.len text)) refl, tt)
+
+        by : (o : Option Counts) → CountsWithin (length text) o → Fits flags text (brace_by text o)
+        by None h = (omega arith, tt)
+        by (Some c) h = by_bad c h (is_bad c)
+
+    a_brace : EndsThere 123
+    unfolding front sign_of
+    a_brace text simple = record { same = λ is. brace_after text; fits = brace_fits text }
+
+    dot : EndsThere 46
+    unfolding front sign_of
+    dot text simple = record { same = λ is. refl; fits = (omega arith, tt) }
+
+    caret : EndsThere 94
+    unfolding front sign_of
+    caret text simple = record { same = λ is. refl; fits = (omega arith, tt) }
+
+    dollar : EndsThere 36
+    unfolding front sign_of
+    dollar text simple = record { same = λ is. refl; fits = (omega arith, tt) }
+
+    a_bar : EndsThere 124
+    unfolding front sign_of
+    a_bar text simple = record { same = λ is. refl; fits = (omega arith, tt) }
+
+    closed_group : EndsThere 41
+    unfolding front sign_of
+    closed_group text simple = record { same = λ is. refl; fits = (omega arith, tt) }
+
+    of_fits : (negated : Bool) (text : List ℕ) (r : ClassRest) → ClosedBefore (suc (length text)) r → Fits flags text (class_of flags.fold negated r)
+    of_fits negated text (closed items len) h = (omega (arith, h), tt)
+    of_fits negated text (failed k behind) h = tt
+
+    class_fits : (text : List ℕ) → Fits flags text (class flags.fold text)
+    class_fits [] = tt
+    class_fits (d ∷ text) =
+        elim (nat_eq d 94) as (λ b. Fits flags (d ∷ text) (cond b (class_of flags.fold true (items_from 0 2 true text)) (class_of flags.fold false (items_from 0 1 true (d ∷ text))))) [
+          | true ↦ of_fits true (d ∷ text) (items_from 0 2 true text) (subst (λ n. ClosedBefore n (items_from 0 2 true text)) (let e : 2 + length text ≡ suc (suc (length text)) = omega arith in e) (closed_before 0 2 true text))
+          | false ↦ of_fits false (d ∷ text) (items_from 0 1 true (d ∷ text)) (subst (λ n. ClosedBefore n (items_from 0 1 true (d ∷ text))) (let e : 1 + suc (length text) ≡ suc (suc (length text)) = omega arith in e) (closed_before 0 1 true (d ∷ text)))
+        ]
+
+    a_class : EndsThere 91
+    unfolding front sign_of
+    a_class text simple = record {
+      same = class_after flags.fold text (or_parts (is_front 58 text) (has_pair 91 58 text) simple.no_names).1;
+      fits = class_fits text;
+    }
+
+    opened : EndsThere 40
+    unfolding front sign_of
+    opened text simple =
+        let none : is_front 63 text ≡ false = (or_parts (is_front 63 text) (has_pair 40 63 text) simple.no_flags).0 in
+        let here : front flags 40 text ≡ item (group_start flags) 0 = ap (λ b. cond b (Rattle.cs_syntax.specs.Groups.head flags (drop 1 text)) (item (group_start flags) 0)) none in
+        record {
+          same = λ is. ap (λ b. cond b (Rattle.cs_syntax.specs.Groups.head flags (drop 1 (after text))) (item (group_start flags) 0)) (is_front_after 63 text refl ∙ none) ∙ sym here;
+          fits = subst (Fits flags text) (sym here) (omega arith, refl);
+        }
+
+    char_fits : (e : ℕ) (text : List ℕ) → Fits flags (e ∷ text) (char_front flags.fold (e ∷ text))
+    unfolding char_front
+    char_fits e text =
+        elim (escaped_char (e ∷ text)) as (λ (o : Option EscapedChar). Within (suc (length text)) o → Fits flags (e ∷ text) (elim o [ None ↦ fault BadEscape 0 | Some c ↦ item (unit (char_tree flags.fold c.char)) c.len ])) [
+          | None ↦ λ h. tt
+          | Some c ↦ λ h. (h, tt)
+        ] (escaped_within e text)
+
+    escape_fits : (text : List ℕ) → Fits flags text (escape flags.fold text)
+    escape_fits [] = tt
+    escape_fits (e ∷ text) =
+        elim (is_left_out e) as (λ b. Fits flags (e ∷ text) (cond b (fault NotInProfile 0) (elim (escaped_tree e) [ Some t ↦ item (unit t) 1 | None ↦ char_front flags.fold (e ∷ text) ]))) [
+          | true ↦ tt
+          | false ↦ elim (escaped_tree e) as (λ (o : Option Tree). Fits flags (e ∷ text) (elim o [ Some t ↦ item (unit t) 1 | None ↦ char_front flags.fold (e ∷ text) ])) [
+            | Some t ↦ (omega arith, tt)
+            | None ↦ char_fits e text
+          ]
+        ]
+
+    escape_same : (text : List ℕ) → IsItem (escape flags.fold text) → escape flags.fold (after text) ≡ escape flags.fold text
+    escape_same [] is = absurd is
+    escape_same (e ∷ text) is = escape_after flags.fold e text
+
+    backslash : EndsThere 92
+    unfolding front sign_of
+    backslash text simple = record { same = escape_same text; fits = escape_fits text }
+
+    by_wide : (b : ℕ) (text : List ℕ) (wide : Bool) → EndsBy (cond wide Wide Plain) flags b text
+    by_wide b text true =
+        let n = prefix_after is_continuation text refl in
+        let taken : take (prefix_len is_continuation (after text)) (after text) ≡ take (prefix_len is_continuation text) text =
+        ap (λ k. take k (after text)) n ∙ take_after (prefix_len is_continuation text) text (prefix_len-le-length is_continuation text) in
+        record { same = λ is i. item (unit (bytes_tree (b ∷ taken i))) (n i); fits = (prefix_len-le-length is_continuation text, tt) }
+    by_wide b text false = record { same = λ is. refl; fits = (omega arith, tt) }
+
+    others : (b : ℕ) (text : List ℕ) → has signs b ≡ false → Ends flags b text
+    unfolding front
+    others b text apart =
+        let by : EndsBy (sign_of b) flags b text = subst (λ s. EndsBy s flags b text) (sym (by_width b apart (nat_le 128 b) refl)) (by_wide b text (nat_le 128 b)) in
+        record { same = by.same; fits = by.fits }
+
+    ends : (b : ℕ) (text : List ℕ) → IsSimple (b ∷ text) → Ends flags b text
+    ends b text simple = elim (cases_Bool (has signs b)) [
+      | inl there ↦ of_each EndsThere signs b (star, (plus, (question, (a_brace, (dot, (caret, (dollar, (a_bar, (opened, (closed_group, (a_class, (backslash, tt)))))))))))) there text simple
+      | inr apart ↦ others b text apart
+    ]
+
+-- ---- the branches of both
+
+-- the branches of a level, and those of the other text behind them
+abbrev branches_of : Level → Trees
+branches_of l = more (sequence l.units) l.branches
+
+abbrev with_more : Trees → Level → Level
+with_more bs l = record l { branches = append l.branches bs }
+
+-- the same of the outermost of some levels
+abbrev first_with : Trees → Level → List Level → Level
+first_with bs l [] = with_more bs l
+first_with bs l (m ∷ ls) = l
+
+abbrev rest_with : Trees → List Level → List Level
+rest_with bs [] = []
+rest_with bs (m ∷ ls) = first_with bs m ls ∷ rest_with bs ls
+
+abbrev joined : Trees → Rest → Rest
+joined bs (levels l ls) = levels (first_with bs l ls) (rest_with bs ls)
+joined bs (broken k at) = broken k at
+
+abbrev Commutes : Trees → (Level → Level) → Type 0
+Commutes bs f = (l : Level) → f (with_more bs l) ≡ with_more bs (f l)
+
+joined-inside : (bs : Trees) (f : Level → Level) (r : Rest) → Commutes bs f → inside f (joined bs r) ≡ joined bs (inside f r)
+joined-inside bs f (levels l []) h = ap (λ m. levels m []) (h l)
+joined-inside bs f (levels l (m ∷ ls)) h = refl
+joined-inside bs f (broken k at) h = refl
+
+joined-close : (bs : Trees) (r : Rest) → with_close (joined bs r) ≡ joined bs (with_close r)
+joined-close bs (levels l ls) = refl
+joined-close bs (broken k at) = refl
+
+joined-open : (bs : Trees) (r : Rest) → IsRead (with_open r) → with_open (joined bs r) ≡ joined bs (with_open r)
+joined-open bs (levels l []) h = absurd h
+joined-open bs (levels l (outer ∷ [])) h = refl
+joined-open bs (levels l (outer ∷ m ∷ ls)) h = refl
+joined-open bs (broken k at) h = refl
+
+-- ---- one item, in two readings
+
+abbrev Flagged : Flags → List Group → Type 0
+Flagged flags [] = Unit {0}
+Flagged flags (g ∷ gs) = (g.flags ≡ flags) × Flagged flags gs
+
+abbrev Readings : Type 0
+Readings = Before → List Group → Flags → Rest
+
+-- what an item makes of the readings of what follows it
+abbrev step : ℕ → Before → List Group → Flags → Item → Readings → Rest
+step at before groups flags x r =
+    elim x [
+      | unit t ↦ inside (with_unit t) (r Operand groups flags)
+      | repeat n m ↦ elim before [ Start ↦ broken NoOperand at | Counted ↦ broken StackedRepeat at | Operand ↦ inside (with_repeat n m) (r Counted groups flags) ]
+      | bar ↦ inside with_bar (r Start groups flags)
+      | group_start inner ↦ if nat_eq (length groups) most_open then broken TooDeep at else with_open (r Start (record { at = at; flags = flags } ∷ groups) inner)
+      | group_end ↦ elim groups [ [] ↦ broken StrayClose at | g ∷ gs ↦ with_close (r Operand gs g.flags) ]
+      | flags_from_here new ↦ r Start groups new
+    ]
+
+module _ (t : List ℕ) (flags : Flags) (bs : Trees) where
+  -- the first reading is that of a text, the second that of this text, a bar and the other
+  abbrev Joins : Readings → Readings → Type 0
+  Joins r s = (before : Before) (groups : List Group) → Flagged flags groups → IsRead (r before groups flags) → s before groups flags ≡ joined bs (r before groups flags)
+
+  joins_inside : (f : Level → Level) (r s : Rest) → Commutes bs f → (IsRead r → s ≡ joined bs r) → IsRead (inside f r) → inside f s ≡ joined bs (inside f r)
+  joins_inside f r s h same is = ap (inside f) (same (inside_read f r is)) ∙ joined-inside bs f r h
+
+  joins_repeat : (at n : ℕ) (m : Option ℕ) (before : Before) (r s : Rest) → (IsRead r → s ≡ joined bs r) →
+      IsRead (elim before [ Start ↦ broken NoOperand at | Counted ↦ broken StackedRepeat at | Operand ↦ inside (with_repeat n m) r ]) →
+      elim before [ Start ↦ broken NoOperand at | Counted ↦ broken StackedRepeat at | Operand ↦ inside (with_repeat n m) s ] ≡
+      joined bs (elim before [ Start ↦ broken NoOperand at | Counted ↦ broken StackedRepeat at | Operand ↦ inside (with_repeat n m) r ])
+  joins_repeat at n m Start r s same is = refl
+  joins_repeat at n m Counted r s same is = refl
+  joins_repeat at n m Operand r s same is = joins_inside (with_repeat n m) r s (λ l. refl) same is
+
+  joins_end : (at : ℕ) (groups : List Group) (r s : Readings) → Flagged flags groups → Joins r s →
+      IsRead (elim groups [ [] ↦ broken StrayClose at | g ∷ gs ↦ with_close (r Operand gs g.flags) ]) →
+      elim groups [ [] ↦ broken StrayClose at | g ∷ gs ↦ with_close (s Operand gs g.flags) ] ≡
+      joined bs (elim groups [ [] ↦ broken StrayClose at | g ∷ gs ↦ with_close (r Operand gs g.flags) ])
+  joins_end at [] r s flagged same is = refl
+  joins_end at (g ∷ gs) r s flagged same is =
+      let here : (f : Flags) → f ≡ flags → IsRead (with_close (r Operand gs f)) → with_close (s Operand gs f) ≡ joined bs (with_close (r Operand gs f)) =
+      λ f e. subst (λ f. IsRead (with_close (r Operand gs f)) → with_close (s Operand gs f) ≡ joined bs (with_close (r Operand gs f))) (sym e)
+      (λ read. ap with_close (same Operand gs flagged.1 (close_read (r Operand gs flags) read)) ∙ joined-close bs (r Operand gs flags)) in
+      here g.flags flagged.0 is
+
+  joins_start : (at : ℕ) (groups : List Group) (r s : Readings) → Flagged flags groups → Joins r s → (inner : Flags) → inner ≡ flags → (full : Bool) →
+      IsRead (if full then broken TooDeep at else with_open (r Start (record { at = at; flags = flags } ∷ groups) inner)) →
+      (if full then broken TooDeep at else with_open (s Start (record { at = at; flags = flags } ∷ groups) inner)) ≡
+      joined bs (if full then broken TooDeep at else with_open (r Start (record { at = at; flags = flags } ∷ groups) inner))
+  joins_start at groups r s flagged same inner e true is = refl
+  joins_start at groups r s flagged same inner e false is =
+      let gs : List Group = record { at = at; flags = flags } ∷ groups in
+      subst (λ f. IsRead (with_open (r Start gs f)) → with_open (s Start gs f) ≡ joined bs (with_open (r Start gs f))) (sym e)
+      (λ read. ap with_open (same Start gs (refl, flagged) (open_read (r Start gs flags) read)) ∙ joined-open bs (r Start gs flags) read) is
+
+  joins_step : (at : ℕ) (before : Before) (groups : List Group) (x : Item) (r s : Readings) → Flagged flags groups → IsQuiet t flags x → Joins r s →
+      IsRead (step at before groups flags x r) → step at before groups flags x s ≡ joined bs (step at before groups flags x r)
+  joins_step at before groups (unit u) r s flagged quiet same is = joins_inside (with_unit u) (r Operand groups flags) (s Operand groups flags) (λ l. refl) (same Operand groups flagged) is
+  joins_step at before groups (repeat n m) r s flagged quiet same is = joins_repeat at n m before (r Counted groups flags) (s Counted groups flags) (same Counted groups flagged) is
+  joins_step at before groups bar r s flagged quiet same is = joins_inside with_bar (r Start groups flags) (s Start groups flags) (λ l. refl) (same Start groups flagged) is
+  joins_step at before groups (group_start inner) r s flagged quiet same is = joins_start at groups r s flagged same inner quiet (nat_eq (length groups) most_open) is
+  joins_step at before groups group_end r s flagged quiet same is = joins_end at groups r s flagged same is
+  joins_step at before groups (flags_from_here new) r s flagged quiet same is = absurd quiet
+
+-- ---- the whole text
+
+simple_rest : (b : ℕ) (text : List ℕ) → IsSimple (b ∷ text) → IsSimple text
+simple_rest b text simple = record {
+  no_flags = (or_parts (nat_eq b 40 && is_front 63 text) (has_pair 40 63 text) simple.no_flags).1;
+  no_names = (or_parts (nat_eq b 91 && is_front 58 text) (has_pair 91 58 text) simple.no_names).1;
+}
+
+module _ (t : List ℕ) (flags : Flags) (other : Level) where
+  abbrev bs : Trees
+  bs = branches_of other
+
+  -- what the other text reads as, wherever it begins
+  module _ (reads : (at : ℕ) → rest 0 at Start [] flags t ≡ levels other []) where
+    joins_at_end : (at : ℕ) (before : Before) (groups : List Group) → IsRead (at_end groups) → rest 0 at before groups flags (124 ∷ t) ≡ joined bs (at_end groups)
+    unfolding front sign_of
+    joins_at_end at before [] is = ap (inside with_bar) (reads (at + 1))
+    joins_at_end at before (g ∷ gs) is = absurd is
+
+    joins_front : (at : ℕ) (before : Before) (groups : List Group) (text : List ℕ) → Flagged flags groups →
+        ((len : ℕ) → len ≤ length text → Joins t flags bs (λ b gs fs. rest len (at + 1) b gs fs text) (λ b gs fs. rest len (at + 1) b gs fs (text ++ 124 ∷ t))) →
+        (f g : Front) → (IsItem f → g ≡ f) → Fits t flags text f →
+        IsRead (elim f [ fault k behind ↦ broken k (at + behind) | item x len ↦ step at before groups flags x (λ b gs fs. rest len (at + 1) b gs fs text) ]) →
+        ◌≡◌ {A = Rest} (elim g [ fault k behind ↦ broken k (at + behind) | item x len ↦ step at before groups flags x (λ b gs fs. rest len (at + 1) b gs fs (text ++ 124 ∷ t)) ])
+        (joined bs (elim f [ fault k behind ↦ broken k (at + behind) | item x len ↦ step at before groups flags x (λ b gs fs. rest len (at + 1) b gs fs text) ]))
+    joins_front at before groups text flagged later (fault k behind) g same fits read = absurd read
+    joins_front at before groups text flagged later (item x len) g same fits read =
+        ap (λ (f : Front). elim f [ fault k behind ↦ broken k (at + behind) | item x len ↦ step at before groups flags x (λ b gs fs. rest len (at + 1) b gs fs (text ++ 124 ∷ t)) ]) (same tt)
+        ∙ joins_step t flags bs at before groups x (λ b gs fs. rest len (at + 1) b gs fs text) (λ b gs fs. rest len (at + 1) b gs fs (text ++ 124 ∷ t)) flagged fits.1 (later len fits.0) read
+
+    joins_rest : (skip at : ℕ) (before : Before) (groups : List Group) (text : List ℕ) → IsSimple text → skip ≤ length text → Flagged flags groups →
+        IsRead (rest skip at before groups flags text) → rest skip at before groups flags (text ++ 124 ∷ t) ≡ joined bs (rest skip at before groups flags text)
+    joins_rest zero at before groups [] simple le flagged is = joins_at_end at before groups is
+    joins_rest (suc skip) at before groups [] simple le flagged is = absurd (omega (arith, le))
+    joins_rest (suc skip) at before groups (b ∷ text) simple le flagged is = joins_rest skip (at + 1) before groups text (simple_rest b text simple) (omega (arith, le)) flagged is
+    joins_rest zero at before groups (b ∷ text) simple le flagged is =
+        let here : Ends t flags b text = ends t flags b text simple in
+        joins_front at before groups text flagged
+        (λ len within before' groups' flagged' read'. joins_rest len (at + 1) before' groups' text (simple_rest b text simple) within flagged' read')
+        (front flags b text) (front flags b (text ++ 124 ∷ t)) here.same here.fits is
+
+-- ---- where a text begins
+
+-- open groups that differ in their places alone
+abbrev Alike : List Group → List Group → Type 0
+Alike [] [] = Unit {0}
+Alike [] (h ∷ hs) = ⊥
+Alike (g ∷ gs) [] = ⊥
+Alike (g ∷ gs) (h ∷ hs) = (g.flags ≡ h.flags) × Alike gs hs
+
+alike_length : (gs hs : List Group) → Alike gs hs → length gs ≡ length hs
+alike_length [] [] h = refl
+alike_length [] (k ∷ hs) h = absurd h
+alike_length (g ∷ gs) [] h = absurd h
+alike_length (g ∷ gs) (k ∷ hs) h = ap suc (alike_length gs hs h.1)
+
+abbrev Agree : Readings → Readings → Type 0
+Agree r s = (before : Before) (gs hs : List Group) (flags : Flags) → Alike gs hs → IsRead (r before gs flags) → s before hs flags ≡ r before gs flags
+
+module _ (at by : ℕ) (before : Before) (flags : Flags) where
+  agree_repeat : (n : ℕ) (m : Option ℕ) (b : Before) (r s : Rest) → (IsRead r → s ≡ r) →
+      IsRead (elim b [ Start ↦ broken NoOperand at | Counted ↦ broken StackedRepeat at | Operand ↦ inside (with_repeat n m) r ]) →
+      ◌≡◌ {A = Rest} (elim b [ Start ↦ broken NoOperand by | Counted ↦ broken StackedRepeat by | Operand ↦ inside (with_repeat n m) s ])
+      (elim b [ Start ↦ broken NoOperand at | Counted ↦ broken StackedRepeat at | Operand ↦ inside (with_repeat n m) r ])
+  agree_repeat n m Start r s same is = absurd is
+  agree_repeat n m Counted r s same is = absurd is
+  agree_repeat n m Operand r s same is = ap (inside (with_repeat n m)) (same (inside_read (with_repeat n m) r is))
+
+  agree_end : (gs hs : List Group) (r s : Readings) → Alike gs hs → Agree r s →
+      IsRead (elim gs [ [] ↦ broken StrayClose at | g ∷ gs ↦ with_close (r Operand gs g.flags) ]) →
+      ◌≡◌ {A = Rest} (elim hs [ [] ↦ broken StrayClose by | g ∷ gs ↦ with_close (s Operand gs g.flags) ]) (elim gs [ [] ↦ broken StrayClose at | g ∷ gs ↦ with_close (r Operand gs g.flags) ])
+  agree_end [] hs r s alike same is = absurd is
+  agree_end (g ∷ gs) [] r s alike same is = absurd alike
+  agree_end (g ∷ gs) (h ∷ hs) r s alike same is =
+      ap (λ f. with_close (s Operand hs f)) (sym alike.0) ∙ ap with_close (same Operand gs hs g.flags alike.1 (close_read (r Operand gs g.flags) is))
+
+  agree_start : (gs hs : List Group) (r s : Readings) → Alike gs hs → Agree r s → (inner : Flags) (full : Bool) →
+      IsRead (if full then broken TooDeep at else with_open (r Start (record { at = at; flags = flags } ∷ gs) inner)) →
+      (if full then broken TooDeep by else with_open (s Start (record { at = by; flags = flags } ∷ hs) inner)) ≡
+      (if full then broken TooDeep at else with_open (r Start (record { at = at; flags = flags } ∷ gs) inner))
+  agree_start gs hs r s alike same inner true is = absurd is
+  agree_start gs hs r s alike same inner false is =
+      let here : List Group = record { at = at; flags = flags } ∷ gs in
+      ap with_open (same Start here (record { at = by; flags = flags } ∷ hs) inner (refl, alike) (open_read (r Start here inner) is))
+
+  agree_step : (gs hs : List Group) (x : Item) (r s : Readings) → Alike gs hs → Agree r s → IsRead (step at before gs flags x r) → step by before hs flags x s ≡ step at before gs flags x r
+  agree_step gs hs (unit u) r s alike same is = ap (inside (with_unit u)) (same Operand gs hs flags alike (inside_read (with_unit u) (r Operand gs flags) is))
+  agree_step gs hs (repeat n m) r s alike same is = agree_repeat n m before (r Counted gs flags) (s Counted hs flags) (same Counted gs hs flags alike) is
+  agree_step gs hs bar r s alike same is = ap (inside with_bar) (same Start gs hs flags alike (inside_read with_bar (r Start gs flags) is))
+  agree_step gs hs (group_start inner) r s alike same is =
+      ap (λ n. if nat_eq n most_open then broken TooDeep by else with_open (s Start (record { at = by; flags = flags } ∷ hs) inner)) (sym (alike_length gs hs alike))
+      ∙ agree_start gs hs r s alike same inner (nat_eq (length gs) most_open) is
+  agree_step gs hs group_end r s alike same is = agree_end gs hs r s alike same is
+  agree_step gs hs (flags_from_here new) r s alike same is = same Start gs hs new alike is
+
+  agree_front : (gs hs : List Group) (f : Front) (r s : ℕ → Readings) → Alike gs hs → ((len : ℕ) → Agree (r len) (s len)) →
+      IsRead (elim f [ fault k behind ↦ broken k (at + behind) | item x len ↦ step at before gs flags x (r len) ]) →
+      ◌≡◌ {A = Rest} (elim f [ fault k behind ↦ broken k (by + behind) | item x len ↦ step by before hs flags x (s len) ])
+      (elim f [ fault k behind ↦ broken k (at + behind) | item x len ↦ step at before gs flags x (r len) ])
+  agree_front gs hs (fault k behind) r s alike same is = absurd is
+  agree_front gs hs (item x len) r s alike same is = agree_step gs hs x (r len) (s len) alike (same len) is
+
+agree_at_end : (gs hs : List Group) → Alike gs hs → IsRead (at_end gs) → at_end hs ≡ at_end gs
+agree_at_end [] [] alike is = refl
+agree_at_end [] (h ∷ hs) alike is = absurd alike
+agree_at_end (g ∷ gs) hs alike is = absurd is
+
+anywhere : (skip at by : ℕ) (before : Before) (gs hs : List Group) (flags : Flags) (text : List ℕ) → Alike gs hs → IsRead (rest skip at before gs flags text) → rest skip by before hs flags text ≡ rest skip at before gs flags text
+anywhere skip at by before gs hs flags [] alike is = agree_at_end gs hs alike is
+anywhere (suc skip) at by before gs hs flags (b ∷ text) alike is = anywhere skip (at + 1) (by + 1) before gs hs flags text alike is
+anywhere zero at by before gs hs flags (b ∷ text) alike is =
+    agree_front at by before flags gs hs (front flags b text)
+    (λ len before' groups' flags'. rest len (at + 1) before' groups' flags' text)
+    (λ len before' groups' flags'. rest len (by + 1) before' groups' flags' text) alike
+    (λ len before' gs' hs' flags' alike' read'. anywhere len (at + 1) (by + 1) before' gs' hs' flags' text alike' read') is
+
+-- ---- what the choice takes
+
+takes_choice : (line : List ℕ) (i j : ℕ) (t : Tree) (ts : Trees) → Takes line (choice t ts) i j ↔ TakesSome line (more t ts) i j
+takes_choice line i j t none = (inl, λ h. elim h [ inl k ↦ k | inr k ↦ absurd k ])
+takes_choice line i j t (more u us) = (λ h. h, λ h. h)
+
+takes_append : (line : List ℕ) (i j : ℕ) (ts us : Trees) → TakesSome line (append ts us) i j ↔ (TakesSome line ts i j ⊎ TakesSome line us i j)
+takes_append line i j none us = (inr, λ h. elim h [ inl k ↦ absurd k | inr k ↦ k ])
+takes_append line i j (more t ts) us =
+    let later = takes_append line i j ts us in (
+      λ h. elim h [ inl k ↦ inl (inl k) | inr k ↦ elim (later.0 k) [ inl l ↦ inl (inr l) | inr l ↦ inr l ] ],
+      λ h. elim h [ inl k ↦ elim k [ inl l ↦ inl l | inr l ↦ inr (later.1 (inl l)) ] | inr k ↦ inr (later.1 (inr k)) ],
+    )
+
+takes_both : (l m : Level) → TakesEither (whole_group (with_more (branches_of m) l)) (whole_group l) (whole_group m)
+takes_both l m line i j =
+    let whole = takes_choice line i j (sequence l.units) (append l.branches (branches_of m)) in
+    let one = takes_choice line i j (sequence l.units) l.branches in
+    let other = takes_choice line i j (sequence m.units) m.branches in
+    let both = takes_append line i j (branches_of l) (branches_of m) in (
+      λ h. elim (both.0 (whole.0 h)) [ inl k ↦ inl (one.1 k) | inr k ↦ inr (other.1 k) ],
+      λ h. whole.1 (both.1 (elim h [ inl k ↦ inl (one.0 k) | inr k ↦ inr (other.0 k) ])),
+    )
+
+-- ---- the law
+
+record OneLevel (r : Rest) (x : Tree) : Type 0 where
+  level : Level
+  is : r ≡ levels level []
+  whole : whole_group level ≡ x
+
+one_level : (text : List ℕ) (fold : Bool) (x : Tree) → Reads text fold x → OneLevel (rest 0 0 Start [] (flags_at_start fold) text) x
+one_level text fold x reads = by (rest 0 0 Start [] (flags_at_start fold) text) refl reads
+  where
+    by : (r : Rest) → rest 0 0 Start [] (flags_at_start fold) text ≡ r → answer r ≡ tree x → OneLevel (rest 0 0 Start [] (flags_at_start fold) text) x
+    by (levels l ls) e h = record { level = l; is = e ∙ ap (levels l) (alone 0 0 Start (flags_at_start fold) text l ls e); whole = the_tree (whole_group l) x h }
+      where
+        the_tree : (t u : Tree) → tree t ≡ tree u → t ≡ u
+        the_tree t u h = cc
+    by (broken k at) e h = cc
+
+pub bar_reads : (s t : List ℕ) (fold : Bool) (x y : Tree) → IsSimple s → Reads s fold x → Reads t fold y → (z : Tree) × Reads (s ++ 124 ∷ t) fold z × TakesEither z x y
+bar_reads s t fold x y simple first second =
+    let flags : Flags = flags_at_start fold in
+    let one = one_level s fold x first in
+    let other = one_level t fold y second in
+    let z : Tree = whole_group (with_more (branches_of other.level) one.level) in
+    let there : (at : ℕ) → rest 0 at Start [] flags t ≡ levels other.level [] = λ at. anywhere 0 0 at Start [] [] flags t tt (subst IsRead (sym other.is) tt) ∙ other.is in
+    let joint = joins_rest t flags other.level there 0 0 Start [] s simple (omega arith) tt (subst IsRead (sym one.is) tt) in
+    let takes : TakesEither z x y = subst (λ u. TakesEither z u y) one.whole (subst (λ u. TakesEither z (whole_group one.level) u) other.whole (takes_both one.level other.level)) in
+    (z, ap answer (joint ∙ ap (joined (branches_of other.level)) one.is), takes)

@@ -1,10 +1,11 @@
 -- Tables whose rows and cells are right, and what stays so from one to the next.
-use Rattle.std.specs.Prelude.{ℕ, List, ◌≡◌, length, vec_len}
+use Rattle.std.specs.Prelude.{ℕ, Bool, List, ◌≡◌, length, vec_len}
 use Rattle.cs_syntax.specs.Matching.{Tree}
 use Rattle.cs_syntax.specs.Node.{tree_of}
 use Rattle.cs_match.specs.declared.standing.Standing.{Standing}
 use Rattle.cs_match.specs.declared.table.Table.{Table}
 use Rattle.cs_match.specs.Places.{places, repeats, IsLooped}
+use Rattle.cs_match.specs.Standings.{after, is_left_before}
 use Rattle.cs_match.specs.Table as table
 use Rattle.cs_match.specs.Needle.{IsNeeded}
 
@@ -28,6 +29,14 @@ pub record HasNeedle (t : Table) (word : List ℕ) : Type 0 where
 -- the standing of the row with this number
 abbrev pub standing_in : Table → ℕ → Standing
 standing_in t number = table.standing_of (tree_in t) t.rows.items number
+
+-- the tree can be left before the byte, in the row with this number
+abbrev pub is_left_from : Table → ℕ → ℕ → Bool
+is_left_from t number b = is_left_before (tree_in t) (standing_in t number) b
+
+-- the standing after the byte, from the row with this number
+abbrev pub standing_after : Table → ℕ → ℕ → Standing
+standing_after t number b = after (tree_in t) (standing_in t number) b
 
 -- the number of a row in use, which has this standing
 abbrev pub HasRow : Table → ℕ → Standing → Type 0

@@ -3,7 +3,7 @@ ghost use Rattle.std.specs.Prelude.{◌≡◌, ◌↔◌, IfOk, IsTrue, length, 
 ghost use Rattle.cs_syntax.specs.Matching.{Found};
 ghost use Rattle.cs_syntax.specs.Node.{tree_of};
 ghost use Rattle.cs_match.specs.Places.{places, repeats, exits, IsLooped};
-ghost use Rattle.cs_match.specs.Standings.{start, ahead, at_end, moved, before, after};
+ghost use Rattle.cs_match.specs.Standings.{start, ahead, at_end, moved, after, is_left_before};
 
 use crate::around::{Around, is_word_byte};
 use crate::marks::Marks;
@@ -92,7 +92,7 @@ impl Standing {
     pub(crate) fn pass(&mut self, root: &Node, loops: &mut [bool], byte: u8) -> bool
         requires one_each { length self.old.marks ≡ places (tree_of root.now) }
         requires loops { length loops.old ≡ repeats (tree_of root.now) }
-        ensures left { result ≡ exits (tree_of root.now) true self.old.marks (before self.old byte) }
+        ensures left { result ≡ is_left_before (tree_of root.now) self.old byte }
         ensures moved { self.new ≡ after (tree_of root.now) self.old byte }
         ensures loops { length loops.new ≡ length loops.old }
     {

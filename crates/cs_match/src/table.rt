@@ -4,9 +4,9 @@ ghost use Rattle.cs_syntax.specs.Node.{tree_of};
 ghost use Rattle.cs_syntax.specs.Matching.{Found};
 ghost use Rattle.cs_match.specs.Places.{places, repeats, IsLooped};
 ghost use Rattle.cs_match.specs.Standings.{start, after, is_left_before};
-ghost use Rattle.cs_match.specs.Table.{blank_cell, standing_of};
+ghost use Rattle.cs_match.specs.Table.{blank_cell};
 ghost use Rattle.cs_match.specs.declared.standing.Standing.{Standing};
-ghost use Rattle.cs_match.specs.Remembering.{IsRight, HasRow, Tells, tree_in, standing_in};
+ghost use Rattle.cs_match.specs.Remembering.{IsRight, HasRow, Tells, tree_in, standing_in, is_left_from, standing_after};
 
 use crate::program::Program;
 use crate::standing::Standing;
@@ -100,24 +100,16 @@ fn put_row(rows: &mut [Standing], row: usize, now: &Standing)
     rows[row].copy_from(now);
 }
 
-/// Runs from a row over a byte, and answers whether the tree could be left before it.
-fn pass_from(
-    root: &Node,
-    rows: &[Standing],
-    from: u16,
-    now: &mut Standing,
-    loops: &mut [bool],
-    byte: u8,
-) -> bool
-    requires row { from / 256 < length rows.now }
-    requires marks { length (standing_of (tree_of root.now) rows.now from).marks ≡ places (tree_of root.now) }
+/// Runs from a standing over a byte, and answers whether the tree could be left before it.
+fn pass_from(root: &Node, from: &Standing, now: &mut Standing, loops: &mut [bool], byte: u8) -> bool
+    requires marks { length from.now.marks ≡ places (tree_of root.now) }
     requires room { length now.old.marks ≡ places (tree_of root.now) }
     requires loops { length loops.old ≡ repeats (tree_of root.now) }
-    ensures left { result ≡ is_left_before (tree_of root.now) (standing_of (tree_of root.now) rows.now from) byte }
-    ensures moved { now.new ≡ after (tree_of root.now) (standing_of (tree_of root.now) rows.now from) byte }
+    ensures left { result ≡ is_left_before (tree_of root.now) from.now byte }
+    ensures moved { now.new ≡ after (tree_of root.now) from.now byte }
     ensures loops { length loops.new ≡ length loops.old }
 {
-    now.copy_from(&rows[(from >> 8) as usize]);
+    now.copy_from(from);
     now.pass(root, loops, byte)
 }
 
@@ -206,8 +198,7 @@ impl<'a> Table<'a> {
     {
         if pass_from(
             self.root,
-            &self.rows,
-            from,
+            &self.rows[(from >> 8) as usize],
             &mut self.now,
             &mut self.loops,
             byte,
@@ -227,8 +218,8 @@ impl<'a> Table<'a> {
         requires right { IsRight self.old }
         requires row { HasRow self.old from (standing_in self.old from) }
         requires within { byte ≢ 10 }
-        requires stays { is_left_before (tree_in self.old) (standing_in self.old from) byte ≡ false }
-        requires now { self.old.now ≡ after (tree_in self.old) (standing_in self.old from) byte }
+        requires stays { is_left_from self.old from byte ≡ false }
+        requires now { self.old.now ≡ standing_after self.old from byte }
         ensures told { Tells self.new (standing_in self.old from) byte result }
         ensures right { IsRight self.new }
         ensures same { tree_in self.new ≡ tree_in self.old }

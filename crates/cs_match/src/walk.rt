@@ -333,10 +333,11 @@ fn advance(
             let left = advance(x, enter || again, marks, loops, here, byte, at);
             left || (*least == 0 && enter)
         }
-        Node::LineStart => enter && here.first,
-        Node::LineEnd => enter && here.last,
-        Node::WordEdge => enter && here.edge,
-        Node::NotWordEdge => enter && !here.edge,
+        // By `&`, which makes no branch: each branch has all clauses to prove.
+        Node::LineStart => enter & here.first,
+        Node::LineEnd => enter & here.last,
+        Node::WordEdge => enter & here.edge,
+        Node::NotWordEdge => enter & !here.edge,
     }
 }
 

@@ -1,4 +1,6 @@
-use Rattle.std.proofs.Common.{◌+◌, ◌≤◌, ◌∙◌, refl, drop, length, arith}
+use Rattle.std.proofs.Common.{◌≡◌, ℕ, ◌+◌, ◌≤◌, ◌++◌, ◌∙◌, Bool, List, refl, sym, ap, take, drop, length, arith}
+use Rattle.std.proofs.lemmas.List.{take-append-drop}
+use Rattle.cs_syntax.proofs.NodeLemmas.{tree_of-Empty, tree_of-LineStart, tree_of-LineEnd, tree_of-WordEdge, tree_of-NotWordEdge}
 use Rattle.cs_syntax.specs.Node.{tree_of, trees_of}
 use Rattle.cs_syntax.proofs.TreeLemmas.{trees_from}
 use Rattle.cs_match.specs.Places.{places}
@@ -85,3 +87,24 @@ advance_each-loop-part-init t c =
       ahead = refl;
       marks = refl;
     }
+
+-- the marks of what has no places
+unmoved : (p : ℕ) (ms : List Bool) → ms ≡ take p ms ++ drop (p + 0) ms
+unmoved p ms =
+    let e : p ≡ p + 0 = omega arith in
+    sym (take-append-drop p ms) ∙ ap (λ k. take p ms ++ drop k ms) e
+
+pub advance-returns-in-Empty-clause-marks : goal.advance-returns-in-Empty-clause-marks
+advance-returns-in-Empty-clause-marks t c = rw (ap tree_of c.in-Empty.is ∙ tree_of-Empty) (unmoved c.args.at.now.place c.args.marks.now)
+
+pub advance-returns-in-LineStart-clause-marks : goal.advance-returns-in-LineStart-clause-marks
+advance-returns-in-LineStart-clause-marks t c = rw (ap tree_of c.in-LineStart.is ∙ tree_of-LineStart) (unmoved c.args.at.now.place c.args.marks.now)
+
+pub advance-returns-in-LineEnd-clause-marks : goal.advance-returns-in-LineEnd-clause-marks
+advance-returns-in-LineEnd-clause-marks t c = rw (ap tree_of c.in-LineEnd.is ∙ tree_of-LineEnd) (unmoved c.args.at.now.place c.args.marks.now)
+
+pub advance-returns-in-WordEdge-clause-marks : goal.advance-returns-in-WordEdge-clause-marks
+advance-returns-in-WordEdge-clause-marks t c = rw (ap tree_of c.in-WordEdge.is ∙ tree_of-WordEdge) (unmoved c.args.at.now.place c.args.marks.now)
+
+pub advance-returns-in-NotWordEdge-clause-marks : goal.advance-returns-in-NotWordEdge-clause-marks
+advance-returns-in-NotWordEdge-clause-marks t c = rw (ap tree_of c.in-NotWordEdge.is ∙ tree_of-NotWordEdge) (unmoved c.args.at.now.place c.args.marks.now)

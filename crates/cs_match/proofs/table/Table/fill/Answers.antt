@@ -2,7 +2,6 @@ use Rattle.std.proofs.Common.{◌∙◌, ap, length}
 use Rattle.cs_match.proofs.StandingLemmas.{length-after}
 use Rattle.cs_match.specs.declared.standing.Standing.{Standing}
 use Rattle.cs_match.specs.Remembering.{tree_in}
-use Rattle.cs_match.specs.Table.{standing_of}
 use Rattle.cs_match.proofs.table.Table.fill.Goals as goal
 
 pub put-requires-clause-right : goal.put-requires-clause-right
@@ -12,7 +11,7 @@ put-requires-clause-right c =
       looped = c.requires.right.looped;
       rows = c.requires.right.rows;
       cells = c.requires.right.cells;
-      room = ap (λ (n : Standing). length n.marks) c.pass_from.ensures.moved ∙ length-after (tree_in s) (standing_of (tree_in s) c.deref.result.now c.args.from) c.args.byte;
+      room = ap (λ (n : Standing). length n.marks) c.pass_from.ensures.moved ∙ length-after (tree_in s) c.index.result.now c.args.byte;
       loops = c.requires.right.loops;
     }
 
@@ -23,6 +22,6 @@ next_row-requires-clause-right c =
       looped = c.requires.right.looped;
       rows = c.requires.right.rows;
       cells = c.requires.right.cells;
-      room = ap (λ (n : Standing). length n.marks) c.pass_from.ensures.moved ∙ length-after (tree_in s) (standing_of (tree_in s) c.deref.result.now c.args.from) c.args.byte;
+      room = ap (λ (n : Standing). length n.marks) c.pass_from.ensures.moved ∙ length-after (tree_in s) c.index.result.now c.args.byte;
       loops = c.requires.right.loops;
     }

@@ -1,20 +1,21 @@
 -- Words that are counted: joined, and either of two.
-use Rattle.std.proofs.Common.{get_or, ◌≡◌, ℕ, zero, suc, ◌+◌, ◌<◌, ◌≤◌, ◌⊎◌, ◌&&◌, inl, inr, Bool, true, false, List, [], ◌∷◌, length, refl, sym, ◌∙◌, ap, subst, arith, Vec, Global, map, ◌++◌}
-use Rattle.std.proofs.lemmas.List.{append_cancel_left, length-map}
+use Rattle.std.proofs.Math.Seq.{take-suc}
+use Rattle.std.proofs.Common.{get_or, take, reverse, ◌≡◌, ℕ, zero, suc, ◌+◌, ◌<◌, ◌≤◌, ◌⊎◌, ◌&&◌, inl, inr, Bool, true, false, List, [], ◌∷◌, length, refl, sym, ◌∙◌, ap, subst, arith, Vec, Global, map, ◌++◌}
+use Rattle.std.proofs.lemmas.List.{append_cancel_left, length-map, reverse-append}
 use Rattle.std.proofs.lemmas.Bool.{and_from, cases_lt, le-leb}
 use Rattle.std.specs.Prelude.{Some, nat_le}
 use Rattle.cs_syntax.specs.Matching.{Tree, Trees, cat, alt, rep, empty, none, more}
 use Rattle.cs_trigram.specs.Windows.{IsMember}
 use Rattle.cs_trigram.specs.FiniteWords.{HaveFewWords, Rounds, is_finite, are_finite, HasWord, JoinWords, SomeHasWord}
-use Rattle.cs_trigram.specs.Sample.{with_words, joinings, IsSample, SamplesTree, SamplesRun, SamplesChoice}
-use Rattle.cs_trigram.specs.Counted.{HasMany, Counts}
+use Rattle.cs_trigram.specs.Sample.{with_words, joinings, IsSample, SamplesTree, SamplesRun, SamplesChoice, TreeWords}
+use Rattle.cs_trigram.specs.Counted.{HasMany, Counts, CountEach, AreCounted}
 use Rattle.cs_trigram.specs.declared.counted.Counted.{Counted}
 use Rattle.cs_trigram.specs.declared.counted.Counted.TheVariants.{Endless, Many, Few}
 use Rattle.cs_trigram.proofs.MemberLemmas.{member_map, map_member, different_map, different_within}
 use Rattle.cs_trigram.proofs.SampleLemmas.{sample_same, sample_words, fronts_few, backs_few}
 use Rattle.cs_trigram.specs.declared.words.Word.{Word}
 use Rattle.cs_trigram.proofs.RoundLemmas.{longer_rounds, rounds_longer}
-use Rattle.cs_trigram.proofs.FewLemmas.{joins_one, spells_one, run_step, choice_step, not_few, tree_not_finite}
+use Rattle.cs_trigram.proofs.FewLemmas.{joins_one, spells_one, run_step, choice_step, not_few, tree_not_finite, whole_words}
 
 abbrev pub pair : Tree → Tree → Trees
 pair t u = more t (more u none)
@@ -210,3 +211,29 @@ counts_not_few Endless t h other = tree_not_finite t h
 counts_not_few Many t h other =
     not_few h.0 (more t none) (sample_same h.0 (HasWord t) (JoinWords (more t none)) h.1.1 (joins_one t) (spells_one t)) (λ le. absurd (omega (arith, le, h.2)))
 counts_not_few (Few words) t h other = absurd (other words refl)
+
+-- few words that are counted
+pub counted_words : (words : Vec Word Global) (t : Tree) → Counts (Few words) t → 0 < length words.items → TreeWords words.items t
+counted_words words t h some = (h.0.0, whole_words words.items (HasWord t) h.0.1 some h.1)
+
+-- the words of each part, those of the first one last
+pub counted_more : (counts : List Counted) (c : Counted) (t : Tree) (ts : Trees) → Counts c t → AreCounted counts ts → AreCounted (counts ++ c ∷ []) (more t ts)
+counted_more counts c t ts h k = subst (λ (cs : List Counted). CountEach cs (more t ts)) (sym (reverse-append counts (c ∷ []))) (h, k)
+
+pub counted_first : (counts : List Counted) (n : ℕ) (c : Counted) (ts : Trees) → n < length counts → c ≡ get_or counts n c → AreCounted (take (n + 1) counts) ts →
+    (t : Tree) × (rest : Trees) × (ts ≡ more t rest) × Counts c t × AreCounted (take n counts) rest
+counted_first counts n c ts lt is h =
+    let next : n + 1 ≡ suc n = omega arith in
+    let same : reverse (take (n + 1) counts) ≡ c ∷ reverse (take n counts) =
+    ap (λ k. reverse (take k counts)) next ∙ ap reverse (take-suc counts n c lt)
+    ∙ reverse-append (take n counts) (get_or counts n c ∷ [])
+    ∙ ap (λ (x : Counted). x ∷ reverse (take n counts)) (sym is) in
+    by ts (subst (λ (cs : List Counted). CountEach cs ts) same h)
+  where
+    by : (us : Trees) → CountEach (c ∷ reverse (take n counts)) us → (t : Tree) × (rest : Trees) × (us ≡ more t rest) × Counts c t × AreCounted (take n counts) rest
+    by none k = absurd k
+    by (more t rest) k = (t, rest, refl, k.0, k.1)
+
+pub counted_none : (counts : List Counted) (ts : Trees) → counts ≡ [] → AreCounted counts ts → ts ≡ none
+counted_none counts none e h = refl
+counted_none counts (more t ts) e h = absurd (subst (λ (cs : List Counted). AreCounted cs (more t ts)) e h)

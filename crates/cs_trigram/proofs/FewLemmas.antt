@@ -199,6 +199,18 @@ too_many_behind ts t ws us r s odd =
     not_few (with_words [] (joinings ws us)) (append ts (more t none))
     (behind_sample ts t ws us (words_sample ws (JoinWords ts) r.1) (words_sample us (HasWord t) s.1)) (odd_count (length (with_words [] (joinings ws us))) odd)
 
+-- the words of a run of one
+pub run_words : (ws : List (List ℕ)) (t : Tree) → TreeWords ws t → RunWords ws (more t none)
+run_words ws t s = (
+  and_from (is_finite t) true s.0 refl,
+  record {
+    some = s.1.some;
+    few = s.1.few;
+    different = s.1.different;
+    each = λ w. (λ j. (s.1.each w).0 (spells_one t w j), λ m. joins_one t w ((s.1.each w).1 m));
+  },
+)
+
 pub not_few_behind : (ts : Trees) (t : Tree) → (HaveFewWords (more t none) → ⊥) → HaveFewWords (append ts (more t none)) → ⊥
 not_few_behind ts t no_few few = no_few (few_back ts (more t none) few)
 

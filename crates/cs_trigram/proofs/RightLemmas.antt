@@ -4,23 +4,17 @@ use Rattle.cs_trigram.specs.QueryNumbers.{are_trigrams}
 use Rattle.std.specs.Prelude.{Option}
 use Rattle.std.specs.List.{list_all}
 use Rattle.std.proofs.lemmas.Bool.{or_cases, or_left, or_right}
-use Rattle.cs_syntax.specs.Matching.{TakesSome, Tree, Trees, alt, rep, none, more, Chain, Takes}
+use Rattle.cs_syntax.specs.Matching.{Tree, Trees, alt, rep, none, more, Chain, Takes}
 use Rattle.cs_trigram.specs.Affixes.{part}
 use Rattle.cs_trigram.specs.Query.{holds, HasTrigrams, LosesNoLine}
-use Rattle.cs_trigram.specs.Windows.{HasWindows, SomeHasWindows}
-use Rattle.cs_trigram.specs.Sample.{some_holds, has_any, TreeWords, IsRight}
+use Rattle.cs_trigram.specs.Windows.{HasWindows}
+use Rattle.cs_trigram.specs.Sample.{some_holds, has_any, TreeWords, IsRight, AreRight}
 use Rattle.cs_trigram.specs.declared.queries.Query.{Query}
 use Rattle.cs_trigram.specs.declared.queries.Query.TheVariants.{All, Or}
 use Rattle.cs_trigram.proofs.AskedLemmas.{any_shown, shown_any}
 use Rattle.cs_trigram.proofs.SpellingLemmas.{spelled, spelled_windows}
 use Rattle.cs_trigram.proofs.PartTrigramLemmas.{has_part}
-use Rattle.cs_trigram.proofs.QueryLemmas.{holds-All, holds-Or, some_holds_push, numbers-All, numbers-Or, numbers_more}
-
--- queries of the branches of a choice
-pub record AreRight (queries : List Query) (ts : Trees) : Type 0 where
-  pub holding : (s : List ℕ) (set : ℕ → Bool) (i j : ℕ) → TakesSome s ts i j → HasTrigrams set s → some_holds queries set ≡ true
-  pub sharp : (set : ℕ → Bool) → some_holds queries set ≡ true → SomeHasWindows set ts
-  pub numbers : list_all are_trigrams queries ≡ true
+use Rattle.cs_trigram.proofs.QueryLemmas.{holds-All, holds-Or, some_holds_push, numbers-All, numbers-Or, numbers_more, numbers_push}
 
 -- a tree that asks nothing
 pub right_all : (t : Tree) → ((set : ℕ → Bool) → HasWindows set t) → IsRight All t
@@ -75,6 +69,17 @@ right_more queries q t ts own others = record {
       ];
   numbers = numbers_more queries q others.numbers own.numbers;
 }
+
+-- of branches that are asked for together
+pub right_one : (queries : List Query) (q : Query) (ts : Trees) → queries ≡ q ∷ [] → IsRight q (alt ts) → AreRight queries ts
+right_one queries q ts e r = record {
+  holding = λ s set i j h has. same set ∙ r.holding s set i j h has;
+  sharp = λ set h. r.sharp set (sym (same set) ∙ h);
+  numbers = ap (list_all are_trigrams) e ∙ numbers_push [] q ∙ r.numbers;
+}
+  where
+    same : (set : ℕ → Bool) → some_holds queries set ≡ holds q set
+    same set = ap (λ (qs : List Query). some_holds qs set) e ∙ some_holds_push set [] q
 
 pub right_choice : (members : Vec Query Global) (ts : Trees) → AreRight members.items ts → IsRight (Or members) (alt ts)
 right_choice members ts r = record {

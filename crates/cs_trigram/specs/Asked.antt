@@ -4,8 +4,8 @@ use Rattle.cs_trigram.specs.QueryNumbers.{are_trigrams}
 use Rattle.std.specs.List.{list_all}
 use Rattle.cs_syntax.specs.Matching.{Tree, Trees, more}
 use Rattle.cs_trigram.specs.Query.{holds, HasTrigrams}
-use Rattle.cs_trigram.specs.Affixes.{are_bare, FitsSome, AreAffixesOfAll}
-use Rattle.cs_trigram.specs.Sample.{IsAsked, all_hold, AsksToo, NumbersToo}
+use Rattle.cs_trigram.specs.Affixes.{are_bare, FitsSome}
+use Rattle.cs_trigram.specs.Sample.{IsAsked, all_hold}
 use Rattle.cs_trigram.specs.declared.queries.Query.{Query}
 use Rattle.cs_trigram.specs.declared.affixes.Affix.{Affix}
 use Rattle.cs_trigram.specs.declared.affixes.Side.TheVariants.{Prefix, Suffix}
@@ -19,26 +19,16 @@ IsAskedOf asked ts =
 abbrev pub goes_behind : List (List ℕ) → Affix → Bool
 goes_behind front suffix = suffix.whole && list_all (λ word. nat_lt (length suffix.word + 1) (length word)) front
 
--- the run at the front has each trigram that crosses the seam behind its first part, which has these suffixes
-abbrev pub has_all_across : Asked → List Affix → Bool
-has_all_across asked suffixes =
-    are_bare suffixes || (are_bare asked.prefixes.items || list_all (λ suffix. goes_behind asked.front.items suffix) suffixes)
+-- the run at the front has each trigram that crosses the seam behind its first part, which has these suffixes, before
+-- those behind it, which have these prefixes
+abbrev pub has_all_across : Asked → List Affix → List Affix → Bool
+has_all_across asked suffixes prefixes =
+    are_bare suffixes || (are_bare prefixes || list_all (λ suffix. goes_behind asked.front.items suffix) suffixes)
 
 -- the query holds where a set has the trigrams of a text with one of the suffixes before one with one of the prefixes
 abbrev pub HoldsAcross : Query → List Affix → List Affix → Type 0
 HoldsAcross query suffixes prefixes =
     (set : ℕ → Bool) (u v : List ℕ) → FitsSome Suffix suffixes u → FitsSome Prefix prefixes v → HasTrigrams set (u ++ v) → holds query set ≡ true
-
--- these needs ask what the old ones do, and what the test asks; their numbers are trigrams where those of the old ones are
-abbrev pub NeedsToo : Asked → Asked → ((ℕ → Bool) → Bool) → Type 0
-NeedsToo old asked test = AsksToo old.needs.items asked.needs.items test
-
-abbrev pub NeedNumbersToo : Asked → Asked → Bool → Type 0
-NeedNumbersToo old asked small = NumbersToo old.needs.items asked.needs.items small
-
--- a text of the parts begins with some of the prefixes
-abbrev pub BeginAs : Asked → Trees → Type 0
-BeginAs asked ts = AreAffixesOfAll Prefix asked.prefixes.items ts
 
 -- what was asked of the parts is asked of them with this one before them
 abbrev pub IsAskedBefore : Asked → Asked → Tree → Trees → Type 0

@@ -1,6 +1,6 @@
 -- The words of a tree, counted up to twenty.
-use Rattle.std.specs.Prelude.{ℕ, ◌≡◌, ◌≤◌, ◌<◌, false, List, length}
-use Rattle.cs_syntax.specs.Matching.{Tree}
+use Rattle.std.specs.Prelude.{ℕ, ◌≡◌, ◌≤◌, ◌<◌, false, List, [], ◌∷◌, length, reverse}
+use Rattle.cs_syntax.specs.Matching.{Tree, Trees, none, more}
 use Rattle.cs_trigram.specs.FiniteWords.{is_finite}
 use Rattle.cs_trigram.specs.Sample.{SamplesTree}
 use Rattle.cs_trigram.specs.declared.counted.Counted.{Counted}
@@ -15,3 +15,14 @@ abbrev pub Counts : Counted → Tree → Type 0
 Counts Endless t = is_finite t ≡ false
 Counts Many t = HasMany t
 Counts (Few words) t = SamplesTree words.items t × (length words.items ≤ 20)
+
+-- what is known of the words of each tree
+abbrev pub CountEach : List Counted → Trees → Type 0
+CountEach [] none = Unit {0}
+CountEach [] (more t ts) = ⊥
+CountEach (counted ∷ counts) none = ⊥
+CountEach (counted ∷ counts) (more t ts) = Counts counted t × CountEach counts ts
+
+-- the same, that of the first tree last
+abbrev pub AreCounted : List Counted → Trees → Type 0
+AreCounted counts ts = CountEach (reverse counts) ts

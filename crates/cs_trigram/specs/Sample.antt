@@ -4,11 +4,11 @@ use Rattle.cs_trigram.specs.QueryNumbers.{are_trigrams}
 use Rattle.cs_syntax.specs.TreeList.{append}
 use Rattle.std.specs.List.{list_any, list_all}
 use Rattle.std.specs.Str.{bytes_eq}
-use Rattle.cs_syntax.specs.Matching.{Tree, Trees, none, more, cat, rep, member, Takes, TakesAll}
+use Rattle.cs_syntax.specs.Matching.{Tree, Trees, none, more, cat, alt, rep, member, Takes, TakesAll, TakesSome}
 use Rattle.cs_trigram.specs.Trigram.{trigram_sequence}
 use Rattle.cs_trigram.specs.Query.{holds, HasTrigrams}
-use Rattle.cs_trigram.specs.Windows.{IsMember, HasWindows}
-use Rattle.cs_trigram.specs.FiniteWords.{HasWord, JoinWords, SomeHasWord, HaveFewWords, is_finite, are_finite}
+use Rattle.cs_trigram.specs.Windows.{IsMember, HasWindows, SomeHasWindows}
+use Rattle.cs_trigram.specs.FiniteWords.{HasWord, JoinWords, SomeHasWord, HaveFewWords, HasFewWords, is_finite, are_finite}
 use Rattle.cs_trigram.specs.declared.queries.Query.{Query}
 
 -- a word more, where there are at most twenty and it is not there
@@ -63,6 +63,9 @@ pub record IsFront (ts : Trees) (words : List (List ℕ)) : Type 0 where
 abbrev pub all_hold : List Query → (ℕ → Bool) → Bool
 all_hold queries set = list_all (λ q. holds q set) queries
 
+abbrev pub some_holds : List Query → (ℕ → Bool) → Bool
+some_holds queries set = list_any (λ q. holds q set) queries
+
 -- these queries ask what the old ones do, and what the test asks
 abbrev pub AsksToo : List Query → List Query → ((ℕ → Bool) → Bool) → Type 0
 AsksToo old queries test = (set : ℕ → Bool) → all_hold queries set ≡ (all_hold old set && test set)
@@ -76,6 +79,20 @@ pub record IsRight (query : Query) (t : Tree) : Type 0 where
   pub holding : (s : List ℕ) (set : ℕ → Bool) (i j : ℕ) → Takes s t i j → HasTrigrams set s → holds query set ≡ true
   pub sharp : (set : ℕ → Bool) → holds query set ≡ true → HasWindows set t
   pub numbers : are_trigrams query ≡ true
+
+-- the queries are right for the trees, one of which is taken
+pub record AreRight (queries : List Query) (ts : Trees) : Type 0 where
+  pub holding : (s : List ℕ) (set : ℕ → Bool) (i j : ℕ) → TakesSome s ts i j → HasTrigrams set s → some_holds queries set ≡ true
+  pub sharp : (set : ℕ → Bool) → some_holds queries set ≡ true → SomeHasWindows set ts
+  pub numbers : list_all are_trigrams queries ≡ true
+
+-- the query is the tree's own: it is right where the words of the tree are not few
+abbrev pub IsOwn : Query → Tree → Type 0
+IsOwn query t = (HasFewWords t → ⊥) → IsRight query t
+
+-- the same of the branches of a choice
+abbrev pub AreOwn : List Query → Trees → Type 0
+AreOwn queries ts = (HasFewWords (alt ts) → ⊥) → AreRight queries ts
 
 -- the query is right for at least so many rounds of the tree
 abbrev pub IsRightForRounds : Query → Tree → ℕ → Type 0
@@ -119,6 +136,3 @@ pub record IsAsked (front : List (List ℕ)) (needs : (ℕ → Bool) → Bool) (
   pub run : IsFront ts front
   pub holding : (s : List ℕ) (set : ℕ → Bool) (i j : ℕ) → TakesAll s ts i j → HasTrigrams set s → needs set ≡ true
   pub sharp : (set : ℕ → Bool) → needs set ≡ true → has_any set front ≡ true → HasWindows set (cat ts)
-
-abbrev pub some_holds : List Query → (ℕ → Bool) → Bool
-some_holds queries set = list_any (λ q. holds q set) queries

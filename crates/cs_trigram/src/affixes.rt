@@ -242,6 +242,23 @@ fn add_joined(
     add_joinings(alloc, side, near, fars.to(longest - len), affixes)
 }
 
+/// Whether the joinings are seen to be many before they are made: where the affixes in front are
+/// whole words of one length, no two joinings are the same.
+fn are_many(nears: &[Affix], fars: &Cuts, longest: usize) -> bool {
+    let Some(first) = nears.first() else {
+        return false;
+    };
+    let len = first.word.bytes().len();
+    if len > longest
+        || !nears
+            .iter()
+            .all(|near| near.whole && near.word.bytes().len() == len)
+    {
+        return false;
+    }
+    fars.to(longest - len).len() > MANY / nears.len().max(1)
+}
+
 /// The affixes of the one text at the side, and the other behind it, cut to so many bytes, where
 /// they are not many.
 fn few_joined(
@@ -254,6 +271,9 @@ fn few_joined(
     ensures { IfOk result (λ found. IfSome found (λ affixes. (all : List Affix) →
         AreCutsOf side fars.now all → AreAffixesOfTwo side nears.now all affixes.items)) }
 {
+    if are_many(nears, fars, longest) {
+        return Ok(None);
+    }
     let mut affixes = Vec::new(alloc);
     for near in nears {
         add_joined(alloc, side, near, fars, longest, &mut affixes)?;

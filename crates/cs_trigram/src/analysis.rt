@@ -1,16 +1,18 @@
-// The query of a pattern.
+// The query of a pattern, in one walk from its leaves.
 ghost use Rattle.std.specs.Prelude.{IfOk, IsTrue};
 ghost use Rattle.cs_trigram.specs.QueryNumbers.{are_trigrams};
 ghost use Rattle.cs_syntax.specs.Matching.{cat, alt};
 ghost use Rattle.cs_syntax.specs.Node.{tree_of, trees_of};
 ghost use Rattle.cs_trigram.specs.Query.{LosesNoLine};
 ghost use Rattle.cs_trigram.specs.Windows.{IsSharp};
-ghost use Rattle.cs_trigram.specs.Sample.{IsRight, IsRightForRounds};
+ghost use Rattle.cs_trigram.specs.Known.{IsKnown};
 
-use crate::asked::Asked;
-use crate::asking::any_word;
-use crate::fronts::few_words;
+use crate::choice::Choice;
+use crate::counted::Counted;
+use crate::known::{Known, asked, known_of_rounds, known_of_words};
 use crate::queries::Query;
+use crate::sequence::Sequence;
+use crate::spelling::{no_bytes, words_of_set};
 use cs_syntax::{Node, Pattern};
 use std::alloc::{AllocError, Global};
 
@@ -22,61 +24,51 @@ pub fn query(alloc: Global, pattern: &Pattern) -> Result<Query, AllocError>
     ensures sharp { IfOk result (λ query. IsSharp query pattern.now) }
     ensures numbers { IfOk result (λ query. IsTrue (are_trigrams query)) }
 {
-    query_of(alloc, pattern.tree())
+    let Known {
+        words,
+        ends: _,
+        query,
+    } = known_of(alloc, pattern.tree())?;
+    asked(alloc, &words, query)
 }
 
 #[cycle(query)]
-fn query_of(alloc: Global, node: &Node) -> Result<Query, AllocError>
-    ensures { IfOk result (λ query. IsRight query (tree_of node.now)) }
+fn known_of(alloc: Global, node: &Node) -> Result<Known, AllocError>
+    ensures { IfOk result (λ known. IsKnown known (tree_of node.now)) }
 {
-    if let Some(words) = few_words(alloc, node)? {
-        return any_word(alloc, &words);
-    }
     match node {
-        Node::Cat(parts) => query_of_sequence(alloc, parts),
-        Node::Alt(parts) => query_of_choice(alloc, parts),
-        Node::Rep(x, least, _) => query_of_repeat(alloc, x, *least),
-        Node::Empty
-        | Node::Set(_)
-        | Node::LineStart
-        | Node::LineEnd
-        | Node::WordEdge
-        | Node::NotWordEdge => Ok(Query::All),
+        Node::Cat(parts) => known_of_sequence(alloc, parts),
+        Node::Alt(parts) => known_of_choice(alloc, parts),
+        Node::Rep(x, least, most) => known_of_rounds(alloc, known_of(alloc, x)?, *least, *most),
+        Node::Set(set) => known_of_words(alloc, Counted::of(words_of_set(alloc, set)?)),
+        Node::Empty | Node::LineStart | Node::LineEnd | Node::WordEdge | Node::NotWordEdge => {
+            known_of_words(alloc, Counted::Few(no_bytes(alloc)?))
+        }
     }
 }
 
 #[cycle(query)]
-fn query_of_repeat(alloc: Global, node: &Node, least: u32) -> Result<Query, AllocError>
-    ensures { IfOk result (λ query. IsRightForRounds query (tree_of node.now) least) }
+fn known_of_sequence(alloc: Global, parts: &[Node]) -> Result<Known, AllocError>
+    ensures { IfOk result (λ known. IsKnown known (cat (trees_of parts.now))) }
 {
-    if least == 0 {
-        return Ok(Query::All);
-    }
-    query_of(alloc, node)
-}
-
-#[cycle(query)]
-fn query_of_sequence(alloc: Global, parts: &[Node]) -> Result<Query, AllocError>
-    ensures { IfOk result (λ query. IsRight query (cat (trees_of parts.now))) }
-{
-    let mut asked = Asked::new(alloc)?;
+    let mut sequence = Sequence::new(alloc)?;
     let mut at = parts.len();
     'parts: while at > 0 {
         at -= 1;
-        asked.add(alloc, query_of(alloc, &parts[at])?, &parts[at..])?;
+        sequence.add(alloc, known_of(alloc, &parts[at])?)?;
     }
-    asked.finish(alloc)
+    sequence.finish(alloc)
 }
 
 #[cycle(query)]
-fn query_of_choice(alloc: Global, parts: &[Node]) -> Result<Query, AllocError>
-    ensures { IfOk result (λ query. IsRight query (alt (trees_of parts.now))) }
+fn known_of_choice(alloc: Global, parts: &[Node]) -> Result<Known, AllocError>
+    ensures { IfOk result (λ known. IsKnown known (alt (trees_of parts.now))) }
 {
-    let mut members = Vec::new(alloc);
+    let mut choice = Choice::new(alloc);
     let mut at = parts.len();
     'parts: while at > 0 {
         at -= 1;
-        members.push(query_of(alloc, &parts[at])?)?;
+        choice.add(alloc, known_of(alloc, &parts[at])?)?;
     }
-    Ok(Query::Or(members))
+    Ok(choice.finish())
 }

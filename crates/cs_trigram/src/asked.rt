@@ -1,22 +1,22 @@
 // What the parts of a sequence ask, part by part from the last to the first.
-ghost use Rattle.std.specs.Prelude.{◌≡◌, ◌<◌, true, length, OnOk, IfOk};
+ghost use Rattle.std.specs.Prelude.{◌≡◌, true, List, IfOk, OnOk};
 ghost use Rattle.cs_trigram.specs.QueryNumbers.{are_trigrams};
 ghost use Rattle.std.specs.List.{list_all};
 ghost use Rattle.cs_syntax.specs.Matching.{Tree, Trees, none, more, cat};
-ghost use Rattle.cs_syntax.specs.Node.{tree_of, trees_of};
-ghost use Rattle.cs_trigram.specs.Query.{holds};
 ghost use Rattle.cs_trigram.specs.FiniteWords.{HasFewWords};
-ghost use Rattle.cs_trigram.specs.Sample.{all_hold, IsRight, TreeWords};
+ghost use Rattle.cs_trigram.specs.Affixes.{AreAffixes, AreAffixesOfAll};
+ghost use Rattle.cs_trigram.specs.Counted.{Counts, AreCounted};
+ghost use Rattle.cs_trigram.specs.Sample.{IsRight, IsOwn, TreeWords};
+ghost use Rattle.cs_trigram.specs.declared.affixes.Side.TheVariants.{Prefix, Suffix};
 
-use crate::affixes::{Affix, Side, are_empty, empty_affix, joined_affixes};
-use crate::asking::{add_query, any_word};
+use crate::affixes::{Affix, are_empty};
+use crate::asking::{add_need, any_word};
+use crate::counted::Counted;
 use crate::crossings::any_crossing;
-use crate::fronts::{few_words, longest_front};
+use crate::fronts::longest_front;
 use crate::queries::Query;
 use crate::spelling::no_bytes;
-use crate::tree_affixes::affixes_of;
 use crate::words::{FEW, Word, are_longer, joined_words};
-use cs_syntax::Node;
 use std::alloc::{AllocError, Global};
 use std::mem;
 
@@ -27,93 +27,63 @@ pub(crate) struct Asked {
     front: Vec<Word>,
     /// What is asked beside them.
     needs: Vec<Query>,
-    /// How texts of the parts begin.
-    prefixes: Vec<Affix>,
+    /// The words of each part, those of the first one last.
+    parts: Vec<Counted>,
 }
 
 impl Asked {
-    ghost use Rattle.cs_trigram.specs.Asked.{IsAskedOf, IsAskedBefore, NeedsToo, NeedNumbersToo, BeginAs, HoldsAcross, goes_behind, has_all_across};
+    ghost use Rattle.cs_trigram.specs.Asked.{IsAskedOf, IsAskedBefore, HoldsAcross, goes_behind, has_all_across};
 
     /// Of no parts.
     pub(crate) fn new(alloc: Global) -> Result<Asked, AllocError>
         ensures asks { IfOk result (λ asked. IsAskedOf asked none) }
-        ensures prefixes { IfOk result (λ asked. BeginAs asked none) }
+        ensures parts { IfOk result (λ asked. AreCounted asked.parts.items none) }
     {
         let front = no_bytes(alloc)?;
-        let prefixes = empty_affix(alloc)?;
         Ok(Asked {
             front,
             needs: Vec::new(alloc),
-            prefixes,
+            parts: Vec::new(alloc),
         })
-    }
-
-    /// Asks for the query too.
-    fn need(&mut self, query: Query) -> Result<(), AllocError>
-        ensures front { OnOk result (self.new.front ≡ self.old.front) }
-        ensures prefixes { OnOk result (self.new.prefixes ≡ self.old.prefixes) }
-        ensures needs { OnOk result (NeedsToo self.old self.new (holds query)) }
-        ensures numbers { OnOk result (NeedNumbersToo self.old self.new (are_trigrams query)) }
-    {
-        match query {
-            Query::All => Ok(()),
-            Query::And(members) => self.need_each(members),
-            query => add_query(&mut self.needs, query),
-        }
-    }
-
-    /// Asks for each of the queries too.
-    fn need_each(&mut self, queries: Vec<Query>) -> Result<(), AllocError>
-        ensures front { OnOk result (self.new.front ≡ self.old.front) }
-        ensures prefixes { OnOk result (self.new.prefixes ≡ self.old.prefixes) }
-        ensures needs { OnOk result (NeedsToo self.old self.new (all_hold queries.items)) }
-        ensures numbers { OnOk result (
-            NeedNumbersToo self.old self.new (list_all are_trigrams queries.items)) }
-    {
-        for query in queries {
-            add_query(&mut self.needs, query)?;
-        }
-        Ok(())
     }
 
     /// A part that has not few words goes before, with its own query.
     fn cut(&mut self, alloc: Global, own: Query) -> Result<(), AllocError>
-        ensures prefixes { OnOk result (self.new.prefixes ≡ self.old.prefixes) }
+        ensures parts { OnOk result (self.new.parts ≡ self.old.parts) }
         ensures asks { OnOk result ((t : Tree) (ts : Trees) → ¬ HasFewWords t → IsRight own t →
             IsAskedBefore self.old self.new t ts) }
     {
         let passed = mem::replace(&mut self.front, no_bytes(alloc)?);
-        self.need(any_word(alloc, &passed)?)?;
-        self.need(own)?;
+        add_need(&mut self.needs, any_word(alloc, &passed)?)?;
+        add_need(&mut self.needs, own)?;
         Ok(())
     }
 
-    /// The first of these parts, which has few words, goes before.
-    fn join(&mut self, alloc: Global, words: &[Word], parts: &[Node]) -> Result<(), AllocError>
-        ensures prefixes { OnOk result (self.new.prefixes ≡ self.old.prefixes) }
-        ensures asks { OnOk result ((t : Tree) (ts : Trees) → trees_of parts.now ≡ more t ts →
-            TreeWords words.now t → IsAskedBefore self.old self.new t ts) }
+    /// A part with these few words goes before.
+    fn join(&mut self, alloc: Global, words: &[Word]) -> Result<(), AllocError>
+        ensures parts { OnOk result (self.new.parts ≡ self.old.parts) }
+        ensures asks { OnOk result ((t : Tree) (ts : Trees) → TreeWords words.now t →
+            AreCounted self.old.parts.items ts → IsAskedBefore self.old self.new t ts) }
     {
         let joined = joined_words(alloc, words, &self.front)?;
         if joined.len() <= FEW {
             self.front = joined;
             return Ok(());
         }
-        let passed = mem::replace(&mut self.front, longest_front(alloc, parts)?);
-        self.need(any_word(alloc, &passed)?)?;
+        let longest = longest_front(alloc, words, &self.parts)?;
+        let passed = mem::replace(&mut self.front, longest);
+        add_need(&mut self.needs, any_word(alloc, &passed)?)?;
         Ok(())
     }
 
-    /// The first of these parts goes before, with its own query; what crosses its seam is not asked
-    /// yet.
-    fn put(&mut self, alloc: Global, own: Query, parts: &[Node]) -> Result<(), AllocError>
-        requires some { 0 < length parts.now }
-        ensures prefixes { OnOk result (self.new.prefixes ≡ self.old.prefixes) }
-        ensures asks { OnOk result ((t : Tree) (ts : Trees) → trees_of parts.now ≡ more t ts →
-            IsRight own t → IsAskedBefore self.old self.new t ts) }
+    /// A part goes before, with its own query; what crosses its seam is not asked yet.
+    fn put(&mut self, alloc: Global, own: Query, words: &Counted) -> Result<(), AllocError>
+        ensures parts { OnOk result (self.new.parts ≡ self.old.parts) }
+        ensures asks { OnOk result ((t : Tree) (ts : Trees) → Counts words.now t → IsOwn own t →
+            AreCounted self.old.parts.items ts → IsAskedBefore self.old self.new t ts) }
     {
-        match few_words(alloc, &parts[0])? {
-            Some(words) => self.join(alloc, &words, parts),
+        match words.few() {
+            Some(few) => self.join(alloc, few),
             None => self.cut(alloc, own),
         }
     }
@@ -133,71 +103,81 @@ impl Asked {
         suffixes.iter().all(|suffix| self.reaches_behind(suffix))
     }
 
-    /// Whether nothing crosses the seam behind the first part, which has these suffixes, but what
-    /// the run at the front has.
-    fn covers(&self, suffixes: &[Affix]) -> bool
-        ensures { result ≡ has_all_across self.now suffixes.now }
+    /// Whether nothing crosses the seam between the first part, which has these suffixes, and those
+    /// behind it, which have these prefixes, but what the run at the front has.
+    fn covers(&self, suffixes: &[Affix], prefixes: &[Affix]) -> bool
+        ensures { result ≡ has_all_across self.now suffixes.now prefixes.now }
     {
-        are_empty(suffixes) || are_empty(&self.prefixes) || self.reaches_behind_all(suffixes)
+        are_empty(suffixes) || are_empty(prefixes) || self.reaches_behind_all(suffixes)
     }
 
-    /// What the seam between the first part, which has these suffixes, and those behind it asks
-    /// beside the run at the front.
-    fn seam(&self, alloc: Global, suffixes: &[Affix]) -> Result<Query, AllocError>
-        ensures asks { IfOk result (λ q. HoldsAcross q suffixes.now self.now.prefixes.items) }
+    /// What the seam between the first part, which has these suffixes, and those behind it, which
+    /// have these prefixes, asks beside the run at the front.
+    fn seam(
+        &self,
+        alloc: Global,
+        suffixes: &[Affix],
+        prefixes: &[Affix],
+    ) -> Result<Query, AllocError>
+        ensures asks { IfOk result (λ q. HoldsAcross q suffixes.now prefixes.now) }
         ensures numbers { IfOk result (λ query. are_trigrams query ≡ true) }
     {
-        if self.covers(suffixes) {
+        if self.covers(suffixes, prefixes) {
             return Ok(Query::All);
         }
-        any_crossing(alloc, suffixes, &self.prefixes)
+        any_crossing(alloc, suffixes, prefixes)
     }
 
     /// Asks for what crosses the seam between the first part and those behind it.
-    fn cross(&mut self, alloc: Global, part: &Node) -> Result<(), AllocError>
-        ensures asks { OnOk result ((ts : Trees) → BeginAs self.old ts →
-            IsAskedOf self.old (more (tree_of part.now) ts) →
-            IsAskedOf self.new (more (tree_of part.now) ts)) }
-        ensures prefixes { OnOk result ((ts : Trees) → BeginAs self.old ts →
-            BeginAs self.new (more (tree_of part.now) ts)) }
+    fn cross(
+        &mut self,
+        alloc: Global,
+        suffixes: &[Affix],
+        prefixes: &[Affix],
+    ) -> Result<(), AllocError>
+        ensures parts { OnOk result (self.new.parts ≡ self.old.parts) }
+        ensures asks { OnOk result ((t : Tree) (ts : Trees) → AreAffixes Suffix suffixes.now t →
+            AreAffixesOfAll Prefix prefixes.now ts →
+            IsAskedOf self.old (more t ts) → IsAskedOf self.new (more t ts)) }
     {
-        let suffixes = affixes_of(alloc, Side::Suffix, part)?;
-        self.need(self.seam(alloc, &suffixes)?)?;
-        let nears = affixes_of(alloc, Side::Prefix, part)?;
-        let prefixes = joined_affixes(alloc, Side::Prefix, &nears, &self.prefixes)?;
-        self.prefixes = prefixes;
+        let seam = self.seam(alloc, suffixes, prefixes)?;
+        add_need(&mut self.needs, seam)?;
         Ok(())
     }
 
-    /// The first of these parts goes before, with its own query.
+    /// A part with these suffixes goes before, with its own query. Those behind it have these
+    /// prefixes.
     pub(crate) fn add(
         &mut self,
         alloc: Global,
         own: Query,
-        parts: &[Node],
+        words: Counted,
+        suffixes: &[Affix],
+        prefixes: &[Affix],
     ) -> Result<(), AllocError>
-        requires some { 0 < length parts.now }
-        ensures asks { OnOk result ((t : Tree) (ts : Trees) → trees_of parts.now ≡ more t ts →
-            IsRight own t → BeginAs self.old ts → IsAskedBefore self.old self.new t ts) }
-        ensures prefixes { OnOk result ((t : Tree) (ts : Trees) → trees_of parts.now ≡ more t ts →
-            BeginAs self.old ts → BeginAs self.new (more t ts)) }
+        ensures parts { OnOk result ((t : Tree) (ts : Trees) → Counts words t →
+            AreCounted self.old.parts.items ts → AreCounted self.new.parts.items (more t ts)) }
+        ensures asks { OnOk result ((t : Tree) (ts : Trees) → Counts words t → IsOwn own t →
+            AreAffixes Suffix suffixes.now t → AreAffixesOfAll Prefix prefixes.now ts →
+            AreCounted self.old.parts.items ts → IsAskedBefore self.old self.new t ts) }
     {
-        self.put(alloc, own, parts)?;
-        self.cross(alloc, &parts[0])?;
+        self.put(alloc, own, &words)?;
+        self.cross(alloc, suffixes, prefixes)?;
+        self.parts.push(words)?;
         Ok(())
     }
 
     /// The query of the whole sequence.
-    pub(crate) fn finish(mut self, alloc: Global) -> Result<Query, AllocError>
+    pub(crate) fn finish(self, alloc: Global) -> Result<Query, AllocError>
         ensures { IfOk result (λ query. (ts : Trees) → IsAskedOf self ts → IsRight query (cat ts)) }
     {
-        let last = any_word(alloc, &self.front)?;
-        self.need(last)?;
         let Asked {
-            front: _,
-            needs,
-            prefixes: _,
+            front,
+            mut needs,
+            parts: _,
         } = self;
+        let last = any_word(alloc, &front)?;
+        add_need(&mut needs, last)?;
         Ok(Query::And(needs))
     }
 }

@@ -5,11 +5,16 @@ ghost use Rattle.std.specs.List.{list_all};
 ghost use Rattle.cs_trigram.specs.Trigram.{trigram, trigram_count};
 ghost use Rattle.cs_trigram.specs.Query.{holds};
 ghost use Rattle.cs_trigram.specs.declared.queries.Query.TheVariants.{Tri};
-ghost use Rattle.cs_trigram.specs.Sample.{some_holds, AsksToo, NumbersToo, AsksForText, AsksForWord};
+ghost use Rattle.cs_trigram.specs.Sample.{all_hold, some_holds, AsksToo, NumbersToo, AsksForText, AsksForWord};
 
 use crate::queries::Query;
 use crate::words::Word;
 use std::alloc::{AllocError, Global};
+use std::mem;
+
+/// A trigram is looked for among so many members at most, so that a long word takes no longer than
+/// its bytes.
+const LAST: usize = 64;
 
 /// The number of three bytes.
 pub(crate) fn trigram(a: u8, b: u8, c: u8) -> u32
@@ -19,12 +24,15 @@ pub(crate) fn trigram(a: u8, b: u8, c: u8) -> u32
     65536 * a as u32 + 256 * b as u32 + c as u32
 }
 
-/// Whether the trigram is one of the members.
+/// Whether the trigram is seen to be one of the members: among the last of them.
 fn has_trigram(members: &[Query], number: u32) -> bool
     ensures { IsTrue result → Contains members.now (Tri number) }
 {
-    for member in members {
-        if let Query::Tri(other) = member
+    let least = members.len().saturating_sub(LAST);
+    let mut at = members.len();
+    'members: while at > least {
+        at -= 1;
+        if let Query::Tri(other) = &members[at]
             && *other == number
         {
             return true;
@@ -58,6 +66,44 @@ pub(crate) fn add_query(members: &mut Vec<Query>, query: Query) -> Result<(), Al
             members.push(query)?;
             Ok(())
         }
+    }
+}
+
+/// Asks for each of the queries too.
+fn add_each(needs: &mut Vec<Query>, queries: Vec<Query>) -> Result<(), AllocError>
+    ensures asks { OnOk result (AsksToo needs.old.items needs.new.items (all_hold queries.items)) }
+    ensures numbers { OnOk result (
+        NumbersToo needs.old.items needs.new.items (list_all are_trigrams queries.items)) }
+{
+    for query in queries {
+        add_query(needs, query)?;
+    }
+    Ok(())
+}
+
+/// Asks for each of the queries too, where the fewer are gone through.
+fn add_members(needs: &mut Vec<Query>, queries: Vec<Query>) -> Result<(), AllocError>
+    ensures asks { OnOk result (AsksToo needs.old.items needs.new.items (all_hold queries.items)) }
+    ensures numbers { OnOk result (
+        NumbersToo needs.old.items needs.new.items (list_all are_trigrams queries.items)) }
+{
+    if queries.len() <= needs.len() {
+        return add_each(needs, queries);
+    }
+    let fewer = mem::replace(needs, queries);
+    add_each(needs, fewer)
+}
+
+/// Asks for the query too, and so for each member of one that asks for all of them.
+pub(crate) fn add_need(needs: &mut Vec<Query>, query: Query) -> Result<(), AllocError>
+    ensures asks { OnOk result (AsksToo needs.old.items needs.new.items (holds query)) }
+    ensures numbers { OnOk result (
+        NumbersToo needs.old.items needs.new.items (are_trigrams query)) }
+{
+    match query {
+        Query::All => Ok(()),
+        Query::And(members) => add_members(needs, members),
+        query => add_query(needs, query),
     }
 }
 

@@ -1,11 +1,11 @@
 // The words of a tree, counted up to twenty.
-ghost use Rattle.std.specs.Prelude.{◌≡◌, ◌≤◌, length, not, IfOk};
+ghost use Rattle.std.specs.Prelude.{◌≡◌, ◌≤◌, length, not, IfOk, MatchOption};
 ghost use Rattle.cs_syntax.specs.Matching.{Tree, cat, alt, none, more};
-ghost use Rattle.cs_trigram.specs.FiniteWords.{is_finite};
-ghost use Rattle.cs_trigram.specs.Sample.{SamplesTree};
+ghost use Rattle.cs_trigram.specs.FiniteWords.{is_finite, HasFewWords};
+ghost use Rattle.cs_trigram.specs.Sample.{SamplesTree, TreeWords};
 ghost use Rattle.cs_trigram.specs.Counted.{HasMany, Counts};
 
-use crate::words::{FEW, Word, add_words, joined_words, words_behind_one};
+use crate::words::{FEW, Word, add_words, copies, joined_words, words_behind_one};
 use std::alloc::{AllocError, Global};
 
 /// What is known of the words of a tree.
@@ -37,9 +37,20 @@ impl Counted {
         matches!(self, Counted::Endless)
     }
 
-    /// Whether there are at most twenty.
-    pub(crate) fn is_few(&self) -> bool {
-        matches!(self, Counted::Few(_))
+    /// The words, where there are at least one and at most twenty.
+    pub(crate) fn few(&self) -> Option<&[Word]>
+        ensures { MatchOption result ((t : Tree) → Counts self.now t → ¬ HasFewWords t)
+            (λ words. (t : Tree) → Counts self.now t → TreeWords words.now t) }
+    {
+        match self {
+            Counted::Few(words) => {
+                if words.is_empty() {
+                    return None;
+                }
+                Some(words.as_slice())
+            }
+            _ => None,
+        }
     }
 
     /// Many words with each of these behind them.
@@ -62,7 +73,8 @@ impl Counted {
     /// A few words with each of these behind them.
     fn behind_few(&self, alloc: Global, fronts: &[Word]) -> Result<Counted, AllocError>
         ensures { IfOk result (λ joined. (t u : Tree) → SamplesTree fronts.now t →
-            length fronts.now ≤ 20 → Counts self.now u → Counts joined (cat (more t (more u none)))) }
+            length fronts.now ≤ 20 → Counts self.now u →
+            Counts joined (cat (more t (more u none)))) }
     {
         match self {
             Counted::Endless => Ok(Counted::Endless),
@@ -94,8 +106,9 @@ impl Counted {
     }
 
     /// These, or some of many words.
-    fn or_many(self) -> Counted
-        ensures { (t u : Tree) → Counts self t → HasMany u → Counts result (alt (more t (more u none))) }
+    fn or_many(&self) -> Counted
+        ensures { (t u : Tree) → Counts self.now t → HasMany u →
+            Counts result (alt (more t (more u none))) }
     {
         match self {
             Counted::Endless => Counted::Endless,
@@ -104,30 +117,30 @@ impl Counted {
     }
 
     /// These, or some of a few words.
-    fn or_few(self, words: Vec<Word>) -> Result<Counted, AllocError>
-        ensures { IfOk result (λ either. (t u : Tree) → Counts self t → SamplesTree words.items u →
-            length words.items ≤ 20 → Counts either (alt (more t (more u none)))) }
+    fn or_few(&self, alloc: Global, words: &[Word]) -> Result<Counted, AllocError>
+        ensures { IfOk result (λ either. (t u : Tree) → Counts self.now t →
+            SamplesTree words.now u → length words.now ≤ 20 → Counts either (alt (more t (more u none)))) }
     {
         match self {
             Counted::Endless => Ok(Counted::Endless),
             Counted::Many => Ok(Counted::Many),
             Counted::Few(more) => {
-                let mut all = words;
-                add_words(&mut all, more)?;
+                let mut all = copies(alloc, words)?;
+                add_words(alloc, &mut all, more)?;
                 Ok(Counted::of(all))
             }
         }
     }
 
     /// These, or some of the others.
-    pub(crate) fn or(self, others: Counted) -> Result<Counted, AllocError>
-        ensures { IfOk result (λ either. (t u : Tree) → Counts self t → Counts others u →
+    pub(crate) fn or(&self, alloc: Global, others: &Counted) -> Result<Counted, AllocError>
+        ensures { IfOk result (λ either. (t u : Tree) → Counts self.now t → Counts others.now u →
             Counts either (alt (more t (more u none)))) }
     {
         match others {
             Counted::Endless => Ok(Counted::Endless),
             Counted::Many => Ok(self.or_many()),
-            Counted::Few(words) => self.or_few(words),
+            Counted::Few(words) => self.or_few(alloc, words),
         }
     }
 }

@@ -44,6 +44,18 @@ fn crossing_words(
     Ok(words)
 }
 
+/// Whether some affix has at most so many bytes.
+fn has_short(affixes: &[Affix], most: usize) -> bool {
+    affixes.iter().any(|affix| affix.word.bytes().len() <= most)
+}
+
+/// Whether some joining has no trigram, so that nothing is asked.
+fn have_bare_joining(suffixes: &[Affix], prefixes: &[Affix]) -> bool {
+    has_short(suffixes, 0) && has_short(prefixes, 2)
+        || has_short(suffixes, 1) && has_short(prefixes, 1)
+        || has_short(suffixes, 2) && has_short(prefixes, 0)
+}
+
 /// The trigrams of some joining of the suffixes of a text with the prefixes of another are there.
 pub(crate) fn any_crossing(
     alloc: Global,
@@ -53,6 +65,9 @@ pub(crate) fn any_crossing(
     ensures asks { IfOk result (λ query. HoldsAcross query suffixes.now prefixes.now) }
     ensures numbers { IfOk result (λ query. are_trigrams query ≡ true) }
 {
+    if have_bare_joining(suffixes, prefixes) {
+        return Ok(Query::All);
+    }
     let words = crossing_words(alloc, suffixes, prefixes)?;
     any_word(alloc, &words)
 }

@@ -36,7 +36,8 @@ fn put(cells: &mut [u64], list: &mut [u32], len: usize, number: u32) -> usize
 fn put_part(cells: &mut [u64], list: &mut [u32], len: usize, part: u64) -> usize
     requires cells { length cells.old ≡ 262144 }
     requires room { len + 4 ≤ length list.old }
-    ensures collects { CollectsOn cells.old list.old len cells.new list.new result (part_trigrams part) }
+    ensures collects { CollectsOn cells.old list.old len cells.new list.new result
+        (part_trigrams part) }
     ensures counted { result ≤ len + 4 }
 {
     let mut len = len;
@@ -50,7 +51,8 @@ fn put_part(cells: &mut [u64], list: &mut [u32], len: usize, part: u64) -> usize
 fn put_parts(cells: &mut [u64], list: &mut [u32], len: usize, parts: &[u64]) -> usize
     requires cells { length cells.old ≡ 262144 }
     requires room { len + 4 * length parts.now ≤ length list.old }
-    ensures collects { CollectsOn cells.old list.old len cells.new list.new result (parts_trigrams parts.now) }
+    ensures collects { CollectsOn cells.old list.old len cells.new list.new result
+        (parts_trigrams parts.now) }
     ensures counted { result ≤ len + 4 * length parts.now }
 {
     let mut len = len;
@@ -64,7 +66,8 @@ fn put_parts(cells: &mut [u64], list: &mut [u32], len: usize, parts: &[u64]) -> 
 fn put_bytes(cells: &mut [u64], list: &mut [u32], len: usize, bytes: &[u8]) -> usize
     requires cells { length cells.old ≡ 262144 }
     requires room { len + length bytes.now ≤ length list.old }
-    ensures collects { CollectsOn cells.old list.old len cells.new list.new result (trigram_sequence bytes.now) }
+    ensures collects { CollectsOn cells.old list.old len cells.new list.new result
+        (trigram_sequence bytes.now) }
     ensures counted { result ≤ len + length bytes.now }
 {
     let mut len = len;

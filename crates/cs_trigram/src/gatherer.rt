@@ -123,11 +123,13 @@ impl Gatherer {
     /// Reads a file, and says what it is.
     pub(crate) fn read<R: Source>(&mut self, source: &mut R) -> Result<Ended, ScanFault>
         requires { IsReady self.old }
-        ensures told { IsRightOf self.old.limits (numbers_of self.new.found) (R.told source.old) result }
+        ensures told { IsRightOf self.old.limits (numbers_of self.new.found)
+            (R.told source.old) result }
         ensures trigrams { IfOk result (HasNumbers (numbers_of self.new.found)) }
         ensures failed { R.failed source.new ≡
             count_after is_scan_failure result (R.failed source.old) }
-        ensures bounded { LosesAtMost (self.old.limits.bytes + 1) (R.told source.old) (R.told source.new) }
+        ensures bounded { LosesAtMost (self.old.limits.bytes + 1)
+            (R.told source.old) (R.told source.new) }
         ensures keeps { R.Keeps source.old source.new }
         ensures ready { IsReadyFor self.old.limits self.new }
     {
@@ -162,7 +164,8 @@ impl Gatherer {
         ensures trigrams { IfOk result HasTrigramSet }
         ensures failed { R.failed source.new ≡
             count_after is_scan_failure result (R.failed source.old) }
-        ensures bounded { LosesAtMost (self.old.limits.bytes + 1) (R.told source.old) (R.told source.new) }
+        ensures bounded { LosesAtMost (self.old.limits.bytes + 1)
+            (R.told source.old) (R.told source.new) }
         ensures keeps { R.Keeps source.old source.new }
         ensures ready { IsReadyFor self.old.limits self.new }
     {

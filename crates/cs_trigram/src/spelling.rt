@@ -1,14 +1,13 @@
 // The words of finite trees.
 ghost use Rattle.std.specs.Prelude.{◌≡◌, ◌≤◌, ◌+◌, [], ◌∷◌, IfOk, OnOk, Some, ℕ, true};
-ghost use Rattle.cs_syntax.specs.Matching.{Tree, one_of, rep, cat, alt};
-ghost use Rattle.cs_syntax.specs.Node.{tree_of, trees_of};
+ghost use Rattle.cs_syntax.specs.Matching.{Tree, one_of, rep};
 ghost use Rattle.cs_trigram.specs.FiniteWords.{is_finite, HasWord};
 ghost use Rattle.cs_trigram.specs.Sample.{with_byte, IsSample};
 ghost use Rattle.cs_trigram.specs.Counted.{Counts};
 
 use crate::counted::Counted;
 use crate::words::{FEW, Word, add_word};
-use cs_syntax::{ByteSet, Node};
+use cs_syntax::ByteSet;
 use std::alloc::{AllocError, Global};
 
 /// The word without bytes, alone.
@@ -54,7 +53,7 @@ fn rounds_up_to(alloc: Global, once: &Counted, most: u32) -> Result<Counted, All
     for _round in 0..most {
         words = once
             .joined(alloc, &words)?
-            .or(Counted::Few(no_bytes(alloc)?))?;
+            .or(alloc, &Counted::Few(no_bytes(alloc)?))?;
     }
     Ok(words)
 }
@@ -95,69 +94,4 @@ pub(crate) fn words_of_rounds(
     }
     let beyond = rounds_up_to(alloc, once, most - least)?;
     rounds_before(alloc, once, least, beyond)
-}
-
-/// What is known of the words of the tree.
-#[cycle(spell)]
-pub(crate) fn words_of(alloc: Global, node: &Node) -> Result<Counted, AllocError>
-    ensures { IfOk result (λ words. Counts words (tree_of node.now)) }
-{
-    match node {
-        Node::Empty | Node::LineStart | Node::LineEnd | Node::WordEdge | Node::NotWordEdge => Ok(
-            Counted::Few(no_bytes(alloc)?),
-        ),
-        Node::Set(set) => Ok(Counted::of(words_of_set(alloc, set)?)),
-        Node::Cat(parts) => words_of_run(alloc, parts),
-        Node::Alt(parts) => words_of_choice(alloc, parts),
-        Node::Rep(x, least, most) => words_of_repeat(alloc, x, *least, *most),
-    }
-}
-
-#[cycle(spell)]
-fn words_of_run(alloc: Global, parts: &[Node]) -> Result<Counted, AllocError>
-    ensures { IfOk result (λ words. Counts words (cat (trees_of parts.now))) }
-{
-    let mut words = Counted::Few(no_bytes(alloc)?);
-    let mut at = parts.len();
-    'parts: while at > 0 {
-        at -= 1;
-        let fronts = words_of(alloc, &parts[at])?;
-        if fronts.is_endless() {
-            return Ok(Counted::Endless);
-        }
-        words = fronts.joined(alloc, &words)?;
-    }
-    Ok(words)
-}
-
-#[cycle(spell)]
-fn words_of_choice(alloc: Global, parts: &[Node]) -> Result<Counted, AllocError>
-    ensures { IfOk result (λ words. Counts words (alt (trees_of parts.now))) }
-{
-    let mut words = Counted::Few(Vec::new(alloc));
-    let mut at = parts.len();
-    'parts: while at > 0 {
-        at -= 1;
-        let branch = words_of(alloc, &parts[at])?;
-        if branch.is_endless() {
-            return Ok(Counted::Endless);
-        }
-        words = branch.or(words)?;
-    }
-    Ok(words)
-}
-
-#[cycle(spell)]
-fn words_of_repeat(
-    alloc: Global,
-    node: &Node,
-    least: u32,
-    most: Option<u32>,
-) -> Result<Counted, AllocError>
-    ensures { IfOk result (λ words. Counts words (rep (tree_of node.now) least most)) }
-{
-    if most.is_none() {
-        return Ok(Counted::Endless);
-    }
-    words_of_rounds(alloc, &words_of(alloc, node)?, least, most)
 }

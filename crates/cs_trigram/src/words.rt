@@ -115,13 +115,27 @@ pub(crate) fn add_word(words: &mut Vec<Word>, word: Word) -> Result<(), AllocErr
     Ok(())
 }
 
+/// The words once more.
+pub(crate) fn copies(alloc: Global, words: &[Word]) -> Result<Vec<Word>, AllocError>
+    ensures { IfOk result (λ copies. copies.items ≡ words.now) }
+{
+    let mut copies = Vec::with_capacity(alloc, words.len())?;
+    for word in words {
+        copies.push(word.copy(alloc)?)?;
+    }
+    Ok(copies)
+}
+
 /// Adds words that are not there yet, up to one more than are few.
-#[tactic(auto, using(crate::proofs::SampleLemmas::with_words_append))]
-pub(crate) fn add_words(words: &mut Vec<Word>, more: Vec<Word>) -> Result<(), AllocError>
-    ensures { OnOk result (words.new.items ≡ with_words words.old.items more.items) }
+pub(crate) fn add_words(
+    alloc: Global,
+    words: &mut Vec<Word>,
+    more: &[Word],
+) -> Result<(), AllocError>
+    ensures { OnOk result (words.new.items ≡ with_words words.old.items more.now) }
 {
     for word in more {
-        add_word(words, word)?;
+        add_word(words, word.copy(alloc)?)?;
     }
     Ok(())
 }

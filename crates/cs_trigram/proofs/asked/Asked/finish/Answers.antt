@@ -13,12 +13,12 @@ pub returns : goal.returns
 returns c = λ ts asked.
     let front = c.args.self.front.items in
     let needs : (ℕ → Bool) → Bool = λ set. all_hold c.args.self.needs.items set in
-    let whole : (ℕ → Bool) → Bool = λ set. holds (And c.need.new.self.needs) set in
+    let whole : (ℕ → Bool) → Bool = λ set. holds (And c.add_need.new.needs) set in
     let is : (set : ℕ → Bool) → whole set ≡ (needs set && has_any set front) =
-    λ set. holds-And set c.need.new.self.needs ∙ c.in_ok-need.ensures.needs set ∙ ap (λ b. needs set && b) (c.in_ok-last.ensures.asks set ∙ ap (has_any set) c.deref.ensures.value) in
+    λ set. holds-And set c.add_need.new.needs ∙ c.in_ok-add_need.ensures.asks set ∙ ap (λ b. needs set && b) (c.in_ok-last.ensures.asks set ∙ ap (has_any set) c.deref.ensures.value) in
     let right = asked_whole front needs whole ts asked.0 is in
     record {
       holding = right.0;
       sharp = right.1;
-      numbers = numbers-And c.need.new.self.needs ∙ c.in_ok-need.ensures.numbers ∙ and_from (list_all are_trigrams c.args.self.needs.items) _ asked.1 c.in_ok-last.ensures.numbers;
+      numbers = numbers-And c.add_need.new.needs ∙ c.in_ok-add_need.ensures.numbers ∙ and_from (list_all are_trigrams c.args.self.needs.items) _ asked.1 c.in_ok-last.ensures.numbers;
     }

@@ -2,11 +2,11 @@ use Rattle.std.proofs.Common.{ℕ, List, sym, ap, subst}
 use Rattle.cs_trigram.specs.QueryNumbers.{are_trigrams}
 use Rattle.cs_syntax.specs.Matching.{none}
 use Rattle.std.specs.List.{list_all}
+use Rattle.cs_trigram.specs.Counted.{AreCounted}
 use Rattle.cs_trigram.specs.Sample.{IsAsked, all_hold}
+use Rattle.cs_trigram.specs.declared.counted.Counted.{Counted}
 use Rattle.cs_trigram.specs.declared.queries.Query.{Query}
 use Rattle.cs_trigram.proofs.AskedLemmas.{asked_none}
-use Rattle.cs_trigram.specs.declared.affixes.Side.TheVariants.{Prefix}
-use Rattle.cs_trigram.proofs.AffixLemmas.{affixes_none}
 use Rattle.cs_trigram.proofs.asked.Asked.new.Goals as goal
 
 pub returns-clause-asks : goal.returns-clause-asks
@@ -16,5 +16,5 @@ returns-clause-asks c = (
   ap (list_all are_trigrams) c.new.ensures.items,
 )
 
-pub returns-clause-prefixes : goal.returns-clause-prefixes
-returns-clause-prefixes c = affixes_none Prefix c.in_ok-prefixes.prefixes.items (c.in_ok-prefixes.ensures Prefix)
+pub returns-clause-parts : goal.returns-clause-parts
+returns-clause-parts c = subst (λ (cs : List Counted). AreCounted cs none) (sym c.new-2.ensures.items) tt

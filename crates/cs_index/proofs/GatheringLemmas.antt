@@ -33,14 +33,6 @@ ids_at (p ∷ lists) (suc k) h up =
     let apart : eqb p.0 g ≡ false = ne_eqb p.0 g (λ e. true≢false (sym (has-key_at lists k (omega (arith, h))) ∙ ap (has (keys lists)) (sym e) ∙ up.0)) in
     ap (λ b. cond b p.1 (ids_of lists g)) apart ∙ ids_at lists k (omega (arith, h)) up.1
 
-pub gathered_at : (lists : List Posting) (k id : ℕ) → k < length lists → AreDistinct (keys lists) → with_id lists (get_or lists k (0, [])).0 id ≡ set lists k ((get_or lists k (0, [])).0, (get_or lists k (0, [])).1 ++ id ∷ [])
-gathered_at [] k id h up = absurd (omega (arith, h))
-gathered_at (p ∷ lists) zero id h up = ap (λ b. cond b ((p.0, p.1 ++ id ∷ []) ∷ lists) (p ∷ with_id lists p.0 id)) (eq-eqb p.0 p.0 refl)
-gathered_at (p ∷ lists) (suc k) id h up =
-    let g : ℕ = (get_or lists k (0, [])).0 in
-    let apart : eqb p.0 g ≡ false = ne_eqb p.0 g (λ e. true≢false (sym (has-key_at lists k (omega (arith, h))) ∙ ap (has (keys lists)) (sym e) ∙ up.0)) in
-    ap (λ b. cond b ((p.0, p.1 ++ id ∷ []) ∷ lists) (p ∷ with_id lists g id)) apart ∙ ap (λ rest. p ∷ rest) (gathered_at lists k id (omega (arith, h)) up.1)
-
 -- a trigram without a list
 pub gathered_new : (lists : List Posting) (g id : ℕ) → has (keys lists) g ≡ false → with_id lists g id ≡ lists ++ (g, id ∷ []) ∷ []
 gathered_new [] g id h = refl

@@ -1,22 +1,23 @@
 -- What the fields of `Sections` hold, and one step more.
-use Rattle.std.proofs.Common.{◌≡◌, ◌≢◌, ◌||◌, ℕ, ◌+◌, ◌-◌, ◌^◌, ◌<◌, ◌≤◌, false, cond, eqb, List, [], ◌∷◌, ◌++◌, length, map, get_or, None, Some, Ok, Err, Vec, Global, refl, sym, ap, subst, ◌∙◌, inl, inr, arith, append_assoc, length-append}
+use Rattle.std.proofs.Common.{◌≡◌, ◌≢◌, ◌||◌, ℕ, ◌+◌, ◌-◌, ◌^◌, ◌<◌, ◌≤◌, false, cond, eqb, List, [], ◌∷◌, ◌++◌, length, map, get_or, Option, None, Some, Ok, Err, Vec, Global, refl, sym, ap, subst, ◌∙◌, inl, inr, arith, append_assoc, length-append}
 use Rattle.cs_trigram.specs.Trigram.{has, Ascends}
 use Rattle.cs_trigram.proofs.SetLemmas.{Above, ascends_tail, ascends_head}
 use Rattle.std.proofs.lemmas.Bool.{cases_Bool, eqb-true, eq-eqb, ne_eqb, or_parts}
-use Rattle.std.proofs.lemmas.List.{append-nil, length_push}
+use Rattle.std.proofs.lemmas.List.{append-nil, length-map, length_push}
 use Rattle.std.specs.List.{AllByRecursion}
 use Rattle.std.specs.Option.{option_map_or}
 use Rattle.cs_index.specs.declared.writing.sections.Sections.TheInside.{Inside}
-use Rattle.std.specs.Prelude.{Result, IfOk}
+use Rattle.std.specs.Prelude.{Result, IfOk, flat_map}
 use Rattle.cs_index.specs.declared.fault.BuildFault.{BuildFault}
 use Rattle.cs_index.specs.Spelling.{IsIndexable}
-use Rattle.cs_index.specs.Image.{Posting, ListEntry, concat, four_bytes, image_of, layout, list_entries, posting_list, sections_of, three_bytes, varint}
+use Rattle.cs_index.specs.Image.{Posting, ListEntry, concat, four_bytes, image_of, layout, list_entries, posting_list, sections_of, three_bytes, varint, deltas_from}
 use Rattle.cs_index.specs.IdStream.{most_ids, next_after, stream_of, ids_in, IsStream}
-use Rattle.cs_index.specs.Rising.{RiseWithin, IsPosting}
+use Rattle.cs_index.specs.Rising.{RiseWithin, IsPosting, moved}
 use Rattle.cs_index.specs.Gathering.{keys, ids_of, with_id}
-use Rattle.cs_index.specs.Laid.{Laid, IsLaid, entries_laid, last_ids, with_laid_id, with_last_id, with_posting, AllBelow}
+use Rattle.cs_index.specs.Laid.{Laid, IsLaid, entries_laid, last_ids, with_laid_id, with_last_id, with_last_ids, with_posting, AllBelow}
 use Rattle.cs_index.specs.Laying.{front_of, ids_at, lists_at, IsFresh, IsOpen, IsSections, hand_of, bytes_of, lists_of_fields, begun_of, laid_of}
 use Rattle.cs_index.proofs.StreamLemmas.{decoded-stream_of, stream_from, written_push, next_push, rise_push, rise_length}
+use Rattle.cs_index.proofs.StretchLemmas.{moved_from, moved_last, moved_stream}
 use Rattle.cs_index.proofs.ListedLemmas.{lists_are}
 use Rattle.cs_index.proofs.WrittenLemmas.{lists_back}
 use Rattle.cs_index.proofs.LaidLemmas.{each_push, laid_begun, laid_given, laid_image, laid_indexable}
@@ -332,6 +333,229 @@ given s now out id view is none begun above named written =
       begun = (ap (λ b. option_map_or (λ trigram. Some trigram) s.pending (cond b None (Some s.trigram)))
           (ne_eqb (s.count + 1) 0 (λ zero. absurd (omega (arith, zero))) ∙ sym (ne_eqb s.count 0 known.some))) i;
     }
+
+-- ---- more ids, which follow the last one
+
+-- the fields after more ids
+abbrev pub after_ids : Inside → Vec ℕ Global → ℕ → ℕ → Inside
+after_ids s out count next = record {
+  alloc = s.alloc;
+  paths = s.paths;
+  names = s.names;
+  out = out;
+  entries = s.entries;
+  pending = s.pending;
+  trigram = s.trigram;
+  count = count;
+  start = s.start;
+  next = next;
+}
+
+no_list_below : (lists : List Posting) (trigram : ℕ) → AllBelow lists trigram → ids_of lists trigram ≡ []
+no_list_below [] trigram all = refl
+no_list_below (p ∷ lists) trigram all =
+    let below : p.0 < trigram = all.0 in
+    ap (λ b. cond b p.1 (ids_of lists trigram)) (ne_eqb p.0 trigram (λ e. absurd (omega (arith, e, below))))
+    ∙ no_list_below lists trigram all.1
+
+-- what is known where the list at hand has an id
+pub record AtLast (s : Inside) (now : Laid) : Type 0 where
+  pub none : s.pending ≡ None
+  pub some : s.count ≢ 0
+  pub begun : begun_of s ≡ Some s.trigram
+  pub apart : has (keys (closed_of s)) s.trigram ≡ false
+  pub last : last_ids now ≡ ids_at_hand s
+  pub held : IsOpenAs s (closed_of s) (ids_at_hand s)
+  pub closed_rise : Rise (closed_of s)
+  pub ids_rise : RiseWithin most_ids 0 (ids_at_hand s)
+
+pub at_last : (s : Inside) (now : Laid) → laid_of s ≡ now → IsSections s → last_ids now ≢ [] → AtLast s now
+at_last s now view is has_last =
+    record {
+      none = none;
+      some = some;
+      begun = has_begun;
+      apart = apart;
+      last = ap last_ids (sym view) ∙ ap (λ o. option_map_or (ids_of (lists_of_fields s)) o []) has_begun
+          ∙ ap (λ ps. ids_of ps s.trigram) (some_lists s some) ∙ of_last (closed_of s) s.trigram (ids_at_hand s) apart;
+      held = is.opened some;
+      closed_rise = parts.0;
+      ids_rise = parts.1;
+    }
+  where
+    none : s.pending ≡ None
+    none = by_pending s.pending refl
+      where
+        by_pending : (o : Option ℕ) → s.pending ≡ o → s.pending ≡ None
+        by_pending None e = e
+        by_pending (Some trigram) e =
+            absurd (has_last
+            (ap last_ids (sym view)
+            ∙ ap (λ o. option_map_or (ids_of (lists_of_fields s)) (option_map_or (λ g. Some g) o (cond (eqb s.count 0) None (Some s.trigram))) []) e
+            ∙ no_list_below (lists_of_fields s) trigram (subst (IsFresh (lists_of_fields s)) e is.fresh)))
+
+    some : s.count ≢ 0
+    some zero =
+        has_last
+        (ap last_ids (sym view)
+        ∙ ap (λ o. option_map_or (ids_of (lists_of_fields s)) (option_map_or (λ g. Some g) o (cond (eqb s.count 0) None (Some s.trigram))) []) none
+        ∙ ap (λ b. option_map_or (ids_of (lists_of_fields s)) (cond b None (Some s.trigram)) []) (eq-eqb s.count 0 zero))
+
+    has_begun : begun_of s ≡ Some s.trigram
+    has_begun = ap (λ o. option_map_or (λ trigram. Some trigram) o (cond (eqb s.count 0) None (Some s.trigram))) none
+        ∙ ap (λ b. cond b None (Some s.trigram)) (ne_eqb s.count 0 some)
+
+    parts : Rise (closed_of s) × RiseWithin most_ids 0 (ids_at_hand s)
+    parts = all_front (λ (p : Posting). RiseWithin most_ids 0 p.1) (closed_of s) (s.trigram, ids_at_hand s)
+        (subst Rise (some_lists s some)
+        (all_rise (length s.names) (lists_of_fields s) is.laid.few is.laid.postings.each))
+
+    apart : has (keys (closed_of s)) s.trigram ≡ false
+    apart = last_apart (closed_of s) (s.trigram, ids_at_hand s)
+        (subst (λ ps. Ascends (keys ps)) (some_lists s some) is.laid.postings.ascend)
+
+-- there are no more ids than names
+pub count_all : (s : Inside) (now : Laid) (more : List ℕ) → laid_of s ≡ now → IsSections s → last_ids now ≢ [] →
+    next_after 0 (last_ids now) + next_after 0 more ≤ length now.names → RiseWithin most_ids 0 more →
+    (s.count + length more ≤ 2 ^ 31) × (s.next + next_after 0 more ≤ 2 ^ 31)
+count_all s now more view is has_last named rise =
+    let known = at_last s now view is has_last in
+    let at : length s.names ≡ length now.names = ap (λ (l : Laid). length l.names) view in
+    let here : next_after 0 (last_ids now) ≡ next_after 0 (ids_at_hand s) = ap (next_after 0) known.last in
+    let few = rise_length most_ids 0 (ids_at_hand s) known.ids_rise in
+    let long = rise_length most_ids 0 more rise in (
+      omega (arith, is.laid.few, named, at, here, few, long, known.held.counted),
+      omega (arith, is.laid.few, named, at, here, known.held.follows),
+    )
+
+-- the last list with all of some ids
+with_all : (laid : Laid) (closed : List Posting) (g : ℕ) (ids more : List ℕ) → laid.begun ≡ Some g →
+    laid.lists ≡ closed ++ (g, ids) ∷ [] → has (keys closed) g ≡ false → with_last_ids laid more ≡ record
+    { paths = laid.paths; names = laid.names; lists = closed ++ (g, ids ++ more) ∷ []; begun = laid.begun }
+with_all laid closed g ids [] begun lists apart = λ i. record {
+  paths = laid.paths;
+  names = laid.names;
+  lists = (lists ∙ ap (λ is. closed ++ (g, is) ∷ []) (sym (append-nil ids))) i;
+  begun = laid.begun;
+}
+with_all laid closed g ids (id ∷ more) begun lists apart =
+    ap (λ (l : Laid). with_last_ids l more) (ap (λ o. option_map_or (λ trigram. with_laid_id laid trigram id) o laid) begun)
+    ∙ with_all (with_laid_id laid g id) closed g (ids ++ id ∷ []) more begun
+    (ap (λ ps. with_id ps g id) lists ∙ with_last closed g id ids apart) apart
+    ∙ ap (λ is. let l : Laid = record
+    { paths = laid.paths; names = laid.names; lists = closed ++ (g, is) ∷ []; begun = laid.begun } in l)
+    (append_assoc ids (id ∷ []) more)
+
+laid_all : (laid : Laid) (closed : List Posting) (g : ℕ) (ids more : List ℕ) → IsLaid laid → laid.begun ≡ Some g →
+    laid.lists ≡ closed ++ (g, ids) ∷ [] → has (keys closed) g ≡ false →
+    RiseWithin (length laid.names) (next_after 0 ids) more → IsLaid (with_last_ids laid more)
+laid_all laid closed g ids [] is begun lists apart up = is
+laid_all laid closed g ids (id ∷ more) is begun lists apart up =
+    let last : ids_of laid.lists g ≡ ids = ap (λ ps. ids_of ps g) lists ∙ of_last closed g ids apart in
+    let from : next_after 0 ids ≤ id = up.0 in
+    let one = laid_given laid g id is begun (subst (λ is. next_after 0 is ≤ id) (sym last) from) up.1 in
+    subst (λ (l : Laid). IsLaid (with_last_ids l more))
+    (sym (ap (λ o. option_map_or (λ trigram. with_laid_id laid trigram id) o laid) begun))
+    (laid_all (with_laid_id laid g id) closed g (ids ++ id ∷ []) more one begun
+    (ap (λ ps. with_id ps g id) lists ∙ with_last closed g id ids apart) apart
+    (subst (λ n. RiseWithin (length laid.names) n more) (sym (next_push 0 ids id)) up.2))
+
+-- bytes, ids and places of ids behind others
+written_more : (next : ℕ) (ids more : List ℕ) →
+    flat_map varint (deltas_from next (ids ++ moved (next_after next ids) more))
+    ≡ flat_map varint (deltas_from next ids) ++ stream_of more
+written_more next [] more = moved_stream next more
+written_more next (id ∷ ids) more = ap (λ rest. varint (id + 1 - next) ++ rest) (written_more (id + 1) ids more)
+    ∙ sym (append_assoc (varint (id + 1 - next)) _ _)
+
+next_more : (next : ℕ) (ids more : List ℕ) →
+    next_after next (ids ++ moved (next_after next ids) more) ≡ next_after next ids + next_after 0 more
+next_more next [] more = moved_last next more
+next_more next (id ∷ ids) more = next_more (id + 1) ids more
+
+rise_behind : (names next : ℕ) (ids more : List ℕ) → RiseWithin names next ids →
+    RiseWithin names (next_after next ids) more → RiseWithin names next (ids ++ more)
+rise_behind names next [] more up rest = rest
+rise_behind names next (id ∷ ids) more up rest = (up.0, up.1, rise_behind names (id + 1) ids more up.2 rest)
+
+pub record GivenAll (s : Inside) (now : Laid) (out : Vec ℕ Global) (count next : ℕ) (more : List ℕ) : Type 0 where
+  pub holds : IsSections (after_ids s out count next)
+  pub is : laid_of (after_ids s out count next) ≡ with_last_ids now (moved (next_after 0 (last_ids now)) more)
+
+pub given_all : (s : Inside) (now : Laid) (out : Vec ℕ Global) (count next : ℕ) (more : List ℕ) → laid_of s ≡ now →
+    IsSections s → last_ids now ≢ [] → next_after 0 (last_ids now) + next_after 0 more ≤ length now.names →
+    RiseWithin most_ids 0 more → out.items ≡ s.out.items ++ stream_of more → count ≡ s.count + length more →
+    next ≡ s.next + next_after 0 more → GivenAll s now out count next more
+given_all s now out count next more view is has_last named rise written counted follows =
+    record {
+      holds = record {
+        laid = subst IsLaid (sym same) (laid_all (laid_of s) (closed_of s) s.trigram ids new is.laid known.begun
+            (some_lists s known.some) known.apart new_rise);
+        fresh = subst (IsFresh (lists_of_fields t)) (sym known.none) tt;
+        unlaid = λ zero. absurd (some zero);
+        opened = λ _. now_open.opened;
+      };
+      is = same ∙ ap (λ (l : Laid). with_last_ids l new) view
+          ∙ ap (λ n. with_last_ids now (moved n more)) (ap (next_after 0) (sym known.last));
+    }
+  where
+    t : Inside
+    t = after_ids s out count next
+
+    known : AtLast s now
+    known = at_last s now view is has_last
+
+    some : count ≢ 0
+    some zero = known.some (omega (arith, zero, counted))
+
+    ids : List ℕ
+    ids = ids_at_hand s
+
+    new : List ℕ
+    new = moved (next_after 0 ids) more
+
+    fits : next_after 0 ids + next_after 0 more ≤ length s.names
+    fits =
+        let at : length s.names ≡ length now.names = ap (λ (l : Laid). length l.names) view in
+        let here : next_after 0 (last_ids now) ≡ next_after 0 ids = ap (next_after 0) known.last in
+        omega (arith, named, at, here)
+
+    new_rise : RiseWithin (length s.names) (next_after 0 ids) new
+    new_rise = moved_from most_ids (length s.names) (next_after 0 ids) more rise fits
+
+    laid : List ℕ
+    laid = concat (map posting_list (closed_of s))
+
+    bytes : out.items ≡ front_of s.paths s.names ++ (laid ++ (three_bytes s.trigram ++ stream_of (ids ++ new)))
+    bytes =
+        written
+        ∙ (λ i. known.held.written i ++ stream_of more)
+        ∙ append_assoc (front_of s.paths s.names) (laid ++ (three_bytes s.trigram ++ stream_of ids)) (stream_of more)
+        ∙ ap (λ bs. front_of s.paths s.names ++ bs) (append_assoc laid (three_bytes s.trigram ++ stream_of ids) (stream_of more)
+        ∙ ap (λ bs. laid ++ bs) (append_assoc (three_bytes s.trigram) (stream_of ids) (stream_of more)
+        ∙ ap (λ bs. three_bytes s.trigram ++ bs) (sym (written_more 0 ids more))))
+
+    now_open : Stated t (closed_of s) (ids ++ new)
+    now_open = stated t (closed_of s) (ids ++ new) some (record {
+      written = bytes;
+      entries_are = known.held.entries_are;
+      counted = (let long = length-append ids new in let same_long = length-map more (λ id. next_after 0 ids + id) in omega
+          (arith, long, same_long, known.held.counted, counted));
+      starts = known.held.starts;
+      follows = follows ∙ ap (λ n. n + next_after 0 more) known.held.follows ∙ sym (next_more 0 ids more);
+    }) known.closed_rise
+        (rise_behind most_ids 0 ids new known.ids_rise (rise_more (length s.names) most_ids (next_after 0 ids) new is.laid.few new_rise))
+
+    same : laid_of t ≡ with_last_ids (laid_of s) new
+    same =
+        (λ i. record {
+          paths = s.paths;
+          names = s.names;
+          lists = now_open.lists i;
+          begun = (ap (λ b. option_map_or (λ trigram. Some trigram) s.pending (cond b None (Some s.trigram)))
+              (ne_eqb count 0 some ∙ sym (ne_eqb s.count 0 known.some))) i;
+        })
+        ∙ sym (with_all (laid_of s) (closed_of s) s.trigram ids new known.begun (some_lists s known.some) known.apart)
 
 -- ---- one list more
 

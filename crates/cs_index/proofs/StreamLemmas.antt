@@ -1,9 +1,9 @@
 -- One more id at the end of a stream.
-use Rattle.std.proofs.Common.{◌≡◌, ℕ, suc, ◌+◌, ◌-◌, ◌*◌, ◌/◌, ◌%◌, ◌^◌, ◌<◌, ◌≤◌, Bool, true, cond, List, [], ◌∷◌, ◌++◌, length, refl, sym, ap, subst, ◌∙◌, arith, append_assoc, take, set}
+use Rattle.std.proofs.Common.{◌≡◌, ℕ, suc, ◌+◌, ◌-◌, ◌*◌, ◌/◌, ◌%◌, ◌^◌, ◌<◌, ◌≤◌, Bool, true, cond, List, [], ◌∷◌, ◌++◌, length, refl, sym, ap, subst, ◌∙◌, arith, append_assoc, length-append, take, set}
 use Rattle.cs_index.specs.Rising.{RiseWithin}
 use Rattle.cs_index.specs.PostingLists.{Ids}
 use Rattle.std.proofs.lemmas.Bool.{lt-ltb, le-ltb}
-use Rattle.std.proofs.lemmas.List.{append-nil, length_push, take_more_set}
+use Rattle.std.proofs.lemmas.List.{append-nil, take_more_set}
 use Rattle.std.proofs.Math.Nat.{mul-le-mul_right}
 use Rattle.std.specs.Prelude.{flat_map}
 use Rattle.cs_index.specs.Image.{varint, varint_within, deltas_from}
@@ -37,20 +37,46 @@ stream_from ids up =
       follows = ap (next_after 0) (sym is);
     }
 
-pub record Pushed (stream : List ℕ) (count next id : ℕ) (more : List ℕ) : Type 0 where
-  pub is : IsStream (stream ++ more) (count + 1) (id + 1)
-  pub ids : ids_in (stream ++ more) (count + 1) ≡ ids_in stream count ++ id ∷ []
+-- ---- more ids at the end of a stream
 
-pub stream_push : (stream : List ℕ) (count next id : ℕ) → IsStream stream count next → next ≤ id → id < most_ids → Pushed stream count next id (varint (id + 1 - next))
-stream_push stream count next id h above few =
+written_append : (next : ℕ) (xs ys : List ℕ) → flat_map varint (deltas_from next (xs ++ ys)) ≡ flat_map varint (deltas_from next xs) ++ flat_map varint (deltas_from (next_after next xs) ys)
+written_append next [] ys = refl
+written_append next (x ∷ xs) ys = ap (λ rest. varint (x + 1 - next) ++ rest) (written_append (x + 1) xs ys) ∙ sym (append_assoc (varint (x + 1 - next)) _ _)
+
+rise_append : (next : ℕ) (xs ys : List ℕ) → RiseWithin most_ids next xs → RiseWithin most_ids (next_after next xs) ys → RiseWithin most_ids next (xs ++ ys)
+rise_append next [] ys up more = more
+rise_append next (x ∷ xs) ys up more = (up.0, up.1, rise_append (x + 1) xs ys up.2 more)
+
+next_append : (next : ℕ) (xs ys : List ℕ) → next_after next (xs ++ ys) ≡ next_after (next_after next xs) ys
+next_append next [] ys = refl
+next_append next (x ∷ xs) ys = next_append (x + 1) xs ys
+
+-- there are no more ids than the next one could be
+pub rise_length : (names next : ℕ) (ids : List ℕ) → RiseWithin names next ids → next + length ids ≤ next_after next ids
+rise_length names next [] up = omega arith
+rise_length names next (id ∷ ids) up = let rest = rise_length names (id + 1) ids up.2 in omega (arith, rest, up.0)
+
+next_within : (next : ℕ) (ids : List ℕ) → RiseWithin most_ids next ids → next ≤ most_ids → next_after next ids ≤ most_ids
+next_within next [] up h = h
+next_within next (id ∷ ids) up h = next_within (id + 1) ids up.2 (omega (arith, up.1))
+
+pub record Extended (stream : List ℕ) (count next : ℕ) (more bytes : List ℕ) : Type 0 where
+  pub is : IsStream (stream ++ bytes) (count + length more) (next_after next more)
+  pub ids : ids_in (stream ++ bytes) (count + length more) ≡ ids_in stream count ++ more
+  pub few : count + length more ≤ most_ids
+
+pub stream_more : (stream : List ℕ) (count next : ℕ) (more : List ℕ) → IsStream stream count next → RiseWithin most_ids next more → Extended stream count next more (flat_map varint (deltas_from next more))
+stream_more stream count next more h rise =
     let ids : List ℕ = ids_in stream count in
-    let up : RiseWithin most_ids 0 (ids ++ id ∷ []) = rise_push 0 ids id h.rise (subst (λ n. n ≤ id) h.follows above) few in
-    let bytes : stream ++ varint (id + 1 - next) ≡ stream_of (ids ++ id ∷ []) = ap (λ n. stream ++ varint (id + 1 - n)) h.follows ∙ ap (λ s. s ++ varint (id + 1 - next_after 0 ids)) h.written ∙ sym (written_push 0 ids id) in
-    let many : count + 1 ≡ length (ids ++ id ∷ []) = ap (λ n. n + 1) h.counted ∙ sym (length_push ids id) in
-    let at : next_after 0 (ids ++ id ∷ []) ≡ id + 1 = next_push 0 ids id in
+    let all : List ℕ = ids ++ more in
+    let up : RiseWithin most_ids 0 all = rise_append 0 ids more h.rise (subst (λ n. RiseWithin most_ids n more) h.follows rise) in
+    let bytes : stream ++ flat_map varint (deltas_from next more) ≡ stream_of all = ap (λ n. stream ++ flat_map varint (deltas_from n more)) h.follows ∙ ap (λ s. s ++ flat_map varint (deltas_from (next_after 0 ids) more)) h.written ∙ sym (written_append 0 ids more) in
+    let many : count + length more ≡ length all = ap (λ n. n + length more) h.counted ∙ sym (length-append ids more) in
+    let at : next_after 0 all ≡ next_after next more = next_append 0 ids more ∙ ap (λ n. next_after n more) (sym h.follows) in
     record {
-      is = subst (λ s. IsStream s (count + 1) (id + 1)) (sym bytes) (subst (λ n. IsStream (stream_of (ids ++ id ∷ [])) n (id + 1)) (sym many) (subst (IsStream (stream_of (ids ++ id ∷ [])) (length (ids ++ id ∷ []))) at (stream_from (ids ++ id ∷ []) up)));
-      ids = ap (λ s. ids_in s (count + 1)) bytes ∙ ap (ids_in (stream_of (ids ++ id ∷ []))) many ∙ decoded-stream_of (ids ++ id ∷ []) up;
+      is = subst (λ s. IsStream s (count + length more) (next_after next more)) (sym bytes) (subst (λ n. IsStream (stream_of all) n (next_after next more)) (sym many) (subst (IsStream (stream_of all) (length all)) at (stream_from all up)));
+      ids = ap (λ s. ids_in s (count + length more)) bytes ∙ ap (ids_in (stream_of all)) many ∙ decoded-stream_of all up;
+      few = omega (arith, many, rise_length most_ids 0 all up, next_within 0 all up (omega arith));
     }
 
 -- ---- the bytes of a varint, one after the other
@@ -100,11 +126,3 @@ four_groups n len rest few at_most at_least h =
 
 pub extended : (ok : Bool) (new old bytes groups : List ℕ) → groups ≡ bytes → new ≡ cond ok (old ++ bytes) old → ok ≡ true → new ≡ old ++ groups
 extended ok new old bytes groups e h is = h ∙ ap (λ b. cond b (old ++ bytes) old) is ∙ ap (λ g. old ++ g) (sym e)
-
--- there are no more ids than the next one could be
-pub rise_length : (names next : ℕ) (ids : List ℕ) → RiseWithin names next ids → next + length ids ≤ next_after next ids
-rise_length names next [] up = omega arith
-rise_length names next (id ∷ ids) up = let rest = rise_length names (id + 1) ids up.2 in omega (arith, rest, up.0)
-
-pub count_below : (stream : List ℕ) (count next id : ℕ) → IsStream stream count next → next ≤ id → count ≤ id
-count_below stream count next id h above = let most = rise_length most_ids 0 (ids_in stream count) h.rise in omega (arith, most, h.counted, h.follows, above)

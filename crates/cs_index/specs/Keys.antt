@@ -1,5 +1,5 @@
 -- Keys: trigrams of the files of a batch, each with the place of its file.
-use Rattle.std.specs.Prelude.{ℕ, ◌+◌, ◌*◌, ◌/◌, ◌%◌, ◌<◌, ◌≤◌, List, [], ◌∷◌, map}
+use Rattle.std.specs.Prelude.{◌≡◌, ℕ, ◌+◌, ◌*◌, ◌/◌, ◌%◌, ◌<◌, ◌≤◌, List, [], ◌∷◌, map}
 use Rattle.std.specs.List.{AllByRecursion}
 use Rattle.cs_trigram.specs.Trigram.{closing_trigram}
 use Rattle.cs_index.specs.Image.{Posting}
@@ -18,6 +18,14 @@ trigram_of key = key / 256
 -- the id of a key's file, where the first file of the batch has the id `base`
 abbrev pub id_of : ℕ → ℕ → ℕ
 id_of base key = base + key % 256
+
+-- the ids that keys give
+abbrev pub ids_of_keys : ℕ → List ℕ → List ℕ
+ids_of_keys base keys = map (id_of base) keys
+
+-- the keys have this trigram
+abbrev pub AreOfTrigram : ℕ → List ℕ → Type 0
+AreOfTrigram trigram keys = AllByRecursion (λ key. trigram_of key ≡ trigram) keys
 
 -- the lists after each key gave its trigram the id of its file
 abbrev pub with_keys : ℕ → List Posting → List ℕ → List Posting

@@ -42,6 +42,11 @@ with_laid_id laid trigram id = record
 abbrev pub with_last_id : Laid → ℕ → Laid
 with_last_id laid id = option_map_or (λ trigram. with_laid_id laid trigram id) laid.begun laid
 
+-- with more ids in it
+abbrev pub with_last_ids : Laid → List ℕ → Laid
+with_last_ids laid [] = laid
+with_last_ids laid (id ∷ ids) = with_last_ids (with_last_id laid id) ids
+
 -- with one more list, begun and given its ids
 abbrev pub with_posting : Laid → Posting → Laid
 with_posting laid p = record { paths = laid.paths; names = laid.names; lists = laid.lists ++ p ∷ []; begun = Some p.0 }

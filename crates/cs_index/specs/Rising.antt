@@ -9,6 +9,10 @@ abbrev pub RiseWithin : ℕ → ℕ → List ℕ → Type 0
 RiseWithin names next [] = Unit {0}
 RiseWithin names next (id ∷ ids) = (next ≤ id) × (id < names) × RiseWithin names (id + 1) ids
 
+-- ids that are counted from a number on
+abbrev pub moved : ℕ → List ℕ → List ℕ
+moved from ids = map (λ id. from + id) ids
+
 -- a list that some name has, of ids in order
 abbrev pub IsPosting : ℕ → Posting → Type 0
 IsPosting names p = (p.1 ≢ []) × RiseWithin names 0 p.1

@@ -8,6 +8,7 @@ mod cutting;
 mod entries;
 mod index;
 mod marks;
+mod order;
 mod postings;
 mod restriction;
 mod sieve;

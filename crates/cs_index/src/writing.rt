@@ -2,6 +2,7 @@
 
 mod batch;
 mod builder;
+mod keys;
 mod laying;
 mod lists;
 mod numbers;

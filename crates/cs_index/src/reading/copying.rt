@@ -17,7 +17,8 @@ use cs_tree::{IoFault, Store, read_part};
 use std::alloc::Global;
 
 impl StoredIndex {
-    /// Reads the lists of ascending trigrams, and lays them one after the other, with an entry for each.
+    /// Reads the lists of ascending trigrams, and lays them one after the other, with an entry for
+    /// each.
     pub(crate) fn copy_lists<S: Store>(
         &self,
         alloc: Global,
@@ -112,8 +113,8 @@ fn copy_part<S: Store>(
     requires short { length postings.old.items < 2 ^ 32 }
     ensures bytes { IfSome (S.told store.old) (λ bytes. OnOk result (postings.new.items ≡
         postings.old.items ++ (part_of bytes at (min (8 + 5 * count) room) ++ endless))) }
-    ensures front { OnOk result
-        ((more : List ℕ) × ((5 ≤ length more) × (postings.new.items ≡ postings.old.items ++ more))) }
+    ensures front { OnOk result ((more : List ℕ) ×
+        ((5 ≤ length more) × (postings.new.items ≡ postings.old.items ++ more))) }
     ensures short { OnOk result (length postings.new.items < 2 ^ 32) }
     ensures keeps { S.told store.new ≡ S.told store.old }
     ensures size { S.size store.new ≡ S.size store.old }

@@ -1,11 +1,14 @@
 // The ids of a list, read from the bytes of an index.
-ghost use Rattle.std.specs.Prelude.{◌≡◌, ◌≤◌, ◌<◌, ◌^◌, ◌+◌, Some, None, List, ℕ, Option, drop, length, IfSome, MatchOption};
+ghost use Rattle.std.specs.Prelude.{◌≡◌, ◌≤◌, ◌<◌, ◌^◌, ◌+◌, ◌++◌, Some, None, List, ℕ, Option, drop, length, IfSome, MatchOption};
+ghost use Rattle.std.specs.List.{AllByRecursion};
+ghost use Rattle.cs_index.specs.Rising.{moved};
 ghost use Rattle.cs_index.specs.Postings.{ids_given};
 ghost use Rattle.cs_index.specs.Sifting.{nothing_read};
 ghost use Rattle.cs_index.specs.PostingLists.{varint_at, read_varint, Ids, damaged, read_ids};
 ghost use Rattle.std.specs.Iterator.{YieldsFirst, item_count};
 
 use crate::fault::IndexFault;
+use crate::stretch::Stretch;
 use std::marker::Model;
 
 /// The ids of a list, ascending. Where the list is damaged, the ids before the damage and one
@@ -56,6 +59,25 @@ impl<'a> Postings<'a> {
             names: 0,
             has_ended: true,
         }
+    }
+
+    /// Passes ids below `end` that follow the one that was given last, as far as they are written in one
+    /// byte or two and in no more than they need, and answers them: 0 is the one right after the last.
+    /// Where `last` is another, none is passed.
+    pub fn stretch(&mut self, last: u32, end: u32) -> Stretch<'a>
+        ensures ids { self.old.ids ≡ moved (last + 1) result ++ self.new.ids }
+        ensures below { AllByRecursion (λ id. last + 1 + id < end) result }
+        ensures whole { self.new.whole ≡ self.old.whole }
+    {
+        if self.has_ended || self.next == 0 || last != self.next - 1 {
+            return Stretch::none();
+        }
+        let room = end.min(self.names).saturating_sub(self.next);
+        let (ids, rest) = Stretch::front(self.bytes, self.left, room);
+        self.bytes = rest;
+        self.left -= ids.len();
+        self.next += ids.next();
+        ids
     }
 
     /// A list that is damaged at once.

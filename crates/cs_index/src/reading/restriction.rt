@@ -59,8 +59,8 @@ impl Restriction {
 }
 
 impl StoredIndex {
-    /// Reads the lists that a query asks for, each as far as it can go, and no other. It answers the
-    /// query as the whole index does.
+    /// Reads the lists that a query asks for, each as far as it can go, and no other. It answers
+    /// the query as the whole index does.
     pub fn restrict<S: Store>(
         self,
         alloc: Global,

@@ -73,7 +73,8 @@ impl Builder {
     /// refused call changes nothing.
     pub fn add(&mut self, name: &str, trigrams: &[u32]) -> Result<u32, BuildFault>
         requires once { AreTrigramsOnce trigrams.now }
-        ensures ok { OnOk result (self.new ≡ with_name self.old name.now (set_of_numbers trigrams.now)) }
+        ensures ok { OnOk result
+            (self.new ≡ with_name self.old name.now (set_of_numbers trigrams.now)) }
         ensures id { IfOk result (λ id. id ≡ length self.old.entries) }
         ensures bad_name { (result ≡ Err BuildFault.BadName) ↔ (is_storable name.now ≡ false) }
         ensures out_of_order { (result ≡ Err BuildFault.OutOfOrder) ↔
@@ -99,7 +100,8 @@ impl Builder {
         self.finish_within(u32::MAX)
     }
 
-    /// The index, unless it has more than a number of bytes: `finish` with a limit of the caller's own.
+    /// The index, unless it has more than a number of bytes: `finish` with a limit of the caller's
+    /// own.
     pub fn finish_within(mut self, most: u32) -> Result<Vec<u8>, BuildFault>
         ensures ok { IfOk result (λ index. index.items ≡ image_of self.paths self.entries) }
         ensures within { IfOk result (λ index. length index.items ≤ most) }
@@ -117,11 +119,13 @@ impl Builder {
         sections.finish_within(most)
     }
 
-    /// Adds a name where there are fewer than a number of them: `add` with a limit of the caller's own.
+    /// Adds a name where there are fewer than a number of them: `add` with a limit of the caller's
+    /// own.
     pub fn add_within(&mut self, most: u32, name: &str, trigrams: &[u32]) -> Result<u32, BuildFault>
         requires once { AreTrigramsOnce trigrams.now }
         requires few { most ≤ most_names }
-        ensures ok { OnOk result (self.new ≡ with_name self.old name.now (set_of_numbers trigrams.now)) }
+        ensures ok { OnOk result
+            (self.new ≡ with_name self.old name.now (set_of_numbers trigrams.now)) }
         ensures id { IfOk result (λ id. id ≡ length self.old.entries) }
         ensures bad_name { (result ≡ Err BuildFault.BadName) ↔ (is_storable name.now ≡ false) }
         ensures out_of_order { (result ≡ Err BuildFault.OutOfOrder) ↔
@@ -164,7 +168,8 @@ impl Builder {
         requires storable { is_storable name.now ≡ true }
         requires above { is_above (names_of self.old.entries) name.now ≡ true }
         requires few { length self.old.entries < most_names }
-        ensures ok { OnOk result (self.new ≡ with_name self.old name.now (set_of_numbers trigrams.now)) }
+        ensures ok { OnOk result
+            (self.new ≡ with_name self.old name.now (set_of_numbers trigrams.now)) }
         ensures id { IfOk result (λ id. id ≡ length self.old.entries) }
         ensures err { OnErr result (self.new ≡ self.old) }
     {
@@ -184,7 +189,8 @@ fn lay_lists(sections: &mut Sections, lists: &Lists, trigrams: &[u32]) -> Result
     requires below { AllByRecursion (λ g. g < closing_trigram) trigrams.now }
     requires each { AllByRecursion (IsPosting (length sections.old.names)) lists.now }
     requires none { sections.old.lists ≡ [] }
-    ensures { OnOk result (sections.new ≡ with_postings sections.old (lists_of lists.now trigrams.now)) }
+    ensures { OnOk result
+        (sections.new ≡ with_postings sections.old (lists_of lists.now trigrams.now)) }
 {
     'lists: for trigram in trigrams {
         let ids = lists.ids(*trigram);

@@ -99,7 +99,8 @@ pub(crate) fn lay_back(
 
 /// The entries of lists, whose places count from a start.
 fn lay_entries(out: &mut Vec<u8>, entries: &[ListAt], start: usize) -> Result<(), AllocError>
-    requires { AllByRecursion (λ (e : ListEntry). (start ≤ e.offset) × (e.offset < 2 ^ 32)) entries.now }
+    requires { AllByRecursion
+        (λ (e : ListEntry). (start ≤ e.offset) × (e.offset < 2 ^ 32)) entries.now }
     ensures { OnOk result (out.new.items ≡ out.old.items ++
         flat_map entry_bytes (map (entry_from start) entries.now)) }
 {

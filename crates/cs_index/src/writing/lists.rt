@@ -1,8 +1,10 @@
 // Posting lists while an index is built.
-ghost use Rattle.std.specs.Prelude.{◌≡◌, ◌≢◌, ◌<◌, ◌≤◌, ◌+◌, ◌^◌, [], List, ℕ, true, false, length, IfOk, OnOk, OnErr, map};
+ghost use Rattle.std.specs.Prelude.{◌≡◌, ◌<◌, ◌≤◌, ◌*◌, ◌^◌, [], List, ℕ, true, false, length, IfOk, OnOk, OnErr};
 ghost use Rattle.cs_trigram.specs.Trigram.{has, set_of_numbers};
 ghost use Rattle.cs_index.specs.IdStream.{most_ids, next_after};
-ghost use Rattle.cs_index.specs.Gathering.{AreDistinct, with_id, ids_of, keys};
+ghost use Rattle.cs_index.specs.Gathering.{AreDistinct, ids_of, keys};
+ghost use Rattle.cs_index.specs.Keys.{ids_of_keys, with_keys, AreOfTrigram};
+ghost use Rattle.cs_index.specs.Rising.{RiseWithin};
 
 use crate::writing::slots::Slots;
 use crate::writing::stream::IdStream;
@@ -40,32 +42,50 @@ impl Lists {
         }
     }
 
-    /// Gives a trigram one more id. A refusal changes nothing.
-    pub(crate) fn push(&mut self, trigram: u32, id: u32) -> Result<(), AllocError>
+    /// Gives a trigram the ids of some keys that have it. A refusal changes nothing.
+    pub(crate) fn extend(
+        &mut self,
+        trigram: u32,
+        base: u32,
+        run: &[u32],
+        room: &mut [u8],
+    ) -> Result<(), AllocError>
         requires trigram { trigram < 2 ^ 24 }
-        requires above { next_after 0 (ids_of self.old trigram) ≤ id }
-        requires few { id < most_ids }
-        ensures ok { OnOk result (self.new ≡ with_id self.old trigram id) }
+        requires some { 0 < length run.now }
+        requires one { AreOfTrigram trigram run.now }
+        requires room { 5 * length run.now ≤ length room.old }
+        requires rise { RiseWithin most_ids (next_after 0 (ids_of self.old trigram))
+            (ids_of_keys base run.now) }
+        ensures ok { OnOk result (self.new ≡ with_keys base self.old run.now) }
         ensures err { OnErr result (self.new ≡ self.old) }
     {
         let slot = self.slots.get(trigram);
         if slot == 0 {
-            return self.begin(trigram, id);
+            return self.begin(trigram, base, run, room);
         }
         let list = &mut self.lists[slot as usize - 1];
-        list.1.push(id)
+        list.1.extend(base, run, room)
     }
 
     /// Begins the list of a trigram.
-    fn begin(&mut self, trigram: u32, id: u32) -> Result<(), AllocError>
+    fn begin(
+        &mut self,
+        trigram: u32,
+        base: u32,
+        run: &[u32],
+        room: &mut [u8],
+    ) -> Result<(), AllocError>
         requires trigram { trigram < 2 ^ 24 }
         requires absent { has (keys self.old) trigram ≡ false }
-        requires few { id < most_ids }
-        ensures ok { OnOk result (self.new ≡ with_id self.old trigram id) }
+        requires some { 0 < length run.now }
+        requires one { AreOfTrigram trigram run.now }
+        requires room { 5 * length run.now ≤ length room.old }
+        requires rise { RiseWithin most_ids 0 (ids_of_keys base run.now) }
+        ensures ok { OnOk result (self.new ≡ with_keys base self.old run.now) }
         ensures err { OnErr result (self.new ≡ self.old) }
     {
         let mut ids = IdStream::new(self.alloc);
-        ids.push(id)?;
+        ids.extend(base, run, room)?;
         self.lists.reserve(1)?;
         let slot = self.lists.len() as u32 + 1;
         self.slots.set(self.alloc, trigram, slot)?;

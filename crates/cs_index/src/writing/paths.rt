@@ -62,7 +62,8 @@ fn ascend(paths: &[String]) -> bool
 /// Whether none of the paths, which ascend, covers another.
 fn stand_apart(paths: &[String]) -> bool
     requires { are_ascending (map string_bytes paths.now) ≡ true }
-    ensures { result ≡ list_all (λ (path : String Global). is_alone (map string_bytes paths.now) (string_bytes path)) paths.now }
+    ensures { result ≡ list_all (λ (path : String Global).
+        is_alone (map string_bytes paths.now) (string_bytes path)) paths.now }
 {
     'paths: for path in paths {
         if is_covered(paths, path.as_str()) {

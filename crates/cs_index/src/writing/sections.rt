@@ -1,14 +1,16 @@
 // The one layer that lays out the bytes of an index.
-ghost use Rattle.std.specs.Prelude.{◌≡◌, ◌≢◌, ◌<◌, ◌≤◌, ◌^◌, ◌⊎◌, ◌↔◌, [], List, ℕ, true, false, length, map, string_bytes, None, Some, Err, IfOk, IfErr, OnOk, OnErr};
+ghost use Rattle.std.specs.Prelude.{◌≡◌, ◌≢◌, ◌<◌, ◌≤◌, ◌+◌, ◌^◌, ◌⊎◌, ◌↔◌, [], List, ℕ, true, false, length, map, string_bytes, None, Some, Err, IfOk, IfErr, OnOk, OnErr};
 ghost use Rattle.cs_trigram.specs.Trigram.{closing_trigram};
 ghost use Rattle.cs_index.specs.IdStream.{ids_in, next_after, IsStream};
 ghost use Rattle.std.specs.List.{AllByRecursion};
+ghost use Rattle.cs_index.specs.Rising.{moved};
 ghost use Rattle.cs_index.specs.Image.{image_of, IsString};
 ghost use Rattle.cs_index.specs.Spelling.{IsIndexable};
 ghost use Rattle.cs_index.specs.Built.{are_paths, is_above, is_storable};
-ghost use Rattle.cs_index.specs.Laid.{entries_laid, last_ids, with_laid_name, with_last_id, with_list, with_posting, AllBelow};
+ghost use Rattle.cs_index.specs.Laid.{entries_laid, last_ids, with_laid_name, with_last_id, with_last_ids, with_list, with_posting, AllBelow};
 
 use crate::fault::BuildFault;
+use crate::stretch::Stretch;
 use crate::writing::laying::{ListAt, lay_back, lay_both, lay_front};
 use crate::writing::paths::are_listed;
 use crate::writing::strings::{Strings, strings_of};
@@ -17,9 +19,9 @@ use std::alloc::{AllocError, Global};
 use std::marker::Model;
 
 /// An index that is laid out as its names and lists come: first all names, then list after list.
-/// The bytes begin with the first id of the first list. The list at hand is laid but for its closing
-/// zero; the entries of those before it wait for the end. A list that was begun is pending until it
-/// is given an id.
+/// The bytes begin with the first id of the first list. The list at hand is laid but for its
+/// closing zero; the entries of those before it wait for the end. A list that was begun is pending
+/// until it is given an id.
 #[derive(Drop)]
 pub struct Sections {
     alloc: Global,
@@ -130,6 +132,22 @@ impl Sections {
         }
     }
 
+    /// Gives the list that was begun last more ids, which follow its last one. A refused call changes nothing.
+    #[inline]
+    pub fn stretch(&mut self, ids: &Stretch<'_>) -> Result<(), AllocError>
+        requires some { last_ids self.old ≢ [] }
+        requires named { next_after 0 (last_ids self.old) + next_after 0 ids.now
+            ≤ length self.old.names }
+        ensures ok { OnOk result (self.new ≡
+            with_last_ids self.old (moved (next_after 0 (last_ids self.old)) ids.now)) }
+        ensures err { OnErr result (self.new ≡ self.old) }
+    {
+        self.out.extend_from_slice(ids.bytes())?;
+        self.next += ids.next();
+        self.count += ids.len();
+        Ok(())
+    }
+
     /// Begins a list with some ids. A refused call changes nothing.
     pub(crate) fn begin(
         &mut self,
@@ -143,7 +161,8 @@ impl Sections {
         requires stream { IsStream ids.now count next }
         requires some { count ≢ 0 }
         requires named { next ≤ length self.old.names }
-        ensures ok { OnOk result (self.new ≡ with_posting self.old (trigram, ids_in ids.now count)) }
+        ensures ok { OnOk result
+            (self.new ≡ with_posting self.old (trigram, ids_in ids.now count)) }
         ensures err { OnErr result (self.new ≡ self.old) }
     {
         if self.count == 0 {
@@ -166,7 +185,8 @@ impl Sections {
         requires stream { IsStream ids.now count next }
         requires some { count ≢ 0 }
         requires named { next ≤ length self.old.names }
-        ensures ok { OnOk result (self.new ≡ with_posting self.old (trigram, ids_in ids.now count)) }
+        ensures ok { OnOk result
+            (self.new ≡ with_posting self.old (trigram, ids_in ids.now count)) }
         ensures err { OnErr result (self.new ≡ self.old) }
     {
         let mut out = lay_front(self.alloc, &self.paths, &self.names)?;
@@ -181,7 +201,8 @@ impl Sections {
         Ok(())
     }
 
-    /// Closes the list at hand, and begins the next. The highest byte of a trigram is zero: it closes the list.
+    /// Closes the list at hand, and begins the next. The highest byte of a trigram is zero: it
+    /// closes the list.
     fn begin_next(
         &mut self,
         trigram: u32,
@@ -195,7 +216,8 @@ impl Sections {
         requires stream { IsStream ids.now count next }
         requires some { count ≢ 0 }
         requires named { next ≤ length self.old.names }
-        ensures ok { OnOk result (self.new ≡ with_posting self.old (trigram, ids_in ids.now count)) }
+        ensures ok { OnOk result
+            (self.new ≡ with_posting self.old (trigram, ids_in ids.now count)) }
         ensures err { OnErr result (self.new ≡ self.old) }
     {
         self.entries.reserve(1)?;
@@ -226,7 +248,8 @@ impl Sections {
         self.finish_within(u32::MAX)
     }
 
-    /// The index, unless it has more than a number of bytes: `finish` with a limit of the caller's own.
+    /// The index, unless it has more than a number of bytes: `finish` with a limit of the caller's
+    /// own.
     pub fn finish_within(mut self, most: u32) -> Result<Vec<u8>, BuildFault>
         ensures ok { IfOk result (λ index. index.items ≡ image_of self.paths (entries_laid self)) }
         ensures within { IfOk result (λ index. length index.items ≤ most) }

@@ -1,9 +1,10 @@
 // The ids of one trigram, as a stream of varints.
-ghost use Rattle.std.specs.Prelude.{◌≡◌, ◌<◌, ◌≤◌, ◌+◌, ◌^◌, ◌++◌, ◌∷◌, [], List, ℕ, length, OnOk, OnErr};
+ghost use Rattle.std.specs.Prelude.{◌≡◌, ◌≤◌, ◌*◌, ◌++◌, [], List, ℕ, length, OnOk, OnErr};
 ghost use Rattle.cs_index.specs.Rising.{RiseWithin};
 ghost use Rattle.cs_index.specs.IdStream.{most_ids, next_after, stream_of};
+ghost use Rattle.cs_index.specs.Keys.{ids_of_keys};
 
-use crate::writing::varint::push_varint;
+use crate::writing::keys::put_deltas;
 use std::alloc::{AllocError, Global};
 use std::marker::Model;
 
@@ -58,16 +59,22 @@ impl IdStream {
         &self.deltas
     }
 
-    /// Adds an id. A refusal changes nothing.
-    pub(crate) fn push(&mut self, id: u32) -> Result<(), AllocError>
-        requires above { next_after 0 self.old ≤ id }
-        requires few { id < most_ids }
-        ensures ok { OnOk result (self.new ≡ self.old ++ id ∷ []) }
+    /// Adds the ids of a run of keys. A refusal changes nothing.
+    pub(crate) fn extend(
+        &mut self,
+        base: u32,
+        run: &[u32],
+        room: &mut [u8],
+    ) -> Result<(), AllocError>
+        requires room { 5 * length run.now ≤ length room.old }
+        requires rise { RiseWithin most_ids (next_after 0 self.old) (ids_of_keys base run.now) }
+        ensures ok { OnOk result (self.new ≡ self.old ++ ids_of_keys base run.now) }
         ensures err { OnErr result (self.new ≡ self.old) }
     {
-        push_varint(&mut self.deltas, id + 1 - self.next)?;
-        self.count += 1;
-        self.next = id + 1;
+        let (len, next) = put_deltas(room, base, run, self.next);
+        self.deltas.extend_from_slice(&room[..len])?;
+        self.count += run.len() as u32;
+        self.next = next;
         Ok(())
     }
 }

@@ -4,7 +4,8 @@ use Rattle.cs_index.specs.Image.{Posting}
 use Rattle.cs_index.specs.Gathering.{keys}
 use Rattle.cs_index.specs.Slots.{slot_of, AreSlotted}
 use Rattle.cs_index.proofs.SlottedLemmas.{few_lists, slotted_same, slotted_push}
-use Rattle.cs_index.proofs.GatheringLemmas.{gathered_new}
+use Rattle.cs_index.specs.Keys.{ids_of_keys}
+use Rattle.cs_index.proofs.RunLemmas.{run_new}
 use Rattle.cs_index.proofs.writing.lists.Lists.begin.Goals as goal
 
 pub overflow_cast-slot : goal.overflow_cast-slot
@@ -24,17 +25,23 @@ invariant_of-self-in_err-set c =
 pub invariant_of-self-2 : goal.invariant_of-self-2
 invariant_of-self-2 c =
     let lists : List Posting = c.self.inside.lists.items in
-    let absent : has (keys lists) c.args.trigram ≡ false = ap (λ ps. has (keys ps) c.args.trigram) c.self.view_is ∙ c.requires.absent in
-    let long : c.len.result + 1 ≡ length lists + 1 = omega (arith, c.self.inside.lists.ok.0, c.reserve.ensures.len, c.len.ensures) in
-    let items : c.push_reserved.new.self.items ≡ lists ++ (c.args.trigram, c.push.new.self) ∷ [] = c.push_reserved.ensures.items ∙ ap (λ ps. ps ++ (c.args.trigram, c.push.new.self) ∷ []) c.reserve.ensures.items in
+    let absent : has (keys lists) c.args.trigram ≡ false =
+    ap (λ ps. has (keys ps) c.args.trigram) c.self.view_is ∙ c.requires.absent in
+    let long : c.len.result + 1 ≡ length lists + 1 =
+    omega (arith, c.self.inside.lists.ok.0, c.reserve.ensures.len, c.len.ensures) in
+    let items : c.push_reserved.new.self.items ≡ lists ++ (c.args.trigram, c.extend.new.self) ∷ [] =
+    c.push_reserved.ensures.items ∙ ap (λ ps. ps ++ (c.args.trigram, c.extend.new.self) ∷ []) c.reserve.ensures.items in
     subst (AreSlotted c.set.new.self) (sym items)
-    (slotted_push c.self.inside.slots c.set.new.self lists c.args.trigram c.push.new.self c.self.invariant c.requires.trigram absent
+    (slotted_push c.self.inside.slots c.set.new.self lists c.args.trigram c.extend.new.self c.self.invariant
+    c.requires.trigram absent
     (λ g. c.in_ok-set.ensures.ok g ∙ ap (λ n. cond (eqb g c.args.trigram) n (slot_of c.self.inside.slots g)) long))
 
 pub returns-clause-ok : goal.returns-clause-ok
 returns-clause-ok c =
-    let one : c.push.new.self ≡ c.args.id ∷ [] = c.in_ok-push.ensures.ok ∙ ap (λ ids. ids ++ c.args.id ∷ []) c.new-ids.ensures in
+    let ids : c.extend.new.self ≡ ids_of_keys c.args.base c.args.run.now =
+    c.in_ok-extend.ensures.ok ∙ ap (λ is. is ++ ids_of_keys c.args.base c.args.run.now) c.new-ids.ensures in
     c.push_reserved.ensures.items
-    ∙ ap (λ ps. ps ++ (c.args.trigram, c.push.new.self) ∷ []) (c.reserve.ensures.items ∙ c.self.view_is)
-    ∙ ap (λ (ids : List ℕ). c.args.self.now ++ (c.args.trigram, ids) ∷ []) one
-    ∙ sym (gathered_new c.args.self.now c.args.trigram c.args.id c.requires.absent)
+    ∙ ap (λ ps. ps ++ (c.args.trigram, c.extend.new.self) ∷ []) (c.reserve.ensures.items ∙ c.self.view_is)
+    ∙ ap (λ (is : List ℕ). c.args.self.now ++ (c.args.trigram, is) ∷ []) ids
+    ∙ sym (run_new c.args.base c.args.trigram c.args.self.now c.args.run.now c.requires.some c.requires.absent
+    c.requires.one)

@@ -1,0 +1,152 @@
+-- Ids that go from one list into another as they are written.
+use Rattle.std.proofs.Common.{◌≡◌, ℕ, suc, ◌+◌, ◌-◌, ◌*◌, ◌/◌, ◌%◌, ◌^◌, ◌<◌, ◌≤◌, Bool, false, true, cond, ltb, List, [], ◌∷◌, ◌++◌, length, get_or, take, drop, refl, sym, ap, subst, ◌∙◌, arith, append_assoc}
+use Rattle.std.proofs.lemmas.Bool.{lt-ltb, le-ltb, and_from}
+use Rattle.std.proofs.lemmas.List.{append-nil, length-map}
+use Rattle.std.proofs.Math.Seq.{take-add}
+use Rattle.std.specs.List.{AllByRecursion}
+use Rattle.std.specs.Prelude.{flat_map, map}
+use Rattle.cs_index.specs.Image.{varint, varint_within, deltas_from}
+use Rattle.cs_index.specs.IdStream.{most_ids, next_after, stream_of, IsStream}
+use Rattle.cs_index.specs.PostingLists.{Ids, read_ids, read_varint, after_delta, onto, damaged}
+use Rattle.cs_index.specs.ListRest.{left_of}
+use Rattle.cs_index.specs.Rising.{RiseWithin, moved}
+use Rattle.cs_index.proofs.StreamLemmas.{rise_length, short_varint, stream_more}
+use Rattle.cs_index.proofs.VarintLemmas.{varint_read}
+
+-- ---- ids that are counted from a number on
+
+pub moved_next : (from next : ℕ) (ids : List ℕ) → next_after (from + next) (moved from ids) ≡ from + next_after next ids
+moved_next from next [] = refl
+moved_next from next (id ∷ ids) =
+    let at : from + id + 1 ≡ from + (id + 1) = omega arith in
+    ap (λ n. next_after n (moved from ids)) at ∙ moved_next from (id + 1) ids
+
+pub moved_rise : (most names from next : ℕ) (ids : List ℕ) → RiseWithin most next ids →
+    from + next_after next ids ≤ names → RiseWithin names (from + next) (moved from ids)
+moved_rise most names from next [] up h = tt
+moved_rise most names from next (id ∷ ids) up h =
+    let long = rise_length most (id + 1) ids up.2 in
+    let at : from + (id + 1) ≡ from + id + 1 = omega arith in (
+      omega (arith, up.0),
+      omega (arith, long, h),
+      subst (λ n. RiseWithin names n (moved from ids)) at (moved_rise most names from (id + 1) ids up.2 h),
+    )
+
+pub moved_deltas : (from next : ℕ) (ids : List ℕ) → deltas_from (from + next) (moved from ids) ≡ deltas_from next ids
+moved_deltas from next [] = refl
+moved_deltas from next (id ∷ ids) =
+    let first : from + id + 1 - (from + next) ≡ id + 1 - next = omega arith in
+    let at : from + id + 1 ≡ from + (id + 1) = omega arith in
+    let rest : deltas_from (from + id + 1) (moved from ids) ≡ deltas_from (id + 1) ids = ap (λ n. deltas_from n (moved from ids)) at ∙ moved_deltas from (id + 1) ids in
+    λ i. first i ∷ rest i
+
+-- their bytes are those of the ids themselves
+pub moved_stream : (from : ℕ) (ids : List ℕ) → flat_map varint (deltas_from from (moved from ids)) ≡ stream_of ids
+moved_stream from ids =
+    let at : from ≡ from + 0 = omega arith in
+    ap (λ n. flat_map varint (deltas_from n (moved from ids))) at ∙ ap (flat_map varint) (moved_deltas from 0 ids)
+
+pub moved_last : (from : ℕ) (ids : List ℕ) → next_after from (moved from ids) ≡ from + next_after 0 ids
+moved_last from ids =
+    let at : from ≡ from + 0 = omega arith in
+    ap (λ n. next_after n (moved from ids)) at ∙ moved_next from 0 ids
+
+pub moved_from : (most names from : ℕ) (ids : List ℕ) → RiseWithin most 0 ids → from + next_after 0 ids ≤ names →
+    RiseWithin names from (moved from ids)
+moved_from most names from ids up h =
+    let at : from + 0 ≡ from = omega arith in
+    subst (λ n. RiseWithin names n (moved from ids)) at (moved_rise most names from 0 ids up h)
+
+-- ---- ids at the front of a list that is read
+
+-- ids before others
+abbrev pub before : List ℕ → Ids → Ids
+before ids read = record { ids = ids ++ read.ids; whole = read.whole }
+
+read_front : (names next more : ℕ) (ids rest : List ℕ) → names < 2 ^ 32 → RiseWithin names next ids →
+    read_ids names (length ids + more) next (flat_map varint (deltas_from next ids) ++ rest)
+    ≡ before ids (read_ids names more (next_after next ids) rest)
+read_front names next more [] rest few up =
+    let none : 0 + more ≡ more = omega arith in ap (λ n. read_ids names n next rest) none
+read_front names next more (id ∷ ids) rest few up =
+    let delta : ℕ = id + 1 - next in
+    let fits : delta < 2 ^ 32 = omega (arith, few, up.1) in
+    let at : next + delta ≡ id + 1 = omega (arith, up.0) in
+    let one : suc (length ids) + more ≡ suc (length ids + more) = omega arith in
+    ap (λ n. read_ids names n next (flat_map varint (deltas_from next (id ∷ ids)) ++ rest)) one
+    ∙ ap (after_delta names next (read_ids names (length ids + more)))
+    (ap read_varint (append_assoc (varint delta) (flat_map varint (deltas_from (id + 1) ids)) rest) ∙ varint_read delta _ fits)
+    ∙ ap (λ b. cond b (onto (next + delta - 1) (read_ids names (length ids + more) (next + delta) (flat_map varint (deltas_from (id + 1) ids) ++ rest))) damaged)
+    (and_from (ltb 0 delta) (ltb (next + delta) (names + 1)) (lt-ltb 0 delta (omega (arith, up.0))) (lt-ltb (next + delta) (names + 1) (omega (arith, at, up.1))))
+    ∙ ap (λ m. onto (m - 1) (read_ids names (length ids + more) m (flat_map varint (deltas_from (id + 1) ids) ++ rest))) at
+    ∙ ap (onto (id + 1 - 1)) (read_front names (id + 1) more ids rest few up.2)
+    ∙ ap (λ m. onto m (before ids (read_ids names more (next_after (id + 1) ids) rest))) (let back : id + 1 - 1 ≡ id = omega arith in back)
+
+pub left_front : (names next left : ℕ) (bytes rest ids : List ℕ) → names < 2 ^ 31 → RiseWithin most_ids 0 ids →
+    next + next_after 0 ids ≤ names → length ids ≤ left → bytes ≡ stream_of ids ++ rest →
+    read_ids names left next bytes
+    ≡ before (moved next ids) (read_ids names (left - length ids) (next + next_after 0 ids) rest)
+left_front names next left bytes rest ids few up within count is =
+    let long = length-map ids (λ id. next + id) in
+    let all : left ≡ length (moved next ids) + (left - length ids) = omega (arith, long, count) in
+    let written : bytes ≡ flat_map varint (deltas_from next (moved next ids)) ++ rest = is ∙ ap (λ s. s ++ rest) (sym (moved_stream next ids)) in
+    (λ i. read_ids names (all i) next (written i))
+    ∙ read_front names next (left - length ids) (moved next ids) rest (omega (arith, few)) (moved_from most_ids names next ids up within)
+    ∙ ap (λ n. before (moved next ids) (read_ids names (left - length ids) n rest)) (moved_last next ids)
+
+-- ids that rise no further than to a number are below it, also where they are counted from another
+pub all_below : (most from end next : ℕ) (ids : List ℕ) → RiseWithin most next ids → next_after next ids ≤ end - from →
+    AllByRecursion (λ id. from + id < end) ids
+all_below most from end next [] up h = tt
+all_below most from end next (id ∷ ids) up h =
+    let long = rise_length most (id + 1) ids up.2 in
+    (omega (arith, long, h), all_below most from end (id + 1) ids up.2 h)
+
+-- ---- one id more at the front of some bytes
+
+pub more_measured : (bytes : List ℕ) (len size count next delta : ℕ) → IsStream (take len bytes) count next → 0 < delta →
+    next + delta ≤ most_ids → take size (drop len bytes) ≡ varint delta →
+    IsStream (take (len + size) bytes) (count + 1) (next + delta)
+more_measured bytes len size count next delta is some few written =
+    let id : ℕ = next + delta - 1 in
+    let at : id + 1 ≡ next + delta = omega (arith, some) in
+    let less : id + 1 - next ≡ delta = omega (arith, some) in
+    let push = stream_more (take len bytes) count next (id ∷ []) is (omega (arith, some), omega (arith, few, some), tt) in
+    let all : take len bytes ++ (varint (id + 1 - next) ++ []) ≡ take (len + size) bytes = ap (λ v. take len bytes ++ v) (append-nil (varint (id + 1 - next))) ∙ ap (λ n. take len bytes ++ varint n) less ∙ ap (λ v. take len bytes ++ v) (sym written) ∙ sym (take-add len size bytes) in
+    subst (λ n. IsStream (take (len + size) bytes) (count + 1) n) at (subst (λ s. IsStream s (count + 1) (id + 1)) all push.is)
+
+pub two_bytes : (first second : ℕ) → 128 ≤ first → first < 256 → 0 < second → second < 128 →
+    first ∷ second ∷ [] ≡ varint (first - 128 + 128 * second)
+unfolding varint
+two_bytes first second large byte some small =
+    let n : ℕ = first - 128 + 128 * second in
+    let low : first ≡ n % 128 + 128 = omega (arith, large, byte) in
+    let high : second ≡ n / 128 = omega (arith, large, byte) in
+    let more : 128 ≤ n = omega (arith, some) in
+    (λ i. low i ∷ high i ∷ [])
+    ∙ ap (λ rest. (n % 128 + 128) ∷ rest) (sym (ap (λ b. cond b (n / 128 ∷ []) ((n / 128 % 128 + 128) ∷ varint_within 3 (n / 128 / 128))) (lt-ltb (n / 128) 128 (omega (arith, high, small)))))
+    ∙ sym (ap (λ b. cond b (n ∷ []) ((n % 128 + 128) ∷ varint_within 4 (n / 128))) (le-ltb n 128 more))
+
+pub one_at : (bytes : List ℕ) → 1 ≤ length bytes → get_or bytes 0 0 < 128 → take 1 bytes ≡ varint (get_or bytes 0 0)
+one_at [] some small = absurd (omega (arith, some))
+one_at (first ∷ rest) some small = sym (short_varint first small)
+
+pub two_at : (bytes : List ℕ) → 2 ≤ length bytes → ((i : ℕ) → get_or bytes i 0 < 256) → 128 ≤ get_or bytes 0 0 →
+    0 < get_or bytes 1 0 → get_or bytes 1 0 < 128 →
+    take 2 bytes ≡ varint (get_or bytes 0 0 - 128 + 128 * get_or bytes 1 0)
+two_at [] two are large some small = absurd (omega (arith, two))
+two_at (first ∷ []) two are large some small = absurd (omega (arith, two))
+two_at (first ∷ second ∷ rest) two are large some small = two_bytes first second large (are 0) some small
+
+-- ---- ids that are passed
+
+pub passed : (ended : Bool) (names left next last len on : ℕ) (bytes rest ids : List ℕ) (now : Ids) →
+    left_of ended names left next bytes ≡ now → ended ≡ false → next ≡ last + 1 → names < 2 ^ 31 →
+    RiseWithin most_ids 0 ids → next + on ≤ names → len ≡ length ids → len ≤ left → on ≡ next_after 0 ids →
+    bytes ≡ stream_of ids ++ rest →
+    now ≡ before (moved (last + 1) ids) (left_of ended names (left - len) (next + on) rest)
+passed ended names left next last len on bytes rest ids now view off at few up within count fits go is =
+    sym view
+    ∙ ap (λ b. left_of b names left next bytes) off
+    ∙ left_front names next left bytes rest ids few up (omega (arith, within, go)) (omega (arith, fits, count)) is
+    ∙ (λ i. before (moved (at i) ids) (left_of (sym off i) names (left - sym count i) (next + sym go i) rest))

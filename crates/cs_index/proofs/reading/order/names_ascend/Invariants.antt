@@ -1,0 +1,7 @@
+use Rattle.std.proofs.Common.{◌≡◌, ◌-◌, drop, map}
+use Rattle.cs_tree.specs.NameOrder.{are_ascending}
+use Rattle.cs_index.proofs.OrderLemmas.{name_lent}
+use Rattle.cs_index.proofs.reading.order.names_ascend.Given as goal
+
+abbrev pub invariant-loop-at : goal.invariant-loop-at
+invariant-loop-at l = are_ascending (map name_lent l.named) ≡ are_ascending (map name_lent (drop (l.at - 1) l.named))

@@ -1,0 +1,59 @@
+// The ids of an index in the order of their names.
+ghost use Rattle.std.specs.Prelude.{◌≡◌, IfOk, List, ℕ, option_map, map};
+ghost use Rattle.cs_tree.specs.NameOrder.{are_ascending};
+ghost use Rattle.cs_index.specs.Order.{IsOrderOf, with_ids, lent_names, name_in, id_in};
+
+use crate::reading::index::Index;
+use std::alloc::{AllocError, Global};
+
+impl<'a> Index<'a> {
+    /// The ids in ascending order of their names, or `None` where a name is held twice.
+    pub fn order(&self, alloc: Global) -> Result<Option<Vec<u32>>, AllocError>
+        ensures { IfOk result (λ order.
+            IsOrderOf self.now.names (option_map (λ ids. ids.items) order)) }
+    {
+        let mut named = self.named(alloc)?;
+        named.sort_unstable_by(|a, b| a.0.cmp(b.0));
+        if !names_ascend(&named) {
+            return Ok(None);
+        }
+        let ids = ids_in_order(alloc, &named)?;
+        Ok(Some(ids))
+    }
+
+    /// The names with their ids.
+    fn named(&self, alloc: Global) -> Result<Vec<(&'a str, u32)>, AllocError>
+        ensures { IfOk result (λ named. lent_names named.items ≡ with_ids self.now.names) }
+    {
+        let count = self.len();
+        let mut named = Vec::with_capacity(alloc, count as usize)?;
+        'names: for name in self.names() {
+            let id = named.len() as u32;
+            named.push((name, id))?;
+        }
+        Ok(named)
+    }
+}
+
+/// Whether each name is below the next.
+fn names_ascend(named: &[(&str, u32)]) -> bool
+    ensures { result ≡ are_ascending (map name_in (lent_names named.now)) }
+{
+    for at in 1..named.len() {
+        if named[at - 1].0.cmp(named[at].0).is_ge() {
+            return false;
+        }
+    }
+    true
+}
+
+/// Their ids.
+fn ids_in_order(alloc: Global, named: &[(&str, u32)]) -> Result<Vec<u32>, AllocError>
+    ensures { IfOk result (λ ids. ids.items ≡ map id_in (lent_names named.now)) }
+{
+    let mut ids = Vec::with_capacity(alloc, named.len())?;
+    for (_, id) in named {
+        ids.push(*id)?;
+    }
+    Ok(ids)
+}

@@ -3,6 +3,7 @@ pub mod ContentLemmas
 pub mod HoldingLemmas
 pub mod ReadLemmas
 pub mod RenumberingLemmas
+pub mod RunLemmas
 pub mod CarryingLemmas
 pub mod NamingLemmas
 pub mod NewNamesLemmas

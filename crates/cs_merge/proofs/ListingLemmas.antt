@@ -1,14 +1,19 @@
 -- The list of a trigram, id after id of both.
-use Rattle.std.proofs.Common.{◌≡◌, ◌≢◌, ℕ, ◌+◌, ◌<◌, ◌≤◌, Bool, true, false, cond, ◌||◌, eqb, ltb, List, [], ◌∷◌, ◌++◌, length, refl, sym, ap, subst, ◌∙◌, ◌⊎◌, inl, inr, Option, Some, None, arith, slice_get}
+use Rattle.std.proofs.Common.{◌≡◌, ◌≢◌, ℕ, ◌+◌, ◌<◌, ◌≤◌, Bool, true, false, cond, ◌||◌, eqb, ltb, List, [], ◌∷◌, ◌++◌, length, refl, sym, ap, subst, ◌∙◌, ◌⊎◌, inl, inr, Option, Some, None, arith, slice_get, append_assoc, length-append}
 use Rattle.std.proofs.lemmas.Bool.{cases_Bool, cases_eq, eqb-true, eq-eqb, ne_eqb, ltb-true, ltb-false}
 use Rattle.std.proofs.lemmas.Option.{same_Some}
+use Rattle.std.proofs.lemmas.List.{append-nil}
+use Rattle.std.specs.List.{AllByRecursion}
 use Rattle.std.specs.Option.{option_map_or}
+use Rattle.cs_index.specs.Image.{Posting}
+use Rattle.cs_index.proofs.StretchLemmas.{moved_last}
 use Rattle.cs_trigram.specs.Trigram.{has}
 use Rattle.cs_index.specs.Gathering.{ids_of, with_id}
 use Rattle.cs_index.specs.IdStream.{next_after}
-use Rattle.cs_index.specs.Laid.{Laid, AllBelow, last_ids, with_laid_id, with_last_id}
-use Rattle.cs_index.specs.Rising.{RiseWithin}
-use Rattle.cs_merge.specs.SideBySide.{lower_of, without_first, IsGiven}
+use Rattle.cs_index.specs.Laid.{Laid, AllBelow, last_ids, with_laid_id, with_last_id, with_last_ids}
+use Rattle.cs_index.specs.Rising.{RiseWithin, moved}
+use Rattle.cs_merge.specs.Renumbering.{list_of}
+use Rattle.cs_merge.specs.SideBySide.{lower_of, without_first, AreRun, of_older, of_newer, IsGiven, IsRun}
 use Rattle.cs_merge.proofs.CarryingLemmas.{with_one_more, ids_of_more}
 
 -- ---- the lower one of two first ids
@@ -168,3 +173,189 @@ module _ (trigram : ℕ) (before now : Laid) (older newer older_left newer_left 
 
   pub still_begun : (after : Laid) → after ≡ with_last_id now id → after.begun ≡ Some trigram
   still_begun after e = ap (λ (l : Laid). l.begun) (e ∙ ap (λ o. option_map_or (λ g. with_laid_id now g id) o now) begun) ∙ begun
+
+-- ---- ids of a run
+
+has_both : (ids more : List ℕ) (n : ℕ) → has (ids ++ more) n ≡ (has ids n || has more n)
+has_both [] more n = refl
+has_both (one ∷ ids) more n = ap (λ b. eqb one n || b) (has_both ids more n) ∙ sym (or_assoc (eqb one n) (has ids n) (has more n))
+  where
+    or_assoc : (a b c : Bool) → ((a || b) || c) ≡ (a || (b || c))
+    or_assoc true b c = refl
+    or_assoc false b c = refl
+
+next_both : (next : ℕ) (ids more : List ℕ) → next_after next (ids ++ more) ≡ next_after (next_after next ids) more
+next_both next [] more = refl
+next_both next (one ∷ ids) more = next_both (one + 1) ids more
+
+rise_tail : (count next : ℕ) (ids more : List ℕ) → RiseWithin count next (ids ++ more) → RiseWithin count (next_after next ids) more
+rise_tail count next [] more up = up
+rise_tail count next (one ∷ ids) more up = rise_tail count (one + 1) ids more up.2
+
+rise_ends : (count next : ℕ) (ids more : List ℕ) → next ≤ count → RiseWithin count next (ids ++ more) → next_after next ids ≤ count
+rise_ends count next [] more within up = within
+rise_ends count next (one ∷ ids) more within up = rise_ends count (one + 1) ids more (omega (arith, up.1)) up.2
+
+-- ids that are below a number end there
+next_below : (id next most : ℕ) (run : List ℕ) → next ≤ most → AllByRecursion (λ other. id + 1 + other < most) run → next_after next (moved (id + 1) run) ≤ most
+next_below id next most [] within all = within
+next_below id next most (one ∷ run) within all =
+    let below : id + 1 + one < most = all.0 in
+    next_below id (id + 1 + one + 1) most run (omega (arith, below)) all.1
+
+-- what is left of the others stands behind a run that ends before them
+others_behind : (count id : ℕ) (run others : List ℕ) → AtLeast id others → RiseWithin count (id + 1) (without_first id others) → ((most : ℕ) → slice_get others 0 ≡ Some most → AllByRecursion (λ other. id + 1 + other < most) run) → RiseWithin count (next_after (id + 1) (moved (id + 1) run)) (without_first id others)
+others_behind count id [] others from up below = up
+others_behind count id (one ∷ run) [] from up below = tt
+others_behind count id (one ∷ run) (other ∷ others) from up below =
+    let all = below other refl in
+    let first : id + 1 + one < other = all.0 in
+    let differs : cond (eqb other id) others (other ∷ others) ≡ other ∷ others = ap (λ b. cond b others (other ∷ others)) (ne_eqb other id (λ e. absurd (omega (arith, e, first)))) in
+    let up' : RiseWithin count (id + 1) (other ∷ others) = subst (RiseWithin count (id + 1)) differs up in
+    subst (RiseWithin count (next_after (id + 1) (moved (id + 1) (one ∷ run)))) (sym differs)
+    (next_below id (id + 1) other (one ∷ run) (omega (arith, first)) all, up'.1, up'.2)
+
+-- ids of one of both go from those that are left to those that are given
+given_older : (given run older newer : Bool) → ((given || run) || (older || newer)) ≡ (given || ((run || older) || newer))
+given_older true run older newer = refl
+given_older false true older newer = refl
+given_older false false older newer = refl
+
+given_newer : (given run older newer : Bool) → ((given || run) || (older || newer)) ≡ (given || (older || (run || newer)))
+given_newer true run older newer = refl
+given_newer false true true newer = refl
+given_newer false true false newer = refl
+given_newer false false older newer = refl
+
+with_more : (trigram : ℕ) (now : Laid) (lists : List Posting) (given more : List ℕ) → now.begun ≡ Some trigram → now.lists ≡ lists ++ list_of trigram given → AllBelow lists trigram → with_last_ids now more ≡ record { paths = now.paths; names = now.names; lists = lists ++ list_of trigram (given ++ more); begun = now.begun }
+with_more trigram now lists given [] begun is below = λ i. record {
+  paths = now.paths;
+  names = now.names;
+  lists = (is ∙ ap (λ ids. lists ++ list_of trigram ids) (sym (append-nil given))) i;
+  begun = now.begun;
+}
+with_more trigram now lists given (id ∷ more) begun is below =
+    ap (λ (l : Laid). with_last_ids l more) (ap (λ o. option_map_or (λ g. with_laid_id now g id) o now) begun)
+    ∙ with_more trigram (with_laid_id now trigram id) lists (given ++ id ∷ []) more begun (ap (λ ps. with_id ps trigram id) is ∙ with_one_more trigram id lists given below) below
+    ∙ ap (λ ids. let l : Laid = record { paths = now.paths; names = now.names; lists = lists ++ list_of trigram ids; begun = now.begun } in l) (append_assoc given (id ∷ []) more)
+
+-- the ids of a run are given behind an id that is the lowest of both
+module _ (trigram : ℕ) (before now laid : Laid) (older newer older_left newer_left : List ℕ) (state : IsGiven trigram before now older newer older_left newer_left) (below : AllBelow before.lists trigram) (begun : now.begun ≡ Some trigram) (id : ℕ) (next : lower_of (slice_get older_left 0) (slice_get newer_left 0) ≡ Some id) (is : laid ≡ with_last_id now id) (run older_rest newer_rest : List ℕ) (are : AreRun id run older_left newer_left older_rest newer_rest) where
+  one : IsGiven trigram before laid older newer (without_first id older_left) (without_first id newer_left)
+  one = given_more trigram before now older newer older_left newer_left state below begun id next laid is
+
+  begun_one : laid.begun ≡ Some trigram
+  begun_one = still_begun trigram before now older newer older_left newer_left state below begun id next laid is
+
+  ids_one : last_ids laid ≡ one.given
+  ids_one = ap (λ o. option_map_or (ids_of laid.lists) o []) begun_one ∙ ap (λ lists. ids_of lists trigram) one.lists ∙ ids_of_more trigram before.lists one.given below
+
+  next_one : next_after 0 one.given ≡ id + 1
+  unfolding one given_more
+  next_one = next_after_push 0 id state.given
+
+  pub last_one : next_after 0 (last_ids laid) ≡ id + 1
+  last_one = ap (next_after 0) ids_one ∙ next_one
+
+  pub some_last : last_ids laid ≢ []
+  unfolding one given_more
+  some_last e = none state.given (sym ids_one ∙ e)
+    where
+      none : (ids : List ℕ) → ids ++ id ∷ [] ≡ [] → ⊥
+      none [] f = cc
+      none (other ∷ ids) f = cc
+
+  least : IsLowest id older_left newer_left
+  least = lowest older_left newer_left id next
+
+  names : length laid.names ≡ length before.names
+  names = ap (λ (ns : List (List ℕ)). length ns) one.names
+
+  older_up : RiseWithin (length before.names) (id + 1) (without_first id older_left)
+  older_up = subst (λ n. RiseWithin (length before.names) n (without_first id older_left)) next_one one.older_rise
+
+  newer_up : RiseWithin (length before.names) (id + 1) (without_first id newer_left)
+  newer_up = subst (λ n. RiseWithin (length before.names) n (without_first id newer_left)) next_one one.newer_rise
+
+  within : id + 1 ≤ length before.names
+  within = let b = bounds trigram before now older newer older_left newer_left state below begun id next in omega (arith, b.1)
+
+  run_ends : next_after (id + 1) (moved (id + 1) run) ≤ length before.names
+  run_ends = by_side are
+    where
+      by_side : AreRun id run older_left newer_left older_rest newer_rest → next_after (id + 1) (moved (id + 1) run) ≤ length before.names
+      by_side (of_older r same) = rise_ends (length before.names) (id + 1) (moved (id + 1) run) (without_first id older_rest) within (subst (RiseWithin (length before.names) (id + 1)) r.ids_are older_up)
+      by_side (of_newer r same) = rise_ends (length before.names) (id + 1) (moved (id + 1) run) (without_first id newer_rest) within (subst (RiseWithin (length before.names) (id + 1)) r.ids_are newer_up)
+
+  pub run_named : next_after 0 (last_ids laid) + next_after 0 run ≤ length laid.names
+  run_named =
+      let end : next_after (id + 1) (moved (id + 1) run) ≡ id + 1 + next_after 0 run = moved_last (id + 1) run in
+      omega (arith, last_one, run_ends, names, end)
+
+  pub run_given : (after : Laid) → after ≡ with_last_ids laid (moved (next_after 0 (last_ids laid)) run) → IsGiven trigram before after older newer (without_first id older_rest) (without_first id newer_rest)
+  run_given after e = record {
+    given = one.given ++ ids;
+    paths = ap (λ (l : Laid). l.paths) all ∙ one.paths;
+    names = ap (λ (l : Laid). l.names) all ∙ one.names;
+    lists = ap (λ (l : Laid). l.lists) all;
+    each = λ n. by_each are n ∙ one.each n;
+    older_rise = subst (λ m. RiseWithin (length before.names) m (without_first id older_rest)) (sym ends) (older_behind are);
+    newer_rise = subst (λ m. RiseWithin (length before.names) m (without_first id newer_rest)) (sym ends) (newer_behind are);
+  }
+    where
+      ids : List ℕ
+      ids = moved (id + 1) run
+
+      all : after ≡ record { paths = laid.paths; names = laid.names; lists = before.lists ++ list_of trigram (one.given ++ ids); begun = laid.begun }
+      all = e ∙ ap (λ n. with_last_ids laid (moved n run)) last_one ∙ with_more trigram laid before.lists one.given ids begun_one one.lists below
+
+      ends : next_after 0 (one.given ++ ids) ≡ next_after (id + 1) ids
+      ends = next_both 0 one.given ids ∙ ap (λ n. next_after n ids) next_one
+
+      by_each : AreRun id run older_left newer_left older_rest newer_rest → (n : ℕ) → (has (one.given ++ ids) n || (has (without_first id older_rest) n || has (without_first id newer_rest) n)) ≡ (has one.given n || (has (without_first id older_left) n || has (without_first id newer_left) n))
+      by_each (of_older r same) n =
+          ap (λ b. b || (has (without_first id older_rest) n || has (without_first id newer_rest) n)) (has_both one.given ids n)
+          ∙ given_older (has one.given n) (has ids n) (has (without_first id older_rest) n) (has (without_first id newer_rest) n)
+          ∙ (λ i. has one.given n || ((sym (has_both ids (without_first id older_rest) n) ∙ ap (λ l. has l n) (sym r.ids_are)) i || has (without_first id (same i)) n))
+      by_each (of_newer r same) n =
+          ap (λ b. b || (has (without_first id older_rest) n || has (without_first id newer_rest) n)) (has_both one.given ids n)
+          ∙ given_newer (has one.given n) (has ids n) (has (without_first id older_rest) n) (has (without_first id newer_rest) n)
+          ∙ (λ i. has one.given n || (has (without_first id (same i)) n || (sym (has_both ids (without_first id newer_rest) n) ∙ ap (λ l. has l n) (sym r.ids_are)) i))
+
+      older_behind : AreRun id run older_left newer_left older_rest newer_rest → RiseWithin (length before.names) (next_after (id + 1) ids) (without_first id older_rest)
+      older_behind (of_older r same) = rise_tail (length before.names) (id + 1) ids (without_first id older_rest) (subst (RiseWithin (length before.names) (id + 1)) r.ids_are older_up)
+      older_behind (of_newer r same) = subst (λ l. RiseWithin (length before.names) (next_after (id + 1) ids) (without_first id l)) (sym same) (others_behind (length before.names) id run older_left least.some_from older_up r.below)
+
+      newer_behind : AreRun id run older_left newer_left older_rest newer_rest → RiseWithin (length before.names) (next_after (id + 1) ids) (without_first id newer_rest)
+      newer_behind (of_older r same) = subst (λ l. RiseWithin (length before.names) (next_after (id + 1) ids) (without_first id l)) (sym same) (others_behind (length before.names) id run newer_left least.others_from newer_up r.below)
+      newer_behind (of_newer r same) = rise_tail (length before.names) (id + 1) ids (without_first id newer_rest) (subst (RiseWithin (length before.names) (id + 1)) r.ids_are newer_up)
+
+  -- and fewer are left
+  pub run_shorter : length (without_first id older_rest) + length (without_first id newer_rest) < length older_left + length newer_left
+  run_shorter = by_side least.among are
+    where
+      no_longer : (ids : List ℕ) → length (without_first id ids) ≤ length ids
+      no_longer [] = omega arith
+      no_longer (other ∷ ids) =
+          elim (cases_Bool (eqb other id)) [
+            | inl is ↦ let e = ap (λ b. length (cond b ids (other ∷ ids))) is in omega (arith, e)
+            | inr differs ↦ let e = ap (λ b. length (cond b ids (other ∷ ids))) differs in omega (arith, e)
+          ]
+
+      shorter : (ids : List ℕ) → slice_get ids 0 ≡ Some id → length (without_first id ids) < length ids
+      shorter [] there = cc
+      shorter (other ∷ ids) there = let e = ap (λ b. length (cond b ids (other ∷ ids))) (eq-eqb other id (same_Some other id there)) in omega (arith, e)
+
+      behind : (ids rest : List ℕ) → without_first id ids ≡ moved (id + 1) run ++ without_first id rest → length (without_first id rest) ≤ length (without_first id ids)
+      behind ids rest is = let long = ap length is in let both = length-append (moved (id + 1) run) (without_first id rest) in omega (arith, long, both)
+
+      by_side : (slice_get older_left 0 ≡ Some id) ⊎ (slice_get newer_left 0 ≡ Some id) → AreRun id run older_left newer_left older_rest newer_rest → length (without_first id older_rest) + length (without_first id newer_rest) < length older_left + length newer_left
+      by_side (inl there) (of_older r same) = let a = shorter older_left there in let b = behind older_left older_rest r.ids_are in let d = no_longer newer_left in let e = ap (λ ids. length (without_first id ids)) same in omega (arith, a, b, d, e)
+      by_side (inl there) (of_newer r same) = let a = shorter older_left there in let b = behind newer_left newer_rest r.ids_are in let d = no_longer newer_left in let e = ap (λ ids. length (without_first id ids)) same in omega (arith, a, b, d, e)
+      by_side (inr there) (of_older r same) = let a = shorter newer_left there in let b = behind older_left older_rest r.ids_are in let d = no_longer older_left in let e = ap (λ ids. length (without_first id ids)) same in omega (arith, a, b, d, e)
+      by_side (inr there) (of_newer r same) = let a = shorter newer_left there in let b = behind newer_left newer_rest r.ids_are in let d = no_longer older_left in let e = ap (λ ids. length (without_first id ids)) same in omega (arith, a, b, d, e)
+
+  pub run_begun : (after : Laid) → after ≡ with_last_ids laid (moved (next_after 0 (last_ids laid)) run) → after.begun ≡ Some trigram
+  run_begun after e =
+      ap (λ (l : Laid). l.begun) (e ∙ ap (λ n. with_last_ids laid (moved n run)) last_one ∙ with_more trigram laid before.lists one.given (moved (id + 1) run) begun_one one.lists below)
+      ∙ begun_one

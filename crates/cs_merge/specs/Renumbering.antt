@@ -1,6 +1,6 @@
 -- How the ids of an index become ids of the index of both.
 -- docs/PROMISES.md, "Joining".
-use Rattle.std.specs.Prelude.{◌≡◌, ℕ, ◌+◌, ◌<◌, ◌≤◌, Bool, true, false, List, [], ◌∷◌, Option, Some, None, slice_get, length, option_and_then}
+use Rattle.std.specs.Prelude.{◌≡◌, ℕ, ◌+◌, ◌-◌, ◌<◌, ◌≤◌, Bool, true, false, List, [], ◌∷◌, Option, Some, None, slice_get, length, option_and_then, option_map}
 use Rattle.std.specs.List.{filter_map}
 use Rattle.cs_tree.specs.NameOrder.{are_ascending}
 use Rattle.cs_tree.specs.Cover.{is_covered}
@@ -39,6 +39,15 @@ AreApart older newer = (id other new : ℕ) → new_id older id ≡ Some new →
 -- new ids are below a number
 abbrev pub StayBelow : ℕ → NewIds → Type 0
 StayBelow count new_ids = (id new : ℕ) → new_id new_ids id ≡ Some new → new < count
+
+-- the ids from one on up to another move by the same distance, or are all dropped
+abbrev pub MoveTogether : NewIds → ℕ → ℕ → Type 0
+MoveTogether new_ids id end = (other : ℕ) → id ≤ other → other < end →
+    new_id new_ids other ≡ option_map (λ new. new + (other - id)) (new_id new_ids id)
+
+-- at each id stands one up to which those from it on move together
+abbrev pub AreEnds : NewIds → List ℕ → Type 0
+AreEnds new_ids ends = (id end : ℕ) → slice_get ends id ≡ Some end → MoveTogether new_ids id end
 
 -- What lists of ids are renumbered by.
 pub record AreRenumberings (count : ℕ) (older newer : NewIds) : Type 0 where

@@ -1,6 +1,6 @@
 -- The lists of both, side by side in the order of their trigrams.
-use Rattle.std.specs.Prelude.{◌≡◌, ℕ, ◌+◌, ◌≤◌, true, nat_eq, nat_lt, if◌then◌else◌, ◌||◌, List, [], ◌∷◌, ◌++◌, length, take, Option, Some, None, slice_get, option_map}
-use Rattle.std.specs.List.{list_all}
+use Rattle.std.specs.Prelude.{◌≡◌, ℕ, ◌+◌, ◌<◌, ◌≤◌, true, nat_eq, nat_lt, if◌then◌else◌, ◌||◌, List, [], ◌∷◌, ◌++◌, length, take, Option, Some, None, slice_get, option_map}
+use Rattle.std.specs.List.{list_all, AllByRecursion}
 use Rattle.std.specs.Option.{option_map_or}
 use Rattle.cs_trigram.specs.Trigram.{has}
 use Rattle.cs_index.specs.IdStream.{next_after}
@@ -8,8 +8,8 @@ use Rattle.cs_index.specs.Image.{ListEntry}
 use Rattle.cs_index.specs.Laid.{Laid, AllBelow}
 use Rattle.cs_index.specs.Opening.{Parts, ids_read, lists_in}
 use Rattle.cs_index.specs.PostingLists.{Ids}
-use Rattle.cs_index.specs.Rising.{RiseWithin}
-use Rattle.cs_merge.specs.Renumbering.{NewIds, AreCarried, list_of}
+use Rattle.cs_index.specs.Rising.{RiseWithin, moved}
+use Rattle.cs_merge.specs.Renumbering.{NewIds, new_id, AreCarried, list_of}
 
 -- the lower one of two numbers, either of which may be missing
 abbrev pub lower_of : Option ℕ → Option ℕ → Option ℕ
@@ -29,6 +29,27 @@ ids_after id read = record { ids = without_first id read.ids; whole = read.whole
 -- no ids, and no damage
 abbrev pub no_ids : Ids
 no_ids = record { ids = []; whole = true }
+
+-- the new id of an id that is kept
+abbrev pub new_of : Option (ℕ × ℕ) → Option ℕ
+new_of next = option_map (λ (kept : ℕ × ℕ). kept.1) next
+
+-- The first new id is that of the id that was read last; where there is none, the list is read to its end.
+pub record IsCarried (new_ids : NewIds) (first : Option ℕ) (last : ℕ) (rest : Ids) : Type 0 where
+  pub first_is : (new : ℕ) → first ≡ Some new → new_id new_ids last ≡ Some new
+  pub end : first ≡ None → (rest.ids ≡ []) × (rest.whole ≡ true)
+
+-- Ids that follow an id, counted from it, are the first of some behind it, and below a limit if there is one.
+pub record IsRun (id : ℕ) (limit : Option ℕ) (run ids rest : List ℕ) : Type 0 where
+  pub ids_are : without_first id ids ≡ moved (id + 1) run ++ without_first id rest
+  pub below : (most : ℕ) → limit ≡ Some most → AllByRecursion (λ other. id + 1 + other < most) run
+
+-- A run of one of both: of the one that has the id, up to the first id of the other.
+pub data AreRun (id : ℕ) (run older newer older_left newer_left : List ℕ) : Type 0 where
+  of_older : IsRun id (slice_get newer 0) run older older_left → newer_left ≡ newer →
+      AreRun id run older newer older_left newer_left
+  of_newer : IsRun id (slice_get older 0) run newer newer_left → older_left ≡ older →
+      AreRun id run older newer older_left newer_left
 
 -- the trigram of the list at a place
 abbrev pub trigram_of : Parts → ℕ → Option ℕ

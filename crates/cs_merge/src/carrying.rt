@@ -1,11 +1,12 @@
 // The ids of a list under their new ids.
-ghost use Rattle.std.specs.Prelude.{◌≡◌, [], true, false, None, slice_get, IfOk, IfErr, OnOk, MatchResult};
-ghost use Rattle.std.specs.List.{cons_option};
-ghost use Rattle.cs_merge.specs.Renumbering.{renumbered, renumbered_ids};
-ghost use Rattle.cs_merge.specs.SideBySide.{ids_after, no_ids};
+ghost use Rattle.std.specs.Prelude.{◌≡◌, ◌+◌, ◌<◌, ◌++◌, [], true, false, Some, None, slice_get, IfOk, IfErr, IfSome, OnOk, MatchResult};
+ghost use Rattle.std.specs.List.{cons_option, AllByRecursion};
+ghost use Rattle.cs_index.specs.Rising.{moved};
+ghost use Rattle.cs_merge.specs.Renumbering.{new_id as new_id', renumbered, renumbered_ids};
+ghost use Rattle.cs_merge.specs.SideBySide.{ids_after, new_of, no_ids, IsRun};
 
-use crate::renumbering::Renumbering;
-use cs_index::{IndexFault, Postings};
+use crate::runs::Runs;
+use cs_index::{IndexFault, Postings, Stretch};
 use std::marker::Model;
 
 /// The new ids of a list, without those of files that are dropped: the first of them, and what is read
@@ -13,49 +14,53 @@ use std::marker::Model;
 #[derive(Drop)]
 pub(crate) struct Carried<'a, 'b> {
     first: Option<u32>,
+    last: u32,
     rest: Postings<'a>,
-    new_ids: &'b Renumbering,
+    runs: &'b Runs<'b>,
 }
 
 impl<'a, 'b> Model for Carried<'a, 'b> {
-    ghost use Rattle.std.specs.Prelude.{◌≡◌, [], true, None};
     ghost use Rattle.std.specs.List.{cons_option};
     ghost use Rattle.cs_index.specs.PostingLists.{Ids};
     ghost use Rattle.cs_merge.specs.Renumbering.{renumbered};
+    ghost use Rattle.cs_merge.specs.SideBySide.{IsCarried};
 
     ghost Value = { Ids };
 
     ghost view = { λ s. record {
-      ids = cons_option s.first (renumbered s.new_ids.now s.rest.ids);
+      ids = cons_option s.first (renumbered s.runs.now s.rest.ids);
       whole = s.rest.whole;
     } };
 
-    ghost invariant = { λ s. s.first ≡ None → (s.rest.ids ≡ []) × (s.rest.whole ≡ true) };
+    ghost invariant = { λ s. IsCarried s.runs.now s.first s.last s.rest };
 }
 
 impl<'a, 'b> Carried<'a, 'b> {
     /// Of the ids of a list.
-    pub(crate) fn new(ids: Postings<'a>, new_ids: &'b Renumbering) -> Result<Self, IndexFault>
-        ensures { MatchResult result (λ carried. carried ≡ renumbered_ids new_ids.now ids.entry)
+    pub(crate) fn new(ids: Postings<'a>, runs: &'b Runs<'b>) -> Result<Self, IndexFault>
+        ensures { MatchResult result (λ carried. carried ≡ renumbered_ids runs.now ids.entry)
             (λ fault. (fault ≡ IndexFault.BadList) × (ids.entry.whole ≡ false)) }
     {
         let mut rest = ids;
-        let first = next_kept(&mut rest, new_ids)?;
+        let next = next_kept(&mut rest, runs)?;
+        let (last, first) = parts(next);
         Ok(Carried {
             first,
+            last,
             rest,
-            new_ids,
+            runs,
         })
     }
 
     /// Of no list.
-    pub(crate) fn none(new_ids: &'b Renumbering) -> Self
+    pub(crate) fn none(runs: &'b Runs<'b>) -> Self
         ensures { result ≡ no_ids }
     {
         Carried {
             first: None,
+            last: 0,
             rest: Postings::new(&[0], 0, 0),
-            new_ids,
+            runs,
         }
     }
 
@@ -67,6 +72,21 @@ impl<'a, 'b> Carried<'a, 'b> {
         self.first
     }
 
+    /// Passes ids behind the first one that move with it, as they are written. They are below a limit, and
+    /// count from the first.
+    pub(crate) fn run(&mut self, id: u32, limit: Option<u32>) -> Stretch<'a>
+        requires { slice_get self.old.ids 0 ≡ Some id }
+        ensures run { IsRun id limit result self.old.ids self.new.ids }
+        ensures whole { self.new.whole ≡ self.old.whole }
+    {
+        let end = self.runs.end(self.last);
+        let most = match limit {
+            None => end,
+            Some(limit) => self.last.saturating_add(limit.saturating_sub(id)),
+        };
+        self.rest.stretch(self.last, end.min(most))
+    }
+
     /// Passes the id, if it is the first one.
     pub(crate) fn pass(&mut self, id: u32) -> Result<(), IndexFault>
         ensures ok { OnOk result (self.new ≡ ids_after id self.old) }
@@ -74,17 +94,33 @@ impl<'a, 'b> Carried<'a, 'b> {
             (λ fault. (fault ≡ IndexFault.BadList) × (self.old.whole ≡ false)) }
     {
         if self.first == Some(id) {
-            self.first = next_kept(&mut self.rest, self.new_ids)?;
+            let next = next_kept(&mut self.rest, self.runs)?;
+            let (last, first) = parts(next);
+            self.last = last;
+            self.first = first;
         }
         Ok(())
     }
 }
 
-/// The new id of the next one that is kept.
-fn next_kept(ids: &mut Postings<'_>, new_ids: &Renumbering) -> Result<Option<u32>, IndexFault>
+/// An id and its new id.
+fn parts(next: Option<(u32, u32)>) -> (u32, Option<u32>)
+    ensures new { result.1 ≡ new_of next }
+    ensures id { IfSome next (λ kept. result.0 ≡ kept.0) }
+{
+    match next {
+        Some((id, new)) => (id, Some(new)),
+        None => (0, None),
+    }
+}
+
+/// The next one that is kept, and its new id. Ids that are dropped with others are passed as they are written.
+fn next_kept(ids: &mut Postings<'_>, runs: &Runs<'_>) -> Result<Option<(u32, u32)>, IndexFault>
     ensures ids { IfOk result (λ next.
-        cons_option next (renumbered new_ids.now ids.new.ids)
-        ≡ renumbered new_ids.now ids.old.ids) }
+        cons_option (new_of next) (renumbered runs.now ids.new.ids)
+        ≡ renumbered runs.now ids.old.ids) }
+    ensures kept { IfOk result (λ next.
+        IfSome next (λ kept. new_id' runs.now kept.0 ≡ Some kept.1)) }
     ensures whole { OnOk result (ids.new.whole ≡ ids.old.whole) }
     ensures end { IfOk result (λ next. next ≡ None → (ids.new.ids ≡ []) × (ids.new.whole ≡ true)) }
     ensures fault { IfErr result
@@ -94,9 +130,10 @@ fn next_kept(ids: &mut Postings<'_>, new_ids: &Renumbering) -> Result<Option<u32
         let Ok(id) = told else {
             return Err(IndexFault::BadList);
         };
-        if let Some(new) = new_ids.new_id(id) {
-            return Ok(Some(new));
+        if let Some(new) = runs.new_id(id) {
+            return Ok(Some((id, new)));
         }
+        let _dropped = ids.stretch(id, runs.end(id));
     }
     Ok(None)
 }

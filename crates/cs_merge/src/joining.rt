@@ -71,7 +71,7 @@ fn join(alloc: Global, most: u32, old: &Index<'_>, newer: &Index<'_>) -> Result<
     let paths = joined_paths(alloc, old, newer)?;
     let mut sections = begun(alloc, &paths)?;
     let ids = lay_names(alloc, &mut sections, old, newer)?;
-    lay_lists(&mut sections, old, newer, &ids)?;
+    lay_lists(alloc, &mut sections, old, newer, &ids)?;
     finished(sections, most)
 }
 

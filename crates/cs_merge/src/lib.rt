@@ -12,6 +12,7 @@ pub mod laws;
 mod listing;
 mod naming;
 mod renumbering;
+mod runs;
 
 pub use fault::MergeFault;
 pub use joining::{merge, merge_within};

@@ -1,5 +1,5 @@
 // The lists of both, side by side in the order of their trigrams.
-ghost use Rattle.std.specs.Prelude.{◌≡◌, ◌⊎◌, ◌<◌, ◌&&◌, [], true, false, length, MatchResult, OnOk};
+ghost use Rattle.std.specs.Prelude.{◌≡◌, ◌⊎◌, ◌<◌, ◌^◌, ◌&&◌, [], true, false, Some, length, slice_get, MatchResult, OnOk};
 ghost use Rattle.cs_trigram.specs.Trigram.{closing_trigram};
 ghost use Rattle.cs_index.specs.Laid.{AllBelow};
 ghost use Rattle.cs_index.specs.Postings.{IsListFault};
@@ -8,15 +8,18 @@ ghost use Rattle.cs_index.specs.Opening.{lists_in};
 ghost use Rattle.cs_index.specs.Parts.{AreParts};
 ghost use Rattle.cs_merge.specs.Joinable.{both_whole};
 ghost use Rattle.cs_merge.specs.Renumbering.{renumbered_ids, AreCarried, AreRenumberings};
-ghost use Rattle.cs_merge.specs.SideBySide.{list_ids, lower_of, place_after, trigram_of, IsGiven};
+ghost use Rattle.cs_merge.specs.SideBySide.{list_ids, lower_of, place_after, trigram_of, AreRun, IsGiven};
 
 use crate::carrying::Carried;
-use crate::renumbering::{Renumbering, Renumberings};
-use cs_index::{Index, IndexFault, Sections};
+use crate::renumbering::Renumberings;
+use crate::runs::Runs;
+use cs_index::{Index, IndexFault, Sections, Stretch};
+use std::alloc::Global;
 
 /// Lays the lists of both in ascending order of trigrams. Each is read once to its end, also where all
 /// of its files are dropped.
 pub(crate) fn lay_lists(
+    alloc: Global,
     sections: &mut Sections,
     old: &Index<'_>,
     newer: &Index<'_>,
@@ -25,11 +28,37 @@ pub(crate) fn lay_lists(
     requires old_parts { AreParts old.now }
     requires newer_parts { AreParts newer.now }
     requires ids { AreRenumberings (length sections.old.names) ids.now.older ids.now.newer }
+    requires older_few { length ids.now.older < 2 ^ 32 }
+    requires newer_few { length ids.now.newer < 2 ^ 32 }
     requires unlisted { sections.old.lists ≡ [] }
     ensures paths { OnOk result (sections.new.paths ≡ sections.old.paths) }
     ensures names { OnOk result (sections.new.names ≡ sections.old.names) }
     ensures older { OnOk result (AreCarried ids.now.older (lists_in old.now) sections.new.lists) }
     ensures newer { OnOk result (AreCarried ids.now.newer (lists_in newer.now) sections.new.lists) }
+    ensures fault { MatchResult result (λ _. both_whole old.now newer.now ≡ true)
+        (IsListFault (both_whole old.now newer.now)) }
+{
+    let older_runs = Runs::new(alloc, &ids.older)?;
+    let newer_runs = Runs::new(alloc, &ids.newer)?;
+    lay_all(sections, old, newer, &older_runs, &newer_runs)
+}
+
+/// Lays the lists of both, whose ids have new ones.
+fn lay_all(
+    sections: &mut Sections,
+    old: &Index<'_>,
+    newer: &Index<'_>,
+    older_runs: &Runs<'_>,
+    newer_runs: &Runs<'_>,
+) -> Result<(), IndexFault>
+    requires old_parts { AreParts old.now }
+    requires newer_parts { AreParts newer.now }
+    requires ids { AreRenumberings (length sections.old.names) older_runs.now newer_runs.now }
+    requires unlisted { sections.old.lists ≡ [] }
+    ensures paths { OnOk result (sections.new.paths ≡ sections.old.paths) }
+    ensures names { OnOk result (sections.new.names ≡ sections.old.names) }
+    ensures older { OnOk result (AreCarried older_runs.now (lists_in old.now) sections.new.lists) }
+    ensures newer { OnOk result (AreCarried newer_runs.now (lists_in newer.now) sections.new.lists) }
     ensures fault { MatchResult result (λ _. both_whole old.now newer.now ≡ true)
         (IsListFault (both_whole old.now newer.now)) }
 {
@@ -39,8 +68,8 @@ pub(crate) fn lay_lists(
         trigram_at(old, older_place),
         trigram_at(newer, newer_place),
     ) {
-        let older = take_list(old, &mut older_place, trigram, &ids.older)?;
-        let later = take_list(newer, &mut newer_place, trigram, &ids.newer)?;
+        let older = take_list(old, &mut older_place, trigram, &*older_runs)?;
+        let later = take_list(newer, &mut newer_place, trigram, &*newer_runs)?;
         lay_list(sections, trigram, older, later)?;
     }
     Ok(())
@@ -61,11 +90,11 @@ fn take_list<'a, 'b>(
     index: &Index<'a>,
     place: &mut u32,
     trigram: u32,
-    new_ids: &'b Renumbering,
+    runs: &'b Runs<'b>,
 ) -> Result<Carried<'a, 'b>, IndexFault>
     ensures place { OnOk result (place.new ≡ place_after index.now place.old trigram) }
     ensures ids { MatchResult result
-        (λ ids. ids ≡ renumbered_ids new_ids.now (list_ids index.now place.old trigram))
+        (λ ids. ids ≡ renumbered_ids runs.now (list_ids index.now place.old trigram))
         (λ fault. (fault ≡ IndexFault.BadList)
         × ((list_ids index.now place.old trigram).whole ≡ false)) }
 {
@@ -73,19 +102,19 @@ fn take_list<'a, 'b>(
         if let Some((found, ids)) = index.list_at(*place) {
             if found == trigram {
                 *place += 1;
-                return Carried::new(ids, new_ids);
+                return Carried::new(ids, runs);
             }
         }
     }
-    Ok(Carried::none(new_ids))
+    Ok(Carried::none(runs))
 }
 
 /// Lays the list of a trigram: the new ids of both, ascending. A list is begun with its first id.
-fn lay_list(
+fn lay_list<'a>(
     sections: &mut Sections,
     trigram: u32,
-    older: Carried<'_, '_>,
-    newer: Carried<'_, '_>,
+    older: Carried<'a, '_>,
+    newer: Carried<'a, '_>,
 ) -> Result<(), IndexFault>
     requires above { AllBelow sections.old.lists trigram }
     requires older_rise { RiseWithin (length sections.old.names) 0 older.ids }
@@ -103,12 +132,28 @@ fn lay_list(
         sections.list(trigram);
     }
     'ids: while let Some(id) = next {
+        let run = take_run(&mut older, &mut newer, id);
         sections.id(id)?;
+        sections.stretch(&run)?;
         older.pass(id)?;
         newer.pass(id)?;
         next = lower(older.first(), newer.first());
     }
     Ok(())
+}
+
+/// Passes ids behind the lowest one of both that move with it.
+fn take_run<'a>(older: &mut Carried<'a, '_>, newer: &mut Carried<'a, '_>, id: u32) -> Stretch<'a>
+    requires { lower_of (slice_get older.old.ids 0) (slice_get newer.old.ids 0) ≡ Some id }
+    ensures run { AreRun id result older.old.ids newer.old.ids older.new.ids newer.new.ids }
+    ensures older_whole { older.new.whole ≡ older.old.whole }
+    ensures newer_whole { newer.new.whole ≡ newer.old.whole }
+{
+    if older.first() == Some(id) {
+        older.run(id, newer.first())
+    } else {
+        newer.run(id, older.first())
+    }
 }
 
 /// The lower one of two numbers, either of which may be missing.

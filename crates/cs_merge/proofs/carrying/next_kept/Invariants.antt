@@ -4,6 +4,6 @@ use Rattle.cs_merge.proofs.carrying.next_kept.Given as goal
 
 abbrev pub invariant-ids : goal.invariant-ids
 invariant-ids l = record {
-  left : renumbered l.new_ids l.ids.ids ≡ renumbered l.new_ids l.initial.ids.ids;
+  left : renumbered l.runs l.ids.ids ≡ renumbered l.runs l.initial.ids.ids;
   whole : l.ids.whole ≡ l.initial.ids.whole;
 }

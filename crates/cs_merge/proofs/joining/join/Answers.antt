@@ -1,4 +1,4 @@
-use Rattle.std.proofs.Common.{◌≡◌, map, ap, ◌∙◌}
+use Rattle.std.proofs.Common.{◌≡◌, map, ap, ◌∙◌, arith}
 use Rattle.std.proofs.lemmas.Bool.{and_parts}
 use Rattle.std.specs.Prelude.{string_bytes}
 use Rattle.cs_tree.specs.Cover.{is_covered}
@@ -25,6 +25,12 @@ pub lay_lists-requires-clause-ids : goal.lay_lists-requires-clause-ids
 lay_lists-requires-clause-ids c =
     let ups = and_parts (are_ascending c.args.old.now.names) (are_ascending c.args.newer.now.names) c.requires.tested.ascend in
     renumberings (is_covered (paths_in c.args.newer.now)) c.args.old.now.names c.args.newer.now.names c.lay_names.new.sections.names c.in_ok-ids.ids.older c.in_ok-ids.ids.newer c.in_ok-ids.ensures.named.named ups.0 ups.1 (all_covered c.args.newer.now c.requires.tested.covered)
+
+pub lay_lists-requires-clause-older_few : goal.lay_lists-requires-clause-older_few
+lay_lists-requires-clause-older_few c = omega (arith, c.in_ok-ids.ensures.named.named.older_within, c.requires.old_parts.few_names)
+
+pub lay_lists-requires-clause-newer_few : goal.lay_lists-requires-clause-newer_few
+lay_lists-requires-clause-newer_few c = omega (arith, c.in_ok-ids.ensures.named.named.newer_within, c.requires.newer_parts.few_names)
 
 pub returns : goal.returns
 returns c =

@@ -1,0 +1,83 @@
+// Which ids of an index move together.
+ghost use Rattle.std.specs.Prelude.{◌≡◌, ◌+◌, ◌<◌, ◌^◌, true, length, IfOk, option_map};
+ghost use Rattle.cs_merge.specs.Renumbering.{new_id as new_id', MoveTogether};
+
+use crate::renumbering::Renumbering;
+use std::alloc::{AllocError, Global};
+use std::marker::Model;
+
+/// The new ids of an index, and where the ids end that move by the same distance, or are all dropped.
+#[derive(Drop)]
+pub(crate) struct Runs<'a> {
+    new_ids: &'a Renumbering,
+    ends: Vec<u32>,
+}
+
+impl<'a> Model for Runs<'a> {
+    ghost use Rattle.cs_merge.specs.Renumbering.{NewIds, AreEnds};
+
+    ghost Value = { NewIds };
+
+    ghost view = { λ s. s.new_ids.now };
+
+    ghost invariant = { λ s. AreEnds s.new_ids.now s.ends.items };
+}
+
+impl<'a> Runs<'a> {
+    /// Of all ids that are known.
+    pub(crate) fn new(alloc: Global, new_ids: &'a Renumbering) -> Result<Self, AllocError>
+        requires { length new_ids.now < 2 ^ 32 }
+        ensures { IfOk result (λ runs. runs ≡ new_ids.now) }
+    {
+        let mut ends = Vec::new(alloc);
+        let mut end = 0;
+        'ids: for id in 0..new_ids.len() {
+            if id >= end {
+                end = end_from(new_ids, id);
+            }
+            ends.push(end)?;
+        }
+        Ok(Runs { new_ids, ends })
+    }
+
+    /// The new id of an id.
+    pub(crate) fn new_id(&self, id: u32) -> Option<u32>
+        ensures { result ≡ new_id' self.now id }
+    {
+        self.new_ids.new_id(id)
+    }
+
+    /// Up to where the ids from this one on move together.
+    pub(crate) fn end(&self, id: u32) -> u32
+        ensures { MoveTogether self.now id result }
+    {
+        match self.ends.get(id as usize) {
+            Some(end) => *end,
+            None => 0,
+        }
+    }
+}
+
+/// Up to where the ids from this one on move together.
+fn end_from(new_ids: &Renumbering, id: u32) -> u32
+    requires few { length new_ids.now < 2 ^ 32 }
+    requires known { id < length new_ids.now }
+    ensures { MoveTogether new_ids.now id result }
+{
+    let mut end = id + 1;
+    'ids: while end < new_ids.len() && moves_on(new_ids.new_id(end - 1), new_ids.new_id(end)) {
+        end += 1;
+    }
+    end
+}
+
+/// Whether an id whose new id is the second moves with the one before it, whose new id is the first.
+fn moves_on(first: Option<u32>, second: Option<u32>) -> bool
+    ensures { result ≡ true → second ≡ option_map (λ new. new + 1) first }
+{
+    match (first, second) {
+        (None, None) => true,
+        (Some(first), Some(second)) => second > first && second - first == 1,
+        _ => false,
+    }
+}

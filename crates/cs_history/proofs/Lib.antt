@@ -8,3 +8,6 @@ pub mod JobLemmas
 pub mod IndexLemmas
 pub mod FollowingLemmas
 pub mod RefusalLemmas
+pub mod ShardLemmas
+mod RowLemmas
+mod Examples

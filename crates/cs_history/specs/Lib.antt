@@ -16,3 +16,4 @@ pub mod Jobs
 pub mod JobIndex
 pub mod Left
 pub mod Replies
+pub mod Shards

@@ -1,5 +1,5 @@
 // Laws of histories. None of these functions does anything.
-ghost use Rattle.std.specs.Prelude.{◌≡◌, ◌↔◌, ◌<◌, ◌^◌, List, [], ◌∷◌, ◌++◌, ℕ, Option, Some, None, true, false, map, length, slice_index_or};
+ghost use Rattle.std.specs.Prelude.{◌≡◌, ◌↔◌, ◌<◌, ◌^◌, List, [], ◌∷◌, ◌++◌, ℕ, Option, Some, None, Bool, true, false, map, length, slice_index_or};
 ghost use Rattle.cs_tree.specs.Folders.{IsTree, Tells};
 ghost use Rattle.cs_tree.specs.PathSet.{Paths};
 ghost use Rattle.cs_index.specs.PostingLists.{set_at};
@@ -20,6 +20,8 @@ ghost use Rattle.cs_history.specs.Left.{HasLeft};
 ghost use Rattle.cs_history.specs.Jobs.{given_paths, has_no_path, AreTaken, IsFitting, after, history_after, snapshot_told};
 ghost use Rattle.cs_history.specs.Replies.{NeedsIndex, IsFirstBad, IsRightReply, AreRightReplies};
 ghost use Rattle.cs_history.specs.Headline.{Premises, Indexes, indexed_names, StillReads};
+ghost use Rattle.cs_history.specs.Shards.{LieBeside, AreShards, files_of_both, by_name, searched_names};
+ghost use Rattle.cs_trigram.specs.declared.queries.Query.{Query};
 ghost use Rattle.cs_words.specs.declared.jobs.IndexJob.{IndexJob};
 ghost use Rattle.cs_words.specs.declared.fault.CindexFault.{CindexFault};
 ghost use Rattle.cs_words.specs.declared.jobs.Reply.{Reply};
@@ -193,4 +195,23 @@ pub fn calls_find_their_premises()
         Premises trees old earlier → Indexes jobs trees replies old new →
         AllByRecursion Tells later →
         Premises later new (history_after earlier jobs (map snapshot_told trees) replies) }
+{}
+
+/// Where no path of one index covers a name of the other, the joined index has the files of both,
+/// none of them twice, and a search goes over the names that it goes over in each, put together by
+/// name. What some jobs indexed lies under their paths, so that of two histories no more is asked.
+pub fn shards_join_by_name()
+    ensures files { (p q : Paths) (f g : Files) → AreShards p f q g →
+        join_files q f g ≡ files_of_both f g }
+    ensures once { (p q : Paths) (f g : Files) (name : List ℕ) → AreShards p f q g →
+        map'.contains_key f name ≡ true → map'.contains_key g name ≡ false }
+    ensures names { (p q : Paths) (f g : Files) (bytes : List ℕ) → AreShards p f q g →
+        (holds : Holds bytes (join_paths p q) (join_files q f g)) →
+        holds.names ≡ by_name (map'.keys f ++ map'.keys g) }
+    ensures searched { (p q : Paths) (f g : Files) (query : Query) (keeps : List ℕ → Bool) →
+        AreShards p f q g → searched_names query keeps (join_files q f g) ≡
+        by_name (searched_names query keeps f ++ searched_names query keeps g) }
+    ensures left { (one other : History) → LieBeside (paths_of other) (files_of one) →
+        LieBeside (paths_of one) (files_of other) →
+        AreShards (paths_of one) (files_of one) (paths_of other) (files_of other) }
 {}

@@ -1,0 +1,242 @@
+-- Worked rows of histories. Of each history stand here the paths, the files with their trigrams, the length of the index and
+-- where its five sections begin. The newest job comes first.
+use Rattle.std.proofs.Common.{◌≡◌, ℕ, false, List, [], ◌∷◌, ◌++◌, length, take, drop, ap, sym, ◌∙◌, Option, Some}
+use Rattle.std.specs.Prelude.{codes, option_map, ◌-◌, flat_map}
+use Rattle.std.specs.FinMap as map'
+use Rattle.cs_tree.specs.PathSet as set
+use Rattle.cs_tree.specs.Snapshot.{Item, folder, file}
+use Rattle.cs_index.specs.Image.{four_bytes, varint}
+use Rattle.cs_history.specs.History.{paths_of, files_of, index_of}
+use Rattle.cs_merge.specs.Join.{join_files}
+use Rattle.cs_history.specs.Shards.{files_of_both}
+use Rattle.cs_history.proofs.RowLemmas.{Job, history_of, paths_computed, files_computed, index_computed, entries_joined, entries_of_both}
+
+-- ---- what stands in the trees
+
+abbrev folder_at : List ℕ → List (List ℕ) → List ℕ × Item
+folder_at path names = (path, folder names false)
+
+abbrev file_at : List ℕ → List ℕ → List ℕ × Item
+file_at path text = (path, file (text ++ 10 ∷ []))
+
+-- the trigrams of `one`, `two`, `six` and `ten`, each with its newline
+abbrev one : List ℕ
+one = 0x6e650a ∷ 0x6f6e65 ∷ []
+
+abbrev two : List ℕ
+two = 0x74776f ∷ 0x776f0a ∷ []
+
+abbrev six : List ℕ
+six = 0x69780a ∷ 0x736978 ∷ []
+
+abbrev ten : List ℕ
+ten = 0x656e0a ∷ 0x74656e ∷ []
+
+-- how many bytes the index has, and the first 20 of its last 36
+abbrev frame : List ℕ → ℕ × List ℕ
+frame bytes = (length bytes, take 20 (drop (length bytes - 36) bytes))
+
+abbrev framed : ℕ → List ℕ → Option (ℕ × List ℕ)
+framed n offsets = Some (n, flat_map four_bytes offsets)
+
+-- ---- a path that another one's text begins
+
+-- `cindex /a/b /a/bc`
+abbrev both_folders : Job
+both_folders = record {
+  paths = codes "/a/b" ∷ codes "/a/bc" ∷ [];
+  items =
+      folder_at (codes "/") (codes "a" ∷ [])
+      ∷ folder_at (codes "/a") (codes "b" ∷ codes "bc" ∷ [])
+      ∷ folder_at (codes "/a/b") (codes "f" ∷ [])
+      ∷ file_at (codes "/a/b/f") (codes "one")
+      ∷ folder_at (codes "/a/bc") (codes "y" ∷ [])
+      ∷ file_at (codes "/a/bc/y") (codes "two")
+      ∷ [];
+}
+
+-- both files have changed: `cindex /a/b`
+abbrev one_folder : Job
+one_folder = record {
+  paths = codes "/a/b" ∷ [];
+  items =
+      folder_at (codes "/") (codes "a" ∷ [])
+      ∷ folder_at (codes "/a") (codes "b" ∷ codes "bc" ∷ [])
+      ∷ folder_at (codes "/a/b") (codes "f" ∷ [])
+      ∷ file_at (codes "/a/b/f") (codes "six")
+      ∷ folder_at (codes "/a/bc") (codes "y" ∷ [])
+      ∷ file_at (codes "/a/bc/y") (codes "ten")
+      ∷ [];
+}
+
+paths_beside : set.items (paths_of (history_of (one_folder ∷ both_folders ∷ []))) ≡ codes "/a/b" ∷ codes "/a/bc" ∷ []
+paths_beside = paths_computed (one_folder ∷ both_folders ∷ [])
+
+files_beside : map'.entries (files_of (history_of (one_folder ∷ both_folders ∷ []))) ≡ (codes "/a/b/f", six) ∷ (codes "/a/bc/y", two) ∷ []
+files_beside = files_computed (one_folder ∷ both_folders ∷ [])
+
+index_beside : option_map frame (index_of (history_of (one_folder ∷ both_folders ∷ []))) ≡ framed 160 (16 ∷ 28 ∷ 44 ∷ 68 ∷ 80 ∷ [])
+unfolding varint
+index_beside = ap (option_map frame) (index_computed one_folder (both_folders ∷ []))
+
+-- ---- a file that becomes a folder, and a file again
+
+-- `cindex /a`
+abbrev as_a_file : Job
+as_a_file = record {
+  paths = codes "/a" ∷ [];
+  items =
+      folder_at (codes "/") (codes "a" ∷ [])
+      ∷ folder_at (codes "/a") (codes "b" ∷ codes "b-x" ∷ [])
+      ∷ file_at (codes "/a/b") (codes "one")
+      ∷ file_at (codes "/a/b-x") (codes "two")
+      ∷ [];
+}
+
+-- `cindex /a/b`
+abbrev as_a_folder : Job
+as_a_folder = record {
+  paths = codes "/a/b" ∷ [];
+  items =
+      folder_at (codes "/") (codes "a" ∷ [])
+      ∷ folder_at (codes "/a") (codes "b" ∷ codes "b-x" ∷ [])
+      ∷ folder_at (codes "/a/b") (codes "z" ∷ [])
+      ∷ file_at (codes "/a/b-x") (codes "two")
+      ∷ file_at (codes "/a/b/z") (codes "six")
+      ∷ [];
+}
+
+-- `cindex /a/b`
+abbrev as_a_file_again : Job
+as_a_file_again = record {
+  paths = codes "/a/b" ∷ [];
+  items =
+      folder_at (codes "/") (codes "a" ∷ [])
+      ∷ folder_at (codes "/a") (codes "b" ∷ codes "b-x" ∷ [])
+      ∷ file_at (codes "/a/b") (codes "ten")
+      ∷ file_at (codes "/a/b-x") (codes "two")
+      ∷ [];
+}
+
+paths_of_a_folder : set.items (paths_of (history_of (as_a_folder ∷ as_a_file ∷ []))) ≡ codes "/a" ∷ []
+paths_of_a_folder = paths_computed (as_a_folder ∷ as_a_file ∷ [])
+
+files_of_a_folder : map'.entries (files_of (history_of (as_a_folder ∷ as_a_file ∷ []))) ≡ (codes "/a/b-x", two) ∷ (codes "/a/b/z", six) ∷ []
+files_of_a_folder = files_computed (as_a_folder ∷ as_a_file ∷ [])
+
+paths_of_a_file_again : set.items (paths_of (history_of (as_a_file_again ∷ as_a_folder ∷ as_a_file ∷ []))) ≡ codes "/a" ∷ []
+paths_of_a_file_again = paths_computed (as_a_file_again ∷ as_a_folder ∷ as_a_file ∷ [])
+
+files_of_a_file_again : map'.entries (files_of (history_of (as_a_file_again ∷ as_a_folder ∷ as_a_file ∷ []))) ≡ (codes "/a/b", ten) ∷ (codes "/a/b-x", two) ∷ []
+files_of_a_file_again = files_computed (as_a_file_again ∷ as_a_folder ∷ as_a_file ∷ [])
+
+-- ---- a folder below a path, and then the path again
+
+-- `cindex /a`
+abbrev whole : Job
+whole = record {
+  paths = codes "/a" ∷ [];
+  items =
+      folder_at (codes "/") (codes "a" ∷ [])
+      ∷ folder_at (codes "/a") (codes "b" ∷ codes "g" ∷ [])
+      ∷ folder_at (codes "/a/b") (codes "f" ∷ [])
+      ∷ file_at (codes "/a/b/f") (codes "one")
+      ∷ file_at (codes "/a/g") (codes "two")
+      ∷ [];
+}
+
+-- both files have changed: `cindex /a/b`
+abbrev below : Job
+below = record {
+  paths = codes "/a/b" ∷ [];
+  items =
+      folder_at (codes "/") (codes "a" ∷ [])
+      ∷ folder_at (codes "/a") (codes "b" ∷ codes "g" ∷ [])
+      ∷ folder_at (codes "/a/b") (codes "f" ∷ [])
+      ∷ file_at (codes "/a/b/f") (codes "six")
+      ∷ file_at (codes "/a/g") (codes "ten")
+      ∷ [];
+}
+
+-- nothing has changed: `cindex`
+abbrev again : Job
+again = record {
+  paths = [];
+  items =
+      folder_at (codes "/") (codes "a" ∷ [])
+      ∷ folder_at (codes "/a") (codes "b" ∷ codes "g" ∷ [])
+      ∷ folder_at (codes "/a/b") (codes "f" ∷ [])
+      ∷ file_at (codes "/a/b/f") (codes "six")
+      ∷ file_at (codes "/a/g") (codes "ten")
+      ∷ [];
+}
+
+paths_below_a_path : set.items (paths_of (history_of (below ∷ whole ∷ []))) ≡ codes "/a" ∷ []
+paths_below_a_path = paths_computed (below ∷ whole ∷ [])
+
+files_below_a_path : map'.entries (files_of (history_of (below ∷ whole ∷ []))) ≡ (codes "/a/b/f", six) ∷ (codes "/a/g", two) ∷ []
+files_below_a_path = files_computed (below ∷ whole ∷ [])
+
+index_below_a_path : option_map frame (index_of (history_of (below ∷ whole ∷ []))) ≡ framed 149 (16 ∷ 20 ∷ 33 ∷ 57 ∷ 69 ∷ [])
+unfolding varint
+index_below_a_path = ap (option_map frame) (index_computed below (whole ∷ []))
+
+paths_read_again : set.items (paths_of (history_of (again ∷ below ∷ whole ∷ []))) ≡ codes "/a" ∷ []
+paths_read_again = paths_computed (again ∷ below ∷ whole ∷ [])
+
+files_read_again : map'.entries (files_of (history_of (again ∷ below ∷ whole ∷ []))) ≡ (codes "/a/b/f", six) ∷ (codes "/a/g", ten) ∷ []
+files_read_again = files_computed (again ∷ below ∷ whole ∷ [])
+
+-- ---- a path that is gone
+
+-- `cindex /v`
+abbrev there : Job
+there = record {
+  paths = codes "/v" ∷ [];
+  items =
+      folder_at (codes "/") (codes "v" ∷ [])
+      ∷ folder_at (codes "/v") (codes "f" ∷ [])
+      ∷ file_at (codes "/v/f") (codes "one")
+      ∷ [];
+}
+
+-- `cindex`
+abbrev gone : Job
+gone = record {
+  paths = [];
+  items =
+      folder_at (codes "/") []
+      ∷ [];
+}
+
+paths_of_what_was_there : set.items (paths_of (history_of (there ∷ []))) ≡ codes "/v" ∷ []
+paths_of_what_was_there = paths_computed (there ∷ [])
+
+files_of_what_was_there : map'.entries (files_of (history_of (there ∷ []))) ≡ (codes "/v/f", one) ∷ []
+files_of_what_was_there = files_computed (there ∷ [])
+
+paths_of_what_is_gone : set.items (paths_of (history_of (gone ∷ there ∷ []))) ≡ codes "/v" ∷ []
+paths_of_what_is_gone = paths_computed (gone ∷ there ∷ [])
+
+files_of_what_is_gone : map'.entries (files_of (history_of (gone ∷ there ∷ []))) ≡ []
+files_of_what_is_gone = files_computed (gone ∷ there ∷ [])
+
+index_of_what_is_gone : option_map frame (index_of (history_of (gone ∷ there ∷ []))) ≡ framed 65 (16 ∷ 20 ∷ 21 ∷ 25 ∷ 29 ∷ [])
+unfolding varint
+index_of_what_is_gone = ap (option_map frame) (index_computed gone (there ∷ []))
+
+bytes_of_what_is_gone_stay : index_of (history_of (gone ∷ gone ∷ there ∷ [])) ≡ index_of (history_of (gone ∷ there ∷ []))
+bytes_of_what_is_gone_stay = index_computed gone (gone ∷ there ∷ []) ∙ sym (index_computed gone (there ∷ []))
+
+-- ---- joins
+
+-- the files of the newer index do not stand first
+shards_join_in_the_order_of_names : map'.entries (join_files (set.from_list (codes "/a" ∷ [])) (map'.from_entries ((codes "/b/f", one) ∷ [])) (map'.from_entries ((codes "/a/g", two) ∷ []))) ≡ (codes "/a/g", two) ∷ (codes "/b/f", one) ∷ []
+shards_join_in_the_order_of_names = entries_joined (codes "/a" ∷ []) ((codes "/b/f", one) ∷ []) ((codes "/a/g", two) ∷ [])
+
+-- where a path of the newer index covers a name of the older one, the join has less than the files of both
+a_covered_name_is_lost : map'.entries (join_files (set.from_list (codes "/a" ∷ [])) (map'.from_entries ((codes "/a/f", one) ∷ [])) (map'.from_entries ((codes "/a/g", two) ∷ []))) ≡ (codes "/a/g", two) ∷ []
+a_covered_name_is_lost = entries_joined (codes "/a" ∷ []) ((codes "/a/f", one) ∷ []) ((codes "/a/g", two) ∷ [])
+
+both_have_the_covered_name : map'.entries (files_of_both (map'.from_entries ((codes "/a/f", one) ∷ [])) (map'.from_entries ((codes "/a/g", two) ∷ []))) ≡ (codes "/a/f", one) ∷ (codes "/a/g", two) ∷ []
+both_have_the_covered_name = entries_of_both ((codes "/a/f", one) ∷ []) ((codes "/a/g", two) ∷ [])

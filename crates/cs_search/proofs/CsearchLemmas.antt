@@ -16,7 +16,7 @@ use Rattle.cs_syntax.specs.declared.fault.PatternFault.TheVariants as pattern
 use Rattle.cs_syntax.specs.declared.fault.PatternError.{PatternError}
 use Rattle.cs_tree.specs.Snapshot.{Snapshot}
 use Rattle.cs_index.specs.declared.fault.IndexFault.{IndexFault}
-use Rattle.cs_index.specs.declared.fault.IndexFault.TheVariants.{BadList}
+use Rattle.cs_index.specs.declared.fault.IndexFault.TheVariants.{BadList, Memory as IndexMemory}
 use Rattle.cs_words.specs.declared.jobs.Tool.{Tool}
 use Rattle.cs_words.specs.declared.jobs.Tool.TheVariants.{Csearch}
 use Rattle.cs_words.specs.declared.jobs.SearchJob.{SearchJob}
@@ -27,14 +27,15 @@ use Rattle.cs_words.specs.Faults.{pattern_fault, pattern_fault_at, index_fault}
 use Rattle.cs_trigram.specs.Query.{holds}
 use Rattle.cs_trigram.specs.declared.queries.Query.{Query}
 use Rattle.cs_index.specs.Image.{Entry, Posting}
-use Rattle.cs_index.specs.Opening.{Parts, lists_in, files_read}
+use Rattle.cs_index.specs.Opening.{Parts, opening, lists_in, files_read}
 use Rattle.cs_index.specs.Candidates.{candidates_of, is_answerable}
 use Rattle.cs_search.specs.declared.report.TheConstants.{MOST_SEARCHED}
 use Rattle.cs_match.specs.Finding.{Decides}
-use Rattle.cs_search.specs.Refusals.{IsAccepted, QuietAtRefusal}
+use Rattle.cs_search.specs.Refusals.{IsAccepted, QuietAtRefusal, has_write_failed}
 use Rattle.cs_search.specs.Searcher.{IsSearchFault, Prints, IsPrinted}
 use Rattle.cs_search.specs.Csearch.{names_meeting, OpensWith, IsQueryOf, Asks, file_text, Keeps, csearch_printed, IsFileAccepted, AreAccepted, IsReady, RefusedInOrder}
-use Rattle.cs_search.specs.Plans.{RefusesPlan}
+use Rattle.cs_search.specs.Plans.{IsPlan, RefusesPlan}
+use Rattle.cs_search.specs.declared.plan.Plan.{Plan}
 use Rattle.cs_search.specs.declared.status.Status.{Status}
 use Rattle.cs_search.proofs.CgrepLemmas.{read_once, decides_program}
 use Rattle.cs_search.specs.IndexSearch.{FileRefused, OpenRefused, file_fault_at, file_pattern_fault, names_at, IsCompiled, DecidesNames}
@@ -155,16 +156,13 @@ accepted_file (Some text) (Some program) is = (is.0, is.1, is.2)
 accepted_file None (Some program) is = absurd is
 accepted_file (Some text) None is = absurd is
 
--- What is known after both patterns, the index and the query.
-module _ (job : SearchJob) (index : Option (List ℕ)) (text : List ℕ) (same : text ≡ string_bytes job.pattern) (pattern : Tree) (read : Reads text job.fold pattern) where
-  pub reads_job : Reads (string_bytes job.pattern) job.fold pattern
-  reads_job = subst (λ (t : List ℕ). Reads t job.fold pattern) same read
+-- the pattern of the job reads so
+pub reads_job : (job : SearchJob) (text : List ℕ) (pattern : Tree) → text ≡ string_bytes job.pattern → Reads text job.fold pattern → Reads (string_bytes job.pattern) job.fold pattern
+reads_job job text pattern same read = subst (λ (t : List ℕ). Reads t job.fold pattern) same read
 
-  pub accepted_both : weight pattern ≤ most_weight → (program : Option Tree) → IsCompiled (file_text job) program → AreAccepted job
-  accepted_both light program is = ((pattern, reads_job, light), accepted_file (file_text job) program is)
-
-  abbrev pub asked : (parts : Parts) → OpensWith index parts → (query : Query) → IsQueryOf job.brute pattern query → Asks job index
-  asked parts opens query right = record { parts = parts; opens = opens; query = query; is_right = right_query job.brute query (string_bytes job.pattern) job.fold pattern reads_job right }
+-- a plan is that of accepted patterns
+pub accepted_plan : (job : SearchJob) (plan : Plan) → IsPlan job plan → AreAccepted job
+accepted_plan job plan is = ((is.program.0, is.program.1, is.program.2), accepted_file (file_text job) plan.file is.file)
 
 module _ (job : SearchJob) (index : Option (List ℕ)) where
   pattern_first_at : (error : PatternError) (fault : PatternFault) → error.fault ≡ fault → IsRefused (string_bytes job.pattern) job.fold error → RefusesPlan job index (pattern_fault_at fault error)
@@ -189,6 +187,10 @@ module _ (job : SearchJob) (index : Option (List ℕ)) where
       by_index (Some bytes) Memory accepted refused = (tt, refl)
       by_index (Some bytes) fault accepted refused = absurd refused
 
+  pub bad_index : (bytes : List ℕ) (fault : IndexFault) → AreAccepted job → opening bytes ≡ Err fault → RefusesPlan job (Some bytes) (index_fault fault)
+  bad_index bytes IndexMemory accepted is = (tt, refl)
+  bad_index bytes fault accepted is = ((accepted, inl is), refl)
+
   bad_list : (bytes : Option (List ℕ)) → AreAccepted job → (asks : Asks job bytes) → is_answerable asks.parts asks.query ≡ false → RefusesPlan job bytes (BadIndex BadList)
   bad_list None accepted asks damaged = absurd asks.opens
   bad_list (Some bytes) accepted asks damaged = ((accepted, inr (refl, (asks, damaged))), refl)
@@ -201,6 +203,11 @@ module _ (job : SearchJob) (index : Option (List ℕ)) where
   search_last Write accepted ready is = (accepted, ready)
   search_last Memory accepted ready is = tt
   search_last fault accepted ready is = absurd is
+
+-- a list that is refused is no write
+pub list_unwritten : (fault : IndexFault) → has_write_failed {A = Status} (Err (index_fault fault)) ≡ false
+list_unwritten IndexMemory = refl
+list_unwritten fault = refl
 
 -- what a search is refused for may come behind output
 pub search_quiet : (Quiet : Type 0) (fault : ToolFault) → IsSearchFault {A = Status} (Err fault) → QuietAtRefusal {A = Status} (Err fault) Quiet

@@ -13,5 +13,6 @@ pub mod LeftLemmas
 pub mod ProgressLemmas
 pub mod ReportLemmas
 pub mod ReportedLemmas
+pub mod SearchLemmas
 pub mod PrintedLemmas
 pub mod TestedLemmas

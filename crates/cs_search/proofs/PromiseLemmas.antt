@@ -28,14 +28,18 @@ use Rattle.cs_words.specs.declared.jobs.SearchJob.{SearchJob}
 use Rattle.cs_search.specs.declared.report.TheConstants.{MOST_SEARCHED}
 use Rattle.cs_search.specs.Cgrep.{searched_by_cgrep}
 use Rattle.cs_search.specs.IndexSearch.{names_at, DecidesNames}
-use Rattle.cs_search.specs.Plans.{IsPlan}
+use Rattle.cs_index.specs.Candidates.{candidates_of, is_answerable}
+use Rattle.cs_index.specs.Postings.{IsListFault}
+use Rattle.cs_index.specs.declared.fault.IndexFault.{IndexFault}
+use Rattle.cs_words.specs.Faults.{index_fault}
+use Rattle.cs_search.specs.Plans.{IsPlan, IsLent, RefusesPlan}
 use Rattle.cs_search.specs.declared.plan.Plan.{Plan}
 use Rattle.cs_search.specs.Csearch.{file_text, OpensWith, IsQueryOf, Asks, Seeks, ReadsAs, Agrees, names_meeting, csearch_printed, AreAccepted, IsReady, PrintsAsked, PrintsLikeCgrep, PrintsAsPromised}
 use Rattle.cs_search.specs.Printed.{Printed, PrintsFront, TellsFaults, all_printed, file_printed}
 use Rattle.cs_search.proofs.AgreementLemmas.{search_alike}
 use Rattle.cs_search.proofs.PrintedLemmas.{PrintsFront-none}
 use Rattle.cs_search.proofs.CgrepLemmas.{decides_program}
-use Rattle.cs_search.proofs.CsearchLemmas.{names_of_files, names_decided, accepted_file, chosen, Tells-chosen}
+use Rattle.cs_search.proofs.CsearchLemmas.{names_of_files, names_decided, accepted_plan, lists_fourth, chosen, Tells-chosen}
 
 -- by `-brute` too no line is lost
 loses : (brute : Bool) (pattern : Tree) (query : Query) → IsQueryOf brute pattern query → LosesNoLine query pattern
@@ -55,34 +59,52 @@ module _ (job : SearchJob) (index : Option (List ℕ)) (finds keeps : List ℕ �
       search_alike job.style finds keeps tree asks.query tests.pattern (loses job.brute tests.pattern asks.query (asks.is_right tests.pattern tests.reads)) tests.decides Csearch Cgrep (files_read asks.parts) agrees
       ∙ ap (λ (names : List (List ℕ)). all_printed (file_printed MOST_SEARCHED Cgrep job.style finds tree) (filter keeps names)) (names_of_files 0 asks.parts.names (lists_in asks.parts))
 
--- what is printed of the files that are chosen, by what a plan has
-module _ (job : SearchJob) (index : Option (List ℕ)) (tree : Option Snapshot) (Prints : Option Printed → Type 0) (plan : Plan) (is : IsPlan job index plan) where
-  abbrev Planned : (List ℕ → Bool) → (List ℕ → Bool) → Parts → Option Printed
-  Planned finds keeps parts = option_map (λ (s : Snapshot). all_printed (file_printed MOST_SEARCHED Csearch job.style finds s) (filter keeps (names_at parts.names plan.ids.items))) tree
+-- what a plan asks, and the index that is lent to it
+module _ (job : SearchJob) (index : Option (List ℕ)) (plan : Plan) (is : IsPlan job plan) (parts : Parts) (lent : IsLent plan.query index parts) where
+  abbrev asks : Asks job index
+  asks = record { parts = lent.whole; opens = lent.opens; query = plan.query; is_right = is.query }
 
-  pub searched : ((finds keeps : List ℕ → Bool) → Decides finds plan.program → DecidesNames keeps plan.file → Prints (Planned finds keeps plan.index)) → PrintsAsked MOST_SEARCHED job index tree Prints
-  searched prints = (
-    is.asks,
-    is.whole,
-    λ finds keeps seeks.
-        let decides = decides_program (string_bytes job.pattern) job.fold plan.program seeks.pattern finds is.program seeks.reads seeks.decides in
-        let kept = names_decided (file_text job) plan.file keeps is.file seeks.names in
-        subst Prints (ap (Planned finds keeps) is.parts ∙ chosen MOST_SEARCHED job.style finds keeps is.asks.parts is.asks.query tree plan.ids.items is.ids)
-        (prints finds keeps decides kept),
-  )
+  -- a list that is asked for is damaged
+  pub lists_refused : (fault : IndexFault) → IsListFault (is_answerable parts plan.query) fault → RefusesPlan job index (index_fault fault)
+  lists_refused fault refused =
+      lists_fourth job index fault (accepted_plan job plan is) asks
+      (subst (λ (whole : Bool). IsListFault whole fault) lent.answers.answerable refused)
 
-module _ (job : SearchJob) (index : Option (List ℕ)) (plan : Plan) (is : IsPlan job index plan) where
-  -- both patterns are accepted, the index opens, and its lists are whole
-  pub ready : AreAccepted job × IsReady job index
-  ready = (((is.program.0, is.program.1, is.program.2), accepted_file (file_text job) plan.file is.file), (is.asks, is.whole))
+  module _ (whole : is_answerable parts plan.query ≡ true) where
+    all_whole : is_answerable lent.whole plan.query ≡ true
+    all_whole = sym lent.answers.answerable ∙ whole
 
-  -- faults of the names that a plan has are faults of indexed names
-  pub faults_planned : {A E : Type 0} (r : Result A E) (opened : Parts) (failed failed' : ℕ) (err err' : Option (List ℕ)) → OpensWith index opened →
-      TellsFaults Csearch (names_at plan.index.names plan.ids.items) failed failed' err err' r → TellsFaults Csearch opened.names failed failed' err err' r
-  faults_planned r opened failed failed' err err' opens told =
-      subst (λ (p : Parts). TellsFaults Csearch p.names failed failed' err err' r) (opens_once index is.asks.parts opened is.asks.opens opens)
-      (Tells-chosen r Csearch is.asks.parts is.asks.query plan.ids.items failed failed' err err' is.ids
-      (subst (λ (p : Parts). TellsFaults Csearch (names_at p.names plan.ids.items) failed failed' err err' r) is.parts told))
+    -- both patterns are accepted, the index opens, and its lists are whole
+    pub ready : AreAccepted job × IsReady job index
+    ready = (accepted_plan job plan is, (asks, all_whole))
+
+    module _ (ids : List ℕ) (found : ids ≡ candidates_of parts plan.query) where
+      chosen_ids : ids ≡ candidates_of lent.whole plan.query
+      chosen_ids = found ∙ lent.answers.candidates
+
+      -- what is printed of the files that are chosen
+      module _ (tree : Option Snapshot) (Prints : Option Printed → Type 0) where
+        abbrev Chosen : (List ℕ → Bool) → (List ℕ → Bool) → List (List ℕ) → Option Printed
+        Chosen finds keeps names = option_map (λ (s : Snapshot). all_printed (file_printed MOST_SEARCHED Csearch job.style finds s) (filter keeps (names_at names ids))) tree
+
+        pub searched : ((finds keeps : List ℕ → Bool) → Decides finds plan.program → DecidesNames keeps plan.file → Prints (Chosen finds keeps parts.names)) → PrintsAsked MOST_SEARCHED job index tree Prints
+        searched prints = (
+          asks,
+          all_whole,
+          λ finds keeps seeks.
+              let decides = decides_program (string_bytes job.pattern) job.fold plan.program seeks.pattern finds is.program seeks.reads seeks.decides in
+              let kept = names_decided (file_text job) plan.file keeps is.file seeks.names in
+              subst Prints (ap (Chosen finds keeps) lent.answers.names ∙ chosen MOST_SEARCHED job.style finds keeps lent.whole plan.query tree ids chosen_ids)
+              (prints finds keeps decides kept),
+        )
+
+      -- faults of the names that are chosen are faults of indexed names
+      pub faults_chosen : {A E : Type 0} (r : Result A E) (opened : Parts) (failed failed' : ℕ) (err err' : Option (List ℕ)) → OpensWith index opened →
+          TellsFaults Csearch (names_at parts.names ids) failed failed' err err' r → TellsFaults Csearch opened.names failed failed' err err' r
+      faults_chosen r opened failed failed' err err' opens told =
+          subst (λ (p : Parts). TellsFaults Csearch p.names failed failed' err err' r) (opens_once index lent.whole opened lent.opens opens)
+          (Tells-chosen r Csearch lent.whole plan.query ids failed failed' err err' chosen_ids
+          (subst (λ (names : List (List ℕ)). TellsFaults Csearch (names_at names ids) failed failed' err err' r) lent.answers.names told))
 
 module _ (job : SearchJob) (index : Option (List ℕ)) (tree : Option Snapshot) (Prints : Option Printed → Type 0) (by_index : PrintsAsked MOST_SEARCHED job index tree Prints) where
   -- what was printed, where the tree tells its snapshot

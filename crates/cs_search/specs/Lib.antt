@@ -19,6 +19,7 @@ pub mod Refusals
 pub mod Cgrep
 pub mod CgrepFaults
 pub mod Csearch
+pub mod StoredSearch
 pub mod Buffer
 pub mod SameSearch
 -- What functions inside promise each other.
@@ -28,3 +29,4 @@ pub mod Searcher
 pub mod Programs
 pub mod IndexSearch
 pub mod Plans
+pub mod Searched

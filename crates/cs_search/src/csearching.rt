@@ -1,5 +1,5 @@
 // The tool that searches by an index.
-ghost use Rattle.std.specs.Prelude.{◌≡◌, ◌⊎◌, ℕ, Bool, List, [], ◌∷◌, IfOk, OnErr, option_map, option_copied, filter};
+ghost use Rattle.std.specs.Prelude.{◌≡◌, ◌⊎◌, ℕ, Bool, List, Option, [], ◌∷◌, IfOk, IfErr, OnErr, option_map, option_copied, filter};
 ghost use Rattle.cs_tree.specs.Failures.{CountsOne};
 ghost use Rattle.cs_match.specs.Finding.{Decides};
 ghost use Rattle.cs_index.specs.Opening.{Parts};
@@ -8,8 +8,10 @@ ghost use Rattle.cs_words.specs.declared.jobs.Tool.TheVariants.{Csearch};
 ghost use Rattle.cs_search.specs.Searcher.{IsSearchFault, IsKept, Prints};
 ghost use Rattle.cs_search.specs.Refusals.{has_write_failed, QuietAtRefusal};
 ghost use Rattle.cs_search.specs.Csearch.{OpensWith, PrintsAsked, PrintsLikeCgrep, PrintsAsPromised, AreAccepted, RefusedInOrder};
-ghost use Rattle.cs_search.specs.IndexSearch.{names_at, DecidesNames};
+ghost use Rattle.cs_search.specs.IndexSearch.{names_at, DecidesNames, OpenRefused};
+ghost use Rattle.cs_search.specs.Plans.{IsPlan, IsLent, RefusesPlan};
 ghost use Rattle.cs_search.specs.Printed.{PrintsStatus, PrintsNothing, PrintsFront, TellsFaults, all_printed, file_printed};
+ghost use Rattle.cs_search.specs.Searched.{IsSearch};
 
 use crate::names::NameFilter;
 use crate::plan::Plan;
@@ -67,8 +69,59 @@ pub fn csearch<T: Tree, O: Sink, E: Sink>(
         (O.failed out.old) (O.failed out.new) (E.failed err.old) (E.failed err.new) }
     ensures keeps { T.snapshot tree.new ≡ T.snapshot tree.old }
 {
-    let plan = Plan::new(alloc, job, index)?;
-    let matched = plan.search(alloc, job.style, tree, out, err)?;
+    let (plan, index) = lend(alloc, job, index)?;
+    search_by(alloc, job, &plan, &index, tree, out, err)
+}
+
+/// A plan of the job, and the index.
+fn lend<'a>(
+    alloc: Global,
+    job: &SearchJob,
+    index: Option<&'a [u8]>,
+) -> Result<(Plan, Index<'a>), ToolFault>
+    ensures plan { IfOk result (λ ready. IsPlan job.now ready.0) }
+    ensures lent { IfOk result (λ ready. IsLent ready.0.query (option_copied index.entry) ready.1) }
+    ensures refused { IfErr result (RefusesPlan job.now (option_copied index.entry)) }
+{
+    let plan = Plan::new(alloc, job)?;
+    let index = open(index)?;
+    Ok((plan, index))
+}
+
+/// The index, where there is one.
+fn open<'a>(index: Option<&'a [u8]>) -> Result<Index<'a>, ToolFault>
+    ensures opens { IfOk result (OpensWith (option_copied index.entry)) }
+    ensures refused { IfErr result (OpenRefused (option_copied index.entry)) }
+{
+    let Some(bytes) = index else {
+        return Err(ToolFault::NoIndex);
+    };
+    let index = Index::open(bytes)?;
+    Ok(index)
+}
+
+/// Searches by a plan of the job and an index that was lent to it.
+pub(crate) fn search_by<T: Tree, O: Sink, E: Sink>(
+    alloc: Global,
+    job: &SearchJob,
+    plan: &Plan,
+    index: &Index<'_>,
+    tree: &mut T,
+    out: &mut O,
+    err: &mut E,
+) -> Result<Status, ToolFault>
+    requires { IsPlan job.now plan.now }
+    ensures searches { (bytes : Option (List ℕ)) → IsLent plan.now.query bytes index.now →
+        IsSearch job.now bytes (T.snapshot tree.old) (T.failed tree.old) (T.failed tree.new)
+        (O.taken out.old) (O.taken out.new) (E.taken err.old) (E.taken err.new) result }
+    ensures quiet { QuietAtRefusal result
+        (PrintsNothing (O.taken out.old) (O.taken out.new) (E.taken err.old) (E.taken err.new)) }
+    ensures writes { CountsOne (has_write_failed result)
+        (O.failed out.old) (O.failed out.new) (E.failed err.old) (E.failed err.new) }
+    ensures keeps { T.snapshot tree.new ≡ T.snapshot tree.old }
+{
+    let ids = index.candidates(alloc, &plan.query)?;
+    let matched = plan.search(alloc, job.style, index, &ids, tree, out, err)?;
     let status = finish(matched, out, err)?;
     Ok(status)
 }

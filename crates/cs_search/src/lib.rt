@@ -18,6 +18,7 @@ mod searcher;
 mod searching;
 mod status;
 mod stop;
+mod stored;
 mod tally;
 
 pub use buffer::LineBuffer;
@@ -28,3 +29,4 @@ pub use grepped::Grepped;
 pub use report::{MOST_SEARCHED, grep, grep_within};
 pub use searching::cgrep;
 pub use status::Status;
+pub use stored::csearch_stored;

@@ -10,13 +10,11 @@ use Rattle.cs_search.proofs.plan.Plan.search.Goals as goal
 
 pub returns-in_err-searcher-clause-faults : goal.returns-in_err-searcher-clause-faults
 returns-in_err-searcher-clause-faults g c =
-    let plan = c.args.self.now in
-    Tells-none Csearch c.from_residual.result (names_at plan.index.names plan.ids.items) (g.T.Tree.failed c.args.tree.now) (g.T.Tree.failed c.args.tree.now) (g.E.Sink.taken c.args.err.now) (g.E.Sink.taken c.args.err.now) refl refl
+    Tells-none Csearch c.from_residual.result (names_at c.args.index.now.names c.args.ids.now) (g.T.Tree.failed c.args.tree.now) (g.T.Tree.failed c.args.tree.now) (g.E.Sink.taken c.args.err.now) (g.E.Sink.taken c.args.err.now) refl refl
 
 pub returns-in_err-kept-clause-faults : goal.returns-in_err-kept-clause-faults
 returns-in_err-kept-clause-faults g c =
-    let plan = c.args.self.now in
-    Tells-none Csearch c.from_residual-in_err-kept.result (names_at plan.index.names plan.ids.items) (g.T.Tree.failed c.args.tree.now) (g.T.Tree.failed c.args.tree.now) (g.E.Sink.taken c.args.err.now) (g.E.Sink.taken c.args.err.now) refl refl
+    Tells-none Csearch c.from_residual-in_err-kept.result (names_at c.args.index.now.names c.args.ids.now) (g.T.Tree.failed c.args.tree.now) (g.T.Tree.failed c.args.tree.now) (g.E.Sink.taken c.args.err.now) (g.E.Sink.taken c.args.err.now) refl refl
 
 pub returns-in_err-matched-clause-front : goal.returns-in_err-matched-clause-front
 returns-in_err-matched-clause-front g c =
@@ -24,8 +22,8 @@ returns-in_err-matched-clause-front g c =
     let searcher = c.in_ok-searcher.searcher in
     any_err c.from_residual-in_err-matched.result
     (by_csearch (λ (printed : Option Printed). PrintsFront printed (g.O.Sink.taken c.args.out.now) (g.O.Sink.taken c.search_ids.new.out) (g.E.Sink.taken c.args.err.now) (g.E.Sink.taken c.search_ids.new.err))
-    (g.T.Tree.snapshot c.args.tree.now) plan.index.names searcher.tool searcher.style c.args.style searcher.matcher plan.program c.in_ok-kept.kept.matcher plan.file c.deref.result.now plan.ids.items
-    c.in_ok-searcher.ensures.tool c.in_ok-searcher.ensures.style c.in_ok-searcher.ensures.matcher (c.in_ok-kept.ensures ∙ c.as_ref.ensures.value) c.deref.ensures.value
+    (g.T.Tree.snapshot c.args.tree.now) c.args.index.now.names searcher.tool searcher.style c.args.style searcher.matcher plan.program c.in_ok-kept.kept.matcher plan.file c.args.ids.now c.args.ids.now
+    c.in_ok-searcher.ensures.tool c.in_ok-searcher.ensures.style c.in_ok-searcher.ensures.matcher (c.in_ok-kept.ensures ∙ c.as_ref.ensures.value) refl
     c.in_err-matched.ensures.front)
 
 pub returns-clause-prints : goal.returns-clause-prints
@@ -33,6 +31,6 @@ returns-clause-prints g c =
     let plan = c.args.self.now in
     let searcher = c.in_ok-searcher.searcher in
     by_csearch (λ (printed : Option Printed). Prints printed (g.O.Sink.taken c.args.out.now) (g.O.Sink.taken c.search_ids.new.out) (g.E.Sink.taken c.args.err.now) (g.E.Sink.taken c.search_ids.new.err) c.in_ok-matched.matched)
-    (g.T.Tree.snapshot c.args.tree.now) plan.index.names searcher.tool searcher.style c.args.style searcher.matcher plan.program c.in_ok-kept.kept.matcher plan.file c.deref.result.now plan.ids.items
-    c.in_ok-searcher.ensures.tool c.in_ok-searcher.ensures.style c.in_ok-searcher.ensures.matcher (c.in_ok-kept.ensures ∙ c.as_ref.ensures.value) c.deref.ensures.value
+    (g.T.Tree.snapshot c.args.tree.now) c.args.index.now.names searcher.tool searcher.style c.args.style searcher.matcher plan.program c.in_ok-kept.kept.matcher plan.file c.args.ids.now c.args.ids.now
+    c.in_ok-searcher.ensures.tool c.in_ok-searcher.ensures.style c.in_ok-searcher.ensures.matcher (c.in_ok-kept.ensures ∙ c.as_ref.ensures.value) refl
     c.in_ok-matched.ensures.prints

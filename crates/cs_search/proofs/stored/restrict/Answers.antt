@@ -1,0 +1,46 @@
+use Rattle.std.proofs.Common.{ℕ, List, Some, None, refl, subst}
+use Rattle.cs_index.specs.Stored.{whole_of}
+use Rattle.cs_index.proofs.StoredLemmas.{told_any, told_so, told_twice}
+use Rattle.cs_search.specs.StoredSearch.{IsOpened}
+use Rattle.cs_search.proofs.CsearchLemmas.{accepted_plan, bad_index, list_unwritten}
+use Rattle.cs_search.proofs.stored.restrict.Goals as goal
+
+-- ---- a pattern that is refused
+
+pub returns-in-Err-clause-lent : goal.returns-in-Err-clause-lent
+returns-in-Err-clause-lent g c = told_any (g.S.Store.told c.args.store.now)
+
+pub returns-in-Err-clause-refused : goal.returns-in-Err-clause-refused
+returns-in-Err-clause-refused g c =
+    told_so _ _ (g.S.Store.told c.args.store.now) (λ bytes any. c.in-Err.ensures.refused (Some bytes)) (told_any (g.S.Store.told c.args.store.now))
+
+pub returns-in-Err-clause-unwritten : goal.returns-in-Err-clause-unwritten
+returns-in-Err-clause-unwritten g c = (c.in-Err.ensures.refused None).1
+
+-- ---- a bad index
+
+pub returns-in-Err-opened-clause-lent : goal.returns-in-Err-opened-clause-lent
+returns-in-Err-opened-clause-lent g c = told_any (g.S.Store.told c.args.store.now)
+
+pub returns-in-Err-opened-clause-refused : goal.returns-in-Err-opened-clause-refused
+returns-in-Err-opened-clause-refused g c =
+    let accepted = accepted_plan c.args.job.now c.in-Ok.plan c.in-Ok.ensures.plan in
+    told_so _ _ (g.S.Store.told c.args.store.now)
+    (λ bytes is. rw c.from.ensures (bad_index c.args.job.now (Some bytes) bytes c.in-Err-opened.fault accepted is))
+    (subst (IsOpened (g.S.Store.told c.args.store.now)) c.in-Err-opened.is c.requires)
+
+pub returns-in-Err-opened-clause-unwritten : goal.returns-in-Err-opened-clause-unwritten
+returns-in-Err-opened-clause-unwritten g c = rw c.from.ensures (list_unwritten c.in-Err-opened.fault)
+
+-- ---- lists that are read
+
+pub returns-clause-lent : goal.returns-clause-lent
+returns-clause-lent g c =
+    told_so _ _ (g.S.Store.told c.args.store.now)
+    (λ bytes both. record {
+      whole = whole_of bytes c.in-Ok-opened.index;
+      opens = both.0.0;
+      answers = both.1 both.0.1;
+    })
+    (told_twice _ _ (g.S.Store.told c.args.store.now) (g.S.Store.told c.args.store.now) refl
+    (subst (IsOpened (g.S.Store.told c.args.store.now)) c.in-Ok-opened.is c.requires) c.in_ok-part.ensures.answers)

@@ -1,0 +1,111 @@
+// The tool that searches by an index that lies in a store.
+ghost use Rattle.std.specs.Prelude.{◌≡◌, ◌⊎◌, ℕ, List, Option, IfOk, IfErr, OnErr, false};
+ghost use Rattle.cs_tree.specs.Failures.{CountsOne, count_after};
+ghost use Rattle.cs_tree.specs.Transfers.{is_io_failure};
+ghost use Rattle.cs_index.specs.Opening.{Parts};
+ghost use Rattle.cs_words.specs.declared.jobs.Tool.TheVariants.{Csearch};
+ghost use Rattle.cs_search.specs.Refusals.{has_write_failed, QuietAtRefusal};
+ghost use Rattle.cs_search.specs.Csearch.{OpensWith, PrintsAsked, PrintsLikeCgrep, PrintsAsPromised, AreAccepted, RefusedInOrder};
+ghost use Rattle.cs_search.specs.Plans.{IsPlan, IsLent, RefusesPlan};
+ghost use Rattle.cs_search.specs.Printed.{PrintsStatus, PrintsNothing, PrintsFront, TellsFaults};
+ghost use Rattle.cs_search.specs.StoredSearch.{IsOpened, IfRead, has_output_failed};
+
+use crate::csearching::search_by;
+use crate::plan::Plan;
+use crate::report::MOST_SEARCHED;
+use crate::status::Status;
+use cs_index::{IndexFault, Restriction, StoredIndex};
+use cs_tree::{IoFault, Sink, Store, Tree};
+use cs_words::{SearchJob, ToolFault};
+use std::alloc::Global;
+
+/// Does what `csearch` does over the bytes of a store, of which `StoredIndex::open` answered `opened`: of the lists it
+/// reads those that the pattern asks for. The outer answer is that of the store: where it cannot be read nothing is
+/// printed, and both patterns were accepted. Refusals of the patterns and of a bad index come before that.
+pub fn csearch_stored<S: Store, T: Tree, O: Sink, E: Sink>(
+    alloc: Global,
+    job: &SearchJob,
+    opened: Result<StoredIndex, IndexFault>,
+    store: &mut S,
+    tree: &mut T,
+    out: &mut O,
+    err: &mut E,
+) -> Result<Result<Status, ToolFault>, IoFault>
+    requires { IsOpened (S.told store.old) opened }
+    ensures prints { IfRead (S.told store.old) result (λ index answer.
+        IfOk answer (λ status. PrintsAsked MOST_SEARCHED job.now index (T.snapshot tree.old)
+        (λ printed. PrintsStatus printed
+        (O.taken out.old) (O.taken out.new) (E.taken err.old) (E.taken err.new) status))) }
+    ensures agrees { IfRead (S.told store.old) result (λ index answer.
+        IfOk answer (λ status. PrintsLikeCgrep MOST_SEARCHED job.now index (T.snapshot tree.old)
+        (λ printed. PrintsStatus printed
+        (O.taken out.old) (O.taken out.new) (E.taken err.old) (E.taken err.new) status))) }
+    ensures promised { IfRead (S.told store.old) result (λ index answer.
+        IfOk answer (λ status. PrintsAsPromised MOST_SEARCHED job.now index (T.snapshot tree.old)
+        (λ printed. PrintsStatus printed
+        (O.taken out.old) (O.taken out.new) (E.taken err.old) (E.taken err.new) status))) }
+    ensures front { IfRead (S.told store.old) result (λ index answer. OnErr answer
+        (PrintsNothing (O.taken out.old) (O.taken out.new) (E.taken err.old) (E.taken err.new)
+        ⊎ (AreAccepted job.now × PrintsAsked MOST_SEARCHED job.now index (T.snapshot tree.old)
+        (λ printed. PrintsFront printed
+        (O.taken out.old) (O.taken out.new) (E.taken err.old) (E.taken err.new))))) }
+    ensures front_agrees { IfRead (S.told store.old) result (λ index answer.
+        OnErr answer (PrintsLikeCgrep MOST_SEARCHED job.now index (T.snapshot tree.old)
+        (λ printed. PrintsFront printed
+        (O.taken out.old) (O.taken out.new) (E.taken err.old) (E.taken err.new)))) }
+    ensures refused { IfRead (S.told store.old) result (RefusedInOrder job.now) }
+    ensures quiet { IfOk result (λ answer. QuietAtRefusal answer
+        (PrintsNothing (O.taken out.old) (O.taken out.new) (E.taken err.old) (E.taken err.new))) }
+    ensures faults { IfRead (S.told store.old) result (λ index answer. (parts : Parts) →
+        OpensWith index parts → TellsFaults Csearch parts.names
+        (T.failed tree.old) (T.failed tree.new) (E.taken err.old) (E.taken err.new) answer) }
+    ensures unread { IfErr result (λ _. AreAccepted job.now
+        × (T.failed tree.new ≡ T.failed tree.old)
+        × PrintsNothing (O.taken out.old) (O.taken out.new) (E.taken err.old) (E.taken err.new)) }
+    ensures writes { CountsOne (has_output_failed result)
+        (O.failed out.old) (O.failed out.new) (E.failed err.old) (E.failed err.new) }
+    ensures keeps { T.snapshot tree.new ≡ T.snapshot tree.old }
+    ensures tells { S.told store.new ≡ S.told store.old }
+    ensures size { S.size store.new ≡ S.size store.old }
+    ensures failed { S.failed store.new ≡ count_after is_io_failure result (S.failed store.old) }
+{
+    let ready = restrict(alloc, job, opened, store)?;
+    match ready {
+        Ok((plan, part)) => {
+            let answer = search_by(alloc, job, &plan, &part.index(), tree, out, err);
+            Ok(answer)
+        }
+        Err(fault) => Ok(Err(fault)),
+    }
+}
+
+/// A plan of the job, and the part of the index that answers it.
+fn restrict<S: Store>(
+    alloc: Global,
+    job: &SearchJob,
+    opened: Result<StoredIndex, IndexFault>,
+    store: &mut S,
+) -> Result<Result<(Plan, Restriction), ToolFault>, IoFault>
+    requires { IsOpened (S.told store.old) opened }
+    ensures plan { IfOk result (λ answer. IfOk answer (λ ready. IsPlan job.now ready.0)) }
+    ensures lent { IfRead (S.told store.old) result (λ index answer.
+        IfOk answer (λ ready. IsLent ready.0.query index ready.1)) }
+    ensures refused { IfRead (S.told store.old) result (λ index answer.
+        IfErr answer (RefusesPlan job.now index)) }
+    ensures unwritten { IfOk result (λ answer. has_write_failed answer ≡ false) }
+    ensures accepted { IfErr result (λ _. AreAccepted job.now) }
+    ensures tells { S.told store.new ≡ S.told store.old }
+    ensures size { S.size store.new ≡ S.size store.old }
+    ensures failed { S.failed store.new ≡ count_after is_io_failure result (S.failed store.old) }
+{
+    let plan = match Plan::new(alloc, job) {
+        Ok(plan) => plan,
+        Err(fault) => return Ok(Err(fault)),
+    };
+    let index = match opened {
+        Ok(index) => index,
+        Err(fault) => return Ok(Err(ToolFault::from(fault))),
+    };
+    let part = index.restrict(alloc, store, &plan.query)?;
+    Ok(Ok((plan, part)))
+}

@@ -2,20 +2,11 @@
 use cs_index::Builder;
 use cs_tree::{Item, MemSource, MemTree};
 use cs_trigram::{Gathered, Scanner};
-use cs_words::Style;
 use std::alloc::{AllocError, Global};
 use std::test::Fail;
 
 /// Names with what the files say.
 pub type Files<'a> = &'a [(&'a str, &'a [u8])];
-
-/// No option asks for another form of what is printed.
-pub const PLAIN: Style = Style {
-    count: false,
-    list: false,
-    number: false,
-    bare: false,
-};
 
 /// An index of the path `/a` and the file `/a/x`, which has `abcd` and a newline.
 pub const ROW: &[u8; 122] =
@@ -37,15 +28,6 @@ pub fn strings(alloc: Global, texts: &[&str]) -> Result<Vec<String>, AllocError>
         strings.push(String::from_str(alloc, *text)?)?;
     }
     Ok(strings)
-}
-
-/// The words of a text, between such marks.
-pub fn words_of(alloc: Global, text: &str, mark: char) -> Result<Vec<String>, AllocError> {
-    let mut words = Vec::new(alloc);
-    for word in text.split(mark) {
-        words.push(String::from_str(alloc, word)?)?;
-    }
-    Ok(words)
 }
 
 /// The number of the first three bytes.
@@ -75,10 +57,10 @@ pub fn by_chance(alloc: Global, count: usize) -> Result<Vec<u8>, Fail> {
 /// A tree with a folder that has files with these bytes.
 pub fn tree_of(alloc: Global, folder: &str, files: Files<'_>) -> Result<MemTree, Fail> {
     let mut tree = MemTree::new(alloc, 4)?;
-    tree.put(folder, Item::Folder).ok().ok_or("put")?;
+    tree.put(folder, Item::Folder)?;
     for (name, bytes) in files {
         let file = Item::File(Vec::from_slice(alloc, *bytes)?);
-        tree.put(*name, file).ok().ok_or("put")?;
+        tree.put(*name, file)?;
     }
     Ok(tree)
 }
@@ -110,11 +92,11 @@ pub fn add_file(
     name: &str,
     text: &[u8],
 ) -> Result<(), Fail> {
-    match scanner.gather(&mut MemSource::new(text, 4, false)) {
-        Ok(Gathered::Text { trigrams, .. }) => {
+    match scanner.gather(&mut MemSource::new(text, 4, false))? {
+        Gathered::Text { trigrams, .. } => {
             let _id = builder.add(name, trigrams)?;
             Ok(())
         }
-        _ => Err(Fail::from("text")),
+        Gathered::Skip(_) => Err(Fail::from("text")),
     }
 }

@@ -2,4 +2,5 @@
 mod batches;
 mod building;
 mod candidates;
+mod order;
 mod reading;

@@ -1,6 +1,6 @@
-//! The tests of the libraries, one module for each: what no clause says, and rows from outside. They call public
-//! functions alone, so that a library has no test of its own and is proved once. The whole program is tested in
-//! `codesearch`.
+//! The tests of the libraries up to `cs_merge`, one module for each: what no clause says, and rows from outside. They call
+//! public functions alone, so that a library has no test of its own and is proved once. The crates above are tested in
+//! `cs_tool_tests`, and the whole program in `codesearch`.
 #![tactic(auto)]
 
 #[cfg(test)]
@@ -8,13 +8,9 @@ mod fixtures;
 #[cfg(test)]
 mod index;
 #[cfg(test)]
-mod indexing;
-#[cfg(test)]
 mod matching;
 #[cfg(test)]
 mod merging;
-#[cfg(test)]
-mod searching;
 #[cfg(test)]
 mod sieve;
 #[cfg(test)]
@@ -23,5 +19,3 @@ mod syntax;
 mod trees;
 #[cfg(test)]
 mod trigrams;
-#[cfg(test)]
-mod words;

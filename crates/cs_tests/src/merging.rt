@@ -1,4 +1,6 @@
 // Joining over worked rows.
+mod runs;
+
 ghost use Rattle.std.specs.Prelude.{◌<◌};
 
 use crate::fixtures::{ROW, UNSORTED, builder_of, index_of};

@@ -16,25 +16,34 @@ fn refusal(alloc: Global, text: &str) -> Option<PatternError> {
     parse(alloc, text, false).err()
 }
 
+const FAULTS: &[(&str, PatternFault, usize)] = &[
+    ("*a", PatternFault::NoOperand, 0),
+    ("a**", PatternFault::StackedRepeat, 2),
+    ("a{99999999999999999999}", PatternFault::BadRepeat, 1),
+    ("((a)(", PatternFault::OpenGroup, 4),
+    ("a)", PatternFault::StrayClose, 1),
+    ("(?z)", PatternFault::BadGroup, 0),
+    ("é[a", PatternFault::OpenClass, 2),
+    ("[b-a]", PatternFault::BadRange, 1),
+    ("\\x{99999999999999999999}", PatternFault::BadEscape, 0),
+    ("a\\", PatternFault::LoneBackslash, 1),
+    ("[é]", PatternFault::NotInProfile, 1),
+    ("(a{1000}){20}", PatternFault::TooLarge, 0),
+];
+
 /// Each fault of a text once; further rows are worked in `proofs/Examples.antt`.
 #[test]
 fn refuses_at_the_fault(rt: HostRuntime) {
-    for (text, fault, at) in [
-        ("*a", PatternFault::NoOperand, 0),
-        ("a**", PatternFault::StackedRepeat, 2),
-        ("a{99999999999999999999}", PatternFault::BadRepeat, 1),
-        ("((a)(", PatternFault::OpenGroup, 4),
-        ("a)", PatternFault::StrayClose, 1),
-        ("(?z)", PatternFault::BadGroup, 0),
-        ("é[a", PatternFault::OpenClass, 2),
-        ("[b-a]", PatternFault::BadRange, 1),
-        ("\\x{99999999999999999999}", PatternFault::BadEscape, 0),
-        ("a\\", PatternFault::LoneBackslash, 1),
-        ("[é]", PatternFault::NotInProfile, 1),
-        ("(a{1000}){20}", PatternFault::TooLarge, 0),
-    ] {
+    for (text, fault, at) in FAULTS {
         let error = refusal(rt.alloc(), text);
-        assert_eq!(rt; error, Some(PatternError { fault, at }), "at {text}");
+        assert_eq!(rt;
+            error,
+            Some(PatternError {
+                fault: *fault,
+                at: *at
+            }),
+            "at {text}"
+        );
     }
 }
 
@@ -43,23 +52,25 @@ fn is_accepted(alloc: Global, text: &str) -> bool {
     parse(alloc, text, true).is_ok()
 }
 
+const ACCEPTED: &[&str] = &[
+    "",
+    "a{,2}",
+    "a{01}",
+    "a||b",
+    "^(a|b)*c{2,3}?$",
+    "(?i:a)b(?P<n>c)(?<n>d)(?s-U).",
+    "\\bfoo\\B\\C",
+    "[[:^digit:]-\\w\\x7f]",
+    "[]a]",
+    "[^]-a]",
+    "^[[:a]$",
+    "\\101\\08\\x{10ffff}é*",
+    "a]}",
+];
+
 #[test]
 fn accepts_the_whole_profile(rt: HostRuntime) {
-    for text in [
-        "",
-        "a{,2}",
-        "a{01}",
-        "a||b",
-        "^(a|b)*c{2,3}?$",
-        "(?i:a)b(?P<n>c)(?<n>d)(?s-U).",
-        "\\bfoo\\B\\C",
-        "[[:^digit:]-\\w\\x7f]",
-        "[]a]",
-        "[^]-a]",
-        "^[[:a]$",
-        "\\101\\08\\x{10ffff}é*",
-        "a]}",
-    ] {
+    for text in ACCEPTED {
         assert!(rt; is_accepted(rt.alloc(), text), "at {text}");
     }
 }

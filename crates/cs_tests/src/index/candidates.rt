@@ -52,21 +52,23 @@ fn finds_tris(
     finds(rt, alloc, index, &query, want)
 }
 
+const EACH: &[&str] = &["Goo", "oog", "ogl", "gle", "Sea", "ear", "arc", "rch"];
+
+const FOUND: &[(bool, &[&str], &[u32])] = &[
+    (true, EACH, &[0]),
+    (false, &["le\n", "Sea"], &[0, 1, 2]),
+    (false, &["Sea", "xyz"], &[0, 2]),
+    (false, &[], &[]),
+    (true, &[], &[0, 1, 2]),
+];
+
 #[test]
 fn names_are_found(rt: HostRuntime) -> Result<(), Fail> {
     let alloc = rt.alloc();
     let bytes = index_of(alloc, &["/g"], FILES)?;
     let index = Index::open(&bytes)?;
-    let each: &[&str] = &["Goo", "oog", "ogl", "gle", "Sea", "ear", "arc", "rch"];
-    let rows: [(bool, &[&str], &[u32]); 5] = [
-        (true, each, &[0]),
-        (false, &["le\n", "Sea"], &[0, 1, 2]),
-        (false, &["Sea", "xyz"], &[0, 2]),
-        (false, &[], &[]),
-        (true, &[], &[0, 1, 2]),
-    ];
-    for (all, trigrams, want) in rows {
-        finds_tris(&rt, alloc, &index, all, trigrams, want)?;
+    for (all, trigrams, want) in FOUND {
+        finds_tris(&rt, alloc, &index, *all, trigrams, want)?;
     }
     for (trigram, want) in [(b"Goo", [0, 1].as_slice()), (b"xyz", &[])] {
         finds(&rt, alloc, &index, &Query::Tri(number(trigram)), want)?;

@@ -115,25 +115,27 @@ fn opens_so(bytes: &[u8], want: &Wanted) -> bool {
     }
 }
 
+const CHANGES: &[(usize, u8, Option<IndexFault>)] = &[
+    (0, 0x00, Some(IndexFault::BadMagic)),
+    (121, 0x00, Some(IndexFault::BadTrailer)),
+    (89, 0x11, Some(IndexFault::BadOffsets)),
+    (16, 0x00, Some(IndexFault::BadPaths)),
+    (20, 0xff, Some(IndexFault::BadNames)),
+    (48, 0x01, Some(IndexFault::BadNameIndex)),
+    (53, 0xff, Some(IndexFault::BadListIndex)),
+    (63, 0x10, Some(IndexFault::BadListIndex)),
+    (63, 0x0f, None),
+    (59, 0x02, None),
+];
+
 #[test]
 fn changed_bytes_are_refused(rt: HostRuntime) {
-    for (place, byte, want) in [
-        (0, 0x00, Some(IndexFault::BadMagic)),
-        (121, 0x00, Some(IndexFault::BadTrailer)),
-        (89, 0x11, Some(IndexFault::BadOffsets)),
-        (16, 0x00, Some(IndexFault::BadPaths)),
-        (20, 0xff, Some(IndexFault::BadNames)),
-        (48, 0x01, Some(IndexFault::BadNameIndex)),
-        (53, 0xff, Some(IndexFault::BadListIndex)),
-        (63, 0x10, Some(IndexFault::BadListIndex)),
-        (63, 0x0f, None),
-        (59, 0x02, None),
-    ] {
+    for (place, byte, want) in CHANGES {
         let mut bytes = *ROW;
-        if let Some(changed) = bytes.get_mut(place) {
-            *changed = byte;
+        if let Some(changed) = bytes.get_mut(*place) {
+            *changed = *byte;
         }
-        assert_eq!(rt; Index::open(&bytes).err(), want, "at {place}");
+        assert_eq!(rt; Index::open(&bytes).err(), *want, "at {place}");
     }
 }
 
@@ -145,54 +147,60 @@ fn paths_come_before_names(rt: HostRuntime) {
     assert_eq!(rt; Index::open(&bytes).err(), Some(IndexFault::BadPaths));
 }
 
+/// What `ROW` answers.
+const ONE_FILE: Wanted<'static> = Wanted {
+    paths: &["/a"],
+    names: &["/a/x"],
+    in_order: true,
+    lists: &[(0x616263, &[0]), (0x626364, &[0]), (0x63640a, &[0])],
+};
+
 /// The first byte of the closing list, and the last byte of the name index.
 #[test]
 fn some_bytes_may_be_anything(rt: HostRuntime) {
-    let want = Wanted {
-        paths: &["/a"],
-        names: &["/a/x"],
-        in_order: true,
-        lists: &[(0x616263, &[0]), (0x626364, &[0]), (0x63640a, &[0])],
-    };
     for place in [41, 52] {
         for byte in 0..=255 {
             let mut bytes = *ROW;
             if let Some(changed) = bytes.get_mut(place) {
                 *changed = byte;
             }
-            assert!(rt; opens_so(&bytes, &want), "{byte} at {place}");
+            assert!(rt; opens_so(&bytes, &ONE_FILE), "{byte} at {place}");
         }
     }
 }
 
+/// What `UNSORTED` and `UNCLOSED` answer.
+const TWO_FILES: Wanted<'static> = Wanted {
+    paths: &["/a"],
+    names: &["/a/b/z", "/a/b-x"],
+    in_order: false,
+    lists: &[(0x616263, &[0, 1]), (0xffffff, &[])],
+};
+
 /// The last offset may be any four bytes, and the NUL behind the names may be missing.
 #[test]
 fn other_writers_are_read(rt: HostRuntime) {
-    let want = Wanted {
-        paths: &["/a"],
-        names: &["/a/b/z", "/a/b-x"],
-        in_order: false,
-        lists: &[(0x616263, &[0, 1]), (0xffffff, &[])],
-    };
     for last in [*b"\0\0\0\x0e", *b"wxyz"] {
         let mut closed = *UNSORTED;
         closed[53..57].copy_from_slice(&last);
-        assert!(rt; opens_so(&closed, &want), "with {last:?}");
+        assert!(rt; opens_so(&closed, &TWO_FILES), "with {last:?}");
         let mut unclosed = *UNCLOSED;
         unclosed[52..56].copy_from_slice(&last);
-        assert!(rt; opens_so(&unclosed, &want), "with {last:?} and no NUL");
+        assert!(rt; opens_so(&unclosed, &TWO_FILES), "with {last:?} and no NUL");
     }
 }
 
+/// What `EMPTY` answers.
+const NO_FILE: Wanted<'static> = Wanted {
+    paths: &["/a"],
+    names: &[],
+    in_order: true,
+    lists: &[],
+};
+
 #[test]
 fn no_name_is_read(rt: HostRuntime) {
-    let want = Wanted {
-        paths: &["/a"],
-        names: &[],
-        in_order: true,
-        lists: &[],
-    };
-    assert!(rt; opens_so(EMPTY, &want));
+    assert!(rt; opens_so(EMPTY, &NO_FILE));
 }
 
 /// The first three answers of a list.
@@ -231,32 +239,37 @@ fn prefixes_are_refused(rt: HostRuntime) {
     }
 }
 
+/// What is read of a list.
+type Read = Result<u32, IndexFault>;
+
+const VARINTS: &[(&[u8], Read, Option<Read>)] = &[
+    (&[0x81, 0x00, 0x00], Ok(0), None),
+    (&[0x01, 0x80, 0x80, 0x80, 0x80, 0x00], Ok(0), None),
+    (
+        &[0x01, 0x80, 0x80, 0x80, 0x80, 0x10],
+        Ok(0),
+        Some(Err(IndexFault::BadList)),
+    ),
+    (
+        &[0x01, 0x80, 0x80, 0x80, 0x80, 0x80, 0x00],
+        Ok(0),
+        Some(Err(IndexFault::BadList)),
+    ),
+    (
+        &[0x80, 0x80, 0x80, 0x80, 0x10, 0x00],
+        Err(IndexFault::BadList),
+        None,
+    ),
+    (&[0x02, 0x00], Err(IndexFault::BadList), None),
+];
+
 #[test]
 fn varints_are_read(rt: HostRuntime) {
-    for (bytes, first, second) in [
-        ([0x81, 0x00, 0x00].as_slice(), Ok(0), None),
-        (&[0x01, 0x80, 0x80, 0x80, 0x80, 0x00], Ok(0), None),
-        (
-            &[0x01, 0x80, 0x80, 0x80, 0x80, 0x10],
-            Ok(0),
-            Some(Err(IndexFault::BadList)),
-        ),
-        (
-            &[0x01, 0x80, 0x80, 0x80, 0x80, 0x80, 0x00],
-            Ok(0),
-            Some(Err(IndexFault::BadList)),
-        ),
-        (
-            &[0x80, 0x80, 0x80, 0x80, 0x10, 0x00],
-            Err(IndexFault::BadList),
-            None,
-        ),
-        (&[0x02, 0x00], Err(IndexFault::BadList), None),
-    ] {
+    for (bytes, first, second) in VARINTS {
         let ids = Postings::new(bytes, 1, 1);
         assert_eq!(rt;
             first_three(ids),
-            [Some(first), second, None],
+            [Some(*first), *second, None],
             "of {bytes:?}"
         );
     }

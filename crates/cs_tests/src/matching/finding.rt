@@ -11,44 +11,46 @@ fn found(alloc: Global, pattern: &str, line: &[u8]) -> Result<bool, Fail> {
     Ok(matcher.is_match(line))
 }
 
+const ROWS: &[(&str, &str, bool)] = &[
+    ("", "", true),
+    ("a||b", "x", true),
+    ("^(a|b)*c$", "ababc", true),
+    ("^(a|b)*c$", "abxbc", false),
+    ("a.c", "xxabcxx", true),
+    ("a.c", "xxac", false),
+    ("^b", "ab", false),
+    ("a$", "ab", false),
+    ("(^a|b$)*c", "cb", true),
+    ("^(a*)*$", "aaab", false),
+    ("a.c", "a\nc", false),
+    ("a$", "a\nb", false),
+    ("^b", "a\nb", false),
+    ("^\\xe9$", "é", true),
+    ("^a{2,3}$", "aa", true),
+    ("^a{2,3}$", "aaa", true),
+    ("^a{2,3}$", "a", false),
+    ("^a{2,3}$", "aaaa", false),
+    ("^(ab){2,}$", "ababab", true),
+    ("^(ab){2,}$", "ab", false),
+    ("^x{0}y?$", "", true),
+    ("(?i:a)b", "Ab", true),
+    ("(?i:a)b", "aB", false),
+    ("a(?i)b|c", "C", true),
+    ("a(?i)b|c", "Ab", false),
+    ("\\bfoo\\b", "a foo", true),
+    ("\\bfoo\\b", "foo1", false),
+    ("^\\B", "a", false),
+    ("^[[:^digit:]]$", "x", true),
+    ("^[[:^digit:]]$", "5", false),
+];
+
 #[test]
 fn rows_of_patterns_and_lines(rt: HostRuntime) -> Result<(), Fail> {
     laws::finding_is_decided();
-    for (pattern, line, want) in [
-        ("", "", true),
-        ("a||b", "x", true),
-        ("^(a|b)*c$", "ababc", true),
-        ("^(a|b)*c$", "abxbc", false),
-        ("a.c", "xxabcxx", true),
-        ("a.c", "xxac", false),
-        ("^b", "ab", false),
-        ("a$", "ab", false),
-        ("(^a|b$)*c", "cb", true),
-        ("^(a*)*$", "aaab", false),
-        ("a.c", "a\nc", false),
-        ("a$", "a\nb", false),
-        ("^b", "a\nb", false),
-        ("^\\xe9$", "é", true),
-        ("^a{2,3}$", "aa", true),
-        ("^a{2,3}$", "aaa", true),
-        ("^a{2,3}$", "a", false),
-        ("^a{2,3}$", "aaaa", false),
-        ("^(ab){2,}$", "ababab", true),
-        ("^(ab){2,}$", "ab", false),
-        ("^x{0}y?$", "", true),
-        ("(?i:a)b", "Ab", true),
-        ("(?i:a)b", "aB", false),
-        ("a(?i)b|c", "C", true),
-        ("a(?i)b|c", "Ab", false),
-        ("\\bfoo\\b", "a foo", true),
-        ("\\bfoo\\b", "foo1", false),
-        ("^\\B", "a", false),
-        ("^[[:^digit:]]$", "x", true),
-        ("^[[:^digit:]]$", "5", false),
-    ] {
+    for (pattern, line, want) in ROWS {
         assert_eq!(rt;
             found(rt.alloc(), pattern, line.as_bytes())?,
-            want,
+            *want,
             "{pattern} in {line}"
         );
     }
@@ -57,21 +59,23 @@ fn rows_of_patterns_and_lines(rt: HostRuntime) -> Result<(), Fail> {
     Ok(())
 }
 
+const LINES: &[(&str, bool)] = &[
+    ("ab", false),
+    ("c", false),
+    ("abbcx", true),
+    ("bc", false),
+    ("", false),
+    ("ac", true),
+];
+
 /// One matcher answers for each line alone.
 #[test]
 fn lines_one_after_another(rt: HostRuntime) -> Result<(), Fail> {
     let pattern = parse(rt.alloc(), "^ab*c", false).ok().ok_or("pattern")?;
     let program = Program::compile(rt.alloc(), &pattern)?;
     let mut matcher = Matcher::new(rt.alloc(), &program)?;
-    for (line, want) in [
-        ("ab", false),
-        ("c", false),
-        ("abbcx", true),
-        ("bc", false),
-        ("", false),
-        ("ac", true),
-    ] {
-        assert_eq!(rt; matcher.is_match(line.as_bytes()), want, "{line}");
+    for (line, want) in LINES {
+        assert_eq!(rt; matcher.is_match(line.as_bytes()), *want, "{line}");
     }
     Ok(())
 }

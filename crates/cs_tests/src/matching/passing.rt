@@ -104,20 +104,22 @@ fn lines_with(alloc: Global, part: &str, len: usize) -> Result<Vec<u8>, Fail> {
     Ok(text)
 }
 
+const PARTS: &[(&str, &str)] = &[
+    ("[0-9]{3}-[0-9]{4}", "123-4567"),
+    ("[0-9]{3}-[0-9]{4}", "123-456"),
+    ("(?i)copyright", "copyRight"),
+    ("alpha|beta|gamma", "beta"),
+    ("alpha|be?ta|gamma$", "gamma"),
+    ("(ab|cd)x*[0-9]+ef", "cd17ef"),
+    ("^(ab+c|qz.)$", "abbbc"),
+    ("\\bq(xy|wz)+\\b", "qxywz"),
+    ("", ""),
+];
+
 /// Lines that end around the borders of lanes and of parts.
 #[test]
 fn ways_to_pass_lines(rt: HostRuntime) -> Result<(), Fail> {
-    for (pattern, part) in [
-        ("[0-9]{3}-[0-9]{4}", "123-4567"),
-        ("[0-9]{3}-[0-9]{4}", "123-456"),
-        ("(?i)copyright", "copyRight"),
-        ("alpha|beta|gamma", "beta"),
-        ("alpha|be?ta|gamma$", "gamma"),
-        ("(ab|cd)x*[0-9]+ef", "cd17ef"),
-        ("^(ab+c|qz.)$", "abbbc"),
-        ("\\bq(xy|wz)+\\b", "qxywz"),
-        ("", ""),
-    ] {
+    for (pattern, part) in PARTS {
         for len in [
             0, 1, 29, 30, 31, 62, 63, 64, 65, 66, 67, 68, 69, 70, 510, 511, 512, 513, 514,
         ] {
@@ -145,34 +147,36 @@ fn stop(alloc: Global, pattern: &str, first: &str, second: &str) -> Result<usize
     Ok(if at > first.len() { 1 } else { 0 })
 }
 
+const PASSED: &[(&str, &str, &str)] = &[
+    // A word.
+    ("^#include$", "#includ", "#includes"),
+    ("static.*struct", "struct", "static"),
+    ("struct.*block", "struct", "block"),
+    ("\\binline\\b", "in line", "inlined"),
+    ("(alpha|beta)gamma", "alpha", "gamma"),
+    ("^(a|b)*q.*d$", "abd", "q"),
+    ("ab+cq", "ab", "bcq"),
+    ("e(qz)+e$", "qze", "eqz"),
+    ("(eq)+z$", "eq z", "eqz."),
+    ("x(.q)+z", "x.q", "qz"),
+    ("ab*zq", "ab", "zq"),
+    ("ab?zq", "ab", "zq"),
+    ("(ax){3}$", "axax", "axaxax."),
+    ("a{2,}zq", "zq", "azq"),
+    ("q$z^\\b\\Bj", "qz", "qzj"),
+    // Windows.
+    ("[0-9]{3}-[0-9]{4}", "1-3456", "123-45"),
+    ("alpha|beta|gamma", "alp eta amm", "alph"),
+    ("alpha|beta|gamma", "amma", "gamme"),
+    ("(?i)zeal", "eAl", "zEAr"),
+    ("(static.*struct)|\\n\\n\\n", "stat struct", "tic"),
+    ("(?i)zebra|crossing", "missing", "acRo"),
+];
+
 // No clause says by what lines are passed: that shows where a line has the word or a window, and nothing is found.
 #[test]
 fn what_lines_are_passed_by(rt: HostRuntime) -> Result<(), Fail> {
-    for (pattern, passed, stopped) in [
-        // A word.
-        ("^#include$", "#includ", "#includes"),
-        ("static.*struct", "struct", "static"),
-        ("struct.*block", "struct", "block"),
-        ("\\binline\\b", "in line", "inlined"),
-        ("(alpha|beta)gamma", "alpha", "gamma"),
-        ("^(a|b)*q.*d$", "abd", "q"),
-        ("ab+cq", "ab", "bcq"),
-        ("e(qz)+e$", "qze", "eqz"),
-        ("(eq)+z$", "eq z", "eqz."),
-        ("x(.q)+z", "x.q", "qz"),
-        ("ab*zq", "ab", "zq"),
-        ("ab?zq", "ab", "zq"),
-        ("(ax){3}$", "axax", "axaxax."),
-        ("a{2,}zq", "zq", "azq"),
-        ("q$z^\\b\\Bj", "qz", "qzj"),
-        // Windows.
-        ("[0-9]{3}-[0-9]{4}", "1-3456", "123-45"),
-        ("alpha|beta|gamma", "alp eta amm", "alph"),
-        ("alpha|beta|gamma", "amma", "gamme"),
-        ("(?i)zeal", "eAl", "zEAr"),
-        ("(static.*struct)|\\n\\n\\n", "stat struct", "tic"),
-        ("(?i)zebra|crossing", "missing", "acRo"),
-    ] {
+    for (pattern, passed, stopped) in PASSED {
         let line = stop(rt.alloc(), pattern, passed, stopped)?;
         assert_eq!(rt; line, 1, "{pattern:?} over {passed:?} and {stopped:?}");
     }

@@ -54,41 +54,43 @@ fn many(rt: &HostRuntime, count: usize, byte: u8, others: &[u8]) -> Result<Vec<u
     Ok(file)
 }
 
+const ROWS: &[(&[u8], Want<'static>)] = &[
+    (b"", Ok((&[], 0))),
+    (b"\xc3\xa9", Ok((&[], 2))),
+    (b"\xe9a", Err(Reason::Utf8)),
+    (b"\xc3", Ok((&[], 1))),
+    (b"a\x00", Err(Reason::Nul)),
+    (b"\xc3\x00", Err(Reason::Nul)),
+    (b"\x80", Err(Reason::Utf8)),
+    (b"abcd\n", Ok((&[b"abc", b"bcd", b"cd\n"], 5))),
+    (b"zzab", Ok((&[b"zab", b"zza"], 4))),
+    (b"abababa", Ok((&[b"aba", b"bab"], 7))),
+];
+
 #[test]
 fn rows(rt: HostRuntime) -> Result<(), Fail> {
     let mut scanner = Scanner::new(rt.alloc())?;
-    let rows: [(&[u8], Want<'_>); 10] = [
-        (b"", Ok((&[], 0))),
-        (b"\xc3\xa9", Ok((&[], 2))),
-        (b"\xe9a", Err(Reason::Utf8)),
-        (b"\xc3", Ok((&[], 1))),
-        (b"a\x00", Err(Reason::Nul)),
-        (b"\xc3\x00", Err(Reason::Nul)),
-        (b"\x80", Err(Reason::Utf8)),
-        (b"abcd\n", Ok((&[b"abc", b"bcd", b"cd\n"], 5))),
-        (b"zzab", Ok((&[b"zab", b"zza"], 4))),
-        (b"abababa", Ok((&[b"aba", b"bab"], 7))),
-    ];
-    for (file, want) in rows {
-        scans(&rt, &mut scanner, file, 65_536, want)?;
+    for (file, want) in ROWS {
+        scans(&rt, &mut scanner, file, 65_536, *want)?;
     }
     Ok(())
 }
 
+const LINES: &[(usize, &[u8], Want<'static>)] = &[
+    (1999, b"\n", Ok((&[b"aa\n", b"aaa"], 2000))),
+    (2000, b"", Ok((&[b"aaa"], 2000))),
+    (2000, b"\n", Err(Reason::LongLine)),
+    (2001, b"", Err(Reason::LongLine)),
+    (70_000, b"\x00", Err(Reason::LongLine)),
+];
+
 #[test]
 fn lines(rt: HostRuntime) -> Result<(), Fail> {
     let mut scanner = Scanner::new(rt.alloc())?;
-    let rows: [(usize, &[u8], Want<'_>); 5] = [
-        (1999, b"\n", Ok((&[b"aa\n", b"aaa"], 2000))),
-        (2000, b"", Ok((&[b"aaa"], 2000))),
-        (2000, b"\n", Err(Reason::LongLine)),
-        (2001, b"", Err(Reason::LongLine)),
-        (70_000, b"\x00", Err(Reason::LongLine)),
-    ];
-    for (count, others, want) in rows {
-        let file = many(&rt, count, b'a', others)?;
+    for (count, others, want) in LINES {
+        let file = many(&rt, *count, b'a', others)?;
         for step in [1, 1999, 2000, 2001, 65_536] {
-            scans(&rt, &mut scanner, &file, step, want)?;
+            scans(&rt, &mut scanner, &file, step, *want)?;
         }
     }
     Ok(())
@@ -128,25 +130,27 @@ fn most_trigrams(rt: HostRuntime) -> Result<(), Fail> {
     scans(&rt, &mut scanner, &file, 65_536, Err(Reason::Utf8))
 }
 
+const BCD: Want<'static> = Ok((&[b"bcd"], 3));
+
+const TWICE: &[(&[u8], Want<'static>)] = &[
+    (b"abc\x00", Err(Reason::Nul)),
+    (b"ab\xff", Err(Reason::Utf8)),
+    (b"bcd", BCD),
+    (b"abcd", Ok((&[b"abc", b"bcd"], 4))),
+];
+
 #[test]
 fn used_again(rt: HostRuntime) -> Result<(), Fail> {
     let mut scanner = Scanner::new(rt.alloc())?;
-    let bcd: Want<'_> = Ok((&[b"bcd"], 3));
-    let rows: [(&[u8], Want<'_>); 4] = [
-        (b"abc\x00", Err(Reason::Nul)),
-        (b"ab\xff", Err(Reason::Utf8)),
-        (b"bcd", bcd),
-        (b"abcd", Ok((&[b"abc", b"bcd"], 4))),
-    ];
-    for (file, want) in rows {
-        scans(&rt, &mut scanner, file, 2, want)?;
-        scans(&rt, &mut scanner, b"bcd", 2, bcd)?;
+    for (file, want) in TWICE {
+        scans(&rt, &mut scanner, file, 2, *want)?;
+        scans(&rt, &mut scanner, b"bcd", 2, BCD)?;
     }
     fails(&rt, &mut scanner, b"abc");
-    scans(&rt, &mut scanner, b"bcd", 2, bcd)?;
+    scans(&rt, &mut scanner, b"bcd", 2, BCD)?;
     let file = by_chance(rt.alloc(), 60_000)?;
     scans(&rt, &mut scanner, &file, 65_536, Err(Reason::ManyTrigrams))?;
-    scans(&rt, &mut scanner, b"bcd", 2, bcd)
+    scans(&rt, &mut scanner, b"bcd", 2, BCD)
 }
 
 /// A scan of a file whose reads fail after these bytes tells that a read failed.
@@ -181,6 +185,21 @@ fn scans_within(
     Ok(())
 }
 
+const SMALL: &[(&[u8], Want<'static>)] = &[
+    (b"aaaa\n", Ok((&[b"aa\n", b"aaa"], 5))),
+    (b"aaaaa", Ok((&[b"aaa"], 5))),
+    (b"aaaaa\n", Err(Reason::LongLine)),
+    (b"aaaaaa", Err(Reason::LongLine)),
+    (b"\naaa\naaa\naa\n", Err(Reason::ManyTrigrams)),
+    (b"aa\naa\naa\naa\n", Ok((&[b"\naa", b"a\na", b"aa\n"], 12))),
+    (b"aa\naa\naa\naa\n\n", Err(Reason::TooLong)),
+    (b"aa\naa\naa\naa\n\x00", Err(Reason::Nul)),
+    (b"aa\naa\naa\naa\n\x80", Err(Reason::Utf8)),
+    (b"abcde", Ok((&[b"abc", b"bcd", b"cde"], 5))),
+    (b"abcd\n\n", Err(Reason::ManyTrigrams)),
+    (b"abcd\n\n\xff", Err(Reason::Utf8)),
+];
+
 #[test]
 fn small_limits(rt: HostRuntime) -> Result<(), Fail> {
     let limits = Limits {
@@ -189,23 +208,9 @@ fn small_limits(rt: HostRuntime) -> Result<(), Fail> {
         trigrams: 3,
     };
     let mut scanner = BoundedScanner::new(rt.alloc(), limits)?;
-    let rows: [(&[u8], Want<'_>); 12] = [
-        (b"aaaa\n", Ok((&[b"aa\n", b"aaa"], 5))),
-        (b"aaaaa", Ok((&[b"aaa"], 5))),
-        (b"aaaaa\n", Err(Reason::LongLine)),
-        (b"aaaaaa", Err(Reason::LongLine)),
-        (b"\naaa\naaa\naa\n", Err(Reason::ManyTrigrams)),
-        (b"aa\naa\naa\naa\n", Ok((&[b"\naa", b"a\na", b"aa\n"], 12))),
-        (b"aa\naa\naa\naa\n\n", Err(Reason::TooLong)),
-        (b"aa\naa\naa\naa\n\x00", Err(Reason::Nul)),
-        (b"aa\naa\naa\naa\n\x80", Err(Reason::Utf8)),
-        (b"abcde", Ok((&[b"abc", b"bcd", b"cde"], 5))),
-        (b"abcd\n\n", Err(Reason::ManyTrigrams)),
-        (b"abcd\n\n\xff", Err(Reason::Utf8)),
-    ];
-    for (file, want) in rows {
+    for (file, want) in SMALL {
         for step in 1..21 {
-            scans_within(&rt, &mut scanner, file, step, want)?;
+            scans_within(&rt, &mut scanner, file, step, *want)?;
         }
     }
     Ok(())
@@ -221,26 +226,28 @@ fn letters(rt: &HostRuntime, front: &[u8], count: usize, others: &[u8]) -> Resul
     Ok(file)
 }
 
+const PARTS: &[&[u8; 3]] = &[b"\xa9\xc3\xa9", b"\xc3\xa9\xc3"];
+
+const LETTERS: &[(&[u8], usize, &[u8], Want<'static>)] = &[
+    (b"", 600, b"", Ok((PARTS, 1200))),
+    (b"", 1000, b"", Ok((PARTS, 2000))),
+    (b"", 1000, b"\n", Err(Reason::LongLine)),
+    (b"", 600, b"\x00", Err(Reason::Nul)),
+    (b"", 600, b"\xc3a", Err(Reason::Utf8)),
+    (b"", 600, b"\xf8", Err(Reason::Utf8)),
+    (b"", 512, b"aaa\x80", Err(Reason::Utf8)),
+    (b"\n", 511, b"\xc3a", Err(Reason::Utf8)),
+    (b"\n", 511, b"\xc3\x00", Err(Reason::Nul)),
+    (b"\xff", 600, b"\x00", Err(Reason::Utf8)),
+];
+
 #[test]
 fn letters_past_ascii(rt: HostRuntime) -> Result<(), Fail> {
     let mut scanner = Scanner::new(rt.alloc())?;
-    let parts: &[&[u8; 3]] = &[b"\xa9\xc3\xa9", b"\xc3\xa9\xc3"];
-    let rows: [(&[u8], usize, &[u8], Want<'_>); 10] = [
-        (b"", 600, b"", Ok((parts, 1200))),
-        (b"", 1000, b"", Ok((parts, 2000))),
-        (b"", 1000, b"\n", Err(Reason::LongLine)),
-        (b"", 600, b"\x00", Err(Reason::Nul)),
-        (b"", 600, b"\xc3a", Err(Reason::Utf8)),
-        (b"", 600, b"\xf8", Err(Reason::Utf8)),
-        (b"", 512, b"aaa\x80", Err(Reason::Utf8)),
-        (b"\n", 511, b"\xc3a", Err(Reason::Utf8)),
-        (b"\n", 511, b"\xc3\x00", Err(Reason::Nul)),
-        (b"\xff", 600, b"\x00", Err(Reason::Utf8)),
-    ];
-    for (front, count, others, want) in rows {
-        let file = letters(&rt, front, count, others)?;
+    for (front, count, others, want) in LETTERS {
+        let file = letters(&rt, front, *count, others)?;
         for step in [1, 1023, 1024, 65_536] {
-            scans(&rt, &mut scanner, &file, step, want)?;
+            scans(&rt, &mut scanner, &file, step, *want)?;
         }
     }
     Ok(())

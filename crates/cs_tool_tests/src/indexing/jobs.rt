@@ -2,18 +2,15 @@
 ghost use Rattle.std.specs.Prelude.{IfOk, All};
 ghost use Rattle.cs_cindex.specs.Refusals.{HasAbsoluteFolder};
 
-use crate::fixtures::{UNSORTED, bytes_of};
+use crate::fixtures::{Placed, UNSORTED, tree_of};
 use crate::indexing::job_of;
 use cs_cindex::cindex;
 use cs_index::{Index, IndexFault, Postings, Texts};
-use cs_tree::{Item, MemSink, MemTree, Sink};
+use cs_tree::{MemSink, MemTree, Sink};
 use cs_words::{CindexFault, IndexJob, Reply};
 use std::alloc::Global;
 use std::process::Abort;
 use std::test::Fail;
-
-/// What stands at a path: a folder, or a file with this text.
-type Placed<'a> = (&'a str, Option<&'a str>);
 
 /// What a job gives.
 #[derive(Drop)]
@@ -22,18 +19,6 @@ struct Done {
     reply: Reply,
     out: MemSink,
     err: MemSink,
-}
-
-fn tree_of(alloc: Global, placed: &[Placed<'_>]) -> Result<MemTree, Fail> {
-    let mut tree = MemTree::new(alloc, 2)?;
-    for (path, text) in placed {
-        let item = match text {
-            Some(text) => Item::File(bytes_of(alloc, text)?),
-            None => Item::Folder,
-        };
-        tree.put(*path, item)?;
-    }
-    Ok(tree)
 }
 
 /// One job on an index, over a tree.
@@ -65,17 +50,26 @@ fn run(
     })
 }
 
+/// The index of a path, over a tree.
+pub fn index_of(alloc: Global, path: &str, placed: &[Placed<'_>]) -> Result<Vec<u8>, Fail> {
+    let done = run(alloc, None, &[path], placed)?;
+    if let Reply::Refused(fault) = done.reply {
+        return Err(Fail::from(fault));
+    }
+    Ok(done.index.ok_or("no index")?)
+}
+
 /// What three jobs give, one after another over no index.
 #[derive(Drop)]
-struct Three {
-    index: Option<Vec<u8>>,
-    replies: [Reply; 3],
+pub struct Three {
+    pub index: Option<Vec<u8>>,
+    pub replies: [Reply; 3],
     out: MemSink,
     err: MemSink,
 }
 
 /// Three jobs in one call, each over a tree of its own with the same in it.
-fn run_three(alloc: Global, words: [&[&str]; 3], placed: &[Placed<'_>]) -> Result<Three, Fail> {
+pub fn run_three(alloc: Global, words: [&[&str]; 3], placed: &[Placed<'_>]) -> Result<Three, Fail> {
     let jobs = jobs_of(alloc, words)?;
     let mut trees = three_trees(alloc, placed)?;
     let mut replies = [Reply::Done; 3];

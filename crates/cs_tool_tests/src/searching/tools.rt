@@ -8,8 +8,8 @@ use std::test::Fail;
 
 /// The job of the words of cgrep, between spaces.
 fn job_of(alloc: Global, text: &str) -> Result<GrepJob, Fail> {
-    match read_words(alloc, Tool::Cgrep, "/w", &words_of(alloc, text, ' ')?) {
-        Ok(Job::Grep(job)) => Ok(job),
+    match read_words(alloc, Tool::Cgrep, "/w", &words_of(alloc, text, ' ')?)? {
+        Job::Grep(job) => Ok(job),
         _ => Err(Fail::from("words")),
     }
 }
@@ -17,16 +17,16 @@ fn job_of(alloc: Global, text: &str) -> Result<GrepJob, Fail> {
 /// A file with three lines, and one that fails after two.
 fn tree_of(alloc: Global) -> Result<MemTree, Fail> {
     let mut tree = MemTree::new(alloc, 4)?;
-    tree.put("/t", Item::Folder).ok().ok_or("put")?;
+    tree.put("/t", Item::Folder)?;
     let whole = Vec::from_slice(alloc, b"one\ntwo\none\n")?;
-    tree.put("/t/p", Item::File(whole)).ok().ok_or("put")?;
+    tree.put("/t/p", Item::File(whole))?;
     let cut = Vec::from_slice(alloc, b"one\ntwo\non")?;
-    tree.put("/t/c", Item::Cut(cut)).ok().ok_or("put")?;
+    tree.put("/t/c", Item::Cut(cut))?;
     Ok(tree)
 }
 
 /// A run over the tree, with nothing on standard input.
-fn run<O: Sink, E: Sink>(
+pub fn run<O: Sink, E: Sink>(
     alloc: Global,
     words: &str,
     out: &mut O,

@@ -1,5 +1,6 @@
 // Searches of an index, over trees that lack the files that are not to be opened.
-use crate::fixtures::{Files, index_of, tree_of, words_of};
+use crate::fixtures::{Placed, tree_of, words_of};
+use crate::indexing::jobs::index_of;
 use cs_search::{Status, csearch};
 use cs_tree::{MemSink, MemTree, Sink};
 use cs_words::{Job, SearchJob, Tool, ToolFault, read_words};
@@ -11,37 +12,49 @@ use std::test::Fail;
 type Wanted<'a> = (&'a str, &'a str, Result<Status, ToolFault>);
 
 /// Three files, of which one has a line that matches `Google.*Search`.
-const GOOGLE: Files<'static> = &[
-    ("/g/1", b"Google Search\n"),
-    ("/g/2", b"Google\n"),
-    ("/g/3", b"Search\n"),
+pub const GOOGLE: &[Placed<'static>] = &[
+    ("/g", None),
+    ("/g/1", Some("Google Search\n")),
+    ("/g/2", Some("Google\n")),
+    ("/g/3", Some("Search\n")),
 ];
+
+/// The first of them alone.
+pub const FIRST: &[Placed<'static>] = &[("/g", None), ("/g/1", Some("Google Search\n"))];
 
 /// One file with the eight trigrams of `Google.*Search`, eight files that each lack another one of them, and one that
 /// has them all and no match.
-const LACKING: Files<'static> = &[
-    ("/g/0", b"Google Search\n"),
-    ("/g/1", b"oogle Search\n"),
-    ("/g/2", b"Goo ogle Search\n"),
-    ("/g/3", b"Goog gle Search\n"),
-    ("/g/4", b"Googl Search\n"),
-    ("/g/5", b"Google earch\n"),
-    ("/g/6", b"Google Sea arch\n"),
-    ("/g/7", b"Google Sear rch\n"),
-    ("/g/8", b"Google Searc\n"),
-    ("/g/9", b"Search\nGoogle\n"),
+const LACKING: &[Placed<'static>] = &[
+    ("/g", None),
+    ("/g/0", Some("Google Search\n")),
+    ("/g/1", Some("oogle Search\n")),
+    ("/g/2", Some("Goo ogle Search\n")),
+    ("/g/3", Some("Goog gle Search\n")),
+    ("/g/4", Some("Googl Search\n")),
+    ("/g/5", Some("Google earch\n")),
+    ("/g/6", Some("Google Sea arch\n")),
+    ("/g/7", Some("Google Sear rch\n")),
+    ("/g/8", Some("Google Searc\n")),
+    ("/g/9", Some("Search\nGoogle\n")),
+];
+
+/// Those of them that have all trigrams.
+const HAVING: &[Placed<'static>] = &[
+    ("/g", None),
+    ("/g/0", Some("Google Search\n")),
+    ("/g/9", Some("Search\nGoogle\n")),
 ];
 
 /// The job of the words of csearch, between spaces.
 fn job_of(alloc: Global, text: &str) -> Result<SearchJob, Fail> {
-    match read_words(alloc, Tool::Csearch, "/w", &words_of(alloc, text, ' ')?) {
-        Ok(Job::Search(job)) => Ok(job),
+    match read_words(alloc, Tool::Csearch, "/w", &words_of(alloc, text, ' ')?)? {
+        Job::Search(job) => Ok(job),
         _ => Err(Fail::from("words")),
     }
 }
 
 /// A search of the index over the tree.
-fn search(
+pub fn search(
     alloc: Global,
     words: &str,
     index: &[u8],
@@ -80,8 +93,8 @@ fn run(
 fn only_candidates_are_opened(rt: HostRuntime) -> Result<(), Fail> {
     let alloc = rt.alloc();
     let matched = Ok(Status::Matched);
-    let index = index_of(alloc, &["/g"], GOOGLE)?;
-    let tree = &mut tree_of(alloc, "/g", &[("/g/1", b"Google Search\n")])?;
+    let index = index_of(alloc, "/g", GOOGLE)?;
+    let tree = &mut tree_of(alloc, FIRST)?;
     let found = "/g/1:Google Search\n";
     let words = "Google.*Search";
     run(&rt, alloc, words, &index, tree, (found, "", matched))?;
@@ -93,9 +106,8 @@ fn only_candidates_are_opened(rt: HostRuntime) -> Result<(), Fail> {
 #[test]
 fn candidates_have_each_trigram(rt: HostRuntime) -> Result<(), Fail> {
     let alloc = rt.alloc();
-    let index = index_of(alloc, &["/g"], LACKING)?;
-    let files: Files<'_> = &[("/g/0", b"Google Search\n"), ("/g/9", b"Search\nGoogle\n")];
-    let tree = &mut tree_of(alloc, "/g", files)?;
+    let index = index_of(alloc, "/g", LACKING)?;
+    let tree = &mut tree_of(alloc, HAVING)?;
     let found = ("/g/0:Google Search\n", "", Ok(Status::Matched));
     run(&rt, alloc, "Google.*Search", &index, tree, found)
 }

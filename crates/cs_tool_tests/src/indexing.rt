@@ -7,10 +7,10 @@ use std::alloc::Global;
 use std::test::Fail;
 
 mod files;
-mod jobs;
+pub mod jobs;
 
 /// The job of words, of which those that begin with a dash are options.
-fn job_of(alloc: Global, words: &[&str]) -> Result<IndexJob, Fail>
+pub fn job_of(alloc: Global, words: &[&str]) -> Result<IndexJob, Fail>
     ensures { IfOk result (λ job. begins (slash ∷ []) (string_bytes job.cwd) ≡ true) }
 {
     let mut paths = Vec::new(alloc);

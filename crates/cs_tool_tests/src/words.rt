@@ -27,22 +27,24 @@ fn reads(
     Ok(())
 }
 
+const FAULTS: &[(Tool, &str, WordFault)] = &[
+    (Tool::Cgrep, "-n=yes|x", WordFault::BadTruth(0)),
+    (Tool::Cgrep, "-cn|x", WordFault::UnknownOption(0)),
+    (Tool::Cgrep, "-n|---c|x", WordFault::UnknownOption(1)),
+    (Tool::Cgrep, "-n|-=v|x", WordFault::UnknownOption(1)),
+    (Tool::Cgrep, "-f|x", WordFault::UnknownOption(0)),
+    (Tool::Cgrep, "-n", WordFault::NoPattern),
+    (Tool::Csearch, "-f", WordFault::NoValue(0)),
+    (Tool::Csearch, "-verbose|x", WordFault::UnknownOption(0)),
+    (Tool::Csearch, "x|y", WordFault::ExtraWord(1)),
+    (Tool::Csearch, "-f|p|--|x|y", WordFault::ExtraWord(4)),
+    (Tool::Cindex, "-list=", WordFault::BadTruth(0)),
+];
+
 #[test]
 fn refuses_words(rt: HostRuntime) -> Result<(), Fail> {
-    for (tool, text, fault) in [
-        (Tool::Cgrep, "-n=yes|x", WordFault::BadTruth(0)),
-        (Tool::Cgrep, "-cn|x", WordFault::UnknownOption(0)),
-        (Tool::Cgrep, "-n|---c|x", WordFault::UnknownOption(1)),
-        (Tool::Cgrep, "-n|-=v|x", WordFault::UnknownOption(1)),
-        (Tool::Cgrep, "-f|x", WordFault::UnknownOption(0)),
-        (Tool::Cgrep, "-n", WordFault::NoPattern),
-        (Tool::Csearch, "-f", WordFault::NoValue(0)),
-        (Tool::Csearch, "-verbose|x", WordFault::UnknownOption(0)),
-        (Tool::Csearch, "x|y", WordFault::ExtraWord(1)),
-        (Tool::Csearch, "-f|p|--|x|y", WordFault::ExtraWord(4)),
-        (Tool::Cindex, "-list=", WordFault::BadTruth(0)),
-    ] {
-        reads(&rt, tool, text, Err(fault))?;
+    for (tool, text, fault) in FAULTS {
+        reads(&rt, *tool, text, Err(*fault))?;
     }
     let none = Vec::new(rt.alloc());
     assert_eq!(rt;
@@ -74,15 +76,17 @@ fn grep_job(
     }))
 }
 
+const GREPS: &[(&str, bool, &str, Option<&str>)] = &[
+    ("-n|-n=false|x", false, "x", None),
+    ("--n|--|-x", true, "-x", None),
+    ("-", false, "-", None),
+    ("-n=T|x|-n|y", true, "x", Some("-n|y")),
+];
+
 #[test]
 fn reads_words_of_cgrep(rt: HostRuntime) -> Result<(), Fail> {
-    for (text, number, pattern, files) in [
-        ("-n|-n=false|x", false, "x", None),
-        ("--n|--|-x", true, "-x", None),
-        ("-", false, "-", None),
-        ("-n=T|x|-n|y", true, "x", Some("-n|y")),
-    ] {
-        let want = grep_job(rt.alloc(), number, pattern, files)?;
+    for (text, number, pattern, files) in GREPS {
+        let want = grep_job(rt.alloc(), *number, pattern, *files)?;
         reads(&rt, Tool::Cgrep, text, Ok(want))?;
     }
     Ok(())
@@ -104,15 +108,17 @@ fn search_job(alloc: Global, brute: bool, file: Option<&str>) -> Result<Job, All
     }))
 }
 
+const SEARCHES: &[(&str, bool, Option<&str>)] = &[
+    ("-f=|x", false, Some("")),
+    ("--brute|x", true, None),
+    ("-f|-i|-brute|x", true, Some("-i")),
+    ("-f|a|-f=b=c|x", false, Some("b=c")),
+];
+
 #[test]
 fn reads_words_of_csearch(rt: HostRuntime) -> Result<(), Fail> {
-    for (text, brute, file) in [
-        ("-f=|x", false, Some("")),
-        ("--brute|x", true, None),
-        ("-f|-i|-brute|x", true, Some("-i")),
-        ("-f|a|-f=b=c|x", false, Some("b=c")),
-    ] {
-        let want = search_job(rt.alloc(), brute, file)?;
+    for (text, brute, file) in SEARCHES {
+        let want = search_job(rt.alloc(), *brute, *file)?;
         reads(&rt, Tool::Csearch, text, Ok(want))?;
     }
     Ok(())
@@ -131,81 +137,87 @@ fn index_job(alloc: Global, reset: bool, log_skip: bool, paths: &str) -> Result<
     }))
 }
 
+const INDEXES: &[(&str, bool, bool, &str)] = &[
+    ("/t|-list", false, false, "/t|-list"),
+    ("-reset|--logskip|/t", true, true, "/t"),
+];
+
 #[test]
 fn reads_words_of_cindex(rt: HostRuntime) -> Result<(), Fail> {
-    for (text, reset, log_skip, paths) in [
-        ("/t|-list", false, false, "/t|-list"),
-        ("-reset|--logskip|/t", true, true, "/t"),
-    ] {
-        let want = index_job(rt.alloc(), reset, log_skip, paths)?;
+    for (text, reset, log_skip, paths) in INDEXES {
+        let want = index_job(rt.alloc(), *reset, *log_skip, paths)?;
         reads(&rt, Tool::Cindex, text, Ok(want))?;
     }
     Ok(())
 }
 
+const DEEP: PatternError = PatternError {
+    fault: PatternFault::TooDeep,
+    at: 200,
+};
+
+const MEMORY: PatternError = PatternError {
+    fault: PatternFault::Memory,
+    at: 0,
+};
+
+const REFUSALS: &[(Tool, Refusal, &str, &str)] = &[
+    (
+        Tool::Cindex,
+        Refusal::Index(CindexFault::NoIndex),
+        "",
+        "cindex: no index\n",
+    ),
+    (
+        Tool::Csearch,
+        Refusal::Tool(ToolFault::NoIndex),
+        "",
+        "csearch: no index\n",
+    ),
+    (
+        Tool::Csearch,
+        Refusal::Tool(ToolFault::BadIndex(IndexFault::BadTrailer)),
+        "",
+        "csearch: bad index: trailer\n",
+    ),
+    (
+        Tool::Cindex,
+        Refusal::Index(CindexFault::BadPath(0)),
+        "",
+        "cindex: bad path \n",
+    ),
+    (
+        Tool::Cgrep,
+        Refusal::Tool(ToolFault::Pattern(DEEP)),
+        "",
+        "cgrep: pattern at 200: nested too deep\n",
+    ),
+    (
+        Tool::Csearch,
+        Refusal::Tool(ToolFault::FilePattern(MEMORY)),
+        "",
+        "csearch: out of memory\n",
+    ),
+    (
+        Tool::Csearch,
+        Refusal::Word(WordFault::NoValue(0)),
+        "-f",
+        "csearch: option -f needs a value\n",
+    ),
+    (
+        Tool::Cgrep,
+        Refusal::Word(WordFault::UnknownOption(0)),
+        "-cn",
+        "cgrep: unknown option -cn\n",
+    ),
+];
+
 #[test]
 fn prints_refusals(rt: HostRuntime) -> Result<(), Fail> {
-    let deep = PatternError {
-        fault: PatternFault::TooDeep,
-        at: 200,
-    };
-    let memory = PatternError {
-        fault: PatternFault::Memory,
-        at: 0,
-    };
-    for (tool, refusal, word, line) in [
-        (
-            Tool::Cindex,
-            Refusal::Index(CindexFault::NoIndex),
-            "",
-            "cindex: no index\n",
-        ),
-        (
-            Tool::Csearch,
-            Refusal::Tool(ToolFault::NoIndex),
-            "",
-            "csearch: no index\n",
-        ),
-        (
-            Tool::Csearch,
-            Refusal::Tool(ToolFault::BadIndex(IndexFault::BadTrailer)),
-            "",
-            "csearch: bad index: trailer\n",
-        ),
-        (
-            Tool::Cindex,
-            Refusal::Index(CindexFault::BadPath(0)),
-            "",
-            "cindex: bad path \n",
-        ),
-        (
-            Tool::Cgrep,
-            Refusal::Tool(ToolFault::Pattern(deep)),
-            "",
-            "cgrep: pattern at 200: nested too deep\n",
-        ),
-        (
-            Tool::Csearch,
-            Refusal::Tool(ToolFault::FilePattern(memory)),
-            "",
-            "csearch: out of memory\n",
-        ),
-        (
-            Tool::Csearch,
-            Refusal::Word(WordFault::NoValue(0)),
-            "-f",
-            "csearch: option -f needs a value\n",
-        ),
-        (
-            Tool::Cgrep,
-            Refusal::Word(WordFault::UnknownOption(0)),
-            "-cn",
-            "cgrep: unknown option -cn\n",
-        ),
-    ] {
+    for (tool, refusal, word, line) in REFUSALS {
         assert_eq!(rt;
-            message(rt.alloc(), tool, &refusal, word)?.as_str(),
-            line,
+            message(rt.alloc(), *tool, refusal, word)?.as_str(),
+            *line,
             "at {refusal:?}"
         );
     }

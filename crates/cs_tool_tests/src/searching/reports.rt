@@ -17,16 +17,6 @@ struct Given<'a> {
     most: usize,
 }
 
-impl<'a> Given<'a> {
-    fn whole(text: &'a [u8]) -> Given<'a> {
-        Given {
-            text,
-            cut: false,
-            most: 1000,
-        }
-    }
-}
-
 /// What a search of it prints, whether some line matched, and the fault.
 type Wanted<'a> = (&'a str, bool, Option<ReadFault>);
 
@@ -96,147 +86,178 @@ fn search(
     Ok(())
 }
 
-#[test]
-fn lines_with_numbers_and_names(rt: HostRuntime) -> Result<(), Fail> {
-    let number = Style {
-        number: true,
-        ..PLAIN
-    };
-    let bare = Style {
-        bare: true,
-        ..number
-    };
-    let text = Given::whole(b"ab\nxacb\nabd");
-    search(
-        &rt,
-        rt.alloc(),
+/// A pattern, what is searched for it, how it is printed, and what is wanted.
+type Row<'a> = (&'a str, Given<'a>, Style, Wanted<'a>);
+
+/// The same for each of these.
+fn searches(rt: &impl Abort, alloc: Global, rows: &[Row<'_>]) -> Result<(), Fail> {
+    for (pattern, given, style, wanted) in rows {
+        search(rt, alloc, pattern, *given, *style, *wanted)?;
+    }
+    Ok(())
+}
+
+const NUMBER: Style = Style {
+    number: true,
+    ..PLAIN
+};
+
+const COUNT: Style = Style {
+    count: true,
+    ..PLAIN
+};
+
+const LIST: Style = Style {
+    list: true,
+    ..PLAIN
+};
+
+/// A text, which is searched whole.
+const WHOLE: Given<'static> = Given {
+    text: b"",
+    cut: false,
+    most: 1000,
+};
+
+const LINES: &[Row<'static>] = &[
+    (
         "a(b|c)*$",
-        text,
-        number,
+        Given {
+            text: b"ab\nxacb\nabd",
+            ..WHOLE
+        },
+        NUMBER,
         ("t:1:ab\nt:2:xacb\n", true, None),
-    )?;
-    search(
-        &rt,
-        rt.alloc(),
+    ),
+    (
         "^abd",
-        text,
+        Given {
+            text: b"ab\nxacb\nabd",
+            ..WHOLE
+        },
         PLAIN,
         ("t:abd\n", true, None),
-    )?;
-    search(
-        &rt,
-        rt.alloc(),
+    ),
+    (
         "one",
-        Given::whole(b"one\ntwo\none\n"),
-        bare,
+        Given {
+            text: b"one\ntwo\none\n",
+            ..WHOLE
+        },
+        Style {
+            bare: true,
+            ..NUMBER
+        },
         ("1:one\n3:one\n", true, None),
-    )?;
-    search(
-        &rt,
-        rt.alloc(),
+    ),
+    ("^$", Given { text: b"", ..WHOLE }, PLAIN, ("", false, None)),
+    (
         "^$",
-        Given::whole(b""),
-        PLAIN,
-        ("", false, None),
-    )?;
-    search(
-        &rt,
-        rt.alloc(),
-        "^$",
-        Given::whole(b"\n\n"),
-        number,
+        Given {
+            text: b"\n\n",
+            ..WHOLE
+        },
+        NUMBER,
         ("t:1:\nt:2:\n", true, None),
-    )
+    ),
+];
+
+#[test]
+fn lines_with_numbers_and_names(rt: HostRuntime) -> Result<(), Fail> {
+    searches(&rt, rt.alloc(), LINES)
 }
+
+const ONES: Given<'static> = Given {
+    text: b"one\ntwo\none\n",
+    ..WHOLE
+};
+
+const COUNTS: &[Row<'static>] = &[
+    ("one", ONES, COUNT, ("t: 2\n", true, None)),
+    (
+        "one",
+        ONES,
+        Style {
+            bare: true,
+            ..COUNT
+        },
+        ("t: 2\n", true, None),
+    ),
+    (
+        "one",
+        ONES,
+        Style {
+            list: true,
+            ..COUNT
+        },
+        ("t\n", true, None),
+    ),
+    (
+        "one",
+        Given {
+            text: b"two\none",
+            ..WHOLE
+        },
+        Style {
+            list: true,
+            ..COUNT
+        },
+        ("t\n", true, None),
+    ),
+    ("six", ONES, COUNT, ("", false, None)),
+];
 
 #[test]
 fn counts_and_lists(rt: HostRuntime) -> Result<(), Fail> {
-    let count = Style {
-        count: true,
-        ..PLAIN
-    };
-    let bare = Style {
-        bare: true,
-        ..count
-    };
-    let list = Style {
-        list: true,
-        ..count
-    };
-    let text = Given::whole(b"one\ntwo\none\n");
-    search(&rt, rt.alloc(), "one", text, count, ("t: 2\n", true, None))?;
-    search(&rt, rt.alloc(), "one", text, bare, ("t: 2\n", true, None))?;
-    search(&rt, rt.alloc(), "one", text, list, ("t\n", true, None))?;
-    search(
-        &rt,
-        rt.alloc(),
-        "one",
-        Given::whole(b"two\none"),
-        list,
-        ("t\n", true, None),
-    )?;
-    search(&rt, rt.alloc(), "six", text, count, ("", false, None))
+    searches(&rt, rt.alloc(), COUNTS)
 }
+
+const CUT: Given<'static> = Given {
+    cut: true,
+    text: b"one\ntwo\non",
+    ..WHOLE
+};
+
+const READ: Option<ReadFault> = Some(ReadFault::Read);
+
+const FAILING: &[Row<'static>] = &[
+    ("on", CUT, PLAIN, ("t:one\n", true, READ)),
+    ("one", CUT, COUNT, ("", true, READ)),
+    ("one", CUT, LIST, ("t\n", true, None)),
+    ("six", CUT, LIST, ("", false, READ)),
+];
 
 #[test]
 fn inputs_that_fail(rt: HostRuntime) -> Result<(), Fail> {
-    let count = Style {
-        count: true,
-        ..PLAIN
-    };
-    let list = Style {
-        list: true,
-        ..PLAIN
-    };
-    let cut = Given {
-        cut: true,
-        ..Given::whole(b"one\ntwo\non")
-    };
-    let read = Some(ReadFault::Read);
-    search(&rt, rt.alloc(), "on", cut, PLAIN, ("t:one\n", true, read))?;
-    search(&rt, rt.alloc(), "one", cut, count, ("", true, read))?;
-    search(&rt, rt.alloc(), "one", cut, list, ("t\n", true, None))?;
-    search(&rt, rt.alloc(), "six", cut, list, ("", false, read))
+    searches(&rt, rt.alloc(), FAILING)
 }
+
+const LONG: Given<'static> = Given {
+    most: 10,
+    text: b"a\na\na\na\na\na\na\n",
+    ..WHOLE
+};
+
+const FULL: Given<'static> = Given { most: 14, ..LONG };
+
+const TOO_LONG: Option<ReadFault> = Some(ReadFault::TooLong);
+
+const LONG_ONES: &[Row<'static>] = &[
+    (
+        "a",
+        LONG,
+        PLAIN,
+        ("t:a\nt:a\nt:a\nt:a\nt:a\n", true, TOO_LONG),
+    ),
+    ("a", LONG, COUNT, ("", true, TOO_LONG)),
+    ("a", Given { most: 9, ..LONG }, COUNT, ("", true, TOO_LONG)),
+    ("a", FULL, COUNT, ("t: 7\n", true, None)),
+    ("a", Given { cut: true, ..FULL }, COUNT, ("", true, READ)),
+];
 
 #[test]
 fn inputs_that_are_too_long(rt: HostRuntime) -> Result<(), Fail> {
-    let count = Style {
-        count: true,
-        ..PLAIN
-    };
-    let long = Given {
-        most: 10,
-        ..Given::whole(b"a\na\na\na\na\na\na\n")
-    };
-    let full = Given { most: 14, ..long };
-    let fault = Some(ReadFault::TooLong);
-    search(
-        &rt,
-        rt.alloc(),
-        "a",
-        long,
-        PLAIN,
-        ("t:a\nt:a\nt:a\nt:a\nt:a\n", true, fault),
-    )?;
-    search(&rt, rt.alloc(), "a", long, count, ("", true, fault))?;
-    search(
-        &rt,
-        rt.alloc(),
-        "a",
-        Given { most: 9, ..long },
-        count,
-        ("", true, fault),
-    )?;
-    search(&rt, rt.alloc(), "a", full, count, ("t: 7\n", true, None))?;
-    search(
-        &rt,
-        rt.alloc(),
-        "a",
-        Given { cut: true, ..full },
-        count,
-        ("", true, Some(ReadFault::Read)),
-    )
+    searches(&rt, rt.alloc(), LONG_ONES)
 }
 
 /// The answer of a search for `one` under `-l`.

@@ -1,4 +1,5 @@
 // What no clause says of searches, and rows from outside.
-mod indexed;
+pub mod indexed;
 mod reports;
-mod tools;
+mod stored;
+pub mod tools;

@@ -1,12 +1,12 @@
 // Worked rows, byte for byte, over trees in memory.
 ghost use Rattle.std.specs.Prelude.{◌≡◌, length};
 
-use crate::fixtures::{strings, tree_of};
+use crate::fixtures::tree_of;
 use crate::indexing::job_of;
 use cs_cindex::cindex;
-use cs_tree::{Item, Kind, Listing, MemSink, MemTree, Sink, Tree, TreeFault};
+use cs_tree::{Item, MemSink, MemTree, Sink, Tree};
 use cs_words::{CindexFault, Reply};
-use std::alloc::{AllocError, Global};
+use std::alloc::Global;
 use std::process::Abort;
 use std::test::Fail;
 
@@ -50,11 +50,11 @@ fn expect<T: Tree>(
 
 /// A folder with a file that is no text, one that may not be read, one that fails, and one that is no file.
 fn odd_files(alloc: Global) -> Result<MemTree, Fail> {
-    let mut tree = tree_of(alloc, "/v", &[("/v/a", b"a\0")])?;
-    tree.put("/v/b", Item::Denied).ok().ok_or("put")?;
+    let mut tree = tree_of(alloc, &[("/v", None), ("/v/a", Some("a\0"))])?;
+    tree.put("/v/b", Item::Denied)?;
     let bytes = Vec::from_slice(alloc, b"one")?;
-    tree.put("/v/c", Item::Cut(bytes)).ok().ok_or("put")?;
-    tree.put("/v/d", Item::Other).ok().ok_or("put")?;
+    tree.put("/v/c", Item::Cut(bytes))?;
+    tree.put("/v/d", Item::Other)?;
     Ok(tree)
 }
 
@@ -76,49 +76,4 @@ fn a_line_that_is_not_taken(rt: HostRuntime) -> Result<(), Fail> {
     assert_eq!(rt; err.bytes(), b"cindex: /v".as_slice());
     assert_eq!(rt; err.failures(), 1);
     Ok(())
-}
-
-/// A folder with one file, which has a NUL in its name. It tells nothing of itself.
-#[derive(Drop)]
-struct OddTree;
-
-impl Tree for OddTree {
-    ghost failed = { λ _. 0 };
-
-    fn kind(&mut self, path: &str) -> Result<Kind, TreeFault> {
-        Ok(if path == "/v" {
-            Kind::Folder
-        } else {
-            Kind::File
-        })
-    }
-
-    fn entries(&mut self, alloc: Global, _path: &str) -> Result<Listing, TreeFault> {
-        match strings(alloc, &["a\0b"]) {
-            Ok(names) => Ok(Listing {
-                names,
-                unnamed: false,
-            }),
-            Err(AllocError) => Err(TreeFault::Memory),
-        }
-    }
-
-    fn open(&mut self, _path: &str) -> Result<(), TreeFault> {
-        Ok(())
-    }
-
-    fn read(&mut self, _buf: &mut [u8]) -> Result<usize, TreeFault> {
-        Ok(0)
-    }
-
-    fn failures(&self) -> u64 {
-        0
-    }
-}
-
-#[test]
-fn a_name_that_no_index_holds(rt: HostRuntime) -> Result<(), Fail> {
-    let line = "cindex: /v/a\0b: name is not text\n";
-    let mut trees = [OddTree];
-    expect(&rt, rt.alloc(), &mut trees, &["/v"], (EMPTY, line))
 }

@@ -1,0 +1,51 @@
+// What tests of several tools are given.
+use cs_tree::{Item, MemTree};
+use cs_words::Style;
+use std::alloc::{AllocError, Global};
+use std::test::Fail;
+
+/// What stands at a path: a folder, or a file with this text.
+pub type Placed<'a> = (&'a str, Option<&'a str>);
+
+/// No option asks for another form of what is printed.
+pub const PLAIN: Style = Style {
+    count: false,
+    list: false,
+    number: false,
+    bare: false,
+};
+
+/// An index whose names do not ascend.
+pub const UNSORTED: &[u8; 115] =
+    b"csearch index 1\n/a\0\0/a/b/z\0/a/b-x\0\0abc\x01\x01\0\xff\xff\xff\0\0\0\0\0\0\0\0\x07\0\0\0\x0eabc\0\0\0\x02\0\0\0\0\xff\xff\xff\0\0\0\0\0\0\0\x06\0\0\0\x10\0\0\0\x14\0\0\0\x23\0\0\0\x2d\0\0\0\x39\ncsearch trailr\n";
+
+/// The texts as strings.
+pub fn strings(alloc: Global, texts: &[&str]) -> Result<Vec<String>, AllocError> {
+    let mut strings = Vec::new(alloc);
+    for text in texts {
+        strings.push(String::from_str(alloc, *text)?)?;
+    }
+    Ok(strings)
+}
+
+/// The words of a text, between such marks.
+pub fn words_of(alloc: Global, text: &str, mark: char) -> Result<Vec<String>, AllocError> {
+    let mut words = Vec::new(alloc);
+    for word in text.split(mark) {
+        words.push(String::from_str(alloc, word)?)?;
+    }
+    Ok(words)
+}
+
+/// A tree with these things in it.
+pub fn tree_of(alloc: Global, placed: &[Placed<'_>]) -> Result<MemTree, Fail> {
+    let mut tree = MemTree::new(alloc, 2)?;
+    for (path, text) in placed {
+        let item = match text {
+            Some(text) => Item::File(text.as_bytes().to_vec(alloc)?),
+            None => Item::Folder,
+        };
+        tree.put(*path, item)?;
+    }
+    Ok(tree)
+}

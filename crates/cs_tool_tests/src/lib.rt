@@ -1,0 +1,16 @@
+//! The tests of the crates of whole tools, one module for each, and of all calls with memory refused. They call public
+//! functions alone. The libraries below are tested in `cs_tests`, and the whole program in `codesearch`.
+#![tactic(auto)]
+
+#[cfg(test)]
+mod failing;
+#[cfg(test)]
+mod fixtures;
+#[cfg(test)]
+mod indexing;
+#[cfg(test)]
+mod refusals;
+#[cfg(test)]
+mod searching;
+#[cfg(test)]
+mod words;

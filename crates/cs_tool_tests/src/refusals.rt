@@ -1,0 +1,45 @@
+// Calls that take memory, each made more than once. `tests/refusals.py` runs each test with its Nth allocation refused,
+// N = 1, 2, .. until none is: one call is then refused, by name, and the others answer as ever.
+use std::process::Abort;
+use std::test::Fail;
+
+mod files;
+mod indexes;
+mod patterns;
+mod texts;
+mod tools;
+
+/// What a call came to.
+#[derive(Clone, Copy, Debug, PartialEq, Eq, Drop)]
+enum Came {
+    AsEver,
+    Refused,
+    Otherwise,
+}
+
+impl Came {
+    /// What an answer comes to that is as ever, or is not.
+    fn of(is_as_ever: bool) -> Came {
+        if is_as_ever {
+            Came::AsEver
+        } else {
+            Came::Otherwise
+        }
+    }
+}
+
+/// All calls came as ever, but for one at most, which was refused.
+fn at_most_one_is_refused(rt: &impl Abort, calls: &[Came]) -> Result<(), Fail> {
+    let mut refused = 0u32;
+    for came in calls {
+        assert!(rt; *came != Came::Otherwise, "{calls:?}");
+        if *came == Came::Refused {
+            refused = refused.saturating_add(1);
+        }
+    }
+    assert!(rt; refused < 2, "{calls:?}");
+    if refused > 0 {
+        return Err(Fail::new("Memory"));
+    }
+    Ok(())
+}

@@ -6,13 +6,14 @@ mod program;
 mod storage;
 
 use cs_tools::Tool;
-use cs_tree::{DiskTree, StdSink, StdSource, is_absolute};
-use program::{FIRST_WORD, NO_FOLDER, OUT_OF_MEMORY, Ran, asks_for_index, refuse, run, tool_of};
+use cs_tree::{DiskStore, DiskTree, StdSink, StdSource, is_absolute};
+use program::{FIRST_WORD, NO_FOLDER, OUT_OF_MEMORY, Ran, blame, refuse, run, tool_of};
 use std::alloc::AllocError;
 use std::env;
+use std::fs::File;
 use std::io::{BufWriter, ErrorKind, Write};
 use std::process::ExitCode;
-use storage::{FileFault, Found, index_file, load, store};
+use storage::{Found, find, index_file, store};
 
 /// How many bytes of output are gathered before the system is asked to take them.
 const OUTPUT_BYTES: usize = 65536;
@@ -25,7 +26,7 @@ fn main(rt: HostRuntime) -> ExitCode {
     ExitCode::from(status)
 }
 
-/// Finds the faults of the surroundings in this order: the first word, the current folder, the reading
+/// Finds the faults of the surroundings in this order: the first word, the current folder, the opening
 /// of the index file. Then it runs, and writes the index file.
 fn start(rt: &HostRuntime) -> Result<u8, AllocError> {
     let words = words_of(rt)?;
@@ -34,7 +35,10 @@ fn start(rt: &HostRuntime) -> Result<u8, AllocError> {
         return Ok(refuse(&mut err, FIRST_WORD));
     };
     match tool_of(first.as_str()) {
-        Some(Tool::Cgrep) => Ok(run_over(rt, &words, "", None, &mut err)?.status),
+        Some(Tool::Cgrep) => {
+            let mut tree = DiskTree::new(rt.clone()?);
+            Ok(run_over(rt, &words, "", "", None, &mut tree, &mut err)?.status)
+        }
         Some(Tool::Csearch) => run_indexed(rt, &words, "", &mut err),
         Some(Tool::Cindex) => match current_folder(rt)? {
             Some(folder) => run_indexed(rt, &words, folder.as_str(), &mut err),
@@ -72,57 +76,49 @@ fn run_indexed<W: Write + Drop>(
     folder: &str,
     err: &mut StdSink<W>,
 ) -> Result<u8, AllocError> {
-    let file = match index_file(rt) {
-        Ok(file) => file,
-        Err(fault) => return blame(rt, err, "cannot read", "CSEARCHINDEX", fault),
+    let alloc = rt.alloc();
+    let name = match index_file(rt) {
+        Ok(name) => name,
+        Err(fault) => return Ok(blame(alloc, "cannot read", "CSEARCHINDEX", fault, err)),
     };
-    let Found { bytes, seen } = match load(rt, file.as_str(), asks_for_index(rt.alloc(), words)) {
+    let Found { file, seen } = match find(rt, name.as_str()) {
         Ok(found) => found,
-        Err(fault) => return blame(rt, err, "cannot read", file.as_str(), fault),
+        Err(fault) => return Ok(blame(alloc, "cannot read", name.as_str(), fault, err)),
     };
-    let ran = run_over(rt, words, folder, bytes, err)?;
-    match store(rt, file.as_str(), seen.as_ref(), &ran.index) {
+    // A file that was indexed may be a pipe by now.
+    let mut tree = DiskTree::of_files(rt.clone()?);
+    let ran = run_over(rt, words, folder, name.as_str(), file, &mut tree, err)?;
+    match store(rt, name.as_str(), seen.as_ref(), &ran.index) {
         Ok(()) => Ok(ran.status),
-        Err(fault) => blame(rt, err, "cannot write", file.as_str(), fault),
+        Err(fault) => Ok(blame(alloc, "cannot write", name.as_str(), fault, err)),
     }
 }
 
-/// Runs over the disk and the standard streams.
+/// Runs over a tree of the disk and the standard streams.
 fn run_over<W: Write + Drop>(
     rt: &HostRuntime,
     words: &[String],
     folder: &str,
-    index: Option<Vec<u8>>,
+    name: &str,
+    file: Option<DiskStore<File>>,
+    tree: &mut DiskTree<HostRuntime>,
     err: &mut StdSink<W>,
 ) -> Result<Ran, AllocError> {
     let Ok(out) = BufWriter::with_capacity(rt.alloc(), OUTPUT_BYTES, rt.stdout()) else {
         return Err(AllocError);
     };
+    let mut index = file;
     Ok(run(
         rt.alloc(),
         words,
         folder,
-        index,
-        &mut DiskTree::new(rt.clone()?),
+        name,
+        index.as_mut(),
+        tree,
         &mut StdSource::new(rt.stdin()),
         &mut StdSink::new(out),
         err,
     ))
-}
-
-/// Writes the line on a file that is not read or written.
-fn blame<W: Write + Drop>(
-    rt: &HostRuntime,
-    err: &mut StdSink<W>,
-    what: &str,
-    file: &str,
-    fault: FileFault,
-) -> Result<u8, AllocError> {
-    if fault == FileFault::Memory {
-        return Err(AllocError);
-    }
-    let line = format!(in rt.alloc(); "codesearch: {what} {file}\n")?;
-    Ok(refuse(err, line.as_str()))
 }
 
 #[cfg(test)]

@@ -1,13 +1,13 @@
-// The program over any tree, input and outputs, and any bytes of an index file.
-ghost use Rattle.std.specs.Prelude.{◌≤◌};
+// The program over any tree, input and outputs, and any store that has an index file.
+ghost use Rattle.std.specs.Prelude.{◌≤◌, IfOk};
 ghost use Rattle.std.specs.Mem.{FitsInMemory};
 
-use crate::storage::After;
+use crate::storage::{After, FileFault};
 use cs_tools::{
-    CindexFault, IndexJob, Job, Refusal, Reply, SearchJob, Status, Tool, ToolFault, WordFault,
-    cgrep, cindex, csearch, message, read_words,
+    CindexFault, IndexJob, Job, Refusal, Reply, Status, StoredIndex, Tool, ToolFault, WordFault,
+    cgrep, cindex, csearch, csearch_stored, message, read_words,
 };
-use cs_tree::{Sink, Source, Tree, is_absolute, write_all};
+use cs_tree::{IoFault, Sink, Source, Store, Tree, is_absolute, read_part, write_all};
 use std::alloc::{AllocError, Global};
 use std::slice;
 
@@ -58,27 +58,14 @@ pub fn tool_of(word: &str) -> Option<Tool> {
     }
 }
 
-/// Whether the bytes of the index file are asked for: by all words but those of a `-reset`.
-pub fn asks_for_index(alloc: Global, words: &[String]) -> bool {
-    let Some((first, words)) = words.split_first() else {
-        return true;
-    };
-    let Some(tool) = tool_of(first.as_str()) else {
-        return true;
-    };
-    match read_words(alloc, tool, "/", words) {
-        Ok(Job::Index(job)) => job.list || !job.reset,
-        _ => true,
-    }
-}
-
-/// Does what the words ask, over the bytes of the index file, where there is one and they are asked for.
-/// `folder` is the current folder, of which `cindex` alone makes use.
-pub fn run<T: Tree, R: Source, O: Sink, E: Sink>(
+/// Does what the words ask, over the index file, where there is one. `folder` is the current folder, of which `cindex`
+/// alone makes use, and `file` the name of the index file, which is for the line that it cannot be read.
+pub fn run<S: Store, T: Tree, R: Source, O: Sink, E: Sink>(
     alloc: Global,
     words: &[String],
     folder: &str,
-    index: Option<Vec<u8>>,
+    file: &str,
+    index: Option<&mut S>,
     tree: &mut T,
     input: &mut R,
     out: &mut O,
@@ -93,7 +80,94 @@ pub fn run<T: Tree, R: Source, O: Sink, E: Sink>(
     let Some(tool) = tool_of(first.as_str()) else {
         return Ran::ended(refuse(err, FIRST_WORD));
     };
-    match read_words(alloc, tool, folder, words) {
+    match run_tool(alloc, tool, words, folder, index, tree, input, out, err) {
+        Ok(ran) => ran,
+        Err(fault) => {
+            let fault = FileFault::from(fault);
+            Ran::ended(blame(alloc, "cannot read", file, fault, err))
+        }
+    }
+}
+
+/// The same, where the index file can be read.
+fn run_tool<S: Store, T: Tree, R: Source, O: Sink, E: Sink>(
+    alloc: Global,
+    tool: Tool,
+    words: &[String],
+    folder: &str,
+    index: Option<&mut S>,
+    tree: &mut T,
+    input: &mut R,
+    out: &mut O,
+    err: &mut E,
+) -> Result<Ran, IoFault>
+    requires { FitsInMemory T.row }
+    ensures { IfOk result (λ ran. ran.status ≤ 2) }
+{
+    let asked = read_words(alloc, tool, folder, words);
+    let mut bytes = None;
+    if let Some(store) = index {
+        if tool == Tool::Csearch {
+            if let Some(answer) = search_stored(alloc, &asked, store, tree, out, err)? {
+                return Ok(Ran::ended(searched(alloc, tool, answer, err)));
+            }
+        } else {
+            bytes = read_index(alloc, &asked, store)?;
+        }
+    }
+    Ok(run_asked(alloc, tool, words, asked, bytes, tree, input, out, err))
+}
+
+/// Searches by the index in the store, where words of `csearch` ask for that. The index is opened before the words are
+/// looked at.
+fn search_stored<S: Store, T: Tree, O: Sink, E: Sink>(
+    alloc: Global,
+    asked: &Result<Job, WordFault>,
+    store: &mut S,
+    tree: &mut T,
+    out: &mut O,
+    err: &mut E,
+) -> Result<Option<Result<Status, ToolFault>>, IoFault> {
+    let opened = StoredIndex::open(alloc, store)?;
+    let Ok(Job::Search(job)) = asked else {
+        return Ok(None);
+    };
+    let answer = csearch_stored(alloc, job, opened, store, tree, out, err)?;
+    Ok(Some(answer))
+}
+
+/// All bytes of the index, where they are asked for: by all words but those of a `-reset`.
+fn read_index<S: Store>(
+    alloc: Global,
+    asked: &Result<Job, WordFault>,
+    store: &mut S,
+) -> Result<Option<Vec<u8>>, IoFault> {
+    if let Ok(Job::Index(job)) = asked {
+        if job.reset && !job.list {
+            return Ok(None);
+        }
+    }
+    let len = store.len();
+    let bytes = read_part(alloc, store, 0, len)?;
+    Ok(Some(bytes))
+}
+
+/// Does what words ask, over the bytes of the index, where they are there and asked for.
+fn run_asked<T: Tree, R: Source, O: Sink, E: Sink>(
+    alloc: Global,
+    tool: Tool,
+    words: &[String],
+    asked: Result<Job, WordFault>,
+    index: Option<Vec<u8>>,
+    tree: &mut T,
+    input: &mut R,
+    out: &mut O,
+    err: &mut E,
+) -> Ran
+    requires { FitsInMemory T.row }
+    ensures { result.status ≤ 2 }
+{
+    match asked {
         Ok(Job::Index(job)) => run_cindex(alloc, &job, index, tree, out, err),
         Ok(Job::Search(job)) => {
             let answer = csearch(alloc, &job, index.as_deref(), tree, out, err);
@@ -191,6 +265,19 @@ fn path_at(fault: CindexFault, job: &IndexJob) -> &str {
     match fault {
         CindexFault::BadPath(at) => job.paths.get(at).map_or("", |path| path.as_str()),
         _ => "",
+    }
+}
+
+/// Writes the line on a file that is not read or written.
+pub fn blame<E: Sink>(alloc: Global, what: &str, file: &str, fault: FileFault, err: &mut E) -> u8
+    ensures { result ≤ 2 }
+{
+    if fault == FileFault::Memory {
+        return refuse(err, OUT_OF_MEMORY);
+    }
+    match format!(in alloc; "codesearch: {what} {file}\n") {
+        Ok(line) => refuse(err, line.as_str()),
+        Err(AllocError) => refuse(err, OUT_OF_MEMORY),
     }
 }
 

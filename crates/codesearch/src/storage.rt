@@ -1,12 +1,13 @@
 // The index file: where it lies, how it is read, and how a new one takes its place.
+use cs_tree::{DiskStore, IoFault, TreeFault};
 use std::alloc::AllocError;
 use std::env::{self, VarError};
 use std::fs::{self, File, Metadata, Permissions, TryLockError};
-use std::io::{self, ErrorKind, Read, Write};
+use std::io::{self, ErrorKind, Write};
 use std::os::unix::fs::{MetadataExt, OpenOptionsExt, PermissionsExt, fchown};
 use std::path::Path;
 
-/// One more byte than an index may have. A file of so many is not read.
+/// One more byte than an index may have. A file of so many is not opened.
 const TOO_LONG: u64 = 1 << 32;
 
 /// Who may read and write a new index, but for what the system's mask takes away.
@@ -60,6 +61,24 @@ impl From<io::Error> for FileFault {
     }
 }
 
+impl From<IoFault> for FileFault {
+    fn from(fault: IoFault) -> FileFault {
+        match fault {
+            IoFault::Failed => FileFault::Failed,
+            IoFault::Memory => FileFault::Memory,
+        }
+    }
+}
+
+impl From<TreeFault> for FileFault {
+    fn from(fault: TreeFault) -> FileFault {
+        match fault {
+            TreeFault::Memory => FileFault::Memory,
+            _ => FileFault::Failed,
+        }
+    }
+}
+
 impl From<AllocError> for FileFault {
     fn from(_refused: AllocError) -> FileFault {
         FileFault::Memory
@@ -90,21 +109,21 @@ fn variable(rt: &HostRuntime, name: &str) -> Result<String, FileFault> {
 /// The index file as it was found.
 #[derive(Drop)]
 pub struct Found {
-    /// Its bytes, where there is one and they are asked for.
-    pub bytes: Option<Vec<u8>>,
-    /// What the system said of it before it was read.
+    /// The file, where there is one.
+    pub file: Option<DiskStore<File>>,
+    /// What the system said of it when it was opened.
     pub seen: Option<Metadata>,
 }
 
-/// Opens the index file, where there is one, and reads its bytes where they are asked for. What is no regular
-/// file is not opened: a pipe would wait, and a device may do anything.
-pub fn load(rt: &HostRuntime, file: &str, asks: bool) -> Result<Found, FileFault> {
+/// Opens the index file, where there is one. What is no regular file is not opened: a pipe would wait, and a device may
+/// do anything.
+pub fn find(rt: &HostRuntime, file: &str) -> Result<Found, FileFault> {
     match fs::metadata(rt, file) {
         Ok(there) if is_readable(&there) => {}
         Ok(_) => return Err(FileFault::Failed),
         Err(error) if error.kind() == ErrorKind::NotFound => {
             return Ok(Found {
-                bytes: None,
+                file: None,
                 seen: None,
             });
         }
@@ -115,22 +134,11 @@ pub fn load(rt: &HostRuntime, file: &str, asks: bool) -> Result<Found, FileFault
     if !is_readable(&seen) {
         return Err(FileFault::Failed);
     }
-    let bytes = if asks {
-        Some(read_whole(rt, opened, seen.len() as usize)?)
-    } else {
-        None
-    };
+    let store = DiskStore::new(opened)?;
     Ok(Found {
-        bytes,
+        file: Some(store),
         seen: Some(seen),
     })
-}
-
-/// The bytes of a file that had so many when it was opened.
-fn read_whole(rt: &HostRuntime, opened: File, len: usize) -> Result<Vec<u8>, FileFault> {
-    let mut bytes = Vec::with_capacity(rt.alloc(), len)?;
-    opened.take(TOO_LONG).read_to_end(&mut bytes)?;
-    Ok(bytes)
 }
 
 /// Whether it is a regular file that may be as long as an index.

@@ -1,8 +1,9 @@
 // The program over memory. Each row has the words, standard input, and what is wanted: the status,
 // the output and the lines on standard error.
-use crate::program::run;
+use crate::program::{Ran, run};
 use crate::storage::After;
-use cs_tree::{Item, MemSink, MemSource, MemTree};
+use cs_tree::{Item, MemSink, MemSource, MemStore, MemTree};
+use std::alloc::Global;
 use std::process::Abort;
 use std::test::Fail;
 
@@ -42,12 +43,36 @@ fn tree_of(rt: &(impl Abort + AllocGlobal), files: &[(&str, &str)]) -> Result<Me
     Ok(tree)
 }
 
+/// Runs the program in the folder `/w` over an index that lies in memory, of which a read gives few bytes.
+fn run_in_memory(
+    alloc: Global,
+    words: &[String],
+    index: Option<&[u8]>,
+    tree: &mut MemTree,
+    input: &mut MemSource<'_>,
+    out: &mut MemSink,
+    err: &mut MemSink,
+) -> Ran {
+    let mut store = index.map(|bytes| MemStore::new(bytes, 61));
+    run(
+        alloc,
+        words,
+        "/w",
+        "/i",
+        store.as_mut(),
+        tree,
+        input,
+        out,
+        err,
+    )
+}
+
 /// Runs the program over the tree, the input and the index, compares what it answers and prints, and
 /// answers what is to become of the index.
 fn runs_over(
     rt: &(impl Abort + AllocGlobal),
     tree: &mut MemTree,
-    index: Option<Vec<u8>>,
+    index: Option<&[u8]>,
     words: &[&str],
     input: &mut MemSource<'_>,
     want: Wanted<'_>,
@@ -59,7 +84,7 @@ fn runs_over(
     }
     let mut out = MemSink::new(alloc, 1000000);
     let mut err = MemSink::new(alloc, 1000000);
-    let ran = run(alloc, &owned, "/w", index, tree, input, &mut out, &mut err);
+    let ran = run_in_memory(alloc, &owned, index, tree, input, &mut out, &mut err);
     assert_eq!(rt; out.bytes(), want.out.as_bytes(), "output of {words:?}");
     assert_eq!(rt;
         err.bytes(),

@@ -111,7 +111,7 @@ impl Desk {
     ) -> Result<(), Fail> {
         let mut nothing = MemSource::new(b"", 1, false);
         let want = ends(status, out, err);
-        let index = copied(rt, self.index.as_deref())?;
+        let index = self.index.as_deref();
         let after = runs_over(rt, &mut self.tree, index, words, &mut nothing, want)?;
         self.takes(after);
         Ok(())
@@ -128,7 +128,7 @@ impl Desk {
 }
 
 /// A copy of the bytes, where there are some.
-pub fn copied(rt: &impl AllocGlobal, bytes: Option<&[u8]>) -> Result<Option<Vec<u8>>, Fail> {
+fn copied(rt: &impl AllocGlobal, bytes: Option<&[u8]>) -> Result<Option<Vec<u8>>, Fail> {
     match bytes {
         Some(bytes) => Ok(Some(bytes.to_vec(rt.alloc())?)),
         None => Ok(None),

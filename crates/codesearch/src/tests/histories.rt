@@ -1,6 +1,6 @@
 // Jobs of cindex one after another.
 use crate::tests::desk::Step::{Call, File, Folder, Left, Remove};
-use crate::tests::desk::tells;
+use crate::tests::desk::{Step, tells};
 use std::test::Fail;
 
 /// `/a/b/f` read again, and `/a/bc/y` as it was first read.
@@ -15,109 +15,111 @@ const PART: &[u8; 149] =
 const VANISHED: &[u8; 65] =
     b"csearch index 1\n/v\0\0\0\xff\xff\xff\0\0\0\0\0\0\0\0\x10\0\0\0\x14\0\0\0\x15\0\0\0\x19\0\0\0\x1d\ncsearch trailr\n";
 
+const NEIGHBOURS_OF_A_PATH: &[Step<'static>] = &[
+    Folder("/a"),
+    Folder("/a/b"),
+    Folder("/a/bc"),
+    File("/a/b/f", b"one\n"),
+    File("/a/bc/y", b"two\n"),
+    Call(&["cindex", "/a/b", "/a/bc"], 0, "", ""),
+    File("/a/b/f", b"six\n"),
+    File("/a/bc/y", b"ten\n"),
+    Call(&["cindex", "/a/b"], 0, "", ""),
+    Left(Some(NEIGHBOURS)),
+    Call(&["cindex", "-list"], 0, "/a/b\n/a/bc\n", ""),
+    Call(&["csearch", "six"], 0, "/a/b/f:six\n", ""),
+    Call(&["csearch", "ten"], 1, "", ""),
+    Call(&["csearch", "-brute", "ten"], 0, "/a/bc/y:ten\n", ""),
+];
+
 #[test]
 fn neighbours_of_a_path(rt: HostRuntime) -> Result<(), Fail> {
-    tells(
-        &rt,
-        &[
-            Folder("/a"),
-            Folder("/a/b"),
-            Folder("/a/bc"),
-            File("/a/b/f", b"one\n"),
-            File("/a/bc/y", b"two\n"),
-            Call(&["cindex", "/a/b", "/a/bc"], 0, "", ""),
-            File("/a/b/f", b"six\n"),
-            File("/a/bc/y", b"ten\n"),
-            Call(&["cindex", "/a/b"], 0, "", ""),
-            Left(Some(NEIGHBOURS)),
-            Call(&["cindex", "-list"], 0, "/a/b\n/a/bc\n", ""),
-            Call(&["csearch", "six"], 0, "/a/b/f:six\n", ""),
-            Call(&["csearch", "ten"], 1, "", ""),
-            Call(&["csearch", "-brute", "ten"], 0, "/a/bc/y:ten\n", ""),
-        ],
-    )
+    tells(&rt, NEIGHBOURS_OF_A_PATH)
 }
+
+const A_FILE_AND_A_FOLDER_IN_TURN: &[Step<'static>] = &[
+    Folder("/a"),
+    File("/a/b", b"one\n"),
+    File("/a/b-x", b"two\n"),
+    Call(&["cindex", "/a"], 0, "", ""),
+    Folder("/a/b"),
+    File("/a/b/z", b"six\n"),
+    Call(&["cindex", "/a/b"], 0, "", ""),
+    Call(&["cindex", "-list"], 0, "/a\n", ""),
+    Call(&["csearch", "-l", "-brute", "."], 0, "/a/b-x\n/a/b/z\n", ""),
+    Remove("/a/b"),
+    File("/a/b", b"ten\n"),
+    Call(&["cindex", "/a/b"], 0, "", ""),
+    Call(&["csearch", "-l", "-brute", "."], 0, "/a/b\n/a/b-x\n", ""),
+];
 
 #[test]
 fn a_file_and_a_folder_in_turn(rt: HostRuntime) -> Result<(), Fail> {
-    let below = "/a/b-x\n/a/b/z\n";
-    let beside = "/a/b\n/a/b-x\n";
-    tells(
-        &rt,
-        &[
-            Folder("/a"),
-            File("/a/b", b"one\n"),
-            File("/a/b-x", b"two\n"),
-            Call(&["cindex", "/a"], 0, "", ""),
-            Folder("/a/b"),
-            File("/a/b/z", b"six\n"),
-            Call(&["cindex", "/a/b"], 0, "", ""),
-            Call(&["cindex", "-list"], 0, "/a\n", ""),
-            Call(&["csearch", "-l", "-brute", "."], 0, below, ""),
-            Remove("/a/b"),
-            File("/a/b", b"ten\n"),
-            Call(&["cindex", "/a/b"], 0, "", ""),
-            Call(&["csearch", "-l", "-brute", "."], 0, beside, ""),
-        ],
-    )
+    tells(&rt, A_FILE_AND_A_FOLDER_IN_TURN)
 }
+
+const A_PART_OF_A_PATH: &[Step<'static>] = &[
+    Folder("/a"),
+    Folder("/a/b"),
+    File("/a/b/f", b"one\n"),
+    File("/a/g", b"two\n"),
+    Call(&["cindex", "/a"], 0, "", ""),
+    File("/a/b/f", b"six\n"),
+    File("/a/g", b"ten\n"),
+    Call(&["cindex", "/a/b"], 0, "", ""),
+    Left(Some(PART)),
+    Call(&["cindex", "-list"], 0, "/a\n", ""),
+    Call(&["csearch", "six"], 0, "/a/b/f:six\n", ""),
+    Call(&["csearch", "ten"], 1, "", ""),
+    Call(&["cindex"], 0, "", ""),
+    Call(&["csearch", "ten"], 0, "/a/g:ten\n", ""),
+];
 
 #[test]
 fn a_part_of_a_path(rt: HostRuntime) -> Result<(), Fail> {
-    tells(
-        &rt,
-        &[
-            Folder("/a"),
-            Folder("/a/b"),
-            File("/a/b/f", b"one\n"),
-            File("/a/g", b"two\n"),
-            Call(&["cindex", "/a"], 0, "", ""),
-            File("/a/b/f", b"six\n"),
-            File("/a/g", b"ten\n"),
-            Call(&["cindex", "/a/b"], 0, "", ""),
-            Left(Some(PART)),
-            Call(&["cindex", "-list"], 0, "/a\n", ""),
-            Call(&["csearch", "six"], 0, "/a/b/f:six\n", ""),
-            Call(&["csearch", "ten"], 1, "", ""),
-            Call(&["cindex"], 0, "", ""),
-            Call(&["csearch", "ten"], 0, "/a/g:ten\n", ""),
-        ],
-    )
+    tells(&rt, A_PART_OF_A_PATH)
 }
+
+const LINE: &str = "cindex: /v: no such file\n";
+
+const A_PATH_THAT_VANISHES: &[Step<'static>] = &[
+    Folder("/v"),
+    File("/v/f", b"one\n"),
+    Call(&["cindex", "/v"], 0, "", ""),
+    Remove("/v"),
+    Call(&["cindex"], 0, "", LINE),
+    Left(Some(VANISHED)),
+    Call(&["cindex", "-list"], 0, "/v\n", ""),
+    Call(&["csearch", "-brute", "-l", "."], 1, "", ""),
+    Call(&["cindex"], 0, "", LINE),
+    Left(Some(VANISHED)),
+    Call(&["cindex", "-list"], 0, "/v\n", ""),
+    Call(&["csearch", "-brute", "-l", "."], 1, "", ""),
+];
 
 #[test]
 fn a_path_that_vanishes(rt: HostRuntime) -> Result<(), Fail> {
-    let line = "cindex: /v: no such file\n";
-    tells(
-        &rt,
-        &[
-            Folder("/v"),
-            File("/v/f", b"one\n"),
-            Call(&["cindex", "/v"], 0, "", ""),
-            Remove("/v"),
-            Call(&["cindex"], 0, "", line),
-            Left(Some(VANISHED)),
-            Call(&["cindex", "-list"], 0, "/v\n", ""),
-            Call(&["csearch", "-brute", "-l", "."], 1, "", ""),
-            Call(&["cindex"], 0, "", line),
-            Left(Some(VANISHED)),
-            Call(&["cindex", "-list"], 0, "/v\n", ""),
-            Call(&["csearch", "-brute", "-l", "."], 1, "", ""),
-        ],
-    )
+    tells(&rt, A_PATH_THAT_VANISHES)
 }
+
+const WORDS_OF_CINDEX: &[Step<'static>] = &[
+    Folder("/t"),
+    Call(
+        &["cindex", "/t", "-list"],
+        0,
+        "",
+        "cindex: /w/-list: no such file\n",
+    ),
+    Call(&["cindex", "-list"], 0, "/t\n/w/-list\n", ""),
+    Call(
+        &["cindex", "-verbose"],
+        2,
+        "",
+        "cindex: unknown option -verbose\n",
+    ),
+];
 
 #[test]
 fn words_of_cindex(rt: HostRuntime) -> Result<(), Fail> {
-    let missing = "cindex: /w/-list: no such file\n";
-    let unknown = "cindex: unknown option -verbose\n";
-    tells(
-        &rt,
-        &[
-            Folder("/t"),
-            Call(&["cindex", "/t", "-list"], 0, "", missing),
-            Call(&["cindex", "-list"], 0, "/t\n/w/-list\n", ""),
-            Call(&["cindex", "-verbose"], 2, "", unknown),
-        ],
-    )
+    tells(&rt, WORDS_OF_CINDEX)
 }

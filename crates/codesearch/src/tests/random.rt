@@ -2,8 +2,8 @@
 // from the paths that remain and the texts that were last read.
 ghost use Rattle.std.specs.Prelude.{◌<◌};
 
-use crate::program::run;
-use crate::tests::desk::{Desk, copied};
+use crate::tests::desk::Desk;
+use crate::tests::run_in_memory;
 use cs_tree::{MemSink, MemSource};
 use std::alloc::Global;
 use std::process::Abort;
@@ -297,12 +297,10 @@ fn indexes(rt: &impl AllocGlobal, desk: &mut Desk, words: &[&str]) -> Result<u8,
     let mut input = MemSource::new(b"", 1, false);
     let mut out = MemSink::new(alloc, 1000);
     let mut err = MemSink::new(alloc, 1000);
-    let index = copied(rt, desk.index.as_deref())?;
-    let ran = run(
+    let ran = run_in_memory(
         alloc,
         &owned,
-        "/w",
-        index,
+        desk.index.as_deref(),
         &mut desk.tree,
         &mut input,
         &mut out,

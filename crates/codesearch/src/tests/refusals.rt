@@ -1,5 +1,5 @@
 // What is refused, with its line and status 2.
-use crate::tests::runs;
+use crate::tests::{Run, runs};
 use std::process::Abort;
 use std::test::Fail;
 
@@ -11,6 +11,14 @@ fn refuses(rt: &(impl Abort + AllocGlobal), pattern: &str, why: &str) -> Result<
     runs(rt, &[(&["cgrep", pattern], "a\n", 2, "", line.as_str())])
 }
 
+/// The same for each of these.
+fn each_is_refused(rt: &(impl Abort + AllocGlobal), rows: &[(&str, &str)]) -> Result<(), Fail> {
+    for (pattern, why) in rows {
+        refuses(rt, pattern, why)?;
+    }
+    Ok(())
+}
+
 /// A text so many times over.
 fn times(rt: &(impl Abort + AllocGlobal), text: &str, n: usize) -> Result<String, Fail> {
     let mut all = String::new(rt.alloc());
@@ -20,48 +28,45 @@ fn times(rt: &(impl Abort + AllocGlobal), text: &str, n: usize) -> Result<String
     Ok(all)
 }
 
+const THE_FIRST_WORD: &[Run<'static>] = &[
+    (&["grep", "x"], "x\n", 2, "", FIRST),
+    (&[""], "x\n", 2, "", FIRST),
+    (&[], "x\n", 2, "", FIRST),
+];
+
 #[test]
 fn the_first_word(rt: HostRuntime) -> Result<(), Fail> {
-    runs(
-        &rt,
-        &[
-            (&["grep", "x"], "x\n", 2, "", FIRST),
-            (&[""], "x\n", 2, "", FIRST),
-            (&[], "x\n", 2, "", FIRST),
-        ],
-    )
+    runs(&rt, THE_FIRST_WORD)
 }
+
+const FAULTS_OF_ITEMS: &[(&str, &str)] = &[
+    ("a**", "2: stacked repeat"),
+    ("*a", "0: nothing to repeat"),
+    ("(*a)", "1: nothing to repeat"),
+    ("a{1001}", "1: bad repeat count"),
+    ("a{2,1}", "1: bad repeat count"),
+    ("(a", "0: group not closed"),
+    ("a)", "1: unexpected )"),
+    ("(?z)", "0: bad group"),
+];
 
 #[test]
 fn faults_of_items(rt: HostRuntime) -> Result<(), Fail> {
-    for (pattern, why) in [
-        ("a**", "2: stacked repeat"),
-        ("*a", "0: nothing to repeat"),
-        ("(*a)", "1: nothing to repeat"),
-        ("a{1001}", "1: bad repeat count"),
-        ("a{2,1}", "1: bad repeat count"),
-        ("(a", "0: group not closed"),
-        ("a)", "1: unexpected )"),
-        ("(?z)", "0: bad group"),
-    ] {
-        refuses(&rt, pattern, why)?;
-    }
-    Ok(())
+    each_is_refused(&rt, FAULTS_OF_ITEMS)
 }
+
+const FAULTS_OF_CLASSES_AND_ESCAPES: &[(&str, &str)] = &[
+    ("[a", "0: class not closed"),
+    ("[b-a]", "1: bad range"),
+    (r"\8", "0: bad escape"),
+    (r"a\", "1: lone backslash"),
+    (r"\A", "0: not in this profile"),
+    ("[é]", "1: not in this profile"),
+];
 
 #[test]
 fn faults_of_classes_and_escapes(rt: HostRuntime) -> Result<(), Fail> {
-    for (pattern, why) in [
-        ("[a", "0: class not closed"),
-        ("[b-a]", "1: bad range"),
-        (r"\8", "0: bad escape"),
-        (r"a\", "1: lone backslash"),
-        (r"\A", "0: not in this profile"),
-        ("[é]", "1: not in this profile"),
-    ] {
-        refuses(&rt, pattern, why)?;
-    }
-    Ok(())
+    each_is_refused(&rt, FAULTS_OF_CLASSES_AND_ESCAPES)
 }
 
 #[test]

@@ -1,34 +1,49 @@
 // Searches of standard input.
-use crate::tests::{ends, runs, runs_in};
+use crate::tests::{Run, ends, runs, runs_in};
 use cs_tree::{MemSource, MemTree};
 use std::test::Fail;
 
 const LINES: &str = "ab\nxacb\nabd";
 
+const LINES_THAT_MATCH: &[Run<'static>] = &[
+    (
+        &["cgrep", "a(b|c)*$"],
+        LINES,
+        0,
+        "<standard input>:ab\n<standard input>:xacb\n",
+        "",
+    ),
+    (
+        &["cgrep", "-n", "a(b|c)*$"],
+        LINES,
+        0,
+        "<standard input>:1:ab\n<standard input>:2:xacb\n",
+        "",
+    ),
+    // The last line has no newline, and gets one.
+    (&["cgrep", "^abd"], LINES, 0, "<standard input>:abd\n", ""),
+    (&["cgrep", "a||b"], "x\n", 0, "<standard input>:x\n", ""),
+    (&["cgrep", "zzz"], LINES, 1, "", ""),
+    (&["cgrep", ""], "", 1, "", ""),
+    (&["cgrep", "^$"], "a\n\nb\n", 0, "<standard input>:\n", ""),
+];
+
 #[test]
 fn lines_that_match(rt: HostRuntime) -> Result<(), Fail> {
-    let both = "<standard input>:ab\n<standard input>:xacb\n";
-    let numbered = "<standard input>:1:ab\n<standard input>:2:xacb\n";
-    runs(
-        &rt,
-        &[
-            (&["cgrep", "a(b|c)*$"], LINES, 0, both, ""),
-            (&["cgrep", "-n", "a(b|c)*$"], LINES, 0, numbered, ""),
-            // The last line has no newline, and gets one.
-            (&["cgrep", "^abd"], LINES, 0, "<standard input>:abd\n", ""),
-            (&["cgrep", "a||b"], "x\n", 0, "<standard input>:x\n", ""),
-            (&["cgrep", "zzz"], LINES, 1, "", ""),
-            (&["cgrep", ""], "", 1, "", ""),
-            (&["cgrep", "^$"], "a\n\nb\n", 0, "<standard input>:\n", ""),
-        ],
-    )
+    runs(&rt, LINES_THAT_MATCH)
 }
+
+const LETTERS_PAST_ASCII_ARE_NOT_FOLDED: &[Run<'static>] = &[(
+    &["cgrep", "-i", "éa"],
+    "ÉA\néA\n",
+    0,
+    "<standard input>:éA\n",
+    "",
+)];
 
 #[test]
 fn letters_past_ascii_are_not_folded(rt: HostRuntime) -> Result<(), Fail> {
-    let words = &["cgrep", "-i", "éa"];
-    let found = "<standard input>:éA\n";
-    runs(&rt, &[(words, "ÉA\néA\n", 0, found, "")])
+    runs(&rt, LETTERS_PAST_ASCII_ARE_NOT_FOLDED)
 }
 
 #[test]

@@ -1,5 +1,6 @@
 // The real disk: how an index file is written, read and removed.
-use crate::storage::{After, FileFault, load, store};
+use crate::storage::{After, FileFault, find, store};
+use cs_tree::{Store, read_part};
 use std::fs;
 use std::os::unix::fs::symlink;
 use std::test::Fail;
@@ -13,8 +14,12 @@ fn begin(rt: &HostRuntime, folder: &str) -> Result<(), Fail> {
 
 /// Whether the index file has these bytes, or is not there.
 fn holds(rt: &HostRuntime, file: &str, want: Option<&[u8]>) -> Result<bool, Fail> {
-    let found = load(rt, file, true).ok().ok_or("not read")?;
-    Ok(found.bytes.as_deref() == want)
+    let Some(mut store) = find(rt, file).ok().ok_or("not opened")?.file else {
+        return Ok(want.is_none());
+    };
+    let len = store.len();
+    let bytes = read_part(rt.alloc(), &mut store, 0, len);
+    Ok(bytes.ok().ok_or("not read")?.as_slice() == want.unwrap_or(b"none"))
 }
 
 /// Stores an index of these bytes in the place of what is there.
@@ -55,7 +60,7 @@ fn an_index_file_that_has_changed(rt: HostRuntime) -> Result<(), Fail> {
     let file = "codesearch_changed/index";
     begin(&rt, "codesearch_changed")?;
     fs::write(&rt, file, "first")?;
-    let found = load(&rt, file, true).ok().ok_or("not read")?;
+    let found = find(&rt, file).ok().ok_or("not opened")?;
     assert_eq!(&rt; writes(&rt, file, b"other")?, Ok(()));
     for after in [After::Remove, After::Write(b"new".to_vec(rt.alloc())?)] {
         for seen in [found.seen.as_ref(), None] {
@@ -72,7 +77,7 @@ fn an_index_file_that_has_changed(rt: HostRuntime) -> Result<(), Fail> {
 fn an_index_file_that_is_no_file(rt: HostRuntime) -> Result<(), Fail> {
     begin(&rt, "codesearch_folder")?;
     assert_eq!(&rt;
-        load(&rt, "codesearch_folder", false).err(),
+        find(&rt, "codesearch_folder").err(),
         Some(FileFault::Failed)
     );
     assert_eq!(&rt;

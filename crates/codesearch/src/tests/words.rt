@@ -1,42 +1,61 @@
 // Words, by the rules of Go's package `flag`.
-use crate::tests::{runs, searches, tree_of};
+use crate::tests::{Run, Search, runs, searches, tree_of};
 use std::test::Fail;
 
 const ONES: &str = "one\ntwo\none\n";
 
+const LINE: &str = "<standard input>:a-x\n";
+
+const OPTIONS: &[Run<'static>] = &[
+    (
+        &["cgrep", "-n", "-n=false", "one"],
+        ONES,
+        0,
+        "<standard input>:one\n<standard input>:one\n",
+        "",
+    ),
+    (&["cgrep", "--h", "one"], ONES, 0, "one\none\n", ""),
+    (&["cgrep", "--", "-x"], "a-x\n", 0, LINE, ""),
+    (&["cgrep", "-"], "a-x\n", 0, LINE, ""),
+];
+
 #[test]
 fn options(rt: HostRuntime) -> Result<(), Fail> {
-    let lines = "<standard input>:one\n<standard input>:one\n";
-    let line = "<standard input>:a-x\n";
-    runs(
-        &rt,
-        &[
-            (&["cgrep", "-n", "-n=false", "one"], ONES, 0, lines, ""),
-            (&["cgrep", "--h", "one"], ONES, 0, "one\none\n", ""),
-            (&["cgrep", "--", "-x"], "a-x\n", 0, line, ""),
-            (&["cgrep", "-"], "a-x\n", 0, line, ""),
-        ],
-    )
+    runs(&rt, OPTIONS)
 }
+
+const FAULTS: &[Run<'static>] = &[
+    (&["cgrep"], ONES, 2, "", "cgrep: no pattern\n"),
+    (
+        &["cgrep", "-n=yes", "x"],
+        ONES,
+        2,
+        "",
+        "cgrep: bad truth value in -n=yes\n",
+    ),
+    (
+        &["cgrep", "-n", "-cn", "x"],
+        ONES,
+        2,
+        "",
+        "cgrep: unknown option -cn\n",
+    ),
+];
 
 #[test]
 fn faults(rt: HostRuntime) -> Result<(), Fail> {
-    let truth = "cgrep: bad truth value in -n=yes\n";
-    let option = "cgrep: unknown option -cn\n";
-    runs(
-        &rt,
-        &[
-            (&["cgrep"], ONES, 2, "", "cgrep: no pattern\n"),
-            (&["cgrep", "-n=yes", "x"], ONES, 2, "", truth),
-            (&["cgrep", "-n", "-cn", "x"], ONES, 2, "", option),
-        ],
-    )
+    runs(&rt, FAULTS)
 }
+
+const AN_OPTION_BEHIND_THE_PATTERN_IS_A_FILE: &[Search<'static>] = &[(
+    &["cgrep", "two", "-n", "/t/p"],
+    0,
+    "/t/p:two\n",
+    "cgrep: -n: no such file\n",
+)];
 
 #[test]
 fn an_option_behind_the_pattern_is_a_file(rt: HostRuntime) -> Result<(), Fail> {
     let mut tree = tree_of(&rt, &[("/t/p", ONES)])?;
-    let words = &["cgrep", "two", "-n", "/t/p"];
-    let line = "cgrep: -n: no such file\n";
-    searches(&rt, &mut tree, &[(words, 0, "/t/p:two\n", line)])
+    searches(&rt, &mut tree, AN_OPTION_BEHIND_THE_PATTERN_IS_A_FILE)
 }

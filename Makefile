@@ -1,6 +1,6 @@
 # make check     every proof from nothing, the edits that must fail, the tests, the program built two ways,
 #                and then the program from end to end: as a person runs it, as the manual and docs/USE.md say,
-#                with each allocation refused, over damaged indexes, and with its system calls failing
+#                with each allocation refused, as of each library's calls, over damaged indexes, and with its system calls failing
 # make trusted   what one has to read to believe cindex, cgrep and csearch: the definitions that their contracts rest on
 # make program   the proved program, crates/codesearch/out/codesearch
 # make bench     measures the tools side by side with their peers over a tree of files: make bench TREE=/usr/src
@@ -25,6 +25,7 @@ check:
 	tests/end_to_end.sh $(program)
 	tests/manual.sh $(program)
 	tests/use.sh $(program)
+	tests/refusals.py crates/cs_tool_tests/out/cs_tool_tests_tests
 	tests/allocations.py $(program)
 	tests/damage.py $(program)
 	tests/failing.py $(program)

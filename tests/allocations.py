@@ -8,37 +8,31 @@ has printed a front of the output and of the lines on standard error, then one l
 leaves the index file byte for byte, with nothing beside it. Last, five jobs in a row are run so: the index that comes out is
 that of the jobs that were done."""
 import os
-import shutil
-import subprocess
 import sys
+from itertools import groupby
 
 import running
-from running import complain, home, leave, read, tests, write
+from running import build_refuser, complain, leave, read, write
 
 runs = allocations = 0
 
-compiler = shutil.which("cc")
-if compiler is None:
-    print("skipped: allocations refused in turn: there is no cc")
-    sys.exit(0)
-subprocess.run([compiler, "-O2", "-shared", "-fPIC", "-o", "refused.so", tests + "/refused.c", "-ldl"], check=True)
+# How often the lines of a job may turn from the program's own to the tool's and back: `cindex` has its words and then its job
+# behind the surroundings and the index file; `csearch` also has lists, which it reads when it knows what it asks for.
+TURNS = {"cgrep": 3, "cindex": 5, "csearch": 7}
 
 
-def run(words, given=b"", refuse=None):
-    """A run with that allocation refused, if one is."""
+def run(words, given=b""):
+    """A run with ample memory."""
     global runs
     runs += 1
-    if refuse is None:
-        return running.run(words, given)
-    return running.run(words, given, {"LD_PRELOAD": home + "/refused.so", "REFUSE": refuse, "REFUSED": home + "/refused"})
+    return running.run(words, given)
 
 
-def was_refused():
-    """Whether the last run had an allocation refused."""
-    if not os.path.exists("refused"):
-        return False
-    os.remove("refused")
-    return True
+def refused_run(words, refuse, given=b""):
+    """A run with that allocation refused, and whether one was."""
+    global runs
+    runs += 1
+    return running.refused_run(words, refuse, given)
 
 
 def judge(words, came, ample, before, after):
@@ -72,8 +66,8 @@ def each_refused(words, index=None, given=b"one\ntwo\none\n", bare=False):
         while True:
             refuse = f"{len(ends) + 1}{more}"
             leave(index)
-            came = run(words, given, refuse)
-            if not was_refused():
+            came, was_refused = refused_run(words, refuse, given)
+            if not was_refused:
                 break
             what, end = judge(words, came, ample, index, after)
             if what:
@@ -81,11 +75,11 @@ def each_refused(words, index=None, given=b"one\ntwo\none\n", bare=False):
             ends.append(end)
         if came != ample or read("index") != after:
             complain(f"{words}, none refused: not as with ample memory", came)
-        # The tool's own line, but where the words, the surroundings or the index file are read, where
-        # the line itself is refused, and where the index file is written.
+        # The tool's own line, but where the surroundings are read, and then the index file and its lists, where the
+        # line itself is refused, and where the index file is written.
         whose = [end for end in ends if end not in ("same", None)]
-        inner = [place for place, end in enumerate(whose) if end == words[0]]
-        if more and inner or inner and inner[-1] - inner[0] >= len(inner):
+        turns = len(list(groupby(whose)))
+        if more and words[0] in whose or turns > TURNS.get(words[0], 1):
             complain(f"{words}, each refused: whose line", whose)
         tally(words, more, ends)
 
@@ -140,8 +134,7 @@ def five_jobs():
             refuse += 1
             leave(before)
             snapshot(job)
-            first = run(words, refuse=str(refuse))
-            refused = was_refused()
+            first, refused = refused_run(words, str(refuse))
             as_refused = first[0] == 2 and first[2].endswith(b": out of memory\n") and read("index") == before
             rest, index = answers(job + 1)
             if ([first] + rest, index) != whole and not (refused and as_refused and (rest, index) == others):
@@ -156,6 +149,7 @@ def five_jobs():
 
 
 def main():
+    build_refuser()
     os.makedirs("t/d")
     write("t/p", b"one\ntwo\none\n")
     write("t/q", b"Two\n")

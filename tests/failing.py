@@ -1,22 +1,30 @@
 #!/usr/bin/env -S python3 -B
-"""Runs the program with its system calls failing in turn, by strace, and compares each run with the one in which none fails.
+"""Runs the program with its system calls failing in turn, by strace, and compares each run with the one in which none fails; and
+over pipes, and over the deepest folders that paths allow.
 usage: tests/failing.py PROGRAM
 
 For each job and each kind of call the Nth such call fails, N = 1, 2, .., until none is left. A run answers as if nothing had
 failed; or it leaves out one file or folder, with one line that it cannot be read, and the status is as it would be without; or it is
-refused: it has printed a front of the output, ends with status 2, and leaves the index file as it was. A call to write, sync or
-lock that a signal interrupts is made again, so that nothing of the answer changes."""
+refused: it has printed a front of the output, ends with status 2, and leaves the index file as it was. A call to open, read, write,
+sync or lock that a signal interrupts is made again, so that nothing of the answer changes, and a folder is read again."""
 import os
+import resource
 import shutil
 import subprocess
 import sys
+import threading
+import time
 
 import running
 from running import complain, home, leave, read, write
 
 CALLS = ["read", "write", "openat", "getdents64", "statx", "fsync", "ftruncate", "flock", "rename", "close", "fchmod"]
-# Those that are made again where a signal interrupts them. To open a folder and to read a file of the tree are not among them.
-AGAIN = ["write", "fsync", "flock"]
+# Those that are made again where a signal interrupts them.
+AGAIN = ["read", "write", "openat", "getdents64", "fsync", "flock"]
+# How long a run may take that could wait for ever, in seconds.
+PATIENCE = 20
+# The longest path that is looked at.
+LONGEST_PATH = 4095
 failures = 0
 strace = shutil.which("strace")
 
@@ -105,14 +113,8 @@ def each_failing(words, index):
                     complain(f"{words}, {call} {when} fails by {error}: {what}", came)
 
 
-def main():
-    if strace is None or subprocess.call([strace, "-qq", "-o", "/dev/null", "true"], stderr=subprocess.DEVNULL):
-        print("skipped: failing system calls: there is no strace that works")
-        return False
-    os.makedirs("t/d")
-    write("t/p", b"one\ntwo\none\n")
-    write("t/d/r", b"three\none")
-    write("given", b"one\ntwo\n")
+def calls():
+    """The answers of all runs in which a call fails."""
     run(["cindex", "t"])
     index = read("index")
     for words in (["cgrep", "one"], ["cgrep", "-n", "one", "t/p", "t/d/r"], ["csearch", "one"], ["csearch", "-brute", "-c", "one"]):
@@ -121,6 +123,121 @@ def main():
         each_failing(words, index)
     each_failing(["cindex", "t"], None)
     print(f"failing system calls: {failures} runs, {running.wrong} wrong")
+
+
+def bounded(words, front=[], stack=None):
+    """The status, the output and the lines on standard error of a run that could wait for ever; None where it does."""
+    limits = None if stack is None else lambda: resource.setrlimit(resource.RLIMIT_STACK, (stack, stack))
+    child = subprocess.Popen(
+        front + [running.program] + words,
+        stdin=subprocess.DEVNULL,
+        stdout=subprocess.PIPE,
+        stderr=subprocess.PIPE,
+        env={"CSEARCHINDEX": home + "/index"},
+        preexec_fn=limits,
+    )
+    try:
+        out, err = child.communicate(timeout=PATIENCE)
+    except subprocess.TimeoutExpired:
+        child.kill()
+        child.communicate()
+        return None
+    return child.returncode, out, err
+
+
+def expect(what, came, wanted):
+    if came != wanted:
+        complain(f"{what}: wanted {wanted}", came)
+
+
+def put_pipe(name):
+    os.remove(name)
+    os.mkfifo(name)
+
+
+def put_file(name, text):
+    os.remove(name)
+    write(name, text)
+
+
+def pipes():
+    """An indexed file that is a pipe by now cannot be read, and is not waited for; cgrep reads one that it is given."""
+    path = (home + "/t/p").encode()
+    leave(None)
+    run(["cindex", "t"])
+    put_pipe("t/p")
+    found = (home + "/t/d/r").encode() + b":one\n"
+    for words in (["csearch", "one"], ["csearch", "-brute", "one"]):
+        expect(f"{words} over a pipe", bounded(words), (0, found, b"csearch: " + path + b": cannot be read\n"))
+    expect("cindex over a pipe", bounded(["cindex", "t"]), (0, b"", b""))
+    writer = threading.Thread(target=lambda: write("t/p", b"one\n"))
+    writer.start()
+    expect("cgrep of a pipe", bounded(["cgrep", "one", "t/p"]), (0, b"t/p:one\n", b""))
+    writer.join()
+    expect("cgrep of a device", bounded(["cgrep", "one", "/dev/null"]), (1, b"", b""))
+    put_file("t/p", b"one\ntwo\none\n")
+
+
+def late_pipes():
+    """A file that becomes a pipe while cindex runs, before it asks the system for the Nth time what stands somewhere."""
+    line = b"cindex: " + (home + "/t/p").encode() + b": cannot be read\n"
+    blamed = 0
+    for when in range(1, 20):
+        leave(None)
+        delay = [strace, "-qq", "-o", "log", "-e", "trace=statx", "-e", f"inject=statx:delay_enter=400000:when={when}"]
+        swap = threading.Timer(0.2, put_pipe, ["t/p"])
+        swap.start()
+        status, out, err = bounded(["cindex", "-reset", "t"], delay) or (None, b"", b"it waits")
+        swap.join()
+        put_file("t/p", b"one\ntwo\none\n")
+        if status != 0 or out or err not in (b"", line):
+            complain(f"a late pipe at statx {when}", (status, out, err))
+        blamed += err == line
+        if b"(DELAYED)" not in read("log"):
+            break
+    if not blamed:
+        complain("late pipes", "none was opened")
+
+
+def deepest():
+    """A folder whose path has 4095 bytes, below folders as deep as paths allow: it cannot be read, and the walk down to it needs
+    no more of the stack than any other one."""
+    top = home + "/deep"
+    os.mkdir(top)
+    os.chdir(top)
+    length, levels = len(os.fsencode(top)), 0
+    while length < LONGEST_PATH:
+        name = "aa" if LONGEST_PATH - length == 3 else "a"
+        write("f", b"one\n")
+        os.mkdir(name)
+        os.chdir(name)
+        length += 1 + len(name)
+        top = f"{top}/{name}"
+        levels += 1
+    os.chdir(home)
+    leave(None)
+    line = b"cindex: " + os.fsencode(top) + b": cannot be read\n"
+    expect("the deepest folder", bounded(["cindex", "-reset", "deep"], stack=256 * 1024), (0, b"", line))
+    status, out, err = bounded(["csearch", "-c", "one"]) or (None, b"", b"")
+    if (status, err) != (0, b"") or len(out.splitlines()) != levels:
+        complain("the files on the way down", (status, len(out.splitlines()), err))
+    subprocess.call(["rm", "-rf", "deep"])
+
+
+def main():
+    os.makedirs("t/d")
+    write("t/p", b"one\ntwo\none\n")
+    write("t/d/r", b"three\none")
+    write("given", b"one\ntwo\n")
+    traces = strace is not None and not subprocess.call([strace, "-qq", "-o", "/dev/null", "true"], stderr=subprocess.DEVNULL)
+    if traces:
+        calls()
+        late_pipes()
+    else:
+        print("skipped: failing system calls, and pipes that come late: there is no strace that works")
+    pipes()
+    deepest()
+    print(f"pipes and deep folders: {running.wrong} wrong in all")
     return running.wrong != 0
 
 

@@ -1,6 +1,8 @@
 """Runs of the program in a new folder, for the tests that run it many times."""
 import os
 import resource
+import shutil
+import subprocess
 import sys
 import tempfile
 
@@ -54,6 +56,26 @@ def run(words, given=b"", surroundings={}, seconds=60):
     ended = os.waitpid(child, 0)[1]
     status = -(ended & 127) if ended & 127 else ended >> 8
     return status, read("out"), read("err")
+
+
+def build_refuser():
+    """Builds what refuses allocations, where there is a compiler; else the tests end here."""
+    compiler = shutil.which("cc")
+    if compiler is None:
+        print("skipped: allocations refused in turn: there is no cc")
+        sys.exit(0)
+    subprocess.run([compiler, "-O2", "-shared", "-fPIC", "-o", "refused.so", tests + "/refused.c", "-ldl"], check=True)
+
+
+def refused_run(words, refuse, given=b""):
+    """A run with that allocation refused, or with `N+` that one and all behind it; and whether one was."""
+    if not os.path.exists("refused.so"):
+        build_refuser()
+    came = run(words, given, {"LD_PRELOAD": home + "/refused.so", "REFUSE": refuse, "REFUSED": home + "/refused"})
+    was_refused = os.path.exists("refused")
+    if was_refused:
+        os.remove("refused")
+    return came, was_refused
 
 
 def complain(what, came):

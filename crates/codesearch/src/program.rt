@@ -5,7 +5,7 @@ ghost use Rattle.std.specs.Mem.{FitsInMemory};
 use crate::storage::{After, FileFault};
 use cs_tools::{
     CindexFault, IndexJob, Job, Refusal, Reply, Status, StoredIndex, Tool, ToolFault, WordFault,
-    cgrep, cindex, csearch, csearch_stored, message, read_words,
+    cgrep, cindex, csearch, csearch_stored, list_stored, message, read_words,
 };
 use cs_tree::{IoFault, Sink, Source, Store, Tree, is_absolute, read_part, write_all};
 use std::alloc::{AllocError, Global};
@@ -111,6 +111,8 @@ fn run_tool<S: Store, T: Tree, R: Source, O: Sink, E: Sink>(
             if let Some(answer) = search_stored(alloc, &asked, store, tree, out, err)? {
                 return Ok(Ran::ended(searched(alloc, tool, answer, err)));
             }
+        } else if let Some(job) = list_job(&asked) {
+            return list_index(alloc, job, store, out, err);
         } else {
             bytes = read_index(alloc, &asked, store)?;
         }
@@ -136,6 +138,32 @@ fn search_stored<S: Store, T: Tree, O: Sink, E: Sink>(
     Ok(Some(answer))
 }
 
+/// The job of a `-list`, where words ask for that.
+fn list_job(asked: &Result<Job, WordFault>) -> Option<&IndexJob> {
+    match asked {
+        Ok(Job::Index(job)) if job.list => Some(job),
+        _ => None,
+    }
+}
+
+/// Lists the paths of the index in the store, of which no list is read.
+fn list_index<S: Store, O: Sink, E: Sink>(
+    alloc: Global,
+    job: &IndexJob,
+    store: &mut S,
+    out: &mut O,
+    err: &mut E,
+) -> Result<Ran, IoFault>
+    ensures { IfOk result (λ ran. ran.status ≤ 2) }
+{
+    let opened = StoredIndex::open(alloc, store)?;
+    if !is_absolute(job.cwd.as_str()) {
+        return Ok(Ran::ended(refuse(err, NO_FOLDER)));
+    }
+    let reply = list_stored(opened, out, err);
+    Ok(replied(alloc, job, reply, After::Kept, err))
+}
+
 /// All bytes of the index, where they are asked for: by all words but those of a `-reset`.
 fn read_index<S: Store>(
     alloc: Global,
@@ -143,7 +171,7 @@ fn read_index<S: Store>(
     store: &mut S,
 ) -> Result<Option<Vec<u8>>, IoFault> {
     if let Ok(Job::Index(job)) = asked {
-        if job.reset && !job.list {
+        if job.reset {
             return Ok(None);
         }
     }
@@ -210,16 +238,22 @@ fn run_cindex<T: Tree, O: Sink, E: Sink>(
         out,
         err,
     );
+    replied(alloc, job, reply, After::of(after), err)
+}
+
+/// How a run ends with this reply to its job, which leaves this index where the job is done.
+fn replied<E: Sink>(alloc: Global, job: &IndexJob, reply: Reply, index: After, err: &mut E) -> Ran
+    ensures { result.status ≤ 2 }
+{
     match reply {
+        Reply::Done => Ran {
+            status: MATCHED,
+            index,
+        },
         Reply::Refused(fault) => {
             let word = path_at(fault, job);
             Ran::ended(explain(alloc, Tool::Cindex, &Refusal::Index(fault), word, err))
         }
-        Reply::Done if job.list => Ran::ended(MATCHED),
-        Reply::Done => Ran {
-            status: MATCHED,
-            index: After::of(after),
-        },
     }
 }
 

@@ -35,7 +35,7 @@ use Rattle.cs_history.proofs.HistoryLemmas.{walk_content, walk_lies, least_twice
 use Rattle.cs_history.proofs.IndexLemmas.{index_joined, first_index, given_some, walked_again, no_index}
 use Rattle.std.specs.Result.{IsOkAnd}
 use Rattle.cs_index.specs.Opening.{are_whole}
-use Rattle.cs_cindex.specs.Joins.{IsSound, JoinsTo, IsJoinFault}
+use Rattle.cs_cindex.specs.Joins.{IsSound, JoinsTo, IsJoinRefusal}
 use Rattle.cs_cindex.specs.Next.{opening_paths, base_paths, paths_walked, index_alone, opening_join, next_index, HasWholeLists, IsIndex, IsOwn, IsNextLong, alone, joined, IsNext}
 use Rattle.cs_cindex.specs.Refusals.{base, IsWalkFault}
 use Rattle.cs_cindex.proofs.OldLemmas.{OpensWith, history_opens, opened_image}
@@ -108,7 +108,7 @@ long_opening parts (Ok own) long = (joinable_whole parts own long.0, long.1)
 long_opening parts (Err fault) long = absurd long
 
 module _ (job : IndexJob) (tree : Option Snapshot) (old : List ℕ) (parts : Parts) (own : List ℕ) (opens : opening old ≡ Ok parts) (own_is : IsOwn job tree (Some old) own) (sound : IsOkAnd (opening own) IsSound) where
-  pub join_refusal : (fault : CindexFault) → IsJoinFault parts (opening own) fault → IsWalkFault job tree (Some old) fault
+  pub join_refusal : (fault : CindexFault) → IsJoinRefusal parts (opening own) fault → IsWalkFault job tree (Some old) fault
   join_refusal (BadIndex fault) h = record {
     is = (h sound).0;
     damaged = subst (λ o. IsOkAnd o (λ parts. are_whole parts ≡ false)) (sym opens) (h sound).1;

@@ -24,12 +24,12 @@ abbrev pub JoinsTo : Parts → Result Parts IndexFault → List ℕ → Type 0
 JoinsTo old opening bytes = IsOkAnd opening (λ newer. AreJoinable old newer × (bytes ≡ joined_index old newer))
 
 -- why an index is not joined with that of a walk
-abbrev pub IsJoinFault : Parts → Result Parts IndexFault → CindexFault → Type 0
-IsJoinFault old newer (BadIndex fault) = IsOkAnd newer IsSound → (fault ≡ BadList) × (are_whole old ≡ false)
-IsJoinFault old newer TooLarge = IsOkAnd newer (λ newer. AreJoinable old newer × IsLong (Some (joined_index old newer)))
-IsJoinFault old newer Memory = Unit {0}
-IsJoinFault old newer Unsorted = IsOkAnd newer IsSound → ⊥
-IsJoinFault old newer _ = ⊥
+abbrev pub IsJoinRefusal : Parts → Result Parts IndexFault → CindexFault → Type 0
+IsJoinRefusal old newer (BadIndex fault) = IsOkAnd newer IsSound → (fault ≡ BadList) × (are_whole old ≡ false)
+IsJoinRefusal old newer TooLarge = IsOkAnd newer (λ newer. AreJoinable old newer × IsLong (Some (joined_index old newer)))
+IsJoinRefusal old newer Memory = Unit {0}
+IsJoinRefusal old newer Unsorted = IsOkAnd newer IsSound → ⊥
+IsJoinRefusal old newer _ = ⊥
 
 -- a fault of joining as that of a job
 abbrev pub refusal_of : MergeFault → CindexFault

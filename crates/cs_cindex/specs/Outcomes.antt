@@ -19,8 +19,8 @@ abbrev pub index_from : Option (List ℕ) → Result Outcome CindexFault → Opt
 index_from old (Ok outcome) = index_after old outcome
 index_from old (Err fault) = old
 
-abbrev pub reply_of : Result Outcome CindexFault → Reply
-reply_of (Ok outcome) = Done
+abbrev pub reply_of : {A : Type 0} → Result A CindexFault → Reply
+reply_of (Ok answer) = Done
 reply_of (Err fault) = Refused fault
 
 -- With the index that an outcome leaves, and with the reply to it, the job has made its step.

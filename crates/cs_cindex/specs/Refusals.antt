@@ -96,7 +96,7 @@ IsDamaged None = ⊥
 IsDamaged (Some bytes) = IsOkAnd (opening bytes) (λ parts. are_whole parts ≡ false)
 
 -- Why a job is refused for a list: it has its own index, and one of the index that it goes on from is damaged.
-pub record IsListFault (job : IndexJob) (tree : Option Snapshot) (old : Option (List ℕ)) (fault : IndexFault) : Type 0 where
+pub record IsDamageFault (job : IndexJob) (tree : Option Snapshot) (old : Option (List ℕ)) (fault : IndexFault) : Type 0 where
   pub is : fault ≡ BadList
   pub damaged : IsDamaged old
   pub own : List ℕ
@@ -104,7 +104,7 @@ pub record IsListFault (job : IndexJob) (tree : Option Snapshot) (old : Option (
 
 -- A job that walks is also refused for a damaged list of the index that it goes on from, or for size.
 abbrev pub IsWalkFault : IndexJob → Option Snapshot → Option (List ℕ) → CindexFault → Type 0
-IsWalkFault job tree old (BadIndex fault) = IsListFault job tree old fault
+IsWalkFault job tree old (BadIndex fault) = IsDamageFault job tree old fault
 IsWalkFault job tree old TooLarge = IsNextLong job tree old
 IsWalkFault job tree old Write = Unit {0}
 IsWalkFault job tree old Memory = Unit {0}

@@ -9,6 +9,7 @@ mod cleaning;
 mod indexer;
 mod indexing;
 mod job;
+mod listing;
 mod old;
 mod outcome;
 mod printing;
@@ -16,3 +17,4 @@ mod reading;
 mod walked;
 
 pub use cindexing::cindex;
+pub use listing::list_stored;

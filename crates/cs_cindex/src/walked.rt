@@ -6,7 +6,7 @@ ghost use Rattle.cs_cindex.specs.Bytes.{lent_bytes};
 ghost use Rattle.cs_tree.specs.PathSet as set;
 ghost use Rattle.cs_tree.specs.Cover.{least};
 ghost use Rattle.cs_index.specs.Opening.{opening};
-ghost use Rattle.cs_cindex.specs.Joins.{IsJoinFault, JoinsTo, refusal_of};
+ghost use Rattle.cs_cindex.specs.Joins.{IsJoinRefusal, JoinsTo, refusal_of};
 ghost use Rattle.cs_cindex.specs.Next.{IsNext};
 ghost use Rattle.cs_cindex.specs.Refusals.{AnswersFor, HasAbsoluteFolder, IsWalkFault, base_fault, early_walk_fault};
 ghost use Rattle.cs_cindex.specs.Output.{WalkPrintsFor, is_failed_write};
@@ -133,7 +133,7 @@ fn join(alloc: Global, old: &Index<'_>, newer: &[u8]) -> Result<Vec<u8>, CindexF
     requires { are_ascending old.now.names ≡ true }
     ensures joined { IfOk result (λ index. JoinsTo old.now (opening newer.now) index.items) }
     ensures short { IfOk result (λ index. length index.items < 2 ^ 32) }
-    ensures fault { IfErr result (IsJoinFault old.now (opening newer.now)) }
+    ensures fault { IfErr result (IsJoinRefusal old.now (opening newer.now)) }
 {
     let newer = Index::open(newer)?;
     match merge(alloc, old, &newer) {

@@ -8,6 +8,7 @@ use std::test::Fail;
 
 mod files;
 pub mod jobs;
+mod stored;
 
 /// The job of words, of which those that begin with a dash are options.
 pub fn job_of(alloc: Global, words: &[&str]) -> Result<IndexJob, Fail>

@@ -13,4 +13,6 @@ mod refusals;
 #[cfg(test)]
 mod searching;
 #[cfg(test)]
+mod stores;
+#[cfg(test)]
 mod words;

@@ -4,11 +4,11 @@
 //! - `cs_words`, `Words`: words, jobs, and the lines of refusals (`read_words`, `message`).
 //! - `cs_search`, `Report`: what a search prints (`grep`, `cgrep`, `csearch`, `csearch_stored`), and of `cs_index` the
 //!   index that lies in a store (`StoredIndex`).
-//! - `cs_cindex`, `Steps`: what a job does to the index (`cindex`). What all jobs come to is the main promise,
+//! - `cs_cindex`, `Steps`: what a job does to the index (`cindex`, `list_stored`). What all jobs come to is the main promise,
 //!   `Headline` of `cs_history`.
 #![tactic(auto)]
 
-pub use cs_cindex::cindex;
+pub use cs_cindex::{cindex, list_stored};
 pub use cs_index::{IndexFault, StoredIndex};
 pub use cs_search::{
     GrepFault, Grepped, MOST_SEARCHED, ReadFault, Status, cgrep, csearch, csearch_stored, grep,

@@ -207,8 +207,9 @@ fn list_entry<R: Files + AllocGlobal + Clone + Drop>(
     Ok(())
 }
 
-/// Opens what stands at a path, unless it is a folder, or no regular file where these are opened alone. Of
-/// these it is asked before it is opened, so that a pipe is not waited for, and once more when it is open.
+/// Opens what stands at a path, unless it is a folder, or no regular file where these are opened alone. Whether it is
+/// one of these is asked before it is opened, so that a pipe is not waited for; what becomes a folder meanwhile is open,
+/// and cannot be read.
 fn open_file<R: Files + Drop>(rt: &R, opens: Opens, path: &str) -> Result<R::File, TreeFault> {
     if opens == Opens::Files {
         is_opened(fs::metadata(rt, path), opens)?;
@@ -217,7 +218,9 @@ fn open_file<R: Files + Drop>(rt: &R, opens: Opens, path: &str) -> Result<R::Fil
         Ok(file) => file,
         Err(error) => return Err(fault_of(error.kind())),
     };
-    is_opened(file.metadata(), opens)?;
+    if opens == Opens::Anything {
+        is_opened(file.metadata(), opens)?;
+    }
     Ok(file)
 }
 

@@ -1,8 +1,9 @@
 // Searches by an index that lies in a store: read in short pieces, damaged, changed while it is read, and where a read
 // fails. Each is held to the search by the bytes.
-ghost use Rattle.std.specs.Prelude.{◌≡◌, ◌≤◌, ◌<◌, length};
+ghost use Rattle.std.specs.Prelude.{◌<◌};
 
 use crate::fixtures::{UNSORTED, tree_of, words_of};
+use crate::stores::{EMPTY, ROW, row_until};
 use cs_index::{IndexFault, StoredIndex};
 use cs_search::{Status, csearch, csearch_stored};
 use cs_tree::{IoFault, MemSink, MemStore, MemTree, Store};
@@ -10,14 +11,6 @@ use cs_words::{Job, SearchJob, Tool, ToolFault, read_words};
 use std::alloc::Global;
 use std::process::Abort;
 use std::test::Fail;
-
-/// The index of the file `/a/x` with `abcd` and a newline.
-const ROW: &[u8; 122] =
-    b"csearch index 1\n/a\0\0/a/x\0\0abc\x01\0bcd\x01\0cd\n\x01\0\xff\xff\xff\0\0\0\0\0\0\0\0\x05abc\0\0\0\x01\0\0\0\0bcd\0\0\0\x01\0\0\0\x05cd\n\0\0\0\x01\0\0\0\x0a\0\0\0\x10\0\0\0\x14\0\0\0\x1a\0\0\0\x2d\0\0\0\x35\ncsearch trailr\n";
-
-/// An index of no file.
-const EMPTY: &[u8; 65] =
-    b"csearch index 1\n/a\0\0\0\xff\xff\xff\0\0\0\0\0\0\0\0\x10\0\0\0\x14\0\0\0\x15\0\0\0\x19\0\0\0\x1d\ncsearch trailr\n";
 
 /// What a search answers.
 type Answer = Result<Status, ToolFault>;
@@ -120,63 +113,6 @@ fn altered_bytes(rt: HostRuntime) -> Result<(), Fail> {
         }
     }
     Ok(())
-}
-
-/// Bytes that are others after so many reads: then each read fails, or gives what stands in `then`.
-#[derive(Drop)]
-struct Changing<'a> {
-    first: &'a [u8],
-    then: Option<&'a [u8]>,
-    reads: usize,
-    failed: u64,
-}
-
-impl<'a> Store for Changing<'a> {
-    ghost size = { λ s. length s.first.now };
-
-    ghost failed = { λ s. s.failed };
-
-    fn len(&self) -> usize {
-        self.first.len()
-    }
-
-    fn read_at(&mut self, buf: &mut [u8], at: usize) -> Result<usize, IoFault> {
-        let bytes = if self.reads > 0 {
-            self.reads -= 1;
-            Some(self.first)
-        } else {
-            self.then
-        };
-        let Some(bytes) = bytes else {
-            self.failed = self.failed.saturating_add(1);
-            return Err(IoFault::Failed);
-        };
-        Ok(fill(buf, bytes.get(at..).unwrap_or(b"")))
-    }
-
-    fn failures(&self) -> u64 {
-        self.failed
-    }
-}
-
-/// Fills the buffer with a front of the bytes, and answers how many.
-fn fill(buf: &mut [u8], bytes: &[u8]) -> usize
-    ensures len { length buf.new ≡ length buf.old }
-    ensures within { result ≤ length buf.new }
-{
-    let n = buf.len().min(bytes.len());
-    buf[..n].copy_from_slice(&bytes[..n]);
-    n
-}
-
-/// `ROW` until so many reads were made.
-fn row_until(reads: usize, then: Option<&[u8]>) -> Changing<'_> {
-    Changing {
-        first: ROW,
-        then,
-        reads,
-        failed: 0,
-    }
 }
 
 /// How many reads a search of `ROW` for one trigram makes.

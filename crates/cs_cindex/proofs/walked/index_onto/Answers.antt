@@ -4,7 +4,7 @@ use Rattle.std.proofs.lemmas.Result.{err_from_is_err_and}
 use Rattle.cs_tree.specs.PathSet as set
 use Rattle.cs_index.specs.Opening.{opening}
 use Rattle.cs_cindex.specs.Refusals.{IsWalkFault, EarlyOr, base_fault, opening_fault, unfit_parts_fault}
-use Rattle.cs_cindex.specs.Joins.{IsJoinFault, JoinsTo}
+use Rattle.cs_cindex.specs.Joins.{IsJoinRefusal, JoinsTo}
 use Rattle.cs_cindex.proofs.ToldLemmas.{start_walk, front_over, whole_over, prints_over}
 use Rattle.cs_cindex.proofs.GoingLemmas.{start_paths, sound_own}
 use Rattle.cs_cindex.proofs.NextLemmas.{own_index, next_onto, index_refusal, join_refusal}
@@ -35,7 +35,7 @@ returns-in_err-joined-clause-refusal g c =
     let late : IsWalkFault c.args.job.now snapshot (Some c.args.old.now) c.in_err-joined.field-0.0 = join_refusal c.args.job.now snapshot c.args.old.now c.in_ok-index.index newer c.in_ok-index.ensures.0 own
     (sound_own (set.from_list (map string_bytes c.deref.result.now)) newer told.well_formed told.short)
     c.in_err-joined.field-0.0
-    (subst (λ bytes. IsJoinFault c.in_ok-index.index (opening bytes) c.in_err-joined.field-0.0) c.deref-2.ensures.value c.in_err-joined.ensures.fault) in
+    (subst (λ bytes. IsJoinRefusal c.in_ok-index.index (opening bytes) c.in_err-joined.field-0.0) c.deref-2.ensures.value c.in_err-joined.ensures.fault) in
     let good : base_fault c.args.job.now (Some c.args.old.now) ≡ None = ap (opening_fault unfit_parts_fault) c.in_ok-index.ensures.0 ∙ c.in_ok-index.ensures.1 in
     rw (p.1, p.2) (subst (λ o. EarlyOr o (IsWalkFault c.args.job.now snapshot (Some c.args.old.now) c.in_err-joined.field-0.0) c.in_err-joined.field-0.0) (sym good) late)
 

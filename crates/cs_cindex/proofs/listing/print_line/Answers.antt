@@ -4,7 +4,7 @@ use Rattle.std.proofs.lemmas.Result.{err_from_is_err_and}
 use Rattle.cs_tree.specs.Told.{Grows}
 use Rattle.cs_cindex.proofs.FrontLemmas.{front_left, front_right}
 use Rattle.cs_tree.proofs.Growing.{Grows-chain}
-use Rattle.cs_cindex.proofs.job.print_line.Goals as goal
+use Rattle.cs_cindex.proofs.listing.print_line.Goals as goal
 
 pub returns-in_err-write_all-clause-out : goal.returns-in_err-write_all-clause-out
 returns-in_err-write_all-clause-out g c =

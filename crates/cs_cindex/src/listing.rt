@@ -1,0 +1,102 @@
+// The paths of an index, on lines.
+ghost use Rattle.std.specs.Prelude.{◌≡◌, ◌++◌, ℕ, List, Some, codes, true, IfErr};
+ghost use Rattle.cs_tree.specs.Failures.{count_after};
+ghost use Rattle.cs_tree.specs.Taken.{TakesAll};
+ghost use Rattle.cs_index.specs.Stored.{OpensAs};
+ghost use Rattle.cs_words.specs.declared.jobs.IndexJob.{IndexJob as IndexJob'};
+ghost use Rattle.cs_cindex.specs.Bytes.{lent_bytes};
+ghost use Rattle.cs_cindex.specs.Outcomes.{reply_of};
+ghost use Rattle.cs_cindex.specs.Output.{index_lines, path_lines, is_failed_write};
+ghost use Rattle.cs_cindex.specs.Refusals.{AnswersFor, IsOutputFault, list_fault};
+ghost use Rattle.cs_cindex.specs.Steps.{IsStep, JobTree, standing};
+
+use cs_index::{Index, IndexFault, StoredIndex, Texts};
+use cs_tree::{Sink, write_all};
+use cs_words::{CindexFault, Reply};
+
+/// Does a job of `-list` over the bytes of a store, of which `StoredIndex::open` answered `opened`, as `cindex` does
+/// over the bytes themselves. No list of the index is read.
+pub fn list_stored<O: Sink, E: Sink>(
+    opened: Result<StoredIndex, IndexFault>,
+    out: &mut O,
+    err: &mut E,
+) -> Reply
+    ensures step { (job : IndexJob') (tree : JobTree) (bytes : List ℕ) → job.list ≡ true →
+        OpensAs bytes opened → IsStep job tree result
+        (standing O.taken O.failed E.taken E.failed (Some bytes) out.old err.old)
+        (standing O.taken O.failed E.taken E.failed (Some bytes) out.new err.new) }
+{
+    match list_opened(opened, out, err) {
+        Ok(()) => Reply::Done,
+        Err(fault) => Reply::Refused(fault),
+    }
+}
+
+/// Prints the paths and flushes the outputs, as a job of `-list` does.
+fn list_opened<O: Sink, E: Sink>(
+    opened: Result<StoredIndex, IndexFault>,
+    out: &mut O,
+    err: &mut E,
+) -> Result<(), CindexFault>
+    ensures step { (job : IndexJob') (tree : JobTree) (bytes : List ℕ) → job.list ≡ true →
+        OpensAs bytes opened → IsStep job tree (reply_of result)
+        (standing O.taken O.failed E.taken E.failed (Some bytes) out.old err.old)
+        (standing O.taken O.failed E.taken E.failed (Some bytes) out.new err.new) }
+{
+    print_opened(opened, out)?;
+    out.flush()?;
+    err.flush()?;
+    Ok(())
+}
+
+/// Prints each path of an index on a line, where it opens.
+fn print_opened<O: Sink>(
+    opened: Result<StoredIndex, IndexFault>,
+    out: &mut O,
+) -> Result<(), CindexFault>
+    ensures refusal { (bytes : List ℕ) → OpensAs bytes opened →
+        AnswersFor result (list_fault (Some bytes)) IsOutputFault }
+    ensures out { (bytes : List ℕ) → OpensAs bytes opened →
+        TakesAll (index_lines (Some bytes)) (O.taken out.old) (O.taken out.new) result }
+    ensures writes { O.failed out.new ≡ count_after is_failed_write result (O.failed out.old) }
+{
+    let index = opened?;
+    print_paths(index.paths(), out)
+}
+
+/// Prints each path of the index on a line.
+pub(crate) fn list_paths<O: Sink>(old: Option<&[u8]>, out: &mut O) -> Result<(), CindexFault>
+    ensures refusal { AnswersFor result (list_fault (lent_bytes old.entry)) IsOutputFault }
+    ensures out { TakesAll (index_lines (lent_bytes old.entry))
+        (O.taken out.old) (O.taken out.new) result }
+    ensures writes { O.failed out.new ≡ count_after is_failed_write result (O.failed out.old) }
+{
+    let Some(bytes) = old else {
+        return Err(CindexFault::NoIndex);
+    };
+    let index = Index::open(bytes)?;
+    print_paths(index.paths(), out)
+}
+
+/// Prints each path on a line.
+fn print_paths<O: Sink>(paths: Texts<'_>, out: &mut O) -> Result<(), CindexFault>
+    ensures refusal { IfErr result IsOutputFault }
+    ensures out { TakesAll (path_lines paths.entry) (O.taken out.old) (O.taken out.new) result }
+    ensures writes { O.failed out.new ≡ count_after is_failed_write result (O.failed out.old) }
+{
+    'paths: for path in paths {
+        print_line(path, out)?;
+    }
+    Ok(())
+}
+
+/// Prints the path on a line.
+fn print_line<O: Sink>(path: &str, out: &mut O) -> Result<(), CindexFault>
+    ensures refusal { IfErr result IsOutputFault }
+    ensures out { TakesAll (path.now ++ codes "\n") (O.taken out.old) (O.taken out.new) result }
+    ensures writes { O.failed out.new ≡ count_after is_failed_write result (O.failed out.old) }
+{
+    write_all(out, path.as_bytes())?;
+    write_all(out, b"\n")?;
+    Ok(())
+}

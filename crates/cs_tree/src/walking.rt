@@ -200,7 +200,8 @@ impl Walked {
         ensures faults { OnOk result (faults_walked self.new
             ≡ faults_walked self.old ++ left_if (fault_seen sight) (string_bytes path)) }
         ensures waiting { OnOk result (map string_bytes waiting.new.items
-            ≡ map string_bytes waiting.old.items ++ children (string_bytes path) (names_seen sight)) }
+            ≡ map string_bytes waiting.old.items
+            ++ children (string_bytes path) (names_seen sight)) }
         ensures few { OnOk result
             (length (children (string_bytes path) (names_seen sight)) < 2 ^ 64) }
     {

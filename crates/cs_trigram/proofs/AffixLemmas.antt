@@ -1,10 +1,12 @@
 -- Affixes of texts that are joined, and of trees.
-use Rattle.std.proofs.Common.{◌≡◌, ℕ, zero, suc, ◌+◌, ◌-◌, ◌<◌, ◌≤◌, ◌⊎◌, inl, inr, true, false, List, [], ◌∷◌, ◌++◌, take, drop, length, get_or, refl, sym, ◌∙◌, ap, subst, arith, append_assoc, drop-cons, length-drop, drop_of_length-le}
+use Rattle.std.proofs.Common.{◌≡◌, ℕ, zero, suc, ◌+◌, ◌-◌, ◌<◌, ◌≤◌, ◌⊎◌, ◌&&◌, inl, inr, not, Bool, true, false, List, [], ◌∷◌, ◌++◌, take, drop, length, get_or, refl, sym, ◌∙◌, ap, subst, arith, append_assoc, drop-cons, length-drop, drop_of_length-le}
 use Rattle.std.proofs.Math.Seq.{take-length}
 use Rattle.std.specs.Prelude.{Option}
+use Rattle.std.specs.List.{list_all}
 use Rattle.std.proofs.lemmas.List.{append-nil, take-append-drop}
 use Rattle.cs_syntax.specs.Matching.{Tree, Trees, empty, one_of, cat, alt, rep, line_start, line_end, word_edge, not_word_edge, none, more, Chain, Takes, TakesAll, TakesSome}
 use Rattle.cs_trigram.specs.Affixes.{part, laid, near_part, Fits, FitsSome, AreAffixes, AreAffixesOfAll}
+use Rattle.cs_trigram.specs.ShortWord.{bytes_of}
 use Rattle.cs_trigram.specs.declared.affixes.Side.{Side}
 use Rattle.cs_trigram.specs.declared.affixes.Side.TheVariants.{Prefix, Suffix}
 use Rattle.cs_trigram.specs.declared.affixes.Affix.{Affix}
@@ -23,34 +25,52 @@ laid_behind Prefix a = refl
 laid_behind Suffix a = append-nil a
 
 -- an affix of a joining, where the near one is whole and where it is not
-pub fits_joined : (side : Side) (near far affix : Affix) → affix.word ≡ laid side near.word far.word → affix.whole ≡ far.whole → near.whole ≡ true →
+pub fits_joined : (side : Side) (near far affix : Affix) → (bytes_of affix.word) ≡ laid side (bytes_of near.word) (bytes_of far.word) → affix.whole ≡ far.whole → near.whole ≡ true →
     (u v : List ℕ) → Fits side near u → Fits side far v → Fits side affix (laid side u v)
 fits_joined side near far affix word whole is u v a b =
-    let same : u ≡ near.word = a.1 ∙ ap (laid side near.word) (a.2 is) ∙ laid_none side near.word in (
+    let same : u ≡ (bytes_of near.word) = a.1 ∙ ap (laid side (bytes_of near.word)) (a.2 is) ∙ laid_none side (bytes_of near.word) in (
       b.0,
-      ap (λ (x : List ℕ). laid side x v) same ∙ ap (laid side near.word) b.1 ∙ sym (laid_assoc side near.word far.word b.0)
+      ap (λ (x : List ℕ). laid side x v) same ∙ ap (laid side (bytes_of near.word)) b.1 ∙ sym (laid_assoc side (bytes_of near.word) (bytes_of far.word) b.0)
           ∙ ap (λ (x : List ℕ). laid side x b.0) (sym word),
       λ e. b.2 (sym whole ∙ e),
     )
 
-pub fits_open : (side : Side) (near affix : Affix) → affix.word ≡ near.word → affix.whole ≡ false →
+pub fits_open : (side : Side) (near affix : Affix) → (bytes_of affix.word) ≡ (bytes_of near.word) → affix.whole ≡ false →
     (u v : List ℕ) → Fits side near u → Fits side affix (laid side u v)
 fits_open side near affix word loose u v a = (
   laid side a.0 v,
-  ap (λ (x : List ℕ). laid side x v) a.1 ∙ laid_assoc side near.word a.0 v ∙ ap (λ (x : List ℕ). laid side x (laid side a.0 v)) (sym word),
+  ap (λ (x : List ℕ). laid side x v) a.1 ∙ laid_assoc side (bytes_of near.word) a.0 v ∙ ap (λ (x : List ℕ). laid side x (laid side a.0 v)) (sym word),
   λ e. let odd : false ≡ true = sym loose ∙ e in (cc),
 )
 
+-- the same affixes, where none is whole
+pub fits_all_open : (side : Side) (affixes : List Affix) (u v : List ℕ) → list_all (λ (affix : Affix). not affix.whole) affixes ≡ true →
+    FitsSome side affixes u → FitsSome side affixes (laid side u v)
+fits_all_open side [] u v loose h = h
+fits_all_open side (e ∷ affixes) u v loose h =
+    elim h [
+      | inl a ↦ inl (fits_open side e e refl (not_whole e.whole (list_all (λ (x : Affix). not x.whole) affixes) loose) u v a)
+      | inr b ↦ inr (fits_all_open side affixes u v (others e.whole (list_all (λ (x : Affix). not x.whole) affixes) loose) b)
+    ]
+  where
+    not_whole : (whole rest : Bool) → (not whole && rest) ≡ true → whole ≡ false
+    not_whole true rest h = let odd : false ≡ true = h in (cc)
+    not_whole false rest h = refl
+
+    others : (whole rest : Bool) → (not whole && rest) ≡ true → rest ≡ true
+    others true rest h = let odd : false ≡ true = h in (cc)
+    others false rest h = h
+
 -- an affix with the same word and kind
-pub fits_same : (side : Side) (old affix : Affix) → affix.word ≡ old.word → affix.whole ≡ old.whole → (text : List ℕ) → Fits side old text → Fits side affix text
+pub fits_same : (side : Side) (old affix : Affix) → (bytes_of affix.word) ≡ (bytes_of old.word) → affix.whole ≡ old.whole → (text : List ℕ) → Fits side old text → Fits side affix text
 fits_same side old affix word whole text a =
     (a.0, a.1 ∙ ap (λ (x : List ℕ). laid side x a.0) (sym word), λ e. a.2 (sym whole ∙ e))
 
 -- an affix that is cut
-pub fits_cut : (side : Side) (old affix : Affix) (rest : List ℕ) → old.word ≡ laid side affix.word rest → affix.whole ≡ false → (text : List ℕ) → Fits side old text → Fits side affix text
+pub fits_cut : (side : Side) (old affix : Affix) (rest : List ℕ) → (bytes_of old.word) ≡ laid side (bytes_of affix.word) rest → affix.whole ≡ false → (text : List ℕ) → Fits side old text → Fits side affix text
 fits_cut side old affix rest word loose text a = (
   laid side rest a.0,
-  a.1 ∙ ap (λ (x : List ℕ). laid side x a.0) word ∙ laid_assoc side affix.word rest a.0,
+  a.1 ∙ ap (λ (x : List ℕ). laid side x a.0) word ∙ laid_assoc side (bytes_of affix.word) rest a.0,
   λ e. let odd : false ≡ true = sym loose ∙ e in (cc),
 )
 
@@ -64,30 +84,30 @@ fits_push side (e ∷ affixes) affix text h =
     ]
 
 -- the affixes from a place on
-pub fits_from : (side : Side) (affixes : List Affix) (i : ℕ) (affix : Affix) (text : List ℕ) → i < length affixes → affix ≡ get_or affixes i affix →
-    FitsSome side (drop i affixes) text → Fits side affix text ⊎ FitsSome side (drop (i + 1) affixes) text
-fits_from side affixes i affix text lt is h =
+pub fits_from : (side : Side) (affixes : List Affix) (i : ℕ) (affix : Affix) (text : List ℕ) → i < length affixes →
+    FitsSome side (drop i affixes) text → Fits side (get_or affixes i affix) text ⊎ FitsSome side (drop (i + 1) affixes) text
+fits_from side affixes i affix text lt h =
     let next : suc i ≡ i + 1 = omega arith in
-    let cut : drop i affixes ≡ affix ∷ drop (i + 1) affixes =
-    drop-cons affixes i affix lt ∙ ap (λ x. x ∷ drop (suc i) affixes) (sym is) ∙ ap (λ n. affix ∷ drop n affixes) next in
+    let cut : drop i affixes ≡ get_or affixes i affix ∷ drop (i + 1) affixes =
+    drop-cons affixes i affix lt ∙ ap (λ n. get_or affixes i affix ∷ drop n affixes) next in
     subst (λ (es : List Affix). FitsSome side es text) cut h
 
-pub fits_at : (side : Side) (affixes : List Affix) (i : ℕ) (affix : Affix) (text : List ℕ) → i < length affixes → affix ≡ get_or affixes i affix →
-    Fits side affix text → FitsSome side affixes text
-fits_at side [] i affix text lt is h = absurd (omega arith)
-fits_at side (e ∷ affixes) zero affix text lt is h = inl (subst (λ (x : Affix). Fits side x text) is h)
-fits_at side (e ∷ affixes) (suc i) affix text lt is h = inr (fits_at side affixes i affix text (omega arith) is h)
+pub fits_at : (side : Side) (affixes : List Affix) (i : ℕ) (affix : Affix) (text : List ℕ) → i < length affixes →
+    Fits side (get_or affixes i affix) text → FitsSome side affixes text
+fits_at side [] i affix text lt h = absurd (omega arith)
+fits_at side (e ∷ affixes) zero affix text lt h = inl h
+fits_at side (e ∷ affixes) (suc i) affix text lt h = inr (fits_at side affixes i affix text (omega arith) h)
 
 -- the affix of each text, and that of the text without bytes
-pub fits_any : (side : Side) (affix : Affix) (text : List ℕ) → affix.word ≡ [] → affix.whole ≡ false → FitsSome side (affix ∷ []) text
+pub fits_any : (side : Side) (affix : Affix) (text : List ℕ) → (bytes_of affix.word) ≡ [] → affix.whole ≡ false → FitsSome side (affix ∷ []) text
 fits_any side affix text word loose =
     inl (text, sym (laid_behind side text) ∙ ap (λ (x : List ℕ). laid side x text) (sym word), λ e. let odd : false ≡ true = sym loose ∙ e in (cc))
 
-pub fits_none : (side : Side) (affix : Affix) → affix.word ≡ [] → FitsSome side (affix ∷ []) []
+pub fits_none : (side : Side) (affix : Affix) → (bytes_of affix.word) ≡ [] → FitsSome side (affix ∷ []) []
 fits_none side affix word = inl ([], sym (laid_none side []) ∙ ap (λ (x : List ℕ). laid side x []) (sym word), λ e. refl)
 
-pub fits_whole : (side : Side) (affix : Affix) (text : List ℕ) → text ≡ affix.word → Fits side affix text
-fits_whole side affix text e = ([], e ∙ sym (laid_none side affix.word), λ w. refl)
+pub fits_whole : (side : Side) (affix : Affix) (text : List ℕ) → text ≡ (bytes_of affix.word) → Fits side affix text
+fits_whole side affix text e = ([], e ∙ sym (laid_none side (bytes_of affix.word)), λ w. refl)
 
 -- places rise
 chain_rises : (R : ℕ → ℕ → Type 0) → ((i j : ℕ) → R i j → i ≤ j) → (k i j : ℕ) → Chain R k i j → i ≤ j

@@ -7,6 +7,7 @@ use Rattle.cs_trigram.specs.Trigram.{trigram_sequence}
 use Rattle.cs_trigram.specs.Query.{HasTrigrams}
 use Rattle.cs_trigram.specs.Sample.{has_any}
 use Rattle.cs_trigram.specs.Affixes.{part, Fits, FitsSome, AreAffixes, AreAffixesOfAll, StandsIn, SomeStands}
+use Rattle.cs_trigram.specs.ShortWord.{bytes_of}
 use Rattle.cs_trigram.specs.declared.affixes.Side.TheVariants.{Prefix, Suffix}
 use Rattle.cs_trigram.specs.declared.affixes.Affix.{Affix}
 use Rattle.cs_trigram.proofs.PartTrigramLemmas.{all_trigrams_tri, has_part, has_front, has_back}
@@ -22,12 +23,12 @@ stands_push (w ∷ words) word text h =
     ]
 
 -- a suffix and a prefix, joined
-pub stands_across : (suffix prefix : Affix) (word u v : List ℕ) → word ≡ suffix.word ++ prefix.word → Fits Suffix suffix u → Fits Prefix prefix v → StandsIn word (u ++ v)
+pub stands_across : (suffix prefix : Affix) (word u v : List ℕ) → word ≡ (bytes_of suffix.word) ++ (bytes_of prefix.word) → Fits Suffix suffix u → Fits Prefix prefix v → StandsIn word (u ++ v)
 stands_across suffix prefix word u v is a b = (
   a.0,
   b.0,
-  ap (λ (x : List ℕ). x ++ v) a.1 ∙ ap (λ (x : List ℕ). (a.0 ++ suffix.word) ++ x) b.1 ∙ append_assoc a.0 suffix.word (prefix.word ++ b.0)
-      ∙ ap (λ (x : List ℕ). a.0 ++ x) (sym (append_assoc suffix.word prefix.word b.0)) ∙ ap (λ (x : List ℕ). a.0 ++ (x ++ b.0)) (sym is),
+  ap (λ (x : List ℕ). x ++ v) a.1 ∙ ap (λ (x : List ℕ). (a.0 ++ (bytes_of suffix.word)) ++ x) b.1 ∙ append_assoc a.0 (bytes_of suffix.word) ((bytes_of prefix.word) ++ b.0)
+      ∙ ap (λ (x : List ℕ). a.0 ++ x) (sym (append_assoc (bytes_of suffix.word) (bytes_of prefix.word) b.0)) ∙ ap (λ (x : List ℕ). a.0 ++ (x ++ b.0)) (sym is),
 )
 
 module _ (set : ℕ → Bool) where

@@ -123,6 +123,13 @@ front_begins ts ws f w m run after e few =
 pub few_count : (n : ℕ) → is_few n ≡ true → (0 < n) × (n ≤ 20)
 few_count n h = let p = and_parts (nat_lt 0 n) (nat_le n 20) h in (ltb-true 0 n p.0, leb-true n 20 p.1)
 
+pub many_count : (n : ℕ) → 20 < n → is_few n ≡ false
+many_count n lt = by (is_few n) refl
+  where
+    by : (b : Bool) → is_few n ≡ b → b ≡ false
+    by true e = let p = few_count n e in absurd (omega (arith, p.1, lt))
+    by false e = refl
+
 pub odd_count : (n : ℕ) → is_few n ≡ false → n ≤ 20 → n ≡ 0
 odd_count zero h le = refl
 odd_count (suc n) h le = absurd (both_ways (is_few (suc n)) h (and_from (nat_lt 0 (suc n)) (nat_le (suc n) 20) (lt-ltb 0 (suc n) (omega arith)) (le-leb (suc n) 20 le)))

@@ -22,6 +22,7 @@ mod FewLemmas
 mod PartTrigramLemmas
 mod SpellingLemmas
 mod WindowLemmas
+mod JoiningLemmas
 mod CountLemmas
 mod AffixLemmas
 mod CrossingLemmas

@@ -3,6 +3,7 @@
 use Rattle.std.specs.Prelude.{ℕ, ◌≡◌, ◌-◌, ◌⊎◌, ◌++◌, ◌∷◌, [], Bool, true, List, length, take, drop, nat_eq, Option}
 use Rattle.std.specs.List.{list_all}
 use Rattle.cs_syntax.specs.Matching.{Tree, Trees, rep, Takes, TakesAll, TakesSome}
+use Rattle.cs_trigram.specs.ShortWord.{bytes_of}
 use Rattle.cs_trigram.specs.declared.affixes.Side.{Side}
 use Rattle.cs_trigram.specs.declared.affixes.Side.TheVariants.{Prefix, Suffix}
 use Rattle.cs_trigram.specs.declared.affixes.Affix.{Affix}
@@ -23,11 +24,11 @@ near_part Suffix n text = drop (length text - n) text
 
 -- no affix has a byte
 abbrev pub are_bare : List Affix → Bool
-are_bare affixes = list_all (λ affix. nat_eq (length affix.word) 0) affixes
+are_bare affixes = list_all (λ affix. nat_eq (length (bytes_of affix.word)) 0) affixes
 
 -- the text has the affix's word at the side, and nothing else where the affix is whole
 abbrev pub Fits : Side → Affix → List ℕ → Type 0
-Fits side affix text = (rest : List ℕ) × (text ≡ laid side affix.word rest) × (affix.whole ≡ true → rest ≡ [])
+Fits side affix text = (rest : List ℕ) × (text ≡ laid side (bytes_of affix.word) rest) × (affix.whole ≡ true → rest ≡ [])
 
 -- the text fits some affix
 abbrev pub FitsSome : Side → List Affix → List ℕ → Type 0

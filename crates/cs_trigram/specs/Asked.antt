@@ -5,6 +5,7 @@ use Rattle.std.specs.List.{list_all}
 use Rattle.cs_syntax.specs.Matching.{Tree, Trees, more}
 use Rattle.cs_trigram.specs.Query.{holds, HasTrigrams}
 use Rattle.cs_trigram.specs.Affixes.{are_bare, FitsSome}
+use Rattle.cs_trigram.specs.ShortWord.{bytes_of}
 use Rattle.cs_trigram.specs.Sample.{IsAsked, all_hold}
 use Rattle.cs_trigram.specs.declared.queries.Query.{Query}
 use Rattle.cs_trigram.specs.declared.affixes.Affix.{Affix}
@@ -17,7 +18,7 @@ IsAskedOf asked ts =
 
 -- the words of a run go on for two bytes behind its first part, which has this suffix
 abbrev pub goes_behind : List (List ℕ) → Affix → Bool
-goes_behind front suffix = suffix.whole && list_all (λ word. nat_lt (length suffix.word + 1) (length word)) front
+goes_behind front suffix = suffix.whole && list_all (λ word. nat_lt (length (bytes_of suffix.word) + 1) (length word)) front
 
 -- the run at the front has each trigram that crosses the seam behind its first part, which has these suffixes, before
 -- those behind it, which have these prefixes

@@ -35,6 +35,10 @@ pub record IsSample (words : List (List ℕ)) (P : List ℕ → Type 0) : Type 0
   pub different : AreDifferent words
   pub whole : length words ≤ 20 → (word : List ℕ) → P word → IsMember word words
 
+-- the words are the joinings, which are at most twenty
+abbrev pub AreFewJoinings : List (List ℕ) → List (List ℕ) → List (List ℕ) → Type 0
+AreFewJoinings words fronts backs = (words ≡ with_words [] (joinings fronts backs)) × (length words ≤ 20)
+
 -- at least one and at most twenty
 abbrev pub is_few : ℕ → Bool
 is_few n = nat_lt 0 n && nat_le n 20

@@ -1,9 +1,12 @@
 // How the texts that a tree takes begin and end.
-ghost use Rattle.std.specs.Prelude.{◌≡◌, ◌<◌, ◌≤◌, ◌⊎◌, [], ◌∷◌, ℕ, true, List, length, IfOk, IfSome, OnOk};
+ghost use Rattle.std.specs.Prelude.{not, ◌≡◌, ◌<◌, ◌≤◌, ◌⊎◌, [], ◌∷◌, ℕ, true, List, length, IfOk, IfSome, OnOk};
+ghost use Rattle.std.specs.List.{list_all};
 ghost use Rattle.cs_trigram.specs.Windows.{IsMember};
 ghost use Rattle.cs_trigram.specs.Affixes.{laid, near_part, are_bare, Fits, FitsSome, IsWider, HaveWider, AreWider, IsAffixOfTwo, AreAffixesOfTwo};
 ghost use Rattle.cs_trigram.specs.Cuts.{AreCutsOf};
+ghost use Rattle.cs_trigram.specs.ShortWord.{bytes_of};
 
+use crate::short_word::ShortWord;
 use crate::words::Word;
 use std::alloc::{AllocError, Global};
 
@@ -21,83 +24,77 @@ pub(crate) enum Side {
 }
 
 /// A prefix or a suffix of a text: what it has at a side.
-#[derive(Drop)]
+#[derive(Clone, Copy)]
 pub(crate) struct Affix {
-    pub(crate) word: Word,
+    pub(crate) word: ShortWord,
     /// Whether it has nothing else.
     pub(crate) whole: bool,
 }
 
-/// The one word at the side, and the other behind it.
-fn laid_word(alloc: Global, side: Side, near: &Word, far: &Word) -> Result<Word, AllocError>
-    ensures { IfOk result (λ word. word ≡ laid side near.now far.now) }
+/// The one word at the side, and the other behind it, where they have at most three bytes.
+fn laid_word(side: Side, near: ShortWord, far: ShortWord) -> Option<ShortWord>
+    ensures { IfSome result (λ word. bytes_of word ≡ laid side (bytes_of near) (bytes_of far)) }
 {
     match side {
-        Side::Prefix => Word::joining(alloc, near, far),
-        Side::Suffix => Word::joining(alloc, far, near),
+        Side::Prefix => near.before(far),
+        Side::Suffix => far.before(near),
     }
 }
 
 /// The affix of a text that fits the one at the side, and the other behind it.
-fn joined_affix(alloc: Global, side: Side, near: &Affix, far: &Affix) -> Result<Affix, AllocError>
-    ensures { IfOk result (λ affix. IsAffixOfTwo side near.now far.now affix) }
+fn joined_affix(side: Side, near: Affix, far: Affix) -> Affix
+    ensures { IsAffixOfTwo side near far result }
 {
-    if near.whole {
-        let word = laid_word(alloc, side, &near.word, &far.word)?;
-        return Ok(Affix {
+    if near.whole
+        && let Some(word) = laid_word(side, near.word, far.word)
+    {
+        return Affix {
             word,
             whole: far.whole,
-        });
+        };
     }
-    let word = near.word.copy(alloc)?;
-    Ok(Affix { word, whole: false })
+    Affix {
+        word: near.word,
+        whole: false,
+    }
 }
 
-/// So many bytes of the word at the side.
-fn near_word(alloc: Global, side: Side, word: &Word, len: usize) -> Result<Word, AllocError>
-    requires shorter { len < length word.now }
-    ensures { IfOk result (λ near. near ≡ near_part side len word.now) }
+/// So many bytes at most of the word at the side.
+fn near_word(side: Side, word: ShortWord, len: usize) -> ShortWord
+    ensures { bytes_of result ≡ near_part side len (bytes_of word) }
 {
-    let bytes = word.bytes();
     match side {
-        Side::Prefix => Word::of(alloc, &bytes[..len]),
-        Side::Suffix => Word::of(alloc, &bytes[bytes.len() - len..]),
+        Side::Prefix => word.front(len),
+        Side::Suffix => word.back(len),
     }
 }
 
 /// The affix, cut to so many bytes.
-fn short_affix(
-    alloc: Global,
-    side: Side,
-    affix: &Affix,
-    longest: usize,
-) -> Result<Affix, AllocError>
-    ensures { IfOk result (λ short. IsWider side short affix.now) }
+fn short_affix(side: Side, affix: Affix, longest: usize) -> Affix
+    ensures { IsWider side result affix }
 {
-    if affix.word.bytes().len() <= longest {
-        let word = affix.word.copy(alloc)?;
-        return Ok(Affix {
-            word,
-            whole: affix.whole,
-        });
+    if affix.word.len() <= longest {
+        return affix;
     }
-    let word = near_word(alloc, side, &affix.word, longest)?;
-    Ok(Affix { word, whole: false })
+    Affix {
+        word: near_word(side, affix.word, longest),
+        whole: false,
+    }
 }
 
 /// Whether each text that fits the other affix is seen to fit this one.
-fn is_wider(affix: &Affix, other: &Affix) -> bool
-    ensures { result ≡ true → (side : Side) → IsWider side affix.now other.now }
+fn is_wider(affix: Affix, other: Affix) -> bool
+    ensures { result ≡ true → (side : Side) → IsWider side affix other }
 {
-    (!affix.whole || other.whole) && affix.word.bytes() == other.word.bytes()
+    affix.word == other.word && (!affix.whole || other.whole)
 }
 
 /// Whether some of the affixes is as wide.
-fn has_affix(affixes: &[Affix], affix: &Affix) -> bool
-    ensures { result ≡ true → (side : Side) → HaveWider side affixes.now affix.now }
+fn has_affix(affixes: &[Affix], affix: Affix) -> bool
+    ensures { result ≡ true → (side : Side) → HaveWider side affixes.now affix }
 {
     for other in affixes {
-        if is_wider(other, affix) {
+        if is_wider(*other, affix) {
             return true;
         }
     }
@@ -109,10 +106,24 @@ fn add_affix(affixes: &mut Vec<Affix>, affix: Affix) -> Result<(), AllocError>
     ensures { OnOk result ((side : Side) →
         AreWider side affixes.new.items (affix ∷ affixes.old.items)) }
 {
-    if !has_affix(affixes, &affix) {
+    if !has_affix(affixes, affix) {
         affixes.push(affix)?;
     }
     Ok(())
+}
+
+/// Whether some affix has more bytes than that.
+fn has_longer(affixes: &[Affix], len: usize) -> bool {
+    affixes.iter().any(|affix| affix.word.len() > len)
+}
+
+/// The affixes once more.
+fn copies(alloc: Global, affixes: &[Affix]) -> Result<Vec<Affix>, AllocError>
+    ensures { IfOk result (λ copies. copies.items ≡ affixes.now) }
+{
+    let mut copies = Vec::with_capacity(alloc, affixes.len())?;
+    copies.extend_from_slice(affixes)?;
+    Ok(copies)
 }
 
 /// The affixes, each cut to so many bytes.
@@ -124,19 +135,23 @@ fn short_affixes(
 ) -> Result<Vec<Affix>, AllocError>
     ensures { IfOk result (λ short. AreWider side short.items affixes.now) }
 {
-    let mut short = Vec::new(alloc);
+    // No two affixes are the same before they are cut.
+    if !has_longer(affixes, longest) {
+        return copies(alloc, affixes);
+    }
+    let mut short = Vec::with_capacity(alloc, affixes.len())?;
     for affix in affixes {
-        add_affix(&mut short, short_affix(alloc, side, affix, longest)?)?;
+        add_affix(&mut short, short_affix(side, *affix, longest))?;
     }
     Ok(short)
 }
 
 /// The affixes, cut until they are not many.
-fn cut_affixes(alloc: Global, side: Side, affixes: &[Affix]) -> Result<Vec<Affix>, AllocError>
-    ensures { IfOk result (λ short. AreWider side short.items affixes.now) }
+fn cut_affixes(alloc: Global, side: Side, affixes: Vec<Affix>) -> Result<Vec<Affix>, AllocError>
+    ensures { IfOk result (λ short. AreWider side short.items affixes.items) }
 {
     let mut longest = LONGEST;
-    let mut short = short_affixes(alloc, side, affixes, longest)?;
+    let mut short = affixes;
     'cut: while short.len() > MANY && longest > 0 {
         longest -= 1;
         short = short_affixes(alloc, side, &short, longest)?;
@@ -145,15 +160,14 @@ fn cut_affixes(alloc: Global, side: Side, affixes: &[Affix]) -> Result<Vec<Affix
 }
 
 /// The affix cut to so many bytes, of a text with any other behind it.
-fn open_affix(alloc: Global, side: Side, affix: &Affix, longest: usize) -> Result<Affix, AllocError>
-    ensures { IfOk result (λ loose. (u v : List ℕ) → Fits side affix.now u →
-        Fits side loose (laid side u v)) }
+fn open_affix(side: Side, affix: Affix, longest: usize) -> Affix
+    ensures { (u v : List ℕ) → Fits side affix u → Fits side result (laid side u v) }
 {
-    let short = short_affix(alloc, side, affix, longest)?;
-    Ok(Affix {
+    let short = short_affix(side, affix, longest);
+    Affix {
         word: short.word,
         whole: false,
-    })
+    }
 }
 
 /// The same affixes, cut to so many bytes each.
@@ -200,22 +214,21 @@ impl Cuts {
 
 /// Adds the joinings of an affix with each of those behind it, until there are too many.
 fn add_joinings(
-    alloc: Global,
     side: Side,
-    near: &Affix,
+    near: Affix,
     fars: &[Affix],
     affixes: &mut Vec<Affix>,
 ) -> Result<(), AllocError>
     ensures keeps { OnOk result (AreWider side affixes.new.items affixes.old.items) }
     ensures joins { OnOk result (length affixes.new.items ≤ 20 → (u v : List ℕ) →
-        Fits side near.now u → FitsSome side fars.now v →
+        Fits side near u → FitsSome side fars.now v →
         FitsSome side affixes.new.items (laid side u v)) }
 {
     for far in fars {
         if affixes.len() > MANY {
             return Ok(());
         }
-        add_affix(affixes, joined_affix(alloc, side, near, far)?)?;
+        add_affix(affixes, joined_affix(side, near, *far))?;
     }
     Ok(())
 }
@@ -223,23 +236,22 @@ fn add_joinings(
 /// Adds the joinings of an affix with each of those behind it, cut to so many bytes, until there
 /// are too many.
 fn add_joined(
-    alloc: Global,
     side: Side,
-    near: &Affix,
+    near: Affix,
     fars: &Cuts,
     longest: usize,
     affixes: &mut Vec<Affix>,
 ) -> Result<(), AllocError>
     ensures keeps { OnOk result (AreWider side affixes.new.items affixes.old.items) }
     ensures joins { OnOk result (length affixes.new.items ≤ 20 → (all : List Affix) (u v : List ℕ) →
-        AreCutsOf side fars.now all → Fits side near.now u → FitsSome side all v →
+        AreCutsOf side fars.now all → Fits side near u → FitsSome side all v →
         FitsSome side affixes.new.items (laid side u v)) }
 {
-    let len = near.word.bytes().len();
+    let len = near.word.len();
     if !near.whole || len > longest {
-        return add_affix(affixes, open_affix(alloc, side, near, longest)?);
+        return add_affix(affixes, open_affix(side, near, longest));
     }
-    add_joinings(alloc, side, near, fars.to(longest - len), affixes)
+    add_joinings(side, near, fars.to(longest - len), affixes)
 }
 
 /// Whether the joinings are seen to be many before they are made: where the affixes in front are
@@ -248,11 +260,11 @@ fn are_many(nears: &[Affix], fars: &Cuts, longest: usize) -> bool {
     let Some(first) = nears.first() else {
         return false;
     };
-    let len = first.word.bytes().len();
+    let len = first.word.len();
     if len > longest
         || !nears
             .iter()
-            .all(|near| near.whole && near.word.bytes().len() == len)
+            .all(|near| near.whole && near.word.len() == len)
     {
         return false;
     }
@@ -274,14 +286,21 @@ fn few_joined(
     if are_many(nears, fars, longest) {
         return Ok(None);
     }
-    let mut affixes = Vec::new(alloc);
+    let mut affixes = Vec::with_capacity(alloc, MANY + 1)?;
     for near in nears {
-        add_joined(alloc, side, near, fars, longest, &mut affixes)?;
+        add_joined(side, *near, fars, longest, &mut affixes)?;
         if affixes.len() > MANY {
             return Ok(None);
         }
     }
     Ok(Some(affixes))
+}
+
+/// Whether each affix may have more than its bytes, so that nothing is known of what is behind it.
+fn are_open(affixes: &[Affix]) -> bool
+    ensures { result ≡ list_all (λ affix. not affix.whole) affixes.now }
+{
+    affixes.iter().all(|affix| !affix.whole)
 }
 
 /// The affixes of the one text at the side, and the other behind it, of as many bytes as leave them
@@ -294,6 +313,9 @@ pub(crate) fn joined_affixes(
 ) -> Result<Vec<Affix>, AllocError>
     ensures { IfOk result (λ affixes. AreAffixesOfTwo side nears.now fars.now affixes.items) }
 {
+    if are_open(nears) {
+        return copies(alloc, nears);
+    }
     let cuts = Cuts::new(alloc, side, fars)?;
     let mut longest = LONGEST;
     'cut: while longest > 0 {
@@ -318,9 +340,9 @@ pub(crate) fn either_affixes(
 {
     let mut both = affixes;
     for affix in more {
-        add_affix(&mut both, short_affix(alloc, side, affix, LONGEST)?)?;
+        add_affix(&mut both, *affix)?;
     }
-    cut_affixes(alloc, side, &both)
+    cut_affixes(alloc, side, both)
 }
 
 /// The affix of each text.
@@ -329,7 +351,7 @@ pub(crate) fn any_affix(alloc: Global) -> Result<Vec<Affix>, AllocError>
 {
     let mut affixes = Vec::new(alloc);
     affixes.push(Affix {
-        word: Word::empty(alloc),
+        word: ShortWord::Empty,
         whole: false,
     })?;
     Ok(affixes)
@@ -341,10 +363,38 @@ pub(crate) fn empty_affix(alloc: Global) -> Result<Vec<Affix>, AllocError>
 {
     let mut affixes = Vec::new(alloc);
     affixes.push(Affix {
-        word: Word::empty(alloc),
+        word: ShortWord::Empty,
         whole: true,
     })?;
     Ok(affixes)
+}
+
+/// So many bytes of the word at the side.
+fn near_bytes(side: Side, word: &[u8], len: usize) -> &[u8]
+    requires shorter { len < length word.now }
+    ensures { result.now ≡ near_part side len word.now }
+{
+    match side {
+        Side::Prefix => &word[..len],
+        Side::Suffix => &word[word.len() - len..],
+    }
+}
+
+/// The affix of a word.
+fn affix_of_word(side: Side, word: &Word) -> Affix
+    ensures { Fits side result word.now }
+{
+    let bytes = word.bytes();
+    if bytes.len() <= LONGEST {
+        return Affix {
+            word: ShortWord::of(bytes),
+            whole: true,
+        };
+    }
+    Affix {
+        word: ShortWord::of(near_bytes(side, bytes, LONGEST)),
+        whole: false,
+    }
 }
 
 /// The affixes of the words.
@@ -356,17 +406,16 @@ pub(crate) fn affixes_of_words(
     ensures { IfOk result (λ affixes. (text : List ℕ) → IsMember text words.now →
         FitsSome side affixes.items text) }
 {
-    let mut affixes = Vec::new(alloc);
+    let mut affixes = Vec::with_capacity(alloc, words.len())?;
     for word in words {
-        let word = word.copy(alloc)?;
-        add_affix(&mut affixes, Affix { word, whole: true })?;
+        add_affix(&mut affixes, affix_of_word(side, word))?;
     }
-    cut_affixes(alloc, side, &affixes)
+    Ok(affixes)
 }
 
 /// Whether no affix has a byte.
 pub(crate) fn are_empty(affixes: &[Affix]) -> bool
     ensures { result ≡ are_bare affixes.now }
 {
-    affixes.iter().all(|affix| affix.word.bytes().is_empty())
+    affixes.iter().all(|affix| affix.word.len() == 0)
 }

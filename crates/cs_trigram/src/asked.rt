@@ -16,7 +16,7 @@ use crate::crossings::any_crossing;
 use crate::fronts::longest_front;
 use crate::queries::Query;
 use crate::spelling::no_bytes;
-use crate::words::{FEW, Word, are_longer, joined_words};
+use crate::words::{Word, are_longer, few_joinings, words_put_behind};
 use std::alloc::{AllocError, Global};
 use std::mem;
 
@@ -65,13 +65,16 @@ impl Asked {
         ensures asks { OnOk result ((t : Tree) (ts : Trees) → TreeWords words.now t →
             AreCounted self.old.parts.items ts → IsAskedBefore self.old self.new t ts) }
     {
-        let joined = joined_words(alloc, words, &self.front)?;
-        if joined.len() <= FEW {
+        let passed = mem::replace(&mut self.front, Vec::new(alloc));
+        if words.len() == 1 {
+            self.front = words_put_behind(alloc, &words[0], passed)?;
+            return Ok(());
+        }
+        if let Some(joined) = few_joinings(alloc, words, &passed)? {
             self.front = joined;
             return Ok(());
         }
-        let longest = longest_front(alloc, words, &self.parts)?;
-        let passed = mem::replace(&mut self.front, longest);
+        self.front = longest_front(alloc, words, &self.parts)?;
         add_need(&mut self.needs, any_word(alloc, &passed)?)?;
         Ok(())
     }
@@ -93,7 +96,7 @@ impl Asked {
     fn reaches_behind(&self, suffix: &Affix) -> bool
         ensures { result ≡ goes_behind self.now.front.items suffix.now }
     {
-        suffix.whole && are_longer(&self.front, suffix.word.bytes().len() + 1)
+        suffix.whole && are_longer(&self.front, suffix.word.len() + 1)
     }
 
     /// Whether they do so behind each of these suffixes.

@@ -5,7 +5,7 @@ ghost use Rattle.cs_trigram.specs.FiniteWords.{is_finite, HasFewWords};
 ghost use Rattle.cs_trigram.specs.Sample.{SamplesTree, TreeWords};
 ghost use Rattle.cs_trigram.specs.Counted.{HasMany, Counts};
 
-use crate::words::{FEW, Word, add_words, copies, joined_words, words_behind_one};
+use crate::words::{FEW, Word, add_words, copies, joined_words, words_put_behind};
 use std::alloc::{AllocError, Global};
 
 /// What is known of the words of a tree.
@@ -71,9 +71,9 @@ impl Counted {
     }
 
     /// A few words with each of these behind them.
-    fn behind_few(&self, alloc: Global, fronts: &[Word]) -> Result<Counted, AllocError>
+    fn behind_few(self, alloc: Global, fronts: &[Word]) -> Result<Counted, AllocError>
         ensures { IfOk result (λ joined. (t u : Tree) → SamplesTree fronts.now t →
-            length fronts.now ≤ 20 → Counts self.now u →
+            length fronts.now ≤ 20 → Counts self u →
             Counts joined (cat (more t (more u none)))) }
     {
         match self {
@@ -86,16 +86,16 @@ impl Counted {
             }
             Counted::Few(backs) => {
                 if fronts.len() == 1 {
-                    return Ok(Counted::Few(words_behind_one(alloc, &fronts[0], backs)?));
+                    return Ok(Counted::Few(words_put_behind(alloc, &fronts[0], backs)?));
                 }
-                Ok(Counted::of(joined_words(alloc, fronts, backs)?))
+                Ok(Counted::of(joined_words(alloc, fronts, &backs)?))
             }
         }
     }
 
     /// These with each of the others behind them.
-    pub(crate) fn joined(&self, alloc: Global, backs: &Counted) -> Result<Counted, AllocError>
-        ensures { IfOk result (λ joined. (t u : Tree) → Counts self.now t → Counts backs.now u →
+    pub(crate) fn joined(&self, alloc: Global, backs: Counted) -> Result<Counted, AllocError>
+        ensures { IfOk result (λ joined. (t u : Tree) → Counts self.now t → Counts backs u →
             Counts joined (cat (more t (more u none)))) }
     {
         match self {

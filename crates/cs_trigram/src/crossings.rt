@@ -24,7 +24,7 @@ fn add_crossings(
         FitsSome Prefix prefixes.now v → SomeStands words.new.items (u ++ v)) }
 {
     for prefix in prefixes {
-        words.push(Word::joining(alloc, &suffix.word, &prefix.word)?)?;
+        words.push(Word::across(alloc, suffix.word, prefix.word)?)?;
     }
     Ok(())
 }
@@ -46,7 +46,7 @@ fn crossing_words(
 
 /// Whether some affix has at most so many bytes.
 fn has_short(affixes: &[Affix], most: usize) -> bool {
-    affixes.iter().any(|affix| affix.word.bytes().len() <= most)
+    affixes.iter().any(|affix| affix.word.len() <= most)
 }
 
 /// Whether some joining has no trigram, so that nothing is asked.

@@ -7,7 +7,7 @@ ghost use Rattle.cs_trigram.specs.Sample.{TreeWords, RunWords, IsFront};
 ghost use Rattle.cs_trigram.specs.Counted.{AreCounted};
 
 use crate::counted::Counted;
-use crate::words::{Word, are_few, copies, joined_words};
+use crate::words::{Word, copies, few_joinings};
 use std::alloc::{AllocError, Global};
 
 /// The words of a run and a part behind it, where these are few.
@@ -21,8 +21,10 @@ fn words_behind(
         MatchOption found (¬ HaveFewWords (append run (more t none)))
         (λ joined. RunWords joined.items (append run (more t none)))) }
 {
-    let joined = joined_words(alloc, words, backs)?;
-    if !are_few(&joined) {
+    let Some(joined) = few_joinings(alloc, words, backs)? else {
+        return Ok(None);
+    };
+    if joined.len() == 0 {
         return Ok(None);
     }
     Ok(Some(joined))

@@ -13,6 +13,7 @@ use crate::known::Known;
 use crate::queries::Query;
 use crate::spelling::no_bytes;
 use std::alloc::{AllocError, Global};
+use std::mem;
 
 /// What is known of the parts of a sequence, from some part on.
 #[derive(Drop)]
@@ -50,7 +51,8 @@ impl Sequence {
             IsSequence self.new (more t ts)) }
     {
         let Known { words, ends, query } = part;
-        self.words = words.joined(alloc, &self.words)?;
+        let behind = mem::replace(&mut self.words, Counted::Endless);
+        self.words = words.joined(alloc, behind)?;
         self.asked
             .add(alloc, query, words, &ends.suffixes, &self.ends.prefixes)?;
         self.ends = ends.before(alloc, &self.ends)?;

@@ -52,7 +52,7 @@ fn rounds_up_to(alloc: Global, once: &Counted, most: u32) -> Result<Counted, All
     let mut words = Counted::Few(no_bytes(alloc)?);
     for _round in 0..most {
         words = once
-            .joined(alloc, &words)?
+            .joined(alloc, words)?
             .or(alloc, &Counted::Few(no_bytes(alloc)?))?;
     }
     Ok(words)
@@ -71,7 +71,7 @@ fn rounds_before(
 {
     let mut words = backs;
     for _round in 0..count {
-        words = once.joined(alloc, &words)?;
+        words = once.joined(alloc, words)?;
     }
     Ok(words)
 }

@@ -1,9 +1,11 @@
 // The words of finite trees, as far as they are few.
-ghost use Rattle.std.specs.Prelude.{nat_lt, ◌≡◌, ◌≤◌, ◌<◌, ◌++◌, ◌∷◌, [], List, IfOk, OnOk, MatchOption, length, map};
+ghost use Rattle.std.specs.Prelude.{nat_lt, nat_eq, true, ◌≡◌, ◌≤◌, ◌<◌, ◌++◌, ◌∷◌, [], List, IfOk, OnOk, MatchOption, length, map};
 ghost use Rattle.std.specs.List.{list_all, list_any};
 ghost use Rattle.std.specs.Str.{bytes_eq};
-ghost use Rattle.cs_trigram.specs.Sample.{is_few, with_word, with_words, joinings};
+ghost use Rattle.cs_trigram.specs.ShortWord.{bytes_of};
+ghost use Rattle.cs_trigram.specs.Sample.{with_word, with_words, joinings, AreDifferent, AreFewJoinings};
 
+use crate::short_word::ShortWord;
 use std::alloc::{AllocError, Global};
 use std::marker::Model;
 
@@ -13,15 +15,19 @@ pub(crate) const FEW: usize = 20;
 /// A word of a finite tree.
 #[derive(Drop)]
 pub(crate) struct Word {
+    /// Its bytes are those from `start` on. The others leave room for bytes that go before.
     bytes: Vec<u8>,
+    start: usize,
 }
 
 impl Model for Word {
-    ghost use Rattle.std.specs.Prelude.{List, ℕ};
+    ghost use Rattle.std.specs.Prelude.{List, ℕ, drop, length, ◌≤◌};
 
     ghost Value = { List ℕ };
 
-    ghost view = { λ word. word.bytes.items };
+    ghost view = { λ word. drop word.start word.bytes.items };
+
+    ghost invariant = { λ word. word.start ≤ length word.bytes.items };
 }
 
 impl Word {
@@ -31,6 +37,7 @@ impl Word {
     {
         Word {
             bytes: Vec::new(alloc),
+            start: 0,
         }
     }
 
@@ -40,7 +47,7 @@ impl Word {
     {
         let mut bytes = Vec::new(alloc);
         bytes.push(byte)?;
-        Ok(Word { bytes })
+        Ok(Word { bytes, start: 0 })
     }
 
     /// The word of these bytes.
@@ -49,7 +56,10 @@ impl Word {
     {
         let mut word = Vec::new(alloc);
         word.extend_from_slice(bytes)?;
-        Ok(Word { bytes: word })
+        Ok(Word {
+            bytes: word,
+            start: 0,
+        })
     }
 
     /// The word once more.
@@ -63,24 +73,79 @@ impl Word {
     pub(crate) fn joining(alloc: Global, front: &Word, back: &Word) -> Result<Word, AllocError>
         ensures { IfOk result (λ word. word ≡ front.now ++ back.now) }
     {
-        let mut bytes = Vec::with_capacity(alloc, front.bytes.len() + back.bytes.len())?;
-        bytes.extend_from_slice(front.bytes.as_slice())?;
-        bytes.extend_from_slice(back.bytes.as_slice())?;
-        Ok(Word { bytes })
+        let (front, back) = (front.bytes(), back.bytes());
+        let mut bytes = Vec::with_capacity(alloc, front.len() + back.len())?;
+        bytes.extend_from_slice(front)?;
+        bytes.extend_from_slice(back)?;
+        Ok(Word { bytes, start: 0 })
+    }
+
+    /// The word with a byte before it, and room for as many bytes more before that.
+    fn behind_byte(&self, alloc: Global, byte: u8) -> Result<Word, AllocError>
+        ensures { IfOk result (λ word. word ≡ byte ∷ self.now) }
+    {
+        let word = self.bytes();
+        let mut bytes = Vec::with_capacity(alloc, 2 * word.len() + 1)?;
+        bytes.extend_from_slice(word)?;
+        bytes.push(byte)?;
+        bytes.extend_from_slice(word)?;
+        Ok(Word {
+            bytes,
+            start: word.len(),
+        })
+    }
+
+    /// A byte goes before the word.
+    fn put_before(self, alloc: Global, byte: u8) -> Result<Word, AllocError>
+        ensures { IfOk result (λ word. word ≡ byte ∷ self) }
+    {
+        if self.start == 0 {
+            return self.behind_byte(alloc, byte);
+        }
+        let Word { mut bytes, start } = self;
+        bytes[start - 1] = byte;
+        Ok(Word {
+            bytes,
+            start: start - 1,
+        })
+    }
+
+    /// The word behind another. Where that has one byte, the word is not moved each time.
+    fn behind(self, alloc: Global, front: &Word) -> Result<Word, AllocError>
+        ensures { IfOk result (λ word. word ≡ front.now ++ self) }
+    {
+        match front.bytes() {
+            [byte] => self.put_before(alloc, *byte),
+            _ => Word::joining(alloc, front, &self),
+        }
+    }
+
+    /// The one short word and then the other.
+    pub(crate) fn across(
+        alloc: Global,
+        front: ShortWord,
+        back: ShortWord,
+    ) -> Result<Word, AllocError>
+        ensures { IfOk result (λ word. word ≡ bytes_of front ++ bytes_of back) }
+    {
+        let mut bytes = Vec::with_capacity(alloc, front.len() + back.len())?;
+        front.lay(&mut bytes)?;
+        back.lay(&mut bytes)?;
+        Ok(Word { bytes, start: 0 })
     }
 
     /// The bytes of the word.
     pub(crate) fn bytes(&self) -> &[u8]
         ensures { result.now ≡ self.now }
     {
-        self.bytes.as_slice()
+        &self.bytes[self.start..]
     }
 
     /// Whether the two are one word.
     pub(crate) fn is(&self, other: &Word) -> bool
         ensures { result ≡ bytes_eq self.now other.now }
     {
-        self.bytes == other.bytes
+        self.bytes() == other.bytes()
     }
 }
 
@@ -89,13 +154,6 @@ fn has_word(words: &[Word], word: &Word) -> bool
     ensures { result ≡ list_any (λ w. bytes_eq w word.now) words.now }
 {
     words.iter().any(|w| w.is(word))
-}
-
-/// Whether there is a word, and no more than are few.
-pub(crate) fn are_few(words: &[Word]) -> bool
-    ensures { result ≡ is_few (length words.now) }
-{
-    !words.is_empty() && words.len() <= FEW
 }
 
 /// Whether each of the words has more bytes than that.
@@ -160,16 +218,27 @@ fn add_joinings(
 }
 
 /// The joinings of a word with each of the others, which differ where these do.
-pub(crate) fn words_behind_one(
-    alloc: Global,
-    front: &Word,
-    backs: &[Word],
-) -> Result<Vec<Word>, AllocError>
+fn words_behind_one(alloc: Global, front: &Word, backs: &[Word]) -> Result<Vec<Word>, AllocError>
     ensures { IfOk result (λ words. words.items ≡ map (λ v. front.now ++ v) backs.now) }
 {
-    let mut words = Vec::new(alloc);
+    let mut words = Vec::with_capacity(alloc, backs.len())?;
     for back in backs {
         words.push(Word::joining(alloc, front, back)?)?;
+    }
+    Ok(words)
+}
+
+/// The same of words that are not needed any more.
+pub(crate) fn words_put_behind(
+    alloc: Global,
+    front: &Word,
+    backs: Vec<Word>,
+) -> Result<Vec<Word>, AllocError>
+    ensures { IfOk result (λ words. words.items ≡ map (λ v. front.now ++ v) backs.items) }
+{
+    let mut words = Vec::with_capacity(alloc, backs.len())?;
+    for back in backs {
+        words.push(back.behind(alloc, front)?)?;
     }
     Ok(words)
 }
@@ -191,4 +260,46 @@ pub(crate) fn joined_words(
         add_joinings(alloc, front, backs, &mut words)?;
     }
     Ok(words)
+}
+
+/// Whether each word has so many bytes.
+fn have_length(words: &[Word], len: usize) -> bool
+    ensures { result ≡ list_all (λ word. nat_eq (length word) len) words.now }
+{
+    words.iter().all(|word| word.bytes().len() == len)
+}
+
+/// Whether the joinings of different words are seen to be more than few before they are made: words
+/// of one length with any behind them differ.
+fn are_many(fronts: &[Word], backs: &[Word]) -> bool
+    ensures { result ≡ true → AreDifferent fronts.now → AreDifferent backs.now →
+        20 < length (with_words [] (joinings fronts.now backs.now)) }
+{
+    let Some(first) = fronts.first() else {
+        return false;
+    };
+    have_length(fronts, first.bytes().len()) && fronts.len().saturating_mul(backs.len()) > FEW
+}
+
+/// The joinings of different words with others that differ, where they are at most few.
+pub(crate) fn few_joinings(
+    alloc: Global,
+    fronts: &[Word],
+    backs: &[Word],
+) -> Result<Option<Vec<Word>>, AllocError>
+    ensures { IfOk result (λ found. AreDifferent fronts.now → AreDifferent backs.now →
+        MatchOption found (20 < length (with_words [] (joinings fronts.now backs.now)))
+        (λ words. AreFewJoinings words.items fronts.now backs.now)) }
+{
+    if fronts.len() == 1 && backs.len() <= FEW {
+        return Ok(Some(words_behind_one(alloc, &fronts[0], backs)?));
+    }
+    if are_many(fronts, backs) {
+        return Ok(None);
+    }
+    let words = joined_words(alloc, fronts, backs)?;
+    if words.len() > FEW {
+        return Ok(None);
+    }
+    Ok(Some(words))
 }

@@ -3,7 +3,7 @@ use Rattle.cs_trigram.specs.declared.affixes.Affix.{Affix}
 use Rattle.cs_trigram.proofs.AffixLemmas.{fits_open}
 use Rattle.cs_trigram.proofs.affixes.joined_affix.Goals as goal
 
-pub returns : goal.returns
-returns c = λ u v a b.
-    let affix : Affix = record { word = c.in_ok-word-2.word; whole = false } in
-    fits_open c.args.side c.args.near.now affix c.in_ok-word-2.ensures refl u v a
+pub returns-2 : goal.returns-2
+returns-2 c = λ u v a b.
+    let affix : Affix = record { word = c.args.near.word; whole = false } in
+    fits_open c.args.side c.args.near affix refl refl u v a

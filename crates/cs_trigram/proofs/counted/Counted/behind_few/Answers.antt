@@ -15,7 +15,7 @@ returns-else-fronts-eq0 c = λ t u s le h.
 pub returns-in_ok-joined_words-in-Few : goal.returns-in_ok-joined_words-in-Few
 returns-in_ok-joined_words-in-Few c = λ t u s le h.
     let same : c.in_ok-joined_words-in-Few.field-0.items ≡ with_words [] (joinings c.args.fronts.now c.in-Few.backs.items) =
-    c.in_ok-joined_words-in-Few.ensures ∙ ap (λ (vs : List (List ℕ)). with_words [] (joinings c.args.fronts.now vs)) c.deref-in-Few.ensures.value in
+    c.in_ok-joined_words-in-Few.ensures ∙ ap (λ (vs : List (List ℕ)). with_words [] (joinings c.args.fronts.now vs)) c.deref.ensures.value in
     c.of.ensures (cat (pair t u))
     (subst (λ (ws : List (List ℕ)). SamplesTree ws (cat (pair t u))) (sym same)
     (samples_pair c.args.fronts.now c.in-Few.backs.items t u s (subst (λ (x : Counted). Counts x u) c.in-Few.is h).0))
@@ -26,9 +26,8 @@ returns-then-fronts-eq1 c = λ t u s le h.
     let backs = c.in-Few.backs.items in
     let few = subst (λ (x : Counted). Counts x u) c.in-Few.is h in
     let one = only_word c.args.fronts.now front (omega arith) c.index-fronts-0.is in
-    let same : c.in_ok-words_behind_one-in-Few.field-0.items ≡ map (λ v. front ++ v) backs =
-    c.in_ok-words_behind_one-in-Few.ensures ∙ ap (λ (vs : List (List ℕ)). map (λ v. front ++ v) vs) c.deref.ensures.value in
-    let small : length c.in_ok-words_behind_one-in-Few.field-0.items ≤ 20 = omega (arith, few.1, ap length same, length-map backs (λ (v : List ℕ). front ++ v)) in (
+    let same : c.in_ok-words_put_behind-in-Few.field-0.items ≡ map (λ v. front ++ v) backs = c.in_ok-words_put_behind-in-Few.ensures in
+    let small : length c.in_ok-words_put_behind-in-Few.field-0.items ≤ 20 = omega (arith, few.1, ap length same, length-map backs (λ (v : List ℕ). front ++ v)) in (
       subst (λ (ws : List (List ℕ)). SamplesTree ws (cat (pair t u))) (sym same)
           (samples_one front backs t u (subst (λ (ws : List (List ℕ)). SamplesTree ws t) one s) few.0),
       small,

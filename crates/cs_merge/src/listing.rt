@@ -58,7 +58,8 @@ fn lay_all(
     ensures paths { OnOk result (sections.new.paths ≡ sections.old.paths) }
     ensures names { OnOk result (sections.new.names ≡ sections.old.names) }
     ensures older { OnOk result (AreCarried older_runs.now (lists_in old.now) sections.new.lists) }
-    ensures newer { OnOk result (AreCarried newer_runs.now (lists_in newer.now) sections.new.lists) }
+    ensures newer { OnOk result
+        (AreCarried newer_runs.now (lists_in newer.now) sections.new.lists) }
     ensures fault { MatchResult result (λ _. both_whole old.now newer.now ≡ true)
         (IsListFault (both_whole old.now newer.now)) }
 {

@@ -55,7 +55,8 @@ fn lay_next(
     requires newer_parts { AreParts newer.now }
     requires tested { AreTested old.now newer.now }
     requires cover { set.from_list cover.now ≡ paths_in newer.now }
-    requires so_far { IsNaming old.now newer.now sections.old sections.old ids.old.older ids.old.newer }
+    requires so_far { IsNaming old.now newer.now sections.old sections.old
+        ids.old.older ids.old.newer }
     ensures so_far { OnOk result
         (IsNaming old.now newer.now sections.old sections.new ids.new.older ids.new.newer) }
     ensures more { IfOk result (λ more. more ≡ true → length ids.new.older + length ids.new.newer

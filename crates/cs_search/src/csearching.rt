@@ -1,5 +1,5 @@
 // The tool that searches by an index.
-ghost use Rattle.std.specs.Prelude.{◌≡◌, ◌⊎◌, ℕ, Bool, List, Option, [], ◌∷◌, IfOk, IfErr, OnErr, option_map, option_copied, filter};
+ghost use Rattle.std.specs.Prelude.{◌≡◌, ◌⊎◌, ℕ, Bool, List, Option, [], ◌∷◌, IfOk, IfErr, OnOk, OnErr, option_map, option_copied, filter};
 ghost use Rattle.cs_tree.specs.Failures.{CountsOne};
 ghost use Rattle.cs_match.specs.Finding.{Decides};
 ghost use Rattle.cs_index.specs.Opening.{Parts};
@@ -65,6 +65,7 @@ pub fn csearch<T: Tree, O: Sink, E: Sink>(
     ensures faults { (parts : Parts) → OpensWith (option_copied index.entry) parts →
         TellsFaults Csearch parts.names
         (T.failed tree.old) (T.failed tree.new) (E.taken err.old) (E.taken err.new) result }
+    ensures flushed { OnOk result ((O.unflushed out.new ≡ 0) × (E.unflushed err.new ≡ 0)) }
     ensures writes { CountsOne (has_write_failed result)
         (O.failed out.old) (O.failed out.new) (E.failed err.old) (E.failed err.new) }
     ensures keeps { T.snapshot tree.new ≡ T.snapshot tree.old }
@@ -116,6 +117,7 @@ pub(crate) fn search_by<T: Tree, O: Sink, E: Sink>(
         (O.taken out.old) (O.taken out.new) (E.taken err.old) (E.taken err.new) result }
     ensures quiet { QuietAtRefusal result
         (PrintsNothing (O.taken out.old) (O.taken out.new) (E.taken err.old) (E.taken err.new)) }
+    ensures flushed { OnOk result ((O.unflushed out.new ≡ 0) × (E.unflushed err.new ≡ 0)) }
     ensures writes { CountsOne (has_write_failed result)
         (O.failed out.old) (O.failed out.new) (E.failed err.old) (E.failed err.new) }
     ensures keeps { T.snapshot tree.new ≡ T.snapshot tree.old }

@@ -72,7 +72,8 @@ impl Form<'_> {
     /// `NAME:`, and under `-h` nothing.
     #[tactic(auto, using(crate::proofs::Printing::printing))]
     fn print_front<O: Sink>(&self, out: &mut O) -> Result<(), GrepFault>
-        ensures written { TakesAll (if self.now.style.bare then [] else self.now.name.now ++ codes ":")
+        ensures written { TakesAll
+            (if self.now.style.bare then [] else self.now.name.now ++ codes ":")
             (O.taken out.old) (O.taken out.new) result }
         ensures failed { O.failed out.new ≡ count_after is_grep_failure result (O.failed out.old) }
     {
@@ -87,7 +88,8 @@ impl Form<'_> {
     /// `NUMBER:` under `-n`, and else nothing.
     #[tactic(auto, using(crate::proofs::Printing::printing))]
     fn print_number<O: Sink>(&self, number: u64, out: &mut O) -> Result<(), GrepFault>
-        ensures written { TakesAll (if self.now.style.number then decimal number ++ codes ":" else [])
+        ensures written { TakesAll
+            (if self.now.style.number then decimal number ++ codes ":" else [])
             (O.taken out.old) (O.taken out.new) result }
         ensures failed { O.failed out.new ≡ count_after is_grep_failure result (O.failed out.old) }
     {
@@ -116,7 +118,8 @@ impl Form<'_> {
     /// `NAME: COUNT` on a line.
     #[tactic(auto, using(crate::proofs::Printing::printing))]
     fn print_count<O: Sink>(&self, count: u64, out: &mut O) -> Result<(), GrepFault>
-        ensures written { TakesAll (self.now.name.now ++ (codes ": " ++ (decimal count ++ newline ∷ [])))
+        ensures written { TakesAll
+            (self.now.name.now ++ (codes ": " ++ (decimal count ++ newline ∷ [])))
             (O.taken out.old) (O.taken out.new) result }
         ensures failed { O.failed out.new ≡ count_after is_grep_failure result (O.failed out.old) }
     {

@@ -1,5 +1,5 @@
 // The tools that search.
-ghost use Rattle.std.specs.Prelude.{◌≡◌, ◌+◌, ◌⊎◌, ℕ, Bool, List, [], IfOk, IfErr, OnErr, string_bytes};
+ghost use Rattle.std.specs.Prelude.{◌≡◌, ◌+◌, ◌⊎◌, ℕ, Bool, List, [], IfOk, IfErr, OnOk, OnErr, string_bytes};
 ghost use Rattle.cs_tree.specs.Failures.{CountsOne};
 ghost use Rattle.cs_tree.specs.Transfers.{LosesAtMost};
 ghost use Rattle.cs_syntax.specs.Matching.{Tree as PatternTree};
@@ -54,6 +54,7 @@ pub fn cgrep<T: Tree, R: Source, O: Sink, E: Sink>(
     ensures faults { TellsFaultsOf job.now
         (T.failed tree.old) (T.failed tree.new) (R.failed input.old) (R.failed input.new)
         (E.taken err.old) (E.taken err.new) result }
+    ensures flushed { OnOk result ((O.unflushed out.new ≡ 0) × (E.unflushed err.new ≡ 0)) }
     ensures writes { CountsOne (has_write_failed result)
         (O.failed out.old) (O.failed out.new) (E.failed err.old) (E.failed err.new) }
     ensures tree_keeps { T.snapshot tree.new ≡ T.snapshot tree.old }
@@ -85,6 +86,7 @@ pub(crate) fn finish<O: Sink, E: Sink>(
     ensures status { IfOk result (λ status. status ≡ status_of matched) }
     ensures out { Grows (O.taken out.old) (O.taken out.new) [] }
     ensures err { Grows (E.taken err.old) (E.taken err.new) [] }
+    ensures flushed { OnOk result ((O.unflushed out.new ≡ 0) × (E.unflushed err.new ≡ 0)) }
     ensures writes { CountsOne (has_write_failed result)
         (O.failed out.old) (O.failed out.new) (E.failed err.old) (E.failed err.new) }
     ensures only { IsSearchFault result }

@@ -1,5 +1,5 @@
 // The tool that searches by an index that lies in a store.
-ghost use Rattle.std.specs.Prelude.{◌≡◌, ◌⊎◌, ℕ, List, Option, IfOk, IfErr, OnErr, false};
+ghost use Rattle.std.specs.Prelude.{◌≡◌, ◌⊎◌, ℕ, List, Option, IfOk, IfErr, OnOk, OnErr, false};
 ghost use Rattle.cs_tree.specs.Failures.{CountsOne, count_after};
 ghost use Rattle.cs_tree.specs.Transfers.{is_io_failure};
 ghost use Rattle.cs_index.specs.Opening.{Parts};
@@ -62,6 +62,8 @@ pub fn csearch_stored<S: Store, T: Tree, O: Sink, E: Sink>(
     ensures unread { IfErr result (λ _. AreAccepted job.now
         × (T.failed tree.new ≡ T.failed tree.old)
         × PrintsNothing (O.taken out.old) (O.taken out.new) (E.taken err.old) (E.taken err.new)) }
+    ensures flushed { IfOk result (λ answer. OnOk answer
+        ((O.unflushed out.new ≡ 0) × (E.unflushed err.new ≡ 0))) }
     ensures writes { CountsOne (has_output_failed result)
         (O.failed out.old) (O.failed out.new) (E.failed err.old) (E.failed err.new) }
     ensures keeps { T.snapshot tree.new ≡ T.snapshot tree.old }

@@ -34,10 +34,13 @@ RightAll trees old jobs replies = (earlier : History) → Premises trees old ear
 
 -- ---- job by job
 
--- what the outputs have taken, where they tell it, and how many of their calls have failed
+-- what the outputs have taken, where they tell it, how many of these bytes wait for a flush, and how many of their
+-- calls have failed
 pub record Outputs : Type 0 where
   pub out : Option (List ℕ)
   pub err : Option (List ℕ)
+  pub out_unflushed : ℕ
+  pub err_unflushed : ℕ
   pub out_failed : ℕ
   pub err_failed : ℕ
 
@@ -47,9 +50,16 @@ pub record Standing : Type 0 where
   pub outputs : Outputs
 
 -- of two sinks, by what they tell
-module _ {O E : Type 0} (out_taken : O → Option (List ℕ)) (out_failed : O → ℕ) (err_taken : E → Option (List ℕ)) (err_failed : E → ℕ) where
+module _ {O E : Type 0} (out_taken : O → Option (List ℕ)) (out_unflushed out_failed : O → ℕ) (err_taken : E → Option (List ℕ)) (err_unflushed err_failed : E → ℕ) where
   abbrev pub outputs : O → E → Outputs
-  outputs out err = record { out = out_taken out; err = err_taken err; out_failed = out_failed out; err_failed = err_failed err }
+  outputs out err = record {
+    out = out_taken out;
+    err = err_taken err;
+    out_unflushed = out_unflushed out;
+    err_unflushed = err_unflushed err;
+    out_failed = out_failed out;
+    err_failed = err_failed err;
+  }
 
   abbrev pub standing : Option (List ℕ) → O → E → Standing
   standing index out err = record { index = index; outputs = outputs out err }
@@ -82,10 +92,15 @@ pub record IsStep (job : IndexJob) (tree : JobTree) (reply : Reply) (old new : S
   pub err : TellsBy (job_kind job) reply job tree.snapshot old.index tree.failed tree.failed_then old.outputs.err new.outputs.err
   pub writes : CountsOne (has_failed_write reply) old.outputs.out_failed new.outputs.out_failed old.outputs.err_failed new.outputs.err_failed
 
+-- Where a job is done both outputs were flushed after all that it printed.
+abbrev pub LeavesFlushed : Reply → Outputs → Type 0
+LeavesFlushed Done outputs = (outputs.out_unflushed ≡ 0) × (outputs.err_unflushed ≡ 0)
+LeavesFlushed (Refused fault) outputs = Unit {0}
+
 -- each job in order goes on from what the one before it left
 abbrev pub Steps : List IndexJob → List JobTree → List Reply → Standing → Standing → Type 0
 Steps [] [] [] old new = new ≡ old
-Steps (job ∷ jobs) (tree ∷ trees) (reply ∷ replies) old new = (mid : Standing) × IsStep job tree reply old mid × Steps jobs trees replies mid new
+Steps (job ∷ jobs) (tree ∷ trees) (reply ∷ replies) old new = (mid : Standing) × IsStep job tree reply old mid × LeavesFlushed reply mid.outputs × Steps jobs trees replies mid new
 Steps [] [] (reply ∷ replies) old new = ⊥
 Steps [] (tree ∷ trees) replies old new = ⊥
 Steps (job ∷ jobs) [] replies old new = ⊥

@@ -30,8 +30,10 @@ pub fn cindex<T: Tree, O: Sink, E: Sink>(
         (index_bytes old) (index_bytes result) }
     ensures replies { RightAll (map T.snapshot trees.old) (index_bytes old) jobs.now replies.new }
     ensures steps { Steps jobs.now (job_trees T.snapshot T.failed trees.old trees.new) replies.new
-        (standing O.taken O.failed E.taken E.failed (index_bytes old) out.old err.old)
-        (standing O.taken O.failed E.taken E.failed (index_bytes result) out.new err.new) }
+        (standing O.taken O.unflushed O.failed E.taken E.unflushed E.failed
+        (index_bytes old) out.old err.old)
+        (standing O.taken O.unflushed O.failed E.taken E.unflushed E.failed
+        (index_bytes result) out.new err.new) }
     ensures keeps { map T.snapshot trees.new ≡ map T.snapshot trees.old }
 {
     let mut index = old;

@@ -1,16 +1,16 @@
 -- A pattern, a bar and another pattern: the branches of both.
 use Rattle.std.proofs.Common.{◌≡◌, ℕ, zero, suc, ◌+◌, ◌<◌, ◌≤◌, ◌⊎◌, ◌↔◌, Bool, true, false, cond, ◌&&◌, ◌||◌, List, [], ◌∷◌, ◌++◌, length, take, drop, refl, sym, ap, subst, ◌∙◌, inl, inr, arith, Option, Some, None}
-use Rattle.std.specs.Prelude.{nat_eq, nat_lt, nat_le, not, min, if◌then◌else◌}
-use Rattle.std.specs.List.{prefix_len}
+use Rattle.std.specs.Prelude.{nat_eq, nat_lt, nat_le, not, min, if◌then◌else◌, is_some, option_map, codes, map}
+use Rattle.std.specs.List.{prefix_len, starts_with}
 use Rattle.std.proofs.lemmas.Bool.{true≢false, cases_Bool, or_parts, ltb-true, eqb-true}
 use Rattle.std.proofs.lemmas.List.Sums.{prefix_len-le-length}
 use Rattle.std.proofs.Common.{length-drop}
-use Rattle.cs_syntax.specs.Matching.{Tree, Trees, one_of, none, more, Takes, TakesSome}
+use Rattle.cs_syntax.specs.Matching.{Tree, Trees, one_of, none, more, Takes, TakesSome, is_word}
 use Rattle.cs_syntax.specs.Ranges.{has}
 use Rattle.cs_syntax.specs.Fronts.{Front, Item, unit, repeat, bar, group_start, group_end, flags_from_here, item, fault, sequence, is_front, bytes_tree, char_tree}
 use Rattle.cs_syntax.specs.ByteSet.{is_letter, char_set}
 use Rattle.cs_syntax.specs.Numbers.{digit_value, is_digit, count_digits, value_in}
-use Rattle.cs_syntax.specs.Classes.{ClassFront, piece, misread, ClassChar, one, wrong, class_escape, class_char, range_to, range_from, span, after_colon, after_backslash, class_front, ClassRest, closed, failed, with_item, items_from, class_of, class}
+use Rattle.cs_syntax.specs.Classes.{ClassFront, piece, misread, ClassChar, one, wrong, class_escape, class_char, range_to, range_from, span, name_length, posix_class, after_colon, after_backslash, class_front, ClassRest, closed, failed, with_item, items_from, class_of, class}
 use Rattle.cs_syntax.specs.declared.class_item.ClassItem.{ClassItem}
 use Rattle.cs_syntax.specs.declared.class_item.ClassItem.TheVariants.{Range}
 use Rattle.cs_syntax.specs.Repeats.{lazy, number, counts_to, counts_from, counts, is_bad, brace}
@@ -22,7 +22,8 @@ use Rattle.cs_syntax.specs.Items.{front, item_by, is_continuation}
 use Rattle.cs_syntax.specs.Signs.{sign_of}
 use Rattle.cs_syntax.specs.TreeList.{append}
 use Rattle.cs_syntax.specs.Reading.{Level, Rest, Group, tree, levels, broken, inside, with_close, with_open, with_unit, with_repeat, with_bar, whole_group, choice, most_open, rest, at_end, answer, flags_at_start, Reads}
-use Rattle.cs_syntax.specs.Choices.{has_pair, IsSimple, TakesEither}
+use Rattle.cs_syntax.specs.Choices.{flags_behind, names_end, StandsApart, TakesEither}
+use Rattle.cs_syntax.specs.Groups.{name, is_flag, is_cleared_flag, with_set, with_cleared, after_flags, cleared_flags, set_flags, head, group}
 use Rattle.cs_syntax.specs.Written.{signs}
 use Rattle.cs_syntax.proofs.QuotedLemmas.{of_each, by_width}
 use Rattle.cs_syntax.proofs.LevelLemmas.{alone}
@@ -31,7 +32,7 @@ use Rattle.cs_syntax.specs.declared.sign.Sign.{Sign}
 use Rattle.cs_syntax.specs.declared.sign.Sign.TheVariants.{Wide, Plain}
 use Rattle.cs_syntax.specs.declared.before.Before.{Before}
 use Rattle.cs_syntax.specs.declared.before.Before.TheVariants.{Start, Operand, Counted}
-use Rattle.cs_syntax.specs.declared.fault.PatternFault.TheVariants.{NoOperand, StackedRepeat, StrayClose, TooDeep, NotInProfile, BadEscape, BadRepeat}
+use Rattle.cs_syntax.specs.declared.fault.PatternFault.TheVariants.{NoOperand, StackedRepeat, StrayClose, TooDeep, NotInProfile, BadEscape, BadRepeat, BadGroup}
 
 -- ---- readings that are no fault
 
@@ -461,12 +462,72 @@ module _ (t : List ℕ) where
       within true = omega arith
       within false = tt
 
-  class_front_after : (b behind : ℕ) (text : List ℕ) → (nat_eq b 91 && is_front 58 text) ≡ false → GoesOn behind text (class_front b text) → class_front b (after text) ≡ class_front b text
-  class_front_after b behind text apart h =
+  -- ---- names between `[:` and `:]`
+
+  both : (a b : Bool) → (a && b) ≡ true → (a ≡ true) × (b ≡ true)
+  both true b h = (refl, h)
+  both false b h = absurd (true≢false (sym h))
+
+  name_starts : (b : ℕ) (text : List ℕ) → starts_with nat_eq (b ∷ after text) (codes ":]") ≡ starts_with nat_eq (b ∷ text) (codes ":]")
+  name_starts b [] = refl
+  name_starts b (c ∷ text) = refl
+
+  some_there : (o : Option ℕ) → is_some (option_map suc o) ≡ true → is_some o ≡ true
+  some_there None h = h
+  some_there (Some n) h = refl
+
+  name_after : (text : List ℕ) → is_some (name_length text) ≡ true → name_length (after text) ≡ name_length text
+  name_after [] h = absurd (true≢false (sym h))
+  name_after (b ∷ text) h =
+      ap (λ s. cond s (Some 0) (option_map suc (name_length (after text)))) (name_starts b text)
+      ∙ by (λ some. name_after text some) (starts_with nat_eq (b ∷ text) (codes ":]")) h
+    where
+      by : (is_some (name_length text) ≡ true → name_length (after text) ≡ name_length text) → (s : Bool) → is_some (cond s (Some 0) (option_map suc (name_length text))) ≡ true →
+          cond s (Some 0) (option_map suc (name_length (after text))) ≡ cond s (Some 0) (option_map suc (name_length text))
+      by later true h = refl
+      by later false h = ap (option_map suc) (later (some_there (name_length text) h))
+
+  abbrev NameWithin : ℕ → Option ℕ → Type 0
+  NameWithin n None = Unit {0}
+  NameWithin n (Some k) = k ≤ n
+
+  name_within : (text : List ℕ) → NameWithin (length text) (name_length text)
+  name_within [] = tt
+  name_within (b ∷ text) = by (starts_with nat_eq (b ∷ text) (codes ":]")) (name_length text) (name_within text)
+    where
+      by : (s : Bool) (o : Option ℕ) → NameWithin (length text) o → NameWithin (suc (length text)) (cond s (Some 0) (option_map suc o))
+      by true o h = omega arith
+      by false None h = tt
+      by false (Some k) h = omega (arith, h)
+
+  colon_after : (text : List ℕ) → is_some (name_length text) ≡ true → after_colon (after text) ≡ after_colon text
+  colon_after text h =
+      ap (λ (o : Option ℕ). elim o [ None ↦ piece (Range 91 91) 0 | Some n ↦ posix_class (take n (after text)) ]) (name_after text h) ∙ by (name_length text) (name_within text)
+    where
+      by : (o : Option ℕ) → NameWithin (length text) o → ◌≡◌ {A = ClassFront} (elim o [ None ↦ piece (Range 91 91) 0 | Some n ↦ posix_class (take n (after text)) ]) (elim o [ None ↦ piece (Range 91 91) 0 | Some n ↦ posix_class (take n text) ])
+      by None h = refl
+      by (Some n) h = ap posix_class (take_after n text h)
+
+  named_front : (b : ℕ) (text : List ℕ) → (nat_eq b 91 && is_front 58 text) ≡ true → is_some (name_length (drop 1 text)) ≡ true → class_front b (after text) ≡ class_front b text
+  named_front b [] named some = absurd (true≢false (sym (both (nat_eq b 91) false named).1))
+  named_front b (c ∷ text) named some =
+      ap (λ (x : Bool). cond x (after_colon (after text)) (class_front_by (nat_eq b 92) b (c ∷ after text))) named
+      ∙ colon_after text some
+      ∙ ap (λ (x : Bool). cond x (after_colon text) (class_front_by (nat_eq b 92) b (c ∷ text))) (sym named)
+
+  plain_front : (b behind : ℕ) (text : List ℕ) → (nat_eq b 91 && is_front 58 text) ≡ false → GoesOn behind text (class_front b text) → class_front b (after text) ≡ class_front b text
+  plain_front b behind text apart h =
       ap (λ (x : Bool). cond (nat_eq b 91 && x) (after_colon (drop 1 (after text))) (class_front_by (nat_eq b 92) b (after text))) (is_front_after 58 text refl)
       ∙ ap (λ (x : Bool). cond x (after_colon (drop 1 (after text))) (class_front_by (nat_eq b 92) b (after text))) apart
       ∙ front_by_after (nat_eq b 92) b behind text (subst (λ (x : Bool). GoesOn behind text (cond x (after_colon (drop 1 text)) (class_front_by (nat_eq b 92) b text))) apart h)
       ∙ ap (λ (x : Bool). cond x (after_colon (drop 1 text)) (class_front_by (nat_eq b 92) b text)) (sym apart)
+
+  class_front_after : (b behind : ℕ) (text : List ℕ) → (not (nat_eq b 91 && is_front 58 text) || is_some (name_length (drop 1 text))) ≡ true → GoesOn behind text (class_front b text) → class_front b (after text) ≡ class_front b text
+  class_front_after b behind text ends h =
+      elim (cases_Bool (nat_eq b 91 && is_front 58 text)) [
+        | inl named ↦ named_front b text named (subst (λ (x : Bool). (not x || is_some (name_length (drop 1 text))) ≡ true) named ends)
+        | inr apart ↦ plain_front b behind text apart h
+      ]
 
   abbrev items_by : ℕ → List ℕ → ClassFront → ClassRest
   items_by behind text f = elim f [ misread k by ↦ failed k (behind + by) | piece i len ↦ with_item i (items_from len (behind + 1) false text) ]
@@ -483,11 +544,11 @@ module _ (t : List ℕ) where
   now_after behind text f g same true h = refl
   now_after behind text f g same false h = same h
 
-  items_after : (skip behind : ℕ) (start : Bool) (text : List ℕ) → has_pair 91 58 text ≡ false → IsClosed (items_from skip behind start text) → items_from skip behind start (after text) ≡ items_from skip behind start text
+  items_after : (skip behind : ℕ) (start : Bool) (text : List ℕ) → names_end text ≡ true → IsClosed (items_from skip behind start text) → items_from skip behind start (after text) ≡ items_from skip behind start text
   items_after skip behind start [] apart h = absurd h
-  items_after (suc skip) behind start (b ∷ text) apart h = items_after skip (behind + 1) start text (or_parts (nat_eq b 91 && is_front 58 text) (has_pair 91 58 text) apart).1 h
+  items_after (suc skip) behind start (b ∷ text) apart h = items_after skip (behind + 1) start text (both (not (nat_eq b 91 && is_front 58 text) || is_some (name_length (drop 1 text))) (names_end text) apart).1 h
   items_after zero behind start (b ∷ text) apart h =
-      let parts = or_parts (nat_eq b 91 && is_front 58 text) (has_pair 91 58 text) apart in
+      let parts = both (not (nat_eq b 91 && is_front 58 text) || is_some (name_length (drop 1 text))) (names_end text) apart in
       now_after behind text (class_front b text) (class_front b (after text))
       (item_after behind text (λ len closed. items_after len (behind + 1) false text parts.1 closed) (class_front b text) (class_front b (after text)) (class_front_after b (behind + 1) text parts.0))
       (nat_eq b 93 && not start) h
@@ -496,37 +557,180 @@ module _ (t : List ℕ) where
   of_closed fold negated (closed items len) h = tt
   of_closed fold negated (failed k behind) h = h
 
-  class_after : (fold : Bool) (text : List ℕ) → has_pair 91 58 text ≡ false → IsItem (class fold text) → class fold (after text) ≡ class fold text
+  class_after : (fold : Bool) (text : List ℕ) → names_end text ≡ true → IsItem (class fold text) → class fold (after text) ≡ class fold text
   class_after fold [] apart is = absurd is
   class_after fold (d ∷ text) apart is = by (nat_eq d 94) is
     where
       by : (b : Bool) → IsItem (cond b (class_of fold true (items_from 0 2 true text)) (class_of fold false (items_from 0 1 true (d ∷ text)))) →
           cond b (class_of fold true (items_from 0 2 true (after text))) (class_of fold false (items_from 0 1 true (d ∷ after text))) ≡
           cond b (class_of fold true (items_from 0 2 true text)) (class_of fold false (items_from 0 1 true (d ∷ text)))
-      by true is = ap (class_of fold true) (items_after 0 2 true text (or_parts (nat_eq d 91 && is_front 58 text) (has_pair 91 58 text) apart).1 (of_closed fold true (items_from 0 2 true text) is))
+      by true is = ap (class_of fold true) (items_after 0 2 true text (both (not (nat_eq d 91 && is_front 58 text) || is_some (name_length (drop 1 text))) (names_end text) apart).1 (of_closed fold true (items_from 0 2 true text) is))
       by false is = ap (class_of fold false) (items_after 0 1 true (d ∷ text) apart (of_closed fold false (items_from 0 1 true (d ∷ text)) is))
+
+  -- ---- heads of groups
+
+  -- so many bytes of a kind, and what stands behind them
+  behind_all : (p : ℕ → Bool) (c : ℕ) (text : List ℕ) → nat_eq 124 c ≡ false → is_front c (drop (prefix_len p text) (after text)) ≡ is_front c (drop (prefix_len p text) text)
+  behind_all p c text h = front_behind c (prefix_len p text) text h (prefix_len-le-length p text)
+
+  no_word : is_word 124 ≡ false
+  no_word = refl
+
+  no_flag : is_flag 124 ≡ false
+  unfolding is_flag
+  no_flag = refl
+
+  no_cleared : is_cleared_flag 124 ≡ false
+  unfolding is_cleared_flag
+  no_cleared = refl
+
+  group_name_after : (flags : Flags) (len : ℕ) (text : List ℕ) → name flags len (after text) ≡ name flags len text
+  group_name_after flags len text =
+      ap (λ n. cond (nat_lt 0 n && is_front 62 (drop n (after text))) (item (group_start flags) (len + n + 1)) (fault BadGroup 0)) (prefix_after is_word text no_word)
+      ∙ ap (λ b. cond (nat_lt 0 (prefix_len is_word text) && b) (item (group_start flags) (len + prefix_len is_word text + 1)) (fault BadGroup 0)) (behind_all is_word 62 text refl)
+
+  after_flags_after : (flags : Flags) (len : ℕ) (text : List ℕ) → after_flags flags len (after text) ≡ after_flags flags len text
+  after_flags_after flags len text = λ i.
+      cond (is_front_after 58 text refl i) (item (group_start flags) (len + 1)) (cond (is_front_after 41 text refl i) (item (flags_from_here flags) (len + 1)) (fault BadGroup 0))
+
+  cleared_after : (flags : Flags) (len : ℕ) (text : List ℕ) → cleared_flags flags len (after text) ≡ cleared_flags flags len text
+  cleared_after flags len text =
+      ap (λ n. cleared n (after text)) (prefix_after is_cleared_flag text no_cleared) ∙ same (prefix_len is_cleared_flag text) (prefix_len-le-length is_cleared_flag text)
+    where
+      cleared : ℕ → List ℕ → Front
+      cleared n text =
+          cond (is_front 109 (drop n text)) (fault NotInProfile 0) (cond (nat_eq n 0) (fault BadGroup 0) (after_flags (with_cleared (take n text) flags) (len + n) (drop n text)))
+
+      flags_after : (n : ℕ) → n ≤ length text → after_flags (with_cleared (take n (after text)) flags) (len + n) (drop n (after text)) ≡ after_flags (with_cleared (take n text) flags) (len + n) (drop n text)
+      flags_after n le =
+          ap (λ bs. after_flags (with_cleared bs flags) (len + n) (drop n (after text))) (take_after n text le)
+          ∙ ap (after_flags (with_cleared (take n text) flags) (len + n)) (drop_after n text le)
+          ∙ after_flags_after (with_cleared (take n text) flags) (len + n) (drop n text)
+
+      same : (n : ℕ) → n ≤ length text → cleared n (after text) ≡ cleared n text
+      same n le = λ i. cond (front_behind 109 n text refl le i) (fault NotInProfile 0) (cond (nat_eq n 0) (fault BadGroup 0) (flags_after n le i))
+
+  set_after : (flags : Flags) (text : List ℕ) → set_flags flags (after text) ≡ set_flags flags text
+  set_after flags text =
+      ap (λ n. set n (after text)) (prefix_after is_flag text no_flag) ∙ same (prefix_len is_flag text) (prefix_len-le-length is_flag text)
+    where
+      by_sign : ℕ → Bool → Flags → List ℕ → Front
+      by_sign n dash flags text = cond dash (cleared_flags flags (n + 2) (drop (n + 1) text)) (after_flags flags (n + 1) (drop n text))
+
+      set : ℕ → List ℕ → Front
+      set n text = by_sign n (is_front 45 (drop n text)) (with_set (take n text) flags) text
+
+      by : (n : ℕ) (new : Flags) → n ≤ length text → (dash : Bool) → is_front 45 (drop n text) ≡ dash → by_sign n dash new (after text) ≡ by_sign n dash new text
+      by n new le true h = ap (cleared_flags new (n + 2)) (drop_after (n + 1) text (let less = front_there 45 n text h in omega (arith, less))) ∙ cleared_after new (n + 2) (drop (n + 1) text)
+      by n new le false h = ap (after_flags new (n + 1)) (drop_after n text le) ∙ after_flags_after new (n + 1) (drop n text)
+
+      same : (n : ℕ) → n ≤ length text → set n (after text) ≡ set n text
+      same n le =
+          ap (λ bs. by_sign n (is_front 45 (drop n (after text))) (with_set bs flags) (after text)) (take_after n text le)
+          ∙ ap (λ b. by_sign n b (with_set (take n text) flags) (after text)) (front_behind 45 n text refl le)
+          ∙ by n (with_set (take n text) flags) le (is_front 45 (drop n text)) refl
+
+  head_after : (flags : Flags) (text : List ℕ) → IsItem (head flags text) → head flags (after text) ≡ head flags text
+  head_after flags [] is = absurd is
+  head_after flags (c ∷ text) is =
+      ap (λ b. by_sign (nat_eq c 60) (nat_eq c 80 && b) (after text)) (is_front_after 60 text refl) ∙ by (nat_eq c 60) (nat_eq c 80 && is_front 60 text) refl
+    where
+      by_sign : Bool → Bool → List ℕ → Front
+      by_sign angle named text = cond angle (name flags 2 text) (cond named (name flags 3 (drop 1 text)) (set_flags flags (c ∷ text)))
+
+      behind_angle : (text : List ℕ) → is_front 60 text ≡ true → name flags 3 (drop 1 (after text)) ≡ name flags 3 (drop 1 text)
+      behind_angle [] h = absurd (true≢false (sym h))
+      behind_angle (d ∷ text) h = group_name_after flags 3 text
+
+      by : (angle named : Bool) → (nat_eq c 80 && is_front 60 text) ≡ named → by_sign angle named (after text) ≡ by_sign angle named text
+      by true named h = group_name_after flags 2 text
+      by false true h = behind_angle text (both (nat_eq c 80) (is_front 60 text) h).1
+      by false false h = set_after flags (c ∷ text)
+
+  group_after : (flags : Flags) (text : List ℕ) → IsItem (group flags text) → group flags (after text) ≡ group flags text
+  group_after flags [] is = refl
+  group_after flags (c ∷ text) is = by (nat_eq c 63) is
+    where
+      by : (x : Bool) → IsItem (cond x (head flags text) (item (group_start flags) 0)) → cond x (head flags (after text)) (item (group_start flags) 0) ≡ cond x (head flags text) (item (group_start flags) 0)
+      by true is = head_after flags text is
+      by false is = refl
 
   -- ---- items
 
-  -- an item that does not touch the flags
-  abbrev IsQuiet : Flags → Item → Type 0
-  IsQuiet flags (group_start inner) = inner ≡ flags
-  IsQuiet flags (flags_from_here new) = ⊥
-  IsQuiet flags _ = Unit {0}
+  -- so many bytes are enough for it
+  abbrev FitsIn : ℕ → Front → Type 0
+  FitsIn total (item x len) = len ≤ total
+  FitsIn total (fault k behind) = Unit {0}
 
-  -- its bytes are there, and it does not touch the flags
-  abbrev Fits : Flags → List ℕ → Front → Type 0
-  Fits flags text (item x len) = (len ≤ length text) × IsQuiet flags x
-  Fits flags text (fault k behind) = Unit {0}
+  -- its bytes are there
+  abbrev Fits : List ℕ → Front → Type 0
+  Fits text f = FitsIn (length text) f
+
+  name_fits : (flags : Flags) (len total : ℕ) (text : List ℕ) → len + length text ≤ total → FitsIn total (name flags len text)
+  name_fits flags len total text le = by (nat_lt 0 (prefix_len is_word text)) (is_front 62 (drop (prefix_len is_word text) text)) refl
+    where
+      by : (some ends : Bool) → is_front 62 (drop (prefix_len is_word text) text) ≡ ends → FitsIn total (cond (some && ends) (item (group_start flags) (len + prefix_len is_word text + 1)) (fault BadGroup 0))
+      by true true h = let less = front_there 62 (prefix_len is_word text) text h in omega (arith, less, le)
+      by true false h = tt
+      by false ends h = tt
+
+  after_flags_fit : (flags : Flags) (len total : ℕ) (text : List ℕ) → len + length text ≤ total → FitsIn total (after_flags flags len text)
+  after_flags_fit flags len total [] le = tt
+  after_flags_fit flags len total (c ∷ text) le = by (nat_eq c 58) (nat_eq c 41)
+    where
+      by : (x y : Bool) → FitsIn total (cond x (item (group_start flags) (len + 1)) (cond y (item (flags_from_here flags) (len + 1)) (fault BadGroup 0)))
+      by true y = omega (arith, le)
+      by false true = omega (arith, le)
+      by false false = tt
+
+  cleared_fit : (flags : Flags) (len total : ℕ) (text : List ℕ) → len + length text ≤ total → FitsIn total (cleared_flags flags len text)
+  cleared_fit flags len total text le = by (prefix_len is_cleared_flag text) (prefix_len-le-length is_cleared_flag text)
+    where
+      by_sign : (n : ℕ) → n ≤ length text → (x y : Bool) → FitsIn total (cond x (fault NotInProfile 0) (cond y (fault BadGroup 0) (after_flags (with_cleared (take n text) flags) (len + n) (drop n text))))
+      by_sign n within true y = tt
+      by_sign n within false true = tt
+      by_sign n within false false = after_flags_fit (with_cleared (take n text) flags) (len + n) total (drop n text) (let long = length-drop n text in omega (arith, long, within, le))
+
+      by : (n : ℕ) → n ≤ length text → FitsIn total (cond (is_front 109 (drop n text)) (fault NotInProfile 0) (cond (nat_eq n 0) (fault BadGroup 0) (after_flags (with_cleared (take n text) flags) (len + n) (drop n text))))
+      by n within = by_sign n within (is_front 109 (drop n text)) (nat_eq n 0)
+
+  set_fit : (flags : Flags) (total : ℕ) (text : List ℕ) → suc (length text) ≤ total → FitsIn total (set_flags flags text)
+  set_fit flags total text le = by (prefix_len is_flag text) (prefix_len-le-length is_flag text) (is_front 45 (drop (prefix_len is_flag text) text)) refl
+    where
+      by : (n : ℕ) → n ≤ length text → (dash : Bool) → is_front 45 (drop n text) ≡ dash →
+          FitsIn total (cond dash (cleared_flags (with_set (take n text) flags) (n + 2) (drop (n + 1) text)) (after_flags (with_set (take n text) flags) (n + 1) (drop n text)))
+      by n within true h = cleared_fit (with_set (take n text) flags) (n + 2) total (drop (n + 1) text) (let long = length-drop (n + 1) text in let less = front_there 45 n text h in omega (arith, long, less, le))
+      by n within false h = after_flags_fit (with_set (take n text) flags) (n + 1) total (drop n text) (let long = length-drop n text in omega (arith, long, within, le))
+
+  head_fits : (flags : Flags) (total : ℕ) (text : List ℕ) → suc (length text) ≤ total → FitsIn total (head flags text)
+  head_fits flags total [] le = tt
+  head_fits flags total (c ∷ text) le = by (nat_eq c 60) (nat_eq c 80 && is_front 60 text) refl
+    where
+      behind_angle : (text : List ℕ) → is_front 60 text ≡ true → suc (suc (length text)) ≤ total → FitsIn total (name flags 3 (drop 1 text))
+      behind_angle [] h le = absurd (true≢false (sym h))
+      behind_angle (d ∷ text) h le = name_fits flags 3 total text (omega (arith, le))
+
+      by : (angle named : Bool) → (nat_eq c 80 && is_front 60 text) ≡ named → FitsIn total (cond angle (name flags 2 text) (cond named (name flags 3 (drop 1 text)) (set_flags flags (c ∷ text))))
+      by true named h = name_fits flags 2 total text (omega (arith, le))
+      by false true h = behind_angle text (both (nat_eq c 80) (is_front 60 text) h).1 le
+      by false false h = set_fit flags total (c ∷ text) le
+
+  group_fits : (flags : Flags) (text : List ℕ) → Fits text (group flags text)
+  group_fits flags [] = omega arith
+  group_fits flags (c ∷ text) = by (nat_eq c 63)
+    where
+      by : (x : Bool) → FitsIn (suc (length text)) (cond x (head flags text) (item (group_start flags) 0))
+      by true = head_fits flags (suc (length text)) text (omega arith)
+      by false = omega arith
 
   record Ends (flags : Flags) (b : ℕ) (text : List ℕ) : Type 0 where
     same : IsItem (front flags b text) → front flags b (after text) ≡ front flags b text
-    fits : Fits flags text (front flags b text)
+    fits : Fits text (front flags b text)
 
   -- by what the first byte means
   record EndsBy (sign : Sign) (flags : Flags) (b : ℕ) (text : List ℕ) : Type 0 where
     same : IsItem (item_by sign flags b text) → item_by sign flags b (after text) ≡ item_by sign flags b text
-    fits : Fits flags text (item_by sign flags b text)
+    fits : Fits text (item_by sign flags b text)
 
   -- a `?` behind a repeat
   lazy_fits : (text : List ℕ) → 0 + cond (is_front 63 text) 1 0 ≤ length text
@@ -535,106 +739,100 @@ module _ (t : List ℕ) where
 
   module _ (flags : Flags) where
     abbrev EndsThere : ℕ → Type 0
-    EndsThere b = (text : List ℕ) → IsSimple (b ∷ text) → Ends flags b text
+    EndsThere b = (text : List ℕ) → names_end (b ∷ text) ≡ true → Ends flags b text
 
     repeated : (n : ℕ) (m : Option ℕ) (text : List ℕ) → item (repeat n m) (0 + cond (is_front 63 (after text)) 1 0) ≡ item (repeat n m) (0 + cond (is_front 63 text) 1 0)
     repeated n m text = ap (λ b. item (repeat n m) (0 + cond b 1 0)) (is_front_after 63 text refl)
 
     star : EndsThere 42
     unfolding front sign_of
-    star text simple = record { same = λ is. repeated 0 None text; fits = (lazy_fits text, tt) }
+    star text ends = record { same = λ is. repeated 0 None text; fits = lazy_fits text }
 
     plus : EndsThere 43
     unfolding front sign_of
-    plus text simple = record { same = λ is. repeated 1 None text; fits = (lazy_fits text, tt) }
+    plus text ends = record { same = λ is. repeated 1 None text; fits = lazy_fits text }
 
     question : EndsThere 63
     unfolding front sign_of
-    question text simple = record { same = λ is. repeated 0 (Some 1) text; fits = (lazy_fits text, tt) }
+    question text ends = record { same = λ is. repeated 0 (Some 1) text; fits = lazy_fits text }
 
-    brace_fits : (text : List ℕ) → Fits flags text (brace text)
+    brace_fits : (text : List ℕ) → Fits text (brace text)
     brace_fits text = by (counts text) (counts_within text)
       where
         long : (n : ℕ) → n ≤ length text → (b : Bool) → is_front 63 (drop n text) ≡ b → n + cond b 1 0 ≤ length text
         long n h true e = let less = front_there 63 n text e in omega (arith, less)
         long n h false e = omega (arith, h)
 
-        by_bad : (c : Counts) → c.len ≤ length text → (b : Bool) → Fits flags text (cond b (fault BadRepeat 0) (lazy c.least c.most c.len text))
+        by_bad : (c : Counts) → c.len ≤ length text → (b : Bool) → Fits text (cond b (fault BadRepeat 0) (lazy c.least c.most c.len text))
         by_bad c h true = tt
-        by_bad c h false = (long c.len h (is_front 63 (drop c.len text)) refl, tt)
+        by_bad c h false = long c.len h (is_front 63 (drop c.len text)) refl
 
-        by : (o : Option Counts) → CountsWithin (length text) o → Fits flags text (brace_by text o)
-        by None h = (omega arith, tt)
+        by : (o : Option Counts) → CountsWithin (length text) o → Fits text (brace_by text o)
+        by None h = omega arith
         by (Some c) h = by_bad c h (is_bad c)
 
     a_brace : EndsThere 123
     unfolding front sign_of
-    a_brace text simple = record { same = λ is. brace_after text; fits = brace_fits text }
+    a_brace text ends = record { same = λ is. brace_after text; fits = brace_fits text }
 
     dot : EndsThere 46
     unfolding front sign_of
-    dot text simple = record { same = λ is. refl; fits = (omega arith, tt) }
+    dot text ends = record { same = λ is. refl; fits = omega arith }
 
     caret : EndsThere 94
     unfolding front sign_of
-    caret text simple = record { same = λ is. refl; fits = (omega arith, tt) }
+    caret text ends = record { same = λ is. refl; fits = omega arith }
 
     dollar : EndsThere 36
     unfolding front sign_of
-    dollar text simple = record { same = λ is. refl; fits = (omega arith, tt) }
+    dollar text ends = record { same = λ is. refl; fits = omega arith }
 
     a_bar : EndsThere 124
     unfolding front sign_of
-    a_bar text simple = record { same = λ is. refl; fits = (omega arith, tt) }
+    a_bar text ends = record { same = λ is. refl; fits = omega arith }
 
     closed_group : EndsThere 41
     unfolding front sign_of
-    closed_group text simple = record { same = λ is. refl; fits = (omega arith, tt) }
+    closed_group text ends = record { same = λ is. refl; fits = omega arith }
 
-    of_fits : (negated : Bool) (text : List ℕ) (r : ClassRest) → ClosedBefore (suc (length text)) r → Fits flags text (class_of flags.fold negated r)
-    of_fits negated text (closed items len) h = (omega (arith, h), tt)
+    of_fits : (negated : Bool) (text : List ℕ) (r : ClassRest) → ClosedBefore (suc (length text)) r → Fits text (class_of flags.fold negated r)
+    of_fits negated text (closed items len) h = omega (arith, h)
     of_fits negated text (failed k behind) h = tt
 
-    class_fits : (text : List ℕ) → Fits flags text (class flags.fold text)
+    class_fits : (text : List ℕ) → Fits text (class flags.fold text)
     class_fits [] = tt
     class_fits (d ∷ text) =
-        elim (nat_eq d 94) as (λ b. Fits flags (d ∷ text) (cond b (class_of flags.fold true (items_from 0 2 true text)) (class_of flags.fold false (items_from 0 1 true (d ∷ text))))) [
+        elim (nat_eq d 94) as (λ b. Fits (d ∷ text) (cond b (class_of flags.fold true (items_from 0 2 true text)) (class_of flags.fold false (items_from 0 1 true (d ∷ text))))) [
           | true ↦ of_fits true (d ∷ text) (items_from 0 2 true text) (subst (λ n. ClosedBefore n (items_from 0 2 true text)) (let e : 2 + length text ≡ suc (suc (length text)) = omega arith in e) (closed_before 0 2 true text))
           | false ↦ of_fits false (d ∷ text) (items_from 0 1 true (d ∷ text)) (subst (λ n. ClosedBefore n (items_from 0 1 true (d ∷ text))) (let e : 1 + suc (length text) ≡ suc (suc (length text)) = omega arith in e) (closed_before 0 1 true (d ∷ text)))
         ]
 
     a_class : EndsThere 91
     unfolding front sign_of
-    a_class text simple = record {
-      same = class_after flags.fold text (or_parts (is_front 58 text) (has_pair 91 58 text) simple.no_names).1;
+    a_class text ends = record {
+      same = class_after flags.fold text (both (not (is_front 58 text) || is_some (name_length (drop 1 text))) (names_end text) ends).1;
       fits = class_fits text;
     }
 
     opened : EndsThere 40
     unfolding front sign_of
-    opened text simple =
-        let none : is_front 63 text ≡ false = (or_parts (is_front 63 text) (has_pair 40 63 text) simple.no_flags).0 in
-        let here : front flags 40 text ≡ item (group_start flags) 0 = ap (λ b. cond b (Rattle.cs_syntax.specs.Groups.head flags (drop 1 text)) (item (group_start flags) 0)) none in
-        record {
-          same = λ is. ap (λ b. cond b (Rattle.cs_syntax.specs.Groups.head flags (drop 1 (after text))) (item (group_start flags) 0)) (is_front_after 63 text refl ∙ none) ∙ sym here;
-          fits = subst (Fits flags text) (sym here) (omega arith, refl);
-        }
+    opened text ends = record { same = group_after flags text; fits = group_fits flags text }
 
-    char_fits : (e : ℕ) (text : List ℕ) → Fits flags (e ∷ text) (char_front flags.fold (e ∷ text))
+    char_fits : (e : ℕ) (text : List ℕ) → Fits (e ∷ text) (char_front flags.fold (e ∷ text))
     unfolding char_front
     char_fits e text =
-        elim (escaped_char (e ∷ text)) as (λ (o : Option EscapedChar). Within (suc (length text)) o → Fits flags (e ∷ text) (elim o [ None ↦ fault BadEscape 0 | Some c ↦ item (unit (char_tree flags.fold c.char)) c.len ])) [
+        elim (escaped_char (e ∷ text)) as (λ (o : Option EscapedChar). Within (suc (length text)) o → Fits (e ∷ text) (elim o [ None ↦ fault BadEscape 0 | Some c ↦ item (unit (char_tree flags.fold c.char)) c.len ])) [
           | None ↦ λ h. tt
-          | Some c ↦ λ h. (h, tt)
+          | Some c ↦ λ h. h
         ] (escaped_within e text)
 
-    escape_fits : (text : List ℕ) → Fits flags text (escape flags.fold text)
+    escape_fits : (text : List ℕ) → Fits text (escape flags.fold text)
     escape_fits [] = tt
     escape_fits (e ∷ text) =
-        elim (is_left_out e) as (λ b. Fits flags (e ∷ text) (cond b (fault NotInProfile 0) (elim (escaped_tree e) [ Some t ↦ item (unit t) 1 | None ↦ char_front flags.fold (e ∷ text) ]))) [
+        elim (is_left_out e) as (λ b. Fits (e ∷ text) (cond b (fault NotInProfile 0) (elim (escaped_tree e) [ Some t ↦ item (unit t) 1 | None ↦ char_front flags.fold (e ∷ text) ]))) [
           | true ↦ tt
-          | false ↦ elim (escaped_tree e) as (λ (o : Option Tree). Fits flags (e ∷ text) (elim o [ Some t ↦ item (unit t) 1 | None ↦ char_front flags.fold (e ∷ text) ])) [
-            | Some t ↦ (omega arith, tt)
+          | false ↦ elim (escaped_tree e) as (λ (o : Option Tree). Fits (e ∷ text) (elim o [ Some t ↦ item (unit t) 1 | None ↦ char_front flags.fold (e ∷ text) ])) [
+            | Some t ↦ omega arith
             | None ↦ char_fits e text
           ]
         ]
@@ -645,15 +843,15 @@ module _ (t : List ℕ) where
 
     backslash : EndsThere 92
     unfolding front sign_of
-    backslash text simple = record { same = escape_same text; fits = escape_fits text }
+    backslash text ends = record { same = escape_same text; fits = escape_fits text }
 
     by_wide : (b : ℕ) (text : List ℕ) (wide : Bool) → EndsBy (cond wide Wide Plain) flags b text
     by_wide b text true =
         let n = prefix_after is_continuation text refl in
         let taken : take (prefix_len is_continuation (after text)) (after text) ≡ take (prefix_len is_continuation text) text =
         ap (λ k. take k (after text)) n ∙ take_after (prefix_len is_continuation text) text (prefix_len-le-length is_continuation text) in
-        record { same = λ is i. item (unit (bytes_tree (b ∷ taken i))) (n i); fits = (prefix_len-le-length is_continuation text, tt) }
-    by_wide b text false = record { same = λ is. refl; fits = (omega arith, tt) }
+        record { same = λ is i. item (unit (bytes_tree (b ∷ taken i))) (n i); fits = prefix_len-le-length is_continuation text }
+    by_wide b text false = record { same = λ is. refl; fits = omega arith }
 
     others : (b : ℕ) (text : List ℕ) → has signs b ≡ false → Ends flags b text
     unfolding front
@@ -661,9 +859,9 @@ module _ (t : List ℕ) where
         let by : EndsBy (sign_of b) flags b text = subst (λ s. EndsBy s flags b text) (sym (by_width b apart (nat_le 128 b) refl)) (by_wide b text (nat_le 128 b)) in
         record { same = by.same; fits = by.fits }
 
-    ends : (b : ℕ) (text : List ℕ) → IsSimple (b ∷ text) → Ends flags b text
-    ends b text simple = elim (cases_Bool (has signs b)) [
-      | inl there ↦ of_each EndsThere signs b (star, (plus, (question, (a_brace, (dot, (caret, (dollar, (a_bar, (opened, (closed_group, (a_class, (backslash, tt)))))))))))) there text simple
+    ends_there : (b : ℕ) (text : List ℕ) → names_end (b ∷ text) ≡ true → Ends flags b text
+    ends_there b text names = elim (cases_Bool (has signs b)) [
+      | inl there ↦ of_each EndsThere signs b (star, (plus, (question, (a_brace, (dot, (caret, (dollar, (a_bar, (opened, (closed_group, (a_class, (backslash, tt)))))))))))) there text names
       | inr apart ↦ others b text apart
     ]
 
@@ -709,10 +907,6 @@ joined-open bs (broken k at) h = refl
 
 -- ---- one item, in two readings
 
-abbrev Flagged : Flags → List Group → Type 0
-Flagged flags [] = Unit {0}
-Flagged flags (g ∷ gs) = (g.flags ≡ flags) × Flagged flags gs
-
 abbrev Readings : Type 0
 Readings = Before → List Group → Flags → Rest
 
@@ -728,10 +922,28 @@ step at before groups flags x r =
       | flags_from_here new ↦ r Start groups new
     ]
 
-module _ (t : List ℕ) (flags : Flags) (bs : Trees) where
-  -- the first reading is that of a text, the second that of this text, a bar and the other
-  abbrev Joins : Readings → Readings → Type 0
-  Joins r s = (before : Before) (groups : List Group) → Flagged flags groups → IsRead (r before groups flags) → s before groups flags ≡ joined bs (r before groups flags)
+-- the flags before each open group
+abbrev outer_of : List Group → List Flags
+outer_of groups = map (λ (g : Group). g.flags) groups
+
+-- the flags behind an item and what follows it
+abbrev Ending : Type 0
+Ending = List Flags → Flags → Flags
+
+abbrev flags_step : List Flags → Flags → Item → Ending → Flags
+flags_step outer flags x ending =
+    elim x [
+      | group_start inner ↦ ending (flags ∷ outer) inner
+      | group_end ↦ elim outer [ [] ↦ flags | f ∷ fs ↦ ending fs f ]
+      | flags_from_here new ↦ ending outer new
+      | _ ↦ ending outer flags
+    ]
+
+module _ (last : Flags) (bs : Trees) where
+  -- the first reading is that of a text that ends with the last flags, the second that of this text, a bar and the other
+  abbrev Joins : Readings → Readings → Ending → Type 0
+  Joins r s ending =
+      (before : Before) (groups : List Group) (flags : Flags) → ending (outer_of groups) flags ≡ last → IsRead (r before groups flags) → s before groups flags ≡ joined bs (r before groups flags)
 
   joins_inside : (f : Level → Level) (r s : Rest) → Commutes bs f → (IsRead r → s ≡ joined bs r) → IsRead (inside f r) → inside f s ≡ joined bs (inside f r)
   joins_inside f r s h same is = ap (inside f) (same (inside_read f r is)) ∙ joined-inside bs f r h
@@ -744,76 +956,70 @@ module _ (t : List ℕ) (flags : Flags) (bs : Trees) where
   joins_repeat at n m Counted r s same is = refl
   joins_repeat at n m Operand r s same is = joins_inside (with_repeat n m) r s (λ l. refl) same is
 
-  joins_end : (at : ℕ) (groups : List Group) (r s : Readings) → Flagged flags groups → Joins r s →
-      IsRead (elim groups [ [] ↦ broken StrayClose at | g ∷ gs ↦ with_close (r Operand gs g.flags) ]) →
-      elim groups [ [] ↦ broken StrayClose at | g ∷ gs ↦ with_close (s Operand gs g.flags) ] ≡
-      joined bs (elim groups [ [] ↦ broken StrayClose at | g ∷ gs ↦ with_close (r Operand gs g.flags) ])
-  joins_end at [] r s flagged same is = refl
-  joins_end at (g ∷ gs) r s flagged same is =
-      let here : (f : Flags) → f ≡ flags → IsRead (with_close (r Operand gs f)) → with_close (s Operand gs f) ≡ joined bs (with_close (r Operand gs f)) =
-      λ f e. subst (λ f. IsRead (with_close (r Operand gs f)) → with_close (s Operand gs f) ≡ joined bs (with_close (r Operand gs f))) (sym e)
-      (λ read. ap with_close (same Operand gs flagged.1 (close_read (r Operand gs flags) read)) ∙ joined-close bs (r Operand gs flags)) in
-      here g.flags flagged.0 is
-
-  joins_start : (at : ℕ) (groups : List Group) (r s : Readings) → Flagged flags groups → Joins r s → (inner : Flags) → inner ≡ flags → (full : Bool) →
+  joins_start : (at : ℕ) (groups : List Group) (flags inner : Flags) (r s : Readings) (ending : Ending) → ending (flags ∷ outer_of groups) inner ≡ last → Joins r s ending → (full : Bool) →
       IsRead (if full then broken TooDeep at else with_open (r Start (record { at = at; flags = flags } ∷ groups) inner)) →
       (if full then broken TooDeep at else with_open (s Start (record { at = at; flags = flags } ∷ groups) inner)) ≡
       joined bs (if full then broken TooDeep at else with_open (r Start (record { at = at; flags = flags } ∷ groups) inner))
-  joins_start at groups r s flagged same inner e true is = refl
-  joins_start at groups r s flagged same inner e false is =
+  joins_start at groups flags inner r s ending ends same true is = refl
+  joins_start at groups flags inner r s ending ends same false is =
       let gs : List Group = record { at = at; flags = flags } ∷ groups in
-      subst (λ f. IsRead (with_open (r Start gs f)) → with_open (s Start gs f) ≡ joined bs (with_open (r Start gs f))) (sym e)
-      (λ read. ap with_open (same Start gs (refl, flagged) (open_read (r Start gs flags) read)) ∙ joined-open bs (r Start gs flags) read) is
+      ap with_open (same Start gs inner ends (open_read (r Start gs inner) is)) ∙ joined-open bs (r Start gs inner) is
 
-  joins_step : (at : ℕ) (before : Before) (groups : List Group) (x : Item) (r s : Readings) → Flagged flags groups → IsQuiet t flags x → Joins r s →
+  joins_end : (at : ℕ) (groups : List Group) (flags : Flags) (r s : Readings) (ending : Ending) → flags_step (outer_of groups) flags group_end ending ≡ last → Joins r s ending →
+      IsRead (elim groups [ [] ↦ broken StrayClose at | g ∷ gs ↦ with_close (r Operand gs g.flags) ]) →
+      elim groups [ [] ↦ broken StrayClose at | g ∷ gs ↦ with_close (s Operand gs g.flags) ] ≡
+      joined bs (elim groups [ [] ↦ broken StrayClose at | g ∷ gs ↦ with_close (r Operand gs g.flags) ])
+  joins_end at [] flags r s ending ends same is = refl
+  joins_end at (g ∷ gs) flags r s ending ends same is =
+      ap with_close (same Operand gs g.flags ends (close_read (r Operand gs g.flags) is)) ∙ joined-close bs (r Operand gs g.flags)
+
+  joins_step : (at : ℕ) (before : Before) (groups : List Group) (flags : Flags) (x : Item) (r s : Readings) (ending : Ending) → flags_step (outer_of groups) flags x ending ≡ last → Joins r s ending →
       IsRead (step at before groups flags x r) → step at before groups flags x s ≡ joined bs (step at before groups flags x r)
-  joins_step at before groups (unit u) r s flagged quiet same is = joins_inside (with_unit u) (r Operand groups flags) (s Operand groups flags) (λ l. refl) (same Operand groups flagged) is
-  joins_step at before groups (repeat n m) r s flagged quiet same is = joins_repeat at n m before (r Counted groups flags) (s Counted groups flags) (same Counted groups flagged) is
-  joins_step at before groups bar r s flagged quiet same is = joins_inside with_bar (r Start groups flags) (s Start groups flags) (λ l. refl) (same Start groups flagged) is
-  joins_step at before groups (group_start inner) r s flagged quiet same is = joins_start at groups r s flagged same inner quiet (nat_eq (length groups) most_open) is
-  joins_step at before groups group_end r s flagged quiet same is = joins_end at groups r s flagged same is
-  joins_step at before groups (flags_from_here new) r s flagged quiet same is = absurd quiet
+  joins_step at before groups flags (unit u) r s ending ends same is = joins_inside (with_unit u) (r Operand groups flags) (s Operand groups flags) (λ l. refl) (same Operand groups flags ends) is
+  joins_step at before groups flags (repeat n m) r s ending ends same is = joins_repeat at n m before (r Counted groups flags) (s Counted groups flags) (same Counted groups flags ends) is
+  joins_step at before groups flags bar r s ending ends same is = joins_inside with_bar (r Start groups flags) (s Start groups flags) (λ l. refl) (same Start groups flags ends) is
+  joins_step at before groups flags (group_start inner) r s ending ends same is = joins_start at groups flags inner r s ending ends same (nat_eq (length groups) most_open) is
+  joins_step at before groups flags group_end r s ending ends same is = joins_end at groups flags r s ending ends same is
+  joins_step at before groups flags (flags_from_here new) r s ending ends same is = same Start groups new ends is
 
 -- ---- the whole text
 
-simple_rest : (b : ℕ) (text : List ℕ) → IsSimple (b ∷ text) → IsSimple text
-simple_rest b text simple = record {
-  no_flags = (or_parts (nat_eq b 40 && is_front 63 text) (has_pair 40 63 text) simple.no_flags).1;
-  no_names = (or_parts (nat_eq b 91 && is_front 58 text) (has_pair 91 58 text) simple.no_names).1;
-}
+names_on : (b : ℕ) (text : List ℕ) → names_end (b ∷ text) ≡ true → names_end text ≡ true
+names_on b text h = (both [] (not (nat_eq b 91 && is_front 58 text) || is_some (name_length (drop 1 text))) (names_end text) h).1
 
-module _ (t : List ℕ) (flags : Flags) (other : Level) where
+module _ (t : List ℕ) (last : Flags) (other : Level) where
   abbrev bs : Trees
   bs = branches_of other
 
   -- what the other text reads as, wherever it begins
-  module _ (reads : (at : ℕ) → rest 0 at Start [] flags t ≡ levels other []) where
-    joins_at_end : (at : ℕ) (before : Before) (groups : List Group) → IsRead (at_end groups) → rest 0 at before groups flags (124 ∷ t) ≡ joined bs (at_end groups)
+  module _ (reads : (at : ℕ) → rest 0 at Start [] last t ≡ levels other []) where
+    joins_at_end : (at : ℕ) (before : Before) (groups : List Group) (flags : Flags) → flags ≡ last → IsRead (at_end groups) → rest 0 at before groups flags (124 ∷ t) ≡ joined bs (at_end groups)
     unfolding front sign_of
-    joins_at_end at before [] is = ap (inside with_bar) (reads (at + 1))
-    joins_at_end at before (g ∷ gs) is = absurd is
+    joins_at_end at before [] flags ends is = ap (λ f. inside with_bar (rest 0 (at + 1) Start [] f t)) ends ∙ ap (inside with_bar) (reads (at + 1))
+    joins_at_end at before (g ∷ gs) flags ends is = absurd is
 
-    joins_front : (at : ℕ) (before : Before) (groups : List Group) (text : List ℕ) → Flagged flags groups →
-        ((len : ℕ) → len ≤ length text → Joins t flags bs (λ b gs fs. rest len (at + 1) b gs fs text) (λ b gs fs. rest len (at + 1) b gs fs (text ++ 124 ∷ t))) →
-        (f g : Front) → (IsItem f → g ≡ f) → Fits t flags text f →
+    joins_front : (at : ℕ) (before : Before) (groups : List Group) (flags : Flags) (text : List ℕ) →
+        ((len : ℕ) → len ≤ length text → Joins last bs (λ b gs fs. rest len (at + 1) b gs fs text) (λ b gs fs. rest len (at + 1) b gs fs (text ++ 124 ∷ t)) (λ outer fs. flags_behind len outer fs text)) →
+        (f g : Front) → (IsItem f → g ≡ f) → Fits t text f →
+        ◌≡◌ {A = Flags} (elim f [ fault k behind ↦ flags | item x len ↦ flags_step (outer_of groups) flags x (λ outer fs. flags_behind len outer fs text) ]) last →
         IsRead (elim f [ fault k behind ↦ broken k (at + behind) | item x len ↦ step at before groups flags x (λ b gs fs. rest len (at + 1) b gs fs text) ]) →
         ◌≡◌ {A = Rest} (elim g [ fault k behind ↦ broken k (at + behind) | item x len ↦ step at before groups flags x (λ b gs fs. rest len (at + 1) b gs fs (text ++ 124 ∷ t)) ])
         (joined bs (elim f [ fault k behind ↦ broken k (at + behind) | item x len ↦ step at before groups flags x (λ b gs fs. rest len (at + 1) b gs fs text) ]))
-    joins_front at before groups text flagged later (fault k behind) g same fits read = absurd read
-    joins_front at before groups text flagged later (item x len) g same fits read =
+    joins_front at before groups flags text later (fault k behind) g same fits ends read = absurd read
+    joins_front at before groups flags text later (item x len) g same fits ends read =
         ap (λ (f : Front). elim f [ fault k behind ↦ broken k (at + behind) | item x len ↦ step at before groups flags x (λ b gs fs. rest len (at + 1) b gs fs (text ++ 124 ∷ t)) ]) (same tt)
-        ∙ joins_step t flags bs at before groups x (λ b gs fs. rest len (at + 1) b gs fs text) (λ b gs fs. rest len (at + 1) b gs fs (text ++ 124 ∷ t)) flagged fits.1 (later len fits.0) read
+        ∙ joins_step last bs at before groups flags x (λ b gs fs. rest len (at + 1) b gs fs text) (λ b gs fs. rest len (at + 1) b gs fs (text ++ 124 ∷ t)) (λ outer fs. flags_behind len outer fs text) ends (later len fits) read
 
-    joins_rest : (skip at : ℕ) (before : Before) (groups : List Group) (text : List ℕ) → IsSimple text → skip ≤ length text → Flagged flags groups →
+    joins_rest : (skip at : ℕ) (before : Before) (groups : List Group) (flags : Flags) (text : List ℕ) → names_end text ≡ true → skip ≤ length text → flags_behind skip (outer_of groups) flags text ≡ last →
         IsRead (rest skip at before groups flags text) → rest skip at before groups flags (text ++ 124 ∷ t) ≡ joined bs (rest skip at before groups flags text)
-    joins_rest zero at before groups [] simple le flagged is = joins_at_end at before groups is
-    joins_rest (suc skip) at before groups [] simple le flagged is = absurd (omega (arith, le))
-    joins_rest (suc skip) at before groups (b ∷ text) simple le flagged is = joins_rest skip (at + 1) before groups text (simple_rest b text simple) (omega (arith, le)) flagged is
-    joins_rest zero at before groups (b ∷ text) simple le flagged is =
-        let here : Ends t flags b text = ends t flags b text simple in
-        joins_front at before groups text flagged
-        (λ len within before' groups' flagged' read'. joins_rest len (at + 1) before' groups' text (simple_rest b text simple) within flagged' read')
-        (front flags b text) (front flags b (text ++ 124 ∷ t)) here.same here.fits is
+    joins_rest zero at before groups flags [] names le ends is = joins_at_end at before groups flags ends is
+    joins_rest (suc skip) at before groups flags [] names le ends is = absurd (omega (arith, le))
+    joins_rest (suc skip) at before groups flags (b ∷ text) names le ends is = joins_rest skip (at + 1) before groups flags text (names_on b text names) (omega (arith, le)) ends is
+    joins_rest zero at before groups flags (b ∷ text) names le ends is =
+        let here : Ends t flags b text = ends_there t flags b text names in
+        joins_front at before groups flags text
+        (λ len within before' groups' flags' ends' read'. joins_rest len (at + 1) before' groups' flags' text (names_on b text names) within ends' read')
+        (front flags b text) (front flags b (text ++ 124 ∷ t)) here.same here.fits ends is
 
 -- ---- where a text begins
 
@@ -931,13 +1137,13 @@ one_level text fold x reads = by (rest 0 0 Start [] (flags_at_start fold) text) 
         the_tree t u h = cc
     by (broken k at) e h = cc
 
-pub bar_reads : (s t : List ℕ) (fold : Bool) (x y : Tree) → IsSimple s → Reads s fold x → Reads t fold y → (z : Tree) × Reads (s ++ 124 ∷ t) fold z × TakesEither z x y
-bar_reads s t fold x y simple first second =
+pub bar_reads : (s t : List ℕ) (fold : Bool) (x y : Tree) → StandsApart fold s → Reads s fold x → Reads t fold y → (z : Tree) × Reads (s ++ 124 ∷ t) fold z × TakesEither z x y
+bar_reads s t fold x y apart first second =
     let flags : Flags = flags_at_start fold in
     let one = one_level s fold x first in
     let other = one_level t fold y second in
     let z : Tree = whole_group (with_more (branches_of other.level) one.level) in
     let there : (at : ℕ) → rest 0 at Start [] flags t ≡ levels other.level [] = λ at. anywhere 0 0 at Start [] [] flags t tt (subst IsRead (sym other.is) tt) ∙ other.is in
-    let joint = joins_rest t flags other.level there 0 0 Start [] s simple (omega arith) tt (subst IsRead (sym one.is) tt) in
+    let joint = joins_rest t flags other.level there 0 0 Start [] flags s apart.names (omega arith) apart.flags (subst IsRead (sym one.is) tt) in
     let takes : TakesEither z x y = subst (λ u. TakesEither z u y) one.whole (subst (λ u. TakesEither z (whole_group one.level) u) other.whole (takes_both one.level other.level)) in
     (z, ap answer (joint ∙ ap (joined (branches_of other.level)) one.is), takes)

@@ -11,7 +11,8 @@ use Rattle.cs_syntax.specs.Escapes.{char_front, escaped_class, escaped_tree}
 use Rattle.cs_syntax.specs.Groups.{is_flag, is_cleared_flag}
 use Rattle.cs_syntax.specs.Items.{front}
 use Rattle.cs_syntax.specs.Numbers.{digit_value}
-use Rattle.cs_syntax.specs.Reading.{reading, tree, refused}
+use Rattle.cs_syntax.specs.Choices.{flags_behind, names_end}
+use Rattle.cs_syntax.specs.Reading.{reading, tree, refused, flags_at_start}
 use Rattle.cs_syntax.specs.Signs.{sign_of}
 use Rattle.cs_syntax.specs.Written.{counted, quoted}
 use Rattle.cs_syntax.specs.Weight.{most_weight, weight, weights}
@@ -235,7 +236,7 @@ written :
     × (counted 2 7 ≡ codes "{2,7}")
 written = (refl, refl, λ i. 123 ∷ (decimal_digit 2 (omega arith) i ++ 44 ∷ (decimal_digit 7 (omega arith) i ++ 125 ∷ [])))
 
--- texts with bars: where the one before a bar is not simple, the bar is no choice of what both read as
+-- texts with bars: where the one before a bar does not stand apart, the bar is no choice of what both read as
 bars :
     -- one choice of three
     (reading (codes "a|b|c") false ≡ tree (alt (more (one_of (char_set false 97)) (more (one_of (char_set false 98)) (more (one_of (char_set false 99)) none)))))
@@ -248,5 +249,11 @@ bars :
     × (reading (codes "[[:a]") false ≡ tree (one_of (class_set false false (Range 91 91 ∷ Range 58 58 ∷ Range 97 97 ∷ []))))
     × (reading (codes ":]") false ≡ tree (cat (more (one_of (char_set false 58)) (more (one_of (char_set false 93)) none))))
     × (reading (codes "[[:a]|:]") false ≡ refused BadRange 1)
+    -- flags of a group end with it, and others do not
+    × (flags_behind 0 [] (flags_at_start false) (codes "(?i:a)") ≡ flags_at_start false)
+    × (flags_behind 0 [] (flags_at_start false) (codes "((?i)a)") ≡ flags_at_start false)
+    × (flags_behind 0 [] (flags_at_start false) (codes "(?i)a") ≡ flags_at_start true)
+    × (names_end (codes "[[:alpha:]]") ≡ true)
+    × (names_end (codes "[[:a]") ≡ false)
 unfolding sign_of front char_front escaped_class escaped_tree is_flag is_cleared_flag digit_value class_by_name
-bars = (refl, refl, refl, refl, refl, refl, refl)
+bars = (refl, refl, refl, refl, refl, refl, refl, refl, refl, refl, refl, refl)

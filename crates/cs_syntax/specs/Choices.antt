@@ -1,18 +1,39 @@
 -- Two patterns with a bar between them.
 -- docs/PATTERNS.md, "Items".
-use Rattle.std.specs.Prelude.{ℕ, ◌≡◌, ◌⊎◌, ◌↔◌, Bool, false, ◌&&◌, ◌||◌, List, [], ◌∷◌, nat_eq}
+use Rattle.std.specs.Prelude.{ℕ, zero, suc, ◌≡◌, ◌⊎◌, ◌↔◌, Bool, true, ◌&&◌, ◌||◌, not, List, [], ◌∷◌, nat_eq, drop, is_some}
 use Rattle.cs_syntax.specs.Matching.{Tree, Takes}
-use Rattle.cs_syntax.specs.Fronts.{is_front}
+use Rattle.cs_syntax.specs.Fronts.{item, fault, group_start, group_end, flags_from_here, is_front}
+use Rattle.cs_syntax.specs.Items.{front}
+use Rattle.cs_syntax.specs.Classes.{name_length}
+use Rattle.cs_syntax.specs.Reading.{flags_at_start}
+use Rattle.cs_syntax.specs.declared.flags.Flags.{Flags}
 
--- the two bytes stand side by side somewhere
-abbrev pub has_pair : ℕ → ℕ → List ℕ → Bool
-has_pair b c [] = false
-has_pair b c (d ∷ text) = (nat_eq d b && is_front c text) || has_pair b c text
+-- The flags that hold behind the text, whose first `skip` bytes belong to the item before it. Those before each open
+-- group are given, the innermost first.
+abbrev pub flags_behind : ℕ → List Flags → Flags → List ℕ → Flags
+flags_behind skip outer flags [] = flags
+flags_behind (suc skip) outer flags (b ∷ text) = flags_behind skip outer flags text
+flags_behind zero outer flags (b ∷ text) =
+    elim (front flags b text) [
+      | fault k behind ↦ flags
+      | item x len ↦
+          elim x [
+            | group_start inner ↦ flags_behind len (flags ∷ outer) inner text
+            | group_end ↦ elim outer [ [] ↦ flags | f ∷ fs ↦ flags_behind len fs f text ]
+            | flags_from_here new ↦ flags_behind len outer new text
+            | _ ↦ flags_behind len outer flags text
+          ]
+    ]
 
--- The text has no `(?`, so that it leaves the flags as they are, and no `[:`, which would look for its `:]` behind a bar.
-pub record IsSimple (text : List ℕ) : Type 0 where
-  pub no_flags : has_pair 40 63 text ≡ false
-  pub no_names : has_pair 91 58 text ≡ false
+-- behind each `[:` of the text there is a `:]`
+abbrev pub names_end : List ℕ → Bool
+names_end [] = true
+names_end (b ∷ text) = (not (nat_eq b 91 && is_front 58 text) || is_some (name_length (drop 1 text))) && names_end text
+
+-- Behind the text the flags are those at its start, and no `[:` of it looks for its `:]` there.
+pub record StandsApart (fold : Bool) (text : List ℕ) : Type 0 where
+  pub flags : flags_behind 0 [] (flags_at_start fold) text ≡ flags_at_start fold
+  pub names : names_end text ≡ true
 
 -- the first tree takes just what one of the two others takes
 abbrev pub TakesEither : Tree → Tree → Tree → Type 0

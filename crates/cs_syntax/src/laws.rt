@@ -4,7 +4,7 @@ ghost use Rattle.std.specs.Str.{chars};
 ghost use Rattle.cs_syntax.specs.Decided.{IsDecided};
 ghost use Rattle.cs_syntax.specs.Levels.{HasLevels};
 ghost use Rattle.cs_syntax.specs.Matching.{Tree, one_of, rep};
-ghost use Rattle.cs_syntax.specs.Choices.{IsSimple, TakesEither};
+ghost use Rattle.cs_syntax.specs.Choices.{StandsApart, TakesEither};
 ghost use Rattle.cs_syntax.specs.ByteSet.{char_set};
 ghost use Rattle.cs_syntax.specs.Signs.{sign_of};
 ghost use Rattle.cs_syntax.specs.Fronts.{sequence};
@@ -57,9 +57,10 @@ pub fn quoted_texts_read_as_themselves()
         → Reads (quoted text) fold (sequence (units_of fold (chars text))) }
 {}
 
-/// A simple text, a bar and a text read as a tree that takes just what one of their two trees takes.
+/// A text that leaves the flags as they are, a bar and a text read as a tree that takes just what one of their two trees
+/// takes.
 pub fn bars_read_as_choices()
-    ensures { (s t : List ℕ) (fold : Bool) (x y : Tree) → IsSimple s
+    ensures { (s t : List ℕ) (fold : Bool) (x y : Tree) → StandsApart fold s
         → Reads s fold x → Reads t fold y
         → (z : Tree) × Reads (s ++ 124 ∷ t) fold z × TakesEither z x y }
 {}

@@ -235,14 +235,15 @@ holds "closed cgrep"
 holds "seq 1 3000000 | timeout 20 \"\$program\" cgrep '' 2>/dev/null | head -n 1 | grep -qx '<standard input>:1'"
 
 # ---- the same lines as grep, over the sources of this repository --------------------------------------------------------
+# By -s all names go to one command, so that its status is that of xargs.
 tree=$root/crates
 find "$tree" -type d -name out -prune -o -type f \( -name '*.rt' -o -name '*.antt' \) -print | sort > results/names
 for pattern in 'requires' '^use .*specs' 'fn [a-z_]*\(' '(length|take) [a-z]' '^$'; do
-    same "xargs \"\$program\" cgrep -n '$pattern' < results/names" "LC_ALL=C xargs grep -EHn '$pattern' < results/names"
-    same "xargs \"\$program\" cgrep '$pattern' < results/names" "LC_ALL=C xargs grep -EH '$pattern' < results/names"
-    same "xargs \"\$program\" cgrep -h '$pattern' < results/names" "LC_ALL=C xargs grep -Eh '$pattern' < results/names"
-    same "xargs \"\$program\" cgrep -l '$pattern' < results/names" "LC_ALL=C xargs grep -El '$pattern' < results/names"
-    same "xargs \"\$program\" cgrep -c '$pattern' < results/names" "LC_ALL=C xargs grep -EHc '$pattern' < results/names | grep -v ':0\$' | sed 's/:\([0-9]*\)\$/: \1/'"
+    same "xargs -s 1000000 \"\$program\" cgrep -n '$pattern' < results/names" "LC_ALL=C xargs -s 1000000 grep -EHn '$pattern' < results/names"
+    same "xargs -s 1000000 \"\$program\" cgrep '$pattern' < results/names" "LC_ALL=C xargs -s 1000000 grep -EH '$pattern' < results/names"
+    same "xargs -s 1000000 \"\$program\" cgrep -h '$pattern' < results/names" "LC_ALL=C xargs -s 1000000 grep -Eh '$pattern' < results/names"
+    same "xargs -s 1000000 \"\$program\" cgrep -l '$pattern' < results/names" "LC_ALL=C xargs -s 1000000 grep -El '$pattern' < results/names"
+    same "xargs -s 1000000 \"\$program\" cgrep -c '$pattern' < results/names" "LC_ALL=C xargs -s 1000000 grep -EHc '$pattern' < results/names | grep -v ':0\$' | sed 's/:\([0-9]*\)\$/: \1/'"
 done
 
 . "$root/tests/indexing.sh"

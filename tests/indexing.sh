@@ -420,9 +420,9 @@ try 0 '' '' "cindex -reset trees/real"
 if [ -n "$go_csearch" ]; then
     find "$home/trees/real" -type f -size +0 | LC_ALL=C sort > results/names
     for pattern in 'requires' 'fn [a-z]+_of' '^use .*specs' '[Tt]rigram'; do
-        same "\$go_csearch -n '$pattern'" "LC_ALL=C xargs grep -aEHn '$pattern' < results/names"
+        same "\$go_csearch -n '$pattern'" "LC_ALL=C xargs -s 1000000 grep -aEHn '$pattern' < results/names"
     done
-    same "\$go_csearch -n -i TRIGRAM" "LC_ALL=C xargs grep -aEHni TRIGRAM < results/names"
+    same "\$go_csearch -n -i TRIGRAM" "LC_ALL=C xargs -s 1000000 grep -aEHni TRIGRAM < results/names"
     same "csearch '(?i)trigram'" "\$go_csearch '(?i)trigram'"
     CSEARCHINDEX=$home/results/go "$go_cindex" -reset "$home/trees/real" 2>/dev/null
     same "CSEARCHINDEX=\$home/results/go csearch requires | sort" "csearch requires | sort"

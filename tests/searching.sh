@@ -60,7 +60,7 @@ find "$home/trees/table" -type f | LC_ALL=C sort > results/names
 row=0
 while IFS=$tab read -r pattern text miss; do
     row=$((row + 1))
-    xargs "$program" cgrep -l -- "$pattern" < results/names > results/listed
+    xargs -s 1000000 "$program" cgrep -l -- "$pattern" < results/names > results/listed
     holds "grep -q '/match-$row\$' results/listed && ! grep -q '/miss-$row\$' results/listed"
     same "csearch -l -- '$pattern'" "cat results/listed"
 done < "$root/tests/queries.txt"
@@ -69,8 +69,8 @@ done < "$root/tests/queries.txt"
 cindex -reset trees/real
 find "$home/trees/real" -type f -size +0 | LC_ALL=C sort > results/names
 while read -r pattern; do
-    same "csearch -n '$pattern'" "LC_ALL=C xargs grep -aEHn '$pattern' < results/names"
-    same "csearch -brute '$pattern'" "xargs \"\$program\" cgrep '$pattern' < results/names"
+    same "csearch -n '$pattern'" "LC_ALL=C xargs -s 1000000 grep -aEHn '$pattern' < results/names"
+    same "csearch -brute '$pattern'" "xargs -s 1000000 \"\$program\" cgrep '$pattern' < results/names"
 done <<'PATTERNS'
 requires
 ensures
@@ -103,7 +103,7 @@ while let Some
 ^ghost use
 String::from_str
 PATTERNS
-same "csearch -i REQUIRES" "LC_ALL=C xargs grep -aiEH REQUIRES < results/names"
-same "csearch -l -f '\.rt\$' unwrap_or" "grep '\.rt\$' results/names | LC_ALL=C xargs grep -aEl unwrap_or"
+same "csearch -i REQUIRES" "LC_ALL=C xargs -s 1000000 grep -aiEH REQUIRES < results/names"
+same "csearch -l -f '\.rt\$' unwrap_or" "grep '\.rt\$' results/names | LC_ALL=C xargs -s 1000000 grep -aEl unwrap_or"
 holds "{ timeout 20 \"\$program\" csearch . 2> results/said; echo \$? > results/status; } | head -n 1 | grep -q ."
 holds "closed csearch"

@@ -119,7 +119,8 @@ impl Counted {
     /// These, or some of a few words.
     fn or_few(&self, alloc: Global, words: &[Word]) -> Result<Counted, AllocError>
         ensures { IfOk result (λ either. (t u : Tree) → Counts self.now t →
-            SamplesTree words.now u → length words.now ≤ 20 → Counts either (alt (more t (more u none)))) }
+            SamplesTree words.now u → length words.now ≤ 20 →
+            Counts either (alt (more t (more u none)))) }
     {
         match self {
             Counted::Endless => Ok(Counted::Endless),

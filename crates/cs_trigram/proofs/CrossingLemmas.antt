@@ -1,26 +1,20 @@
 -- What stands across the seam of two texts.
-use Rattle.std.proofs.Common.{◌≡◌, ℕ, ◌-◌, ◌⊎◌, inl, inr, Bool, true, List, [], ◌∷◌, ◌++◌, sym, ◌∙◌, ap, subst, append_assoc}
+use Rattle.std.proofs.Common.{◌≡◌, ℕ, ◌-◌, Bool, true, List, [], ◌∷◌, ◌++◌, refl, sym, ◌∙◌, ap, subst, append_assoc}
 use Rattle.std.specs.List.{list_all}
 use Rattle.std.proofs.lemmas.Bool.{or_left, or_right}
 use Rattle.cs_syntax.specs.Matching.{Tree, Trees, more, TakesAll}
 use Rattle.cs_trigram.specs.Trigram.{trigram_sequence}
-use Rattle.cs_trigram.specs.Query.{HasTrigrams}
-use Rattle.cs_trigram.specs.Sample.{has_any}
-use Rattle.cs_trigram.specs.Affixes.{part, Fits, FitsSome, AreAffixes, AreAffixesOfAll, StandsIn, SomeStands}
+use Rattle.cs_trigram.specs.Query.{holds, HasTrigrams}
+use Rattle.cs_trigram.specs.Sample.{some_holds, AsksForText}
+use Rattle.cs_trigram.specs.Affixes.{part, Fits, FitsSome, AreAffixes, AreAffixesOfAll, StandsIn}
 use Rattle.cs_trigram.specs.ShortWord.{bytes_of}
 use Rattle.cs_trigram.specs.declared.affixes.Side.TheVariants.{Prefix, Suffix}
 use Rattle.cs_trigram.specs.declared.affixes.Affix.{Affix}
+use Rattle.cs_trigram.specs.declared.queries.Query.{Query}
+use Rattle.cs_trigram.proofs.QueryLemmas.{some_holds_push}
 use Rattle.cs_trigram.proofs.PartTrigramLemmas.{all_trigrams_tri, has_part, has_front, has_back}
 use Rattle.cs_trigram.proofs.SpellingLemmas.{part_split}
 use Rattle.cs_trigram.proofs.AffixLemmas.{rises, rises_all}
-
-pub stands_push : (words : List (List ℕ)) (word text : List ℕ) → StandsIn word text ⊎ SomeStands words text → SomeStands (words ++ word ∷ []) text
-stands_push [] word text h = h
-stands_push (w ∷ words) word text h =
-    elim h [
-      | inl a ↦ inr (stands_push words word text (inl a))
-      | inr b ↦ elim b [ inl c ↦ inl c | inr d ↦ inr (stands_push words word text (inr d)) ]
-    ]
 
 -- a suffix and a prefix, joined
 pub stands_across : (suffix prefix : Affix) (word u v : List ℕ) → word ≡ (bytes_of suffix.word) ++ (bytes_of prefix.word) → Fits Suffix suffix u → Fits Prefix prefix v → StandsIn word (u ++ v)
@@ -32,15 +26,21 @@ stands_across suffix prefix word u v is a b = (
 )
 
 module _ (set : ℕ → Bool) where
-  pub standing_asked : (words : List (List ℕ)) (text : List ℕ) → SomeStands words text → HasTrigrams set text → has_any set words ≡ true
-  standing_asked [] text h has = absurd h
-  standing_asked (w ∷ words) text h has =
-      elim h [
-        | inl a ↦
-            let word : HasTrigrams set w = has_front set w a.1 (has_back set a.0 (w ++ a.1) (subst (HasTrigrams set) a.2 has)) in
-            or_left (list_all set (trigram_sequence w)) (has_any set words) (sym (all_trigrams_tri set w) ∙ word)
-        | inr b ↦ or_right (list_all set (trigram_sequence w)) (has_any set words) (standing_asked words text b has)
-      ]
+  standing_there : (word text : List ℕ) → StandsIn word text → HasTrigrams set text → list_all set (trigram_sequence word) ≡ true
+  standing_there word text stands has =
+      let there : HasTrigrams set word = has_front set word stands.1 (has_back set stands.0 (word ++ stands.1) (subst (HasTrigrams set) stands.2 has)) in
+      sym (all_trigrams_tri set word) ∙ there
+
+  -- one joining more
+  pub joining_held : (queries : List Query) (q : Query) (suffix prefix : Affix) (u v : List ℕ) → AsksForText q ((bytes_of suffix.word) ++ (bytes_of prefix.word)) →
+      Fits Suffix suffix u → Fits Prefix prefix v → HasTrigrams set (u ++ v) → some_holds (queries ++ q ∷ []) set ≡ true
+  joining_held queries q suffix prefix u v asks a b has =
+      let word = (bytes_of suffix.word) ++ (bytes_of prefix.word) in
+      some_holds_push set queries q
+      ∙ or_right (some_holds queries set) (holds q set) (asks set ∙ standing_there word (u ++ v) (stands_across suffix prefix word u v refl a b) has)
+
+  pub others_held : (queries : List Query) (q : Query) → some_holds queries set ≡ true → some_holds (queries ++ q ∷ []) set ≡ true
+  others_held queries q h = some_holds_push set queries q ∙ or_left (some_holds queries set) (holds q set) h
 
   -- what is asked across the seam of a part and those behind it holds of each line in which they take a part
   pub seam_held : (query : (ℕ → Bool) → Bool) (suffixes prefixes : List Affix) (t : Tree) (ts : Trees) →

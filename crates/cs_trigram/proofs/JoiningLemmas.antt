@@ -1,12 +1,13 @@
 -- Joinings of words that differ.
-use Rattle.std.proofs.Common.{◌≡◌, ℕ, ◌+◌, ◌*◌, ◌<◌, ◌≤◌, ◌&&◌, inl, inr, not, Bool, true, false, List, [], ◌∷◌, ◌++◌, take, length, map, refl, sym, ◌∙◌, ap, subst, arith, append_assoc, length-append}
+use Rattle.std.proofs.Common.{◌≡◌, ℕ, ◌+◌, ◌-◌, ◌*◌, ◌<◌, ◌≤◌, ◌&&◌, inl, inr, not, Bool, true, false, List, [], ◌∷◌, ◌++◌, take, drop, length, map, refl, sym, ◌∙◌, ap, subst, arith, append_assoc, length-append, length-drop}
 use Rattle.std.specs.Prelude.{nat_le, nat_eq, if◌then◌else◌}
 use Rattle.std.specs.List.{list_any, list_all}
 use Rattle.std.specs.Str.{bytes_eq}
 use Rattle.std.proofs.Math.Nat.{suc-mul}
 use Rattle.std.proofs.Math.Seq.{take-append_seam}
-use Rattle.std.proofs.lemmas.Bool.{and_parts, le-leb, cases_lt, eqb-true}
-use Rattle.std.proofs.lemmas.List.{append-nil, append_cancel_left, length-map}
+use Rattle.std.proofs.lemmas.Bool.{and_parts, le-leb, cases_lt, eqb-true, both_ways}
+use Rattle.std.proofs.lemmas.List.{append-nil, append_cancel_left, length-map, take-append-drop, take_all}
+use Rattle.std.proofs.lemmas.Slice.Eq.{bytes_eq-Decides}
 use Rattle.cs_trigram.specs.Windows.{IsMember}
 use Rattle.cs_trigram.specs.Sample.{with_word, with_words, joinings, AreDifferent}
 use Rattle.cs_trigram.proofs.MemberLemmas.{member_append, member_right, member_map, any_member, different_within, different_map}
@@ -98,3 +99,29 @@ many_joinings n us vs h d e lt =
           let fits = different_within (joinings us vs) (with_words [] (joinings us vs)) (different_joinings n us vs h d e) (λ w m. all.whole few w m) in
           absurd (omega (arith, fits, few, lt, count_joinings us vs))
     ]
+
+-- whether a word is the one and then the other, part by part
+both_or_none : (a b : Bool) → (a ≡ true → b ≡ true) → (b ≡ true → a ≡ true) → a ≡ b
+both_or_none true true f g = refl
+both_or_none true false f g = sym (f refl)
+both_or_none false true f g = g refl
+both_or_none false false f g = refl
+
+pub joined_behind : (s u v : List ℕ) → length s ≡ length u + length v → bytes_eq (take (length u) s) u ≡ true →
+    bytes_eq (take (length s - length u) (drop (length u) s)) v ≡ bytes_eq s (u ++ v)
+joined_behind s u v len front =
+    let first : take (length u) s ≡ u = (bytes_eq-Decides (take (length u) s) u).0 front in
+    let back = drop (length u) s in
+    let all : take (length s - length u) back ≡ back = take_all (length s - length u) back (omega (arith, length-drop (length u) s)) in
+    let whole : s ≡ u ++ back = sym (take-append-drop (length u) s) ∙ ap (λ (x : List ℕ). x ++ back) first in
+    ap (λ (x : List ℕ). bytes_eq x v) all
+    ∙ both_or_none (bytes_eq back v) (bytes_eq s (u ++ v))
+    (λ e. (bytes_eq-Decides s (u ++ v)).1 (whole ∙ ap (λ (x : List ℕ). u ++ x) ((bytes_eq-Decides back v).0 e)))
+    (λ e. (bytes_eq-Decides back v).1 (append_cancel_left u back v (sym whole ∙ (bytes_eq-Decides s (u ++ v)).0 e)))
+
+pub not_joined : (s u v : List ℕ) → bytes_eq (take (length u) s) u ≡ false → false ≡ bytes_eq s (u ++ v)
+not_joined s u v other =
+    both_or_none false (bytes_eq s (u ++ v)) (λ e. absurd (both_ways false refl e))
+    (λ e.
+    let whole = (bytes_eq-Decides s (u ++ v)).0 e in
+    sym other ∙ (bytes_eq-Decides (take (length u) s) u).1 (ap (take (length u)) whole ∙ take-append_seam u v))

@@ -71,12 +71,3 @@ AreAffixesOfRepeat side affixes t least = (most : Option ℕ) → AreAffixes sid
 -- the word stands in the text
 abbrev pub StandsIn : List ℕ → List ℕ → Type 0
 StandsIn word text = (before after : List ℕ) × (text ≡ before ++ (word ++ after))
-
--- some word stands in the text
-abbrev pub SomeStands : List (List ℕ) → List ℕ → Type 0
-SomeStands [] text = ⊥
-SomeStands (word ∷ words) text = StandsIn word text ⊎ SomeStands words text
-
--- where a text with one of the suffixes stands before one with one of the prefixes, some word stands in both together
-abbrev pub SomeCrosses : List (List ℕ) → List Affix → List Affix → Type 0
-SomeCrosses words suffixes prefixes = (u v : List ℕ) → FitsSome Suffix suffixes u → FitsSome Prefix prefixes v → SomeStands words (u ++ v)

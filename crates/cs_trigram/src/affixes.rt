@@ -127,7 +127,7 @@ fn copies(alloc: Global, affixes: &[Affix]) -> Result<Vec<Affix>, AllocError>
 }
 
 /// The affixes, each cut to so many bytes.
-fn short_affixes(
+pub(crate) fn short_affixes(
     alloc: Global,
     side: Side,
     affixes: &[Affix],

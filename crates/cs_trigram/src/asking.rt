@@ -14,7 +14,7 @@ use std::mem;
 
 /// A trigram is looked for among so many members at most, so that a long word takes no longer than
 /// its bytes.
-const LAST: usize = 64;
+const LAST: usize = 16;
 
 /// The number of three bytes.
 pub(crate) fn trigram(a: u8, b: u8, c: u8) -> u32
@@ -107,22 +107,56 @@ pub(crate) fn add_need(needs: &mut Vec<Query>, query: Query) -> Result<(), Alloc
     }
 }
 
+/// Whether the member at the place is the trigram.
+fn is_at(members: &[Query], at: usize, number: u32) -> bool
+    ensures { IsTrue result → Contains members.now (Tri number) }
+{
+    if at < members.len()
+        && let Query::Tri(other) = &members[at]
+    {
+        return *other == number;
+    }
+    false
+}
+
+/// Asks for the next trigram of a text too, which is looked for at the place, and answers where the
+/// one behind it is looked for. So a text that repeats its front asks for that alone.
+fn add_next(members: &mut Vec<Query>, number: u32, next: usize) -> Result<usize, AllocError>
+    ensures asks { OnOk result (AsksToo members.old.items members.new.items (holds (Tri number))) }
+    ensures numbers { OnOk result (
+        NumbersToo members.old.items members.new.items (are_trigrams (Tri number))) }
+{
+    if is_at(members, next, number) {
+        return Ok(next.saturating_add(1));
+    }
+    if is_at(members, 0, number) {
+        return Ok(1);
+    }
+    add_trigram(members, number)?;
+    Ok(next)
+}
+
 /// The text's trigrams are all there.
 pub(crate) fn all_trigrams(alloc: Global, text: &[u8]) -> Result<Query, AllocError>
     ensures asks { IfOk result (λ query. AsksForText query text.now) }
     ensures numbers { IfOk result (λ query. are_trigrams query ≡ true) }
 {
+    if let [a, b, c] = text {
+        return Ok(Query::Tri(trigram(*a, *b, *c)));
+    }
     let mut members = Vec::new(alloc);
+    let mut next = 0;
     let mut at = 0;
     while text.len() - at > 2 {
-        add_trigram(&mut members, trigram(text[at], text[at + 1], text[at + 2]))?;
+        let number = trigram(text[at], text[at + 1], text[at + 2]);
+        next = add_next(&mut members, number, next)?;
         at += 1;
     }
     Ok(Query::And(members))
 }
 
 /// Some member is met. One member alone is what it asks.
-fn any_of(mut members: Vec<Query>) -> Query
+pub(crate) fn any_of(mut members: Vec<Query>) -> Query
     ensures asks { (set : ℕ → Bool) → holds result set ≡ some_holds members.items set }
     ensures numbers { are_trigrams result ≡ list_all are_trigrams members.items }
 {

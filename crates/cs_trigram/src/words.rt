@@ -141,6 +141,17 @@ impl Word {
         &self.bytes[self.start..]
     }
 
+    /// Whether it is the one word and then the other.
+    fn joins(&self, front: &Word, back: &Word) -> bool
+        ensures { result ≡ bytes_eq self.now (front.now ++ back.now) }
+    {
+        let (bytes, front, back) = (self.bytes(), front.bytes(), back.bytes());
+        if bytes.len() != front.len() + back.len() {
+            return false;
+        }
+        &bytes[..front.len()] == front && &bytes[front.len()..] == back
+    }
+
     /// Whether the two are one word.
     pub(crate) fn is(&self, other: &Word) -> bool
         ensures { result ≡ bytes_eq self.now other.now }
@@ -198,6 +209,31 @@ pub(crate) fn add_words(
     Ok(())
 }
 
+/// Whether the joining of the two is among the words.
+fn has_joining(words: &[Word], front: &Word, back: &Word) -> bool
+    ensures { result ≡ list_any (λ w. bytes_eq w (front.now ++ back.now)) words.now }
+{
+    words.iter().any(|w| w.joins(front, back))
+}
+
+/// Adds the joining of two words that is not there yet, up to one more than are few.
+fn add_joining(
+    alloc: Global,
+    front: &Word,
+    back: &Word,
+    words: &mut Vec<Word>,
+) -> Result<(), AllocError>
+    ensures { OnOk result (words.new.items ≡
+        with_word words.old.items (front.now ++ back.now)) }
+{
+    // Memory is taken for new words alone: of the joinings of words that may be missing most are
+    // not new.
+    if words.len() <= FEW && !has_joining(words, front, back) {
+        words.push(Word::joining(alloc, front, back)?)?;
+    }
+    Ok(())
+}
+
 /// Adds the joinings of a word with each of the others.
 fn add_joinings(
     alloc: Global,
@@ -212,7 +248,7 @@ fn add_joinings(
         if words.len() > FEW {
             return Ok(());
         }
-        add_word(words, Word::joining(alloc, front, back)?)?;
+        add_joining(alloc, front, back, words)?;
     }
     Ok(())
 }

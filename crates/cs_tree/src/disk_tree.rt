@@ -15,7 +15,7 @@ use crate::tree::{Kind, Listing, Tree};
 use std::alloc::Global;
 use std::fs::{DirEntry, Metadata, OpenFile};
 use std::io::{ErrorKind, Read};
-use std::os::unix::fs::FileExt;
+use std::os::unix::fs::{FileExt, MetadataExt};
 use std::rt::Files;
 use std::{fs, io};
 
@@ -26,6 +26,7 @@ use std::{fs, io};
 pub struct DiskTree<R: Files + Drop> {
     rt: R,
     opens: Opens,
+    output: Option<FileId>,
     opened: Option<R::File>,
     failed: u64,
 }
@@ -39,6 +40,16 @@ enum Opens {
     Files,
 }
 
+/// Two names are those of one file where both numbers are the same.
+#[derive(Clone, Copy, Debug, PartialEq, Eq)]
+struct FileId {
+    device: u64,
+    node: u64,
+}
+
+/// What the system shows standard output as.
+const OUTPUT: &str = "/proc/self/fd/1";
+
 impl<R: Files + AllocGlobal + Clone + Drop> DiskTree<R> {
     /// The disk, of which `open` opens whatever is no folder, and waits at a pipe until it is written
     /// to. Takes no memory.
@@ -48,6 +59,7 @@ impl<R: Files + AllocGlobal + Clone + Drop> DiskTree<R> {
         DiskTree {
             rt,
             opens: Opens::Anything,
+            output: None,
             opened: None,
             failed: 0,
         }
@@ -61,9 +73,22 @@ impl<R: Files + AllocGlobal + Clone + Drop> DiskTree<R> {
         DiskTree {
             rt,
             opens: Opens::Files,
+            output: None,
             opened: None,
             failed: 0,
         }
+    }
+
+    /// From now on `open` refuses the file that standard output goes to, as `Output`, by whichever name. An output
+    /// that is no regular file, as a terminal, is opened; and so is all where the system shows no output.
+    pub fn leave_output(&mut self)
+        ensures { ⟦<DiskTree<R> as Tree>⟧.failed self.new
+            ≡ ⟦<DiskTree<R> as Tree>⟧.failed self.old }
+    {
+        self.output = match fs::metadata(&self.rt, OUTPUT) {
+            Ok(metadata) if metadata.is_file() => Some(id_of(&metadata)),
+            _ => None,
+        };
     }
 
     /// Opens a file to be read by position, beside the one that is open. Follows links. A pipe or a
@@ -105,7 +130,7 @@ impl<R: Files + AllocGlobal + Clone + Drop> Tree for DiskTree<R> {
     /// Follows links.
     fn open(&mut self, path: &str) -> Result<(), TreeFault> {
         self.opened = None;
-        match open_file(&self.rt, self.opens, path) {
+        match open_file(&self.rt, self.opens, self.output, path) {
             Ok(file) => {
                 self.opened = Some(file);
                 Ok(())
@@ -134,6 +159,13 @@ fn kind_of(metadata: &Metadata) -> Kind {
         Kind::File
     } else {
         Kind::Other
+    }
+}
+
+fn id_of(metadata: &Metadata) -> FileId {
+    FileId {
+        device: metadata.dev(),
+        node: metadata.ino(),
     }
 }
 
@@ -207,26 +239,36 @@ fn list_entry<R: Files + AllocGlobal + Clone + Drop>(
     Ok(())
 }
 
-/// Opens what stands at a path, unless it is a folder, or no regular file where these are opened alone. Whether it is
-/// one of these is asked before it is opened, so that a pipe is not waited for; what becomes a folder meanwhile is open,
-/// and cannot be read.
-fn open_file<R: Files + Drop>(rt: &R, opens: Opens, path: &str) -> Result<R::File, TreeFault> {
+/// Opens what stands at a path, unless it is the output, a folder, or no regular file where these are opened alone.
+/// Whether it is one of these is asked before it is opened, so that a pipe is not waited for; what becomes a folder
+/// meanwhile is open, and cannot be read.
+fn open_file<R: Files + Drop>(
+    rt: &R,
+    opens: Opens,
+    output: Option<FileId>,
+    path: &str,
+) -> Result<R::File, TreeFault> {
     if opens == Opens::Files {
-        is_opened(fs::metadata(rt, path), opens)?;
+        is_opened(fs::metadata(rt, path), opens, output)?;
     }
     let file = match fs::open(rt, path) {
         Ok(file) => file,
         Err(error) => return Err(fault_of(error.kind())),
     };
     if opens == Opens::Anything {
-        is_opened(file.metadata(), opens)?;
+        is_opened(file.metadata(), opens, output)?;
     }
     Ok(file)
 }
 
 /// Refuses what is not opened.
-fn is_opened(metadata: io::Result<Metadata>, opens: Opens) -> Result<(), TreeFault> {
+fn is_opened(
+    metadata: io::Result<Metadata>,
+    opens: Opens,
+    output: Option<FileId>,
+) -> Result<(), TreeFault> {
     match metadata {
+        Ok(metadata) if output == Some(id_of(&metadata)) => Err(TreeFault::Output),
         Ok(metadata) if metadata.is_file() => Ok(()),
         Ok(metadata) if opens == Opens::Anything && !metadata.is_dir() => Ok(()),
         Ok(_) => Err(TreeFault::Failed),

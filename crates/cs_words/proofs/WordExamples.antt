@@ -15,7 +15,7 @@ use Rattle.cs_words.specs.Messages.{line_of}
 use Rattle.cs_words.specs.declared.fault.Refusal.TheVariants.{Word as A_word, Tool as A_tool, Index as An_index}
 use Rattle.cs_words.specs.declared.fault.ToolFault.TheVariants.{Pattern, FilePattern, BadIndex as ToolBadIndex}
 use Rattle.cs_words.specs.declared.fault.CindexFault.TheVariants.{NoIndex, BadPath}
-use Rattle.cs_words.specs.declared.fault.FileFault.TheVariants.{Missing, Failed}
+use Rattle.cs_words.specs.declared.fault.FileFault.TheVariants.{Missing, Output, Failed}
 use Rattle.cs_index.specs.declared.fault.IndexFault.TheVariants.{BadTrailer, Memory as IndexMemory}
 use Rattle.cs_trigram.specs.declared.scan.Reason.TheVariants.{Nul}
 
@@ -152,6 +152,9 @@ needs_value = refl
 
 vanished : fault_line_of Cindex (codes "/v") Missing ≡ codes "cindex: /v: no such file\n"
 vanished = refl
+
+written : fault_line_of Csearch (codes "/t/out") Output ≡ codes "csearch: /t/out: is the output\n"
+written = refl
 
 cut : fault_line_of Cgrep (codes "/t/c") Failed ≡ codes "cgrep: /t/c: cannot be read\n"
 cut = refl

@@ -6,7 +6,7 @@ use Rattle.cs_tree.specs.declared.fault.TreeFault.{TreeFault}
 use Rattle.cs_words.specs.declared.jobs.Tool.{Tool}
 use Rattle.cs_words.specs.declared.jobs.Tool.TheVariants.{Cindex, Csearch, Cgrep}
 use Rattle.cs_words.specs.declared.fault.FileFault.{FileFault}
-use Rattle.cs_words.specs.declared.fault.FileFault.TheVariants.{Missing, Denied, Failed, Unnamed, PathTooLong, InputTooLong}
+use Rattle.cs_words.specs.declared.fault.FileFault.TheVariants.{Missing, Denied, Output, Failed, Unnamed, PathTooLong, InputTooLong}
 
 abbrev pub tool_name : Tool → List ℕ
 tool_name Cindex = codes "cindex"
@@ -17,6 +17,7 @@ tool_name Cgrep = codes "cgrep"
 abbrev pub file_fault_words : FileFault → List ℕ
 file_fault_words Missing = codes "no such file"
 file_fault_words Denied = codes "permission denied"
+file_fault_words Output = codes "is the output"
 file_fault_words Failed = codes "cannot be read"
 file_fault_words Unnamed = codes "name is not text"
 file_fault_words PathTooLong = codes "path too long"
@@ -29,5 +30,5 @@ fault_line_of tool name fault = tool_name tool ++ codes ": " ++ name ++ codes ":
 abbrev pub file_fault_of : TreeFault → FileFault
 file_fault_of tree.Missing = Missing
 file_fault_of tree.Denied = Denied
-file_fault_of tree.Failed = Failed
-file_fault_of tree.Memory = Failed  -- never: want of memory is none of the file's
+file_fault_of tree.Output = Output
+file_fault_of fault = Failed  -- never of want of memory, which is none of the file's

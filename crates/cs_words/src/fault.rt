@@ -217,6 +217,8 @@ pub enum FileFault {
     Missing,
     /// The system does not let the file be read.
     Denied,
+    /// The file is the one that the output goes to.
+    Output,
     /// The file cannot be read, or not to its end.
     Failed,
     /// A folder has an entry whose name is not text. The name is that of the folder.
@@ -241,6 +243,7 @@ impl FileFault {
         match fault {
             TreeFault::Missing => Ok(FileFault::Missing),
             TreeFault::Denied => Ok(FileFault::Denied),
+            TreeFault::Output => Ok(FileFault::Output),
             TreeFault::Failed => Ok(FileFault::Failed),
             TreeFault::Memory => Err(AllocError),
         }

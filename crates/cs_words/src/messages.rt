@@ -187,6 +187,7 @@ fn file_fault_words(fault: FileFault) -> &'static str
     match fault {
         FileFault::Missing => "no such file",
         FileFault::Denied => "permission denied",
+        FileFault::Output => "is the output",
         FileFault::Failed => "cannot be read",
         FileFault::Unnamed => "name is not text",
         FileFault::PathTooLong => "path too long",

@@ -18,7 +18,7 @@ use Rattle.cs_tree.proofs.Growing.{Grows-chain}
 use Rattle.cs_trigram.specs.declared.scan.Reason.{Reason}
 use Rattle.cs_words.specs.declared.jobs.Tool.TheVariants.{Cindex}
 use Rattle.cs_words.specs.declared.fault.FileFault.{FileFault}
-use Rattle.cs_words.specs.declared.fault.FileFault.TheVariants.{Missing, Denied, Failed, Unnamed, PathTooLong, InputTooLong}
+use Rattle.cs_words.specs.declared.fault.FileFault.TheVariants.{Missing, Denied, Output, Failed, Unnamed, PathTooLong, InputTooLong}
 use Rattle.cs_cindex.proofs.FrontLemmas.{front_none, front_left, front_right}
 use Rattle.cs_tree.specs.Taken.{TakesFront}
 use Rattle.cs_cindex.specs.Notices.{Line, faulted, skipped, line_text, text_of, left_line, walk_fault, BeginLinesIn, PrintsFront, IsCounted, IsLineCounted, AreCounted}
@@ -114,6 +114,7 @@ module _ (a b c d : ℕ) (low : a ≤ b) (high : c ≤ d) where
   pub IsCounted-wider : (why : FileFault) → IsCounted why b c → IsCounted why a d
   IsCounted-wider Missing h = HasFailed-wider h
   IsCounted-wider Denied h = HasFailed-wider h
+  IsCounted-wider Output h = HasFailed-wider h
   IsCounted-wider Failed h = HasFailed-wider h
   IsCounted-wider Unnamed h = tt
   IsCounted-wider PathTooLong h = tt
@@ -152,6 +153,7 @@ any_err (Err e) p = p
 left_counted : (fault : WalkFault) (old new : ℕ) → CountsFault fault old new → IsCounted (walk_fault fault) old new
 left_counted (walk.Tree tree.Missing) old new h = h
 left_counted (walk.Tree tree.Denied) old new h = h
+left_counted (walk.Tree tree.Output) old new h = h
 left_counted (walk.Tree tree.Failed) old new h = h
 left_counted (walk.Tree tree.Memory) old new h = h
 left_counted walk.Unnamed old new h = tt

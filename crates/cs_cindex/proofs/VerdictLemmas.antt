@@ -61,6 +61,7 @@ verdict_is tree name verdict agrees = record { trigrams = agrees.trigrams ∙ sy
 refused_at : (fault : TreeFault) (opening : Result Told TreeFault) (later : Option Told) → fault ≢ tree.Memory → OpensAs (Err fault) opening later → opening ≡ Err fault
 refused_at tree.Missing opening later not o = o.0
 refused_at tree.Denied opening later not o = o.0
+refused_at tree.Output opening later not o = o.0
 refused_at tree.Failed opening later not o = o.0
 refused_at tree.Memory opening later not o = absurd (not refl)
 

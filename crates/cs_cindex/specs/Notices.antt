@@ -21,7 +21,7 @@ use Rattle.cs_trigram.specs.Text.{limits}
 use Rattle.cs_trigram.specs.declared.scan.Reason.{Reason}
 use Rattle.cs_words.specs.declared.jobs.Tool.TheVariants.{Cindex}
 use Rattle.cs_words.specs.declared.fault.FileFault.{FileFault}
-use Rattle.cs_words.specs.declared.fault.FileFault.TheVariants.{Missing, Denied, Failed, Unnamed, PathTooLong, InputTooLong}
+use Rattle.cs_words.specs.declared.fault.FileFault.TheVariants.{Missing, Denied, Output, Failed, Unnamed, PathTooLong, InputTooLong}
 
 -- ---- lines
 
@@ -88,10 +88,11 @@ BeginLinesIn log_skip (Some tree) paths lines = IsTree tree → (all : List Line
 
 -- ---- what was printed
 
--- `no such file`, `permission denied` and `cannot be read` tell of a call that has failed, and that was counted
+-- `no such file`, `permission denied`, `is the output` and `cannot be read` tell of a call that has failed, and that was counted
 abbrev pub IsCounted : FileFault → ℕ → ℕ → Type 0
 IsCounted Missing old new = HasFailed old new
 IsCounted Denied old new = HasFailed old new
+IsCounted Output old new = HasFailed old new
 IsCounted Failed old new = HasFailed old new
 IsCounted Unnamed old new = Unit {0}
 IsCounted PathTooLong old new = Unit {0}

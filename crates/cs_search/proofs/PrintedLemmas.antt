@@ -49,6 +49,7 @@ module _ (most : ℕ) (tool : Tool) (style : Style) (finds : List ℕ → Bool) 
   refused-at : (fault : TreeFault) (opening : Result Told TreeFault) (later : Option Told) → fault ≢ tree.Memory → OpensAs (Err fault) opening later → opening ≡ Err fault
   refused-at tree.Missing opening later not o = o.0
   refused-at tree.Denied opening later not o = o.0
+  refused-at tree.Output opening later not o = o.0
   refused-at tree.Failed opening later not o = o.0
   refused-at tree.Memory opening later not o = absurd (not refl)
 
@@ -184,6 +185,7 @@ module _ (tool : Tool) where
   open_counted : (fault : TreeFault) (n : ℕ) → fault ≢ tree.Memory → count_after {A = Unit {0}} is_tree_failure (Err fault) n ≡ count_if (is_file_failure (file_fault_of fault)) n
   open_counted tree.Missing n not = refl
   open_counted tree.Denied n not = refl
+  open_counted tree.Output n not = refl
   open_counted tree.Failed n not = refl
   open_counted tree.Memory n not = absurd (not refl)
 

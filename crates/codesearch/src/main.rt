@@ -4,16 +4,21 @@
 
 mod program;
 mod storage;
+mod words;
 
 use cs_tools::Tool;
 use cs_tree::{DiskStore, DiskTree, StdSink, StdSource, is_absolute};
-use program::{FIRST_WORD, NO_FOLDER, OUT_OF_MEMORY, Ran, blame, refuse, run, tool_of};
+use program::{
+    FIRST_WORD, NO_FOLDER, OUT_OF_MEMORY, Ran, asks_for_lines, blame, refuse, refuse_word, run,
+    tool_of,
+};
 use std::alloc::AllocError;
 use std::env;
 use std::fs::File;
 use std::io::{BufWriter, ErrorKind, Write};
 use std::process::ExitCode;
 use storage::{Found, find, index_file, store};
+use words::words_of;
 
 /// How many bytes of output are gathered before the system is asked to take them.
 const OUTPUT_BYTES: usize = 65536;
@@ -26,35 +31,31 @@ fn main(rt: HostRuntime) -> ExitCode {
     ExitCode::from(status)
 }
 
-/// Finds the faults of the surroundings in this order: the first word, the current folder, the opening
-/// of the index file. Then it runs, and writes the index file.
+/// Finds the faults of the surroundings in this order: the first word, a word that is no text, the current
+/// folder, the opening of the index file. Then it runs, and writes the index file.
 fn start(rt: &HostRuntime) -> Result<u8, AllocError> {
-    let words = words_of(rt)?;
+    let words = words_of(rt.alloc(), rt)?;
     let mut err = StdSink::new(rt.stderr());
-    let Some(first) = words.first() else {
+    let Some(first) = words.text.first() else {
         return Ok(refuse(&mut err, FIRST_WORD));
     };
-    match tool_of(first.as_str()) {
-        Some(Tool::Cgrep) => {
+    let Some(tool) = tool_of(first.as_str()) else {
+        return Ok(refuse(&mut err, FIRST_WORD));
+    };
+    if words.ends_early {
+        let place = words.text.len();
+        return Ok(refuse_word(rt.alloc(), first.as_str(), place, &mut err));
+    }
+    match tool {
+        Tool::Cgrep => {
             let mut tree = DiskTree::new(rt.clone()?);
-            Ok(run_over(rt, &words, "", "", None, &mut tree, &mut err)?.status)
+            Ok(run_over(rt, &words.text, "", "", None, &mut tree, &mut err)?.status)
         }
-        Some(Tool::Csearch) => run_indexed(rt, &words, "", &mut err),
-        Some(Tool::Cindex) => match current_folder(rt)? {
-            Some(folder) => run_indexed(rt, &words, folder.as_str(), &mut err),
+        Tool::Csearch => run_indexed(rt, &words.text, "", &mut err),
+        Tool::Cindex => match current_folder(rt)? {
+            Some(folder) => run_indexed(rt, &words.text, folder.as_str(), &mut err),
             None => Ok(refuse(&mut err, NO_FOLDER)),
         },
-        None => Ok(refuse(&mut err, FIRST_WORD)),
-    }
-}
-
-/// The words that the program is called with. Where some word is no text there are none, so that the
-/// first word is refused.
-fn words_of(rt: &HostRuntime) -> Result<Vec<String>, AllocError> {
-    match env::args(rt) {
-        Ok(all) => all.skip(1).collect(rt.alloc()),
-        Err(error) if error.kind() == ErrorKind::OutOfMemory => Err(AllocError),
-        Err(_) => Ok(Vec::new(rt.alloc())),
     }
 }
 
@@ -94,7 +95,8 @@ fn run_indexed<W: Write + Drop>(
     }
 }
 
-/// Runs over a tree of the disk and the standard streams.
+/// Runs over a tree of the disk and the standard streams. The file that lines go to is not searched for them, since it
+/// would grow as it is read.
 fn run_over<W: Write + Drop>(
     rt: &HostRuntime,
     words: &[String],
@@ -107,6 +109,9 @@ fn run_over<W: Write + Drop>(
     let Ok(out) = BufWriter::with_capacity(rt.alloc(), OUTPUT_BYTES, rt.stdout()) else {
         return Err(AllocError);
     };
+    if asks_for_lines(rt.alloc(), words)? {
+        tree.leave_output();
+    }
     let mut index = file;
     Ok(run(
         rt.alloc(),

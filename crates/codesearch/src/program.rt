@@ -4,8 +4,8 @@ ghost use Rattle.std.specs.Mem.{FitsInMemory};
 
 use crate::storage::{After, FileFault};
 use cs_tools::{
-    CindexFault, IndexJob, Job, Refusal, Reply, Status, StoredIndex, Tool, ToolFault, WordFault,
-    cgrep, cindex, csearch, csearch_stored, list_stored, message, read_words,
+    CindexFault, GrepJob, IndexJob, Job, Refusal, Reply, SearchJob, Status, StoredIndex, Tool,
+    ToolFault, WordFault, cgrep, cindex, csearch, csearch_stored, list_stored, message, read_words,
 };
 use cs_tree::{IoFault, Sink, Source, Store, Tree, is_absolute, read_part, write_all};
 use std::alloc::{AllocError, Global};
@@ -55,6 +55,23 @@ pub fn tool_of(word: &str) -> Option<Tool> {
         "csearch" => Some(Tool::Csearch),
         "cgrep" => Some(Tool::Cgrep),
         _ => None,
+    }
+}
+
+/// Whether the words ask for lines, of which a file may have many, and not for its name or its count.
+pub fn asks_for_lines(alloc: Global, words: &[String]) -> Result<bool, AllocError> {
+    let Some((first, words)) = words.split_first() else {
+        return Ok(false);
+    };
+    let Some(tool) = tool_of(first.as_str()) else {
+        return Ok(false);
+    };
+    match &read_words(alloc, tool, "", words) {
+        Ok(Job::Search(SearchJob { style, .. }) | Job::Grep(GrepJob { style, .. })) => {
+            Ok(!style.count && !style.list)
+        }
+        Err(WordFault::Memory) => Err(AllocError),
+        Ok(Job::Index(_)) | Err(_) => Ok(false),
     }
 }
 
@@ -277,10 +294,7 @@ fn searched<E: Sink>(
 fn explain<E: Sink>(alloc: Global, tool: Tool, refusal: &Refusal, word: &str, err: &mut E) -> u8
     ensures { result ≤ 2 }
 {
-    match message(alloc, tool, refusal, word) {
-        Ok(line) => refuse(err, line.as_str()),
-        Err(AllocError) => refuse(err, OUT_OF_MEMORY),
-    }
+    refuse_by(err, message(alloc, tool, refusal, word))
 }
 
 /// The word that a fault points at, or nothing.
@@ -309,7 +323,21 @@ pub fn blame<E: Sink>(alloc: Global, what: &str, file: &str, fault: FileFault, e
     if fault == FileFault::Memory {
         return refuse(err, OUT_OF_MEMORY);
     }
-    match format!(in alloc; "codesearch: {what} {file}\n") {
+    refuse_by(err, format!(in alloc; "codesearch: {what} {file}\n"))
+}
+
+/// Writes the line on a word that is no text, with its place behind the name of the tool, from 1.
+pub fn refuse_word<E: Sink>(alloc: Global, tool: &str, place: usize, err: &mut E) -> u8
+    ensures { result ≤ 2 }
+{
+    refuse_by(err, format!(in alloc; "{tool}: word {place} is not text\n"))
+}
+
+/// Writes the line, where there was memory for it.
+fn refuse_by<E: Sink>(err: &mut E, line: Result<String, AllocError>) -> u8
+    ensures { result ≤ 2 }
+{
+    match line {
         Ok(line) => refuse(err, line.as_str()),
         Err(AllocError) => refuse(err, OUT_OF_MEMORY),
     }

@@ -1,5 +1,9 @@
 // Words, by the rules of Go's package `flag`.
 use crate::tests::{Run, Search, runs, searches, tree_of};
+use crate::words::{Words, words_of};
+use std::env::FillError;
+use std::process::Abort;
+use std::rt::Env;
 use std::test::Fail;
 
 const ONES: &str = "one\ntwo\none\n";
@@ -58,4 +62,67 @@ const AN_OPTION_BEHIND_THE_PATTERN_IS_A_FILE: &[Search<'static>] = &[(
 fn an_option_behind_the_pattern_is_a_file(rt: HostRuntime) -> Result<(), Fail> {
     let mut tree = tree_of(&rt, &[("/t/p", ONES)])?;
     searches(&rt, &mut tree, AN_OPTION_BEHIND_THE_PATTERN_IS_A_FILE)
+}
+
+/// Surroundings that have words alone.
+#[derive(Drop)]
+struct Called<'a> {
+    words: &'a [&'a [u8]],
+}
+
+impl Env for Called<'_> {
+    fn arg(&self, i: usize, buf: &mut [u8]) -> Result<usize, FillError> {
+        let word = self.words.get(i).ok_or(FillError::NotPresent)?;
+        if buf.len() < word.len() {
+            return Err(FillError::TooLong);
+        }
+        buf[..word.len()].copy_from_slice(word);
+        Ok(word.len())
+    }
+
+    fn var(&self, _name: &str, _buf: &mut [u8]) -> Result<usize, FillError> {
+        Err(FillError::NotPresent)
+    }
+
+    fn var_at(&self, _i: usize, _buf: &mut [u8]) -> Result<usize, FillError> {
+        Err(FillError::NotPresent)
+    }
+}
+
+/// The words of a call that are read, and whether one behind them is no text.
+fn called(
+    rt: &(impl Abort + AllocGlobal),
+    words: &[&[u8]],
+    want: &[&str],
+    want_end: bool,
+) -> Result<(), Fail> {
+    let Words { text, ends_early } = words_of(rt.alloc(), &Called { words })?;
+    assert_eq!(rt; text.len(), want.len(), "of {words:?}");
+    for (word, want) in text.iter().zip(want) {
+        assert_eq!(rt; word.as_str(), *want, "of {words:?}");
+    }
+    assert_eq!(rt; ends_early, want_end, "of {words:?}");
+    Ok(())
+}
+
+const LONG: [u8; 1000] = [b'a'; 1000];
+
+#[test]
+fn words_that_are_no_text(rt: HostRuntime) -> Result<(), Fail> {
+    called(&rt, &[b"codesearch"], &[], false)?;
+    called(
+        &rt,
+        &[b"c", b"cgrep", b"", "\u{e9}".as_bytes()],
+        &["cgrep", "", "\u{e9}"],
+        false,
+    )?;
+    called(
+        &rt,
+        &[b"c", b"cgrep", b"x", b"a\xff", b"y"],
+        &["cgrep", "x"],
+        true,
+    )?;
+    called(&rt, &[b"c", b"\xe9", b"x"], &[], true)?;
+    let long = str::from_utf8(&LONG).map_err(|_| "no text")?;
+    called(&rt, &[b"c", &LONG, b"x"], &[long, "x"], false)
 }

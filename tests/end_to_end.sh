@@ -108,7 +108,17 @@ try 2 '' 'cgrep: pattern at 1: nothing to repeat\n' "cgrep '(*a)' < files/lines"
 try 2 '' 'cgrep: pattern at 0: group not closed\n' "cgrep '(a' < files/lines"
 try 2 '' 'cgrep: pattern at 1: unexpected )\n' "cgrep 'a)' < files/lines"
 # a word that is no text
-try 2 '' "$first" "cgrep \"\$(printf 'a\\377')\" < files/lines"
+bad=$(printf 'a\377')
+long=$(head -c 100000 /dev/zero | tr '\0' a)
+try 2 '' "$first" "codesearch \"\$bad\" x files/lines"
+try 2 '' "$first" "codesearch grep x \"\$bad\""
+try 2 '' 'cgrep: word 1 is not text\n' "cgrep \"\$bad\" < files/lines"
+try 2 '' 'cgrep: word 3 is not text\n' "cgrep a files/lines \"\$bad\" files/lines \"\$bad\""
+try 2 '' 'cgrep: word 2 is not text\n' "cgrep -x \"\$bad\""
+try 2 '' 'csearch: word 2 is not text\n' "csearch -l \"\$bad\""
+try 2 '' 'cindex: word 1 is not text\n' "cindex \"\$bad\""
+try 2 '' 'cgrep: word 2 is not text\n' "cgrep \"\$long\" \"\$long\$bad\""
+try 2 '' 'cgrep: pattern at 0: pattern too large\n' "cgrep \"\$long\" < files/lines"
 
 # ---- patterns -----------------------------------------------------------------------------------------------------------
 tab=$(printf '\t')
@@ -201,6 +211,28 @@ fi
 if [ -p /dev/fd/0 ] || [ -e /dev/stdin ]; then
     try 0 '/dev/stdin:one\n/dev/stdin:one\n' '' "cat files/p | cgrep one /dev/stdin"
 fi
+
+# ---- a file that is the output ------------------------------------------------------------------------------------------
+own='cgrep: files/own: is the output\n'
+cp files/p files/own
+ln files/own files/hard
+ln -s own files/soft
+try 1 '' "$own" "cgrep one files/own >> files/own"
+try 1 '' "$own" "cgrep -n -h one files/own >> files/own"
+try 1 '' 'cgrep: files/hard: is the output\ncgrep: files/soft: is the output\n' "cgrep one files/hard files/soft >> files/own"
+same "cat files/own" "cat files/p"
+try 0 '' "$own" "cgrep one files/own files/p >> files/own"
+same "cat files/own" "cat files/p && printf '$lines'"
+# A name or a count is one line; another output is none of the files.
+cp files/p files/own
+try 0 '' '' "cgrep -l one files/own >> files/own && cgrep -c one files/own >> files/own"
+same "cat files/own" "cat files/p && printf 'files/own\nfiles/own: 2\n'"
+cp files/p files/own
+try 0 '' '' "cgrep one files/own > files/other"
+same "cat files/other" "cgrep one files/own"
+same "cgrep one files/own | cat" "cgrep one files/own"
+try 0 '' '' "cgrep one files/own > /dev/null"
+[ ! -e /dev/stdin ] || try 0 '' 'cgrep: /dev/stdin: is the output\n' "cgrep one files/p /dev/stdin < files/own >> files/own"
 
 # ---- size -------------------------------------------------------------------------------------------------------------
 { head -c 5000000 /dev/zero | tr '\0' a; printf 'b\nlast\n'; } > files/long

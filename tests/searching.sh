@@ -33,6 +33,19 @@ for style in '' -c -h -i -l -n -brute; do
     [ ! -w /dev/full ] || try 2 '' 'csearch: output failed\n' "csearch $style one > /dev/full"
 done
 
+# ---- a file that is the output ----------------------------------------------------------------------------------------
+mkdir trees/own
+printf 'one\n' > trees/own/in
+printf 'one\n' > trees/own/out
+own=$home/trees/own
+CSEARCHINDEX=$home/own cindex trees/own
+try 0 '' "csearch: $own/out: is the output\n" "CSEARCHINDEX=\$home/own csearch one >> trees/own/out"
+same "cat trees/own/out" "printf 'one\n$own/in:one\n'"
+try 0 '' '' "CSEARCHINDEX=\$home/own csearch -l one >> trees/own/out"
+try 0 '' '' "CSEARCHINDEX=\$home/own csearch -c one >> trees/own/out"
+same "tail -n 4 trees/own/out" "printf '$own/in\n$own/out\n$own/in: 1\n$own/out: 2\n'"
+try 0 '' '' "CSEARCHINDEX=\$home/own cindex trees/own > trees/own/out"
+
 # ---- files that have changed since --------------------------------------------------------------------------------------
 printf 'four\n' > trees/s/p
 try 0 "$r:one\n" '' "csearch one"

@@ -30,6 +30,16 @@ pub fn strings(alloc: Global, texts: &[&str]) -> Result<Vec<String>, AllocError>
     Ok(strings)
 }
 
+/// The texts, each with a space behind it.
+pub fn spaced(alloc: Global, texts: &[String]) -> Result<String, AllocError> {
+    let mut all = String::new(alloc);
+    for text in texts {
+        all.push_str(text.as_str())?;
+        all.push(' ')?;
+    }
+    Ok(all)
+}
+
 /// The number of the first three bytes.
 pub fn number(text: &[u8]) -> u32 {
     match text {

@@ -1,15 +1,7 @@
 // What patterns read as, and where they are refused.
-use cs_syntax::{ByteSet, Node, Pattern, PatternError, PatternFault, parse};
+use cs_syntax::{ByteSet, Node, PatternError, PatternFault, parse};
 use std::alloc::{AllocError, Global};
 use std::test::Fail;
-
-fn repeated(alloc: Global, piece: &str, times: usize) -> Result<String, AllocError> {
-    let mut text = String::new(alloc);
-    for _ in 0..times {
-        text.push_str(piece)?;
-    }
-    Ok(text)
-}
 
 /// Where and why a text is refused.
 fn refusal(alloc: Global, text: &str) -> Option<PatternError> {
@@ -77,56 +69,55 @@ fn accepts_the_whole_profile(rt: HostRuntime) {
 
 /// A group in a group, so deep.
 fn groups(alloc: Global, depth: usize) -> Result<String, AllocError> {
-    let mut text = repeated(alloc, "(", depth)?;
-    text.push_str("(?i)a{1000}")?;
-    for _ in 0..depth {
-        text.push_str(")")?;
-    }
-    Ok(text)
+    let before = "(".repeat(alloc, depth)?;
+    let behind = ")".repeat(alloc, depth)?;
+    format!(in alloc; "{before}(?i)a{{1000}}{behind}")
 }
+
+/// Why so many letters are refused.
+fn letters_refusal(alloc: Global, times: usize) -> Result<Option<PatternError>, AllocError> {
+    Ok(refusal(alloc, "a".repeat(alloc, times)?.as_str()))
+}
+
+const HEAVY: PatternError = PatternError {
+    fault: PatternFault::TooLarge,
+    at: 0,
+};
+
+const DEEP: PatternError = PatternError {
+    fault: PatternFault::TooDeep,
+    at: 200,
+};
 
 #[test]
 fn accepts_the_largest(rt: HostRuntime) -> Result<(), Fail> {
-    let heavy = PatternError {
-        fault: PatternFault::TooLarge,
-        at: 0,
-    };
-    for (times, want) in [(9999, None), (10000, Some(heavy))] {
-        let letters = repeated(rt.alloc(), "a", times)?;
-        assert_eq!(rt;
-            refusal(rt.alloc(), letters.as_str()),
-            want,
-            "{times} letters"
-        );
-    }
+    assert_eq!(rt; letters_refusal(rt.alloc(), 9999)?, None);
+    assert_eq!(rt; letters_refusal(rt.alloc(), 10000)?, Some(HEAVY));
     let text = groups(rt.alloc(), 200)?;
     assert_eq!(rt; refusal(rt.alloc(), text.as_str()), None);
-    let deep = PatternError {
-        fault: PatternFault::TooDeep,
-        at: 200,
-    };
-    let text = repeated(rt.alloc(), "(", 201)?;
-    assert_eq!(rt; refusal(rt.alloc(), text.as_str()), Some(deep));
+    let text = "(".repeat(rt.alloc(), 201)?;
+    assert_eq!(rt; refusal(rt.alloc(), text.as_str()), Some(DEEP));
     Ok(())
 }
 
 /// The set that is the tree of a pattern.
-fn set_of(pattern: &Pattern) -> Result<&ByteSet, Fail> {
-    match pattern.tree() {
-        Node::Set(set) => Ok(set),
-        _ => Err(Fail::new("no set")),
+fn set_of(alloc: Global, fold: bool) -> Option<ByteSet> {
+    match parse(alloc, "a", fold) {
+        Ok(pattern) => match pattern.tree() {
+            Node::Set(set) => Some(*set),
+            _ => None,
+        },
+        Err(_) => None,
     }
 }
 
 #[test]
 fn lends_the_tree(rt: HostRuntime) -> Result<(), Fail> {
-    let pattern = parse(rt.alloc(), "a", true)?;
-    let set = set_of(&pattern)?;
+    let set = set_of(rt.alloc(), true).ok_or("set")?;
     assert!(rt; set.contains(b'A') && set.contains(b'a') && !set.contains(b'b'));
     assert_eq!(rt; set.len(), 2);
     assert_eq!(rt; set.single(), None);
-    let pattern = parse(rt.alloc(), "a", false)?;
-    let set = set_of(&pattern)?;
+    let set = set_of(rt.alloc(), false).ok_or("set")?;
     assert_eq!(rt; set.single(), Some(b'a'));
     Ok(())
 }

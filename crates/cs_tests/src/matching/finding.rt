@@ -1,12 +1,17 @@
 // Lines that are found: rows from outside.
 use cs_match::{Matcher, Program, laws};
 use cs_syntax::parse;
-use std::alloc::Global;
+use std::alloc::{AllocError, Global};
+use std::process::Abort;
 use std::test::Fail;
 
-fn found(alloc: Global, pattern: &str, line: &[u8]) -> Result<bool, Fail> {
+fn program_of(alloc: Global, pattern: &str) -> Result<Program, Fail> {
     let pattern = parse(alloc, pattern, false).ok().ok_or("pattern")?;
-    let program = Program::compile(alloc, &pattern)?;
+    Ok(Program::compile(alloc, &pattern)?)
+}
+
+fn found(alloc: Global, pattern: &str, line: &[u8]) -> Result<bool, Fail> {
+    let program = program_of(alloc, pattern)?;
     let mut matcher = Matcher::new(alloc, &program)?;
     Ok(matcher.is_match(line))
 }
@@ -68,15 +73,19 @@ const LINES: &[(&str, bool)] = &[
     ("ac", true),
 ];
 
+/// The matcher finds something in each line where that is wanted, and nothing in the others.
+fn finds_each(rt: &impl Abort, matcher: &mut Matcher<'_>, lines: &[(&str, bool)]) {
+    for (line, want) in lines {
+        assert_eq!(rt; matcher.is_match(line.as_bytes()), *want, "{line}");
+    }
+}
+
 /// One matcher answers for each line alone.
 #[test]
 fn lines_one_after_another(rt: HostRuntime) -> Result<(), Fail> {
-    let pattern = parse(rt.alloc(), "^ab*c", false).ok().ok_or("pattern")?;
-    let program = Program::compile(rt.alloc(), &pattern)?;
+    let program = program_of(rt.alloc(), "^ab*c")?;
     let mut matcher = Matcher::new(rt.alloc(), &program)?;
-    for (line, want) in LINES {
-        assert_eq!(rt; matcher.is_match(line.as_bytes()), *want, "{line}");
-    }
+    finds_each(&rt, &mut matcher, LINES);
     Ok(())
 }
 
@@ -91,38 +100,35 @@ fn letters(number: usize) -> [u8; 11] {
     line
 }
 
-/// More sets than the table has rows for, in ascending order and in descending order.
-#[test]
-fn more_sets_than_rows(rt: HostRuntime) -> Result<(), Fail> {
-    let pattern = parse(rt.alloc(), "a(a|b){9}$", false)
-        .ok()
-        .ok_or("pattern")?;
-    let program = Program::compile(rt.alloc(), &pattern)?;
-    let mut matcher = Matcher::new(rt.alloc(), &program)?;
+/// Of lines of such letters those are found whose second letter is the first one.
+fn finds_letters(rt: &impl Abort, matcher: &mut Matcher<'_>) {
     for i in 0..4096usize {
         let line = letters(if i < 2048 { i } else { 4095 - i });
         assert_eq!(rt; matcher.is_match(&line), line[1] == b'a', "line {i}");
         assert!(rt; matcher.state_sets() > 1);
     }
+}
+
+/// More sets than the table has rows for, in ascending order and in descending order.
+#[test]
+fn more_sets_than_rows(rt: HostRuntime) -> Result<(), Fail> {
+    let program = program_of(rt.alloc(), "a(a|b){9}$")?;
+    let mut matcher = Matcher::new(rt.alloc(), &program)?;
+    finds_letters(&rt, &mut matcher);
     Ok(())
 }
 
+/// A text between so many of another before it and behind it.
 fn repeated(
     alloc: Global,
     before: &str,
     n: usize,
     middle: &str,
     after: &str,
-) -> Result<String, Fail> {
-    let mut text = String::new(alloc);
-    for _i in 0..n {
-        text.push_str(before)?;
-    }
-    text.push_str(middle)?;
-    for _i in 0..n {
-        text.push_str(after)?;
-    }
-    Ok(text)
+) -> Result<String, AllocError> {
+    let before = before.repeat(alloc, n)?;
+    let after = after.repeat(alloc, n)?;
+    format!(in alloc; "{before}{middle}{after}")
 }
 
 /// Loops in one another to the parser's depth, a pattern of nearly the greatest weight, and many

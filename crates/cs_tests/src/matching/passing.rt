@@ -5,7 +5,8 @@ ghost use Rattle.cs_match.specs.Skipping.{AreWhole};
 use cs_match::{Matcher, Program};
 use cs_syntax::parse;
 use memchr::{memchr, memrchr};
-use std::alloc::Global;
+use std::alloc::{AllocError, Global};
+use std::process::Abort;
 use std::test::Fail;
 
 /// The lines that end in the text.
@@ -56,21 +57,21 @@ fn hits(matcher: &mut Matcher<'_>, block: &[u8], passes: bool) -> usize
     sum
 }
 
+fn program_of(alloc: Global, pattern: &str) -> Result<Program, Fail> {
+    let pattern = parse(alloc, pattern, false).ok().ok_or("pattern")?;
+    Ok(Program::compile(alloc, &pattern)?)
+}
+
 /// What is found in a block, where lines are passed over or each is looked at.
 fn found(alloc: Global, pattern: &str, block: &[u8], passes: bool) -> Result<usize, Fail> {
-    let pattern = parse(alloc, pattern, false).ok().ok_or("pattern")?;
-    let program = Program::compile(alloc, &pattern)?;
+    let program = program_of(alloc, pattern)?;
     let mut matcher = Matcher::new(alloc, &program)?;
     Ok(hits(&mut matcher, whole(block), passes))
 }
 
 /// The pattern, or a branch that no line has.
-fn or_newlines(alloc: Global, pattern: &str, newlines: &str) -> Result<String, Fail> {
-    let mut text = String::from_str(alloc, "(")?;
-    text.push_str(pattern)?;
-    text.push_str(")|")?;
-    text.push_str(newlines)?;
-    Ok(text)
+fn or_newlines(alloc: Global, pattern: &str, newlines: &str) -> Result<String, AllocError> {
+    format!(in alloc; "({pattern})|{newlines}")
 }
 
 /// What is found where each line is looked at, where lines are passed over by what the pattern has, where it has a
@@ -86,22 +87,16 @@ pub fn each_way(alloc: Global, pattern: &str, block: &[u8]) -> Result<[usize; 4]
     ])
 }
 
-/// Twice a line of so many bytes, with the part in it, each before a line that has the part alone.
-fn lines_with(alloc: Global, part: &str, len: usize) -> Result<Vec<u8>, Fail> {
-    let mut text = Vec::new(alloc);
-    for _ in 0..2 {
-        for _ in 0..len / 2 {
-            text.push(b' ')?;
-        }
-        text.extend_from_slice(part.as_bytes())?;
-        for _ in 0..len - len / 2 {
-            text.push(b' ')?;
-        }
-        text.push(b'\n')?;
-        text.extend_from_slice(part.as_bytes())?;
-        text.push(b'\n')?;
-    }
-    Ok(text)
+/// A line of so many bytes, with the part in it, before a line that has the part alone.
+fn line_with(alloc: Global, part: &str, len: usize) -> Result<String, AllocError> {
+    let before = " ".repeat(alloc, len / 2)?;
+    let behind = " ".repeat(alloc, len - len / 2)?;
+    format!(in alloc; "{before}{part}{behind}\n{part}\n")
+}
+
+/// The same twice.
+fn lines_with(alloc: Global, part: &str, len: usize) -> Result<String, AllocError> {
+    line_with(alloc, part, len)?.repeat(alloc, 2)
 }
 
 const PARTS: &[(&str, &str)] = &[
@@ -116,31 +111,40 @@ const PARTS: &[(&str, &str)] = &[
     ("", ""),
 ];
 
-/// Lines that end around the borders of lanes and of parts.
-#[test]
-fn ways_to_pass_lines(rt: HostRuntime) -> Result<(), Fail> {
-    for (pattern, part) in PARTS {
-        for len in [
-            0, 1, 29, 30, 31, 62, 63, 64, 65, 66, 67, 68, 69, 70, 510, 511, 512, 513, 514,
-        ] {
-            let text = lines_with(rt.alloc(), part, len)?;
-            let found = each_way(rt.alloc(), pattern, &text)?;
-            assert_eq!(rt; found, [found[0]; 4], "{pattern} in lines of {len} bytes");
-        }
+/// How long lines are that end around the borders of lanes and of parts.
+const LENGTHS: &[usize] = &[
+    0, 1, 29, 30, 31, 62, 63, 64, 65, 66, 67, 68, 69, 70, 510, 511, 512, 513, 514,
+];
+
+/// What is found in such lines is the same each way.
+fn finds_each_way(rt: &(impl Abort + AllocGlobal), pattern: &str, part: &str) -> Result<(), Fail> {
+    for len in LENGTHS {
+        let text = lines_with(rt.alloc(), part, *len)?;
+        let found = each_way(rt.alloc(), pattern, text.as_bytes())?;
+        assert_eq!(rt; found, [found[0]; 4], "{pattern} in lines of {len} bytes");
     }
     Ok(())
 }
 
+#[test]
+fn ways_to_pass_lines(rt: HostRuntime) -> Result<(), Fail> {
+    for (pattern, part) in PARTS {
+        finds_each_way(&rt, pattern, part)?;
+    }
+    Ok(())
+}
+
+/// Where passing stops in a text.
+fn passed(alloc: Global, pattern: &str, text: &[u8]) -> Result<usize, Fail> {
+    let program = program_of(alloc, pattern)?;
+    let mut matcher = Matcher::new(alloc, &program)?;
+    Ok(matcher.skip(whole(text), 0))
+}
+
 /// The number of the line at which passing stops, of two lines in which nothing is found.
 fn stop(alloc: Global, pattern: &str, first: &str, second: &str) -> Result<usize, Fail> {
-    let pattern = parse(alloc, pattern, false).ok().ok_or("pattern")?;
-    let program = Program::compile(alloc, &pattern)?;
-    let mut matcher = Matcher::new(alloc, &program)?;
-    let mut text = String::from_str(alloc, first)?;
-    text.push_str("\n")?;
-    text.push_str(second)?;
-    text.push_str("\n")?;
-    let at = matcher.skip(whole(text.as_bytes()), 0);
+    let text = format!(in alloc; "{first}\n{second}\n")?;
+    let at = passed(alloc, pattern, text.as_bytes())?;
     if at == text.len() {
         return Ok(2);
     }

@@ -1,5 +1,5 @@
 // What walks find: the rows of the documents, and trees that fail.
-use crate::fixtures::{Files, bytes_of, strings, tree_of};
+use crate::fixtures::{Files, bytes_of, spaced, strings, tree_of};
 use cs_tree::{Item, Kind, Listing, MemTree, Tree, TreeFault, WalkFault, Walked, walk};
 use std::alloc::{AllocError, Global};
 use std::process::Abort;
@@ -7,16 +7,6 @@ use std::test::*;
 
 fn walk_from<T: Tree>(alloc: Global, tree: &mut T, paths: &[&str]) -> Result<Walked, AllocError> {
     walk(alloc, tree, &strings(alloc, paths)?)
-}
-
-/// The names, each with a space behind it.
-fn names_in(alloc: Global, walked: &Walked) -> Result<String, AllocError> {
-    let mut all = String::new(alloc);
-    for name in &walked.names {
-        all.push_str(name.as_str())?;
-        all.push(' ')?;
-    }
-    Ok(all)
 }
 
 /// A walk from the paths comes to just these names, each with a space behind it, and these faults.
@@ -29,7 +19,7 @@ fn walks_to<T: Tree>(
 ) -> Result<(), Fail> {
     let walked = walk_from(rt.alloc(), tree, paths)?;
     assert_eq!(rt;
-        names_in(rt.alloc(), &walked)?.as_str(),
+        spaced(rt.alloc(), &walked.names)?.as_str(),
         names,
         "from {paths:?}"
     );
@@ -68,10 +58,9 @@ fn only_the_last_element_is_tested(rt: HostRuntime) -> Result<(), Fail> {
     let mut nothing = MemTree::new(rt.alloc(), 4)?;
     walks_to(&rt, &mut nothing, &["/.x"], "", &[])?;
     let mut tree = tree_of(rt.alloc(), "/.x", &[("/.x/y", b"abcd\n")])?;
-    for (path, want) in [("/.x", ""), ("/.x/y", "/.x/y "), ("/", "")] {
-        walks_to(&rt, &mut tree, &[path], want, &[])?;
-    }
-    Ok(())
+    walks_to(&rt, &mut tree, &["/.x"], "", &[])?;
+    walks_to(&rt, &mut tree, &["/.x/y"], "/.x/y ", &[])?;
+    walks_to(&rt, &mut tree, &["/"], "", &[])
 }
 
 #[test]
@@ -85,18 +74,21 @@ fn a_path_that_has_vanished(rt: HostRuntime) -> Result<(), Fail> {
     Ok(())
 }
 
-/// Three folders, each with a file that fails and one that may not be read.
+/// Puts a folder with a file that fails and one that may not be read.
+fn put_failing(alloc: Global, tree: &mut MemTree, names: [&str; 3]) -> Result<(), Fail> {
+    let [folder, cut, denied] = names;
+    tree.put(folder, Item::Folder)?;
+    tree.put(cut, Item::Cut(bytes_of(alloc, "one\n")?))?;
+    tree.put(denied, Item::Denied)?;
+    Ok(())
+}
+
+/// Three such folders.
 fn failing_files(alloc: Global) -> Result<MemTree, Fail> {
     let mut tree = MemTree::new(alloc, 4)?;
-    for path in ["/a", "/a/b", "/a/b-x"] {
-        tree.put(path, Item::Folder)?;
-    }
-    for path in ["/a/g", "/a/b/f", "/a/b-x/f"] {
-        tree.put(path, Item::Cut(bytes_of(alloc, "one\n")?))?;
-    }
-    for path in ["/a/z", "/a/b/d", "/a/b-x/d"] {
-        tree.put(path, Item::Denied)?;
-    }
+    put_failing(alloc, &mut tree, ["/a", "/a/g", "/a/z"])?;
+    put_failing(alloc, &mut tree, ["/a/b", "/a/b/f", "/a/b/d"])?;
+    put_failing(alloc, &mut tree, ["/a/b-x", "/a/b-x/f", "/a/b-x/d"])?;
     Ok(tree)
 }
 

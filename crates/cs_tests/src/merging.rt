@@ -1,4 +1,5 @@
 // Joining over worked rows.
+mod rebuilding;
 mod runs;
 
 ghost use Rattle.std.specs.Prelude.{◌<◌};

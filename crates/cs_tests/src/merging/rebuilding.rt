@@ -1,0 +1,115 @@
+// Joining beside a plain one, which reads the files of both indexes and builds anew.
+use crate::fixtures::builder_of;
+use crate::merging::{add_chosen, digits, partial_index, whole_indexes};
+use cs_index::{Index, Postings, Texts};
+use cs_merge::merge;
+use cs_tree::covers;
+use std::alloc::Global;
+use std::test::Fail;
+
+/// A name, and which of three trigrams it has, as the bits of a number.
+type File<'a> = (&'a str, usize);
+
+/// The bit of a trigram.
+fn bit_of(trigram: u32) -> usize {
+    match trigram {
+        1 => 1,
+        2 => 2,
+        _ => 4,
+    }
+}
+
+/// Gives the trigram to the files that have the ids.
+fn give(files: &mut [File<'_>], trigram: u32, ids: Postings<'_>) -> Result<(), Fail> {
+    for id in ids {
+        let file = files.get_mut(id? as usize).ok_or("id")?;
+        file.1 |= bit_of(trigram);
+    }
+    Ok(())
+}
+
+/// The files of an index, in the order of their ids.
+fn files_of<'a>(alloc: Global, index: &Index<'a>) -> Result<Vec<File<'a>>, Fail> {
+    let mut files = Vec::new(alloc);
+    for name in index.names() {
+        files.push((name, 0))?;
+    }
+    for place in 0..index.lists() {
+        let (trigram, ids) = index.list_at(place).ok_or("list")?;
+        give(&mut files, trigram, ids)?;
+    }
+    Ok(files)
+}
+
+/// Whether one of the paths covers the name.
+fn is_covered(paths: Texts<'_>, name: &str) -> bool {
+    for path in paths {
+        if covers(path, name) {
+            return true;
+        }
+    }
+    false
+}
+
+/// The files of both: all newer ones, and the old ones that no newer path covers.
+fn files_of_both<'a>(
+    alloc: Global,
+    old: &Index<'a>,
+    newer: &Index<'a>,
+) -> Result<Vec<File<'a>>, Fail> {
+    let mut files = files_of(alloc, old)?;
+    files.retain(|file| !is_covered(newer.paths(), file.0));
+    for file in files_of(alloc, newer)? {
+        files.push(file)?;
+    }
+    files.sort_unstable_by(|a, b| a.0.cmp(b.0));
+    Ok(files)
+}
+
+/// The paths of both, each once.
+fn paths_of_both<'a>(
+    alloc: Global,
+    old: &Index<'a>,
+    newer: &Index<'a>,
+) -> Result<Vec<&'a str>, Fail> {
+    let mut paths = Vec::new(alloc);
+    for path in old.paths() {
+        paths.push(path)?;
+    }
+    for path in newer.paths() {
+        if !is_covered(old.paths(), path) {
+            paths.push(path)?;
+        }
+    }
+    paths.sort_unstable_by(|a, b| a.cmp(b));
+    Ok(paths)
+}
+
+/// The index of the files of both.
+fn rebuilt(alloc: Global, old: &Index<'_>, newer: &Index<'_>) -> Result<Vec<u8>, Fail> {
+    let mut builder = builder_of(alloc, &paths_of_both(alloc, old, newer)?)?;
+    for file in &files_of_both(alloc, old, newer)? {
+        let _id = add_chosen(&mut builder, file.0, file.1)?;
+    }
+    Ok(builder.finish()?)
+}
+
+/// Whether two indexes are joined as they are rebuilt.
+fn is_joined(alloc: Global, old: &[u8], newer: &[u8]) -> Result<bool, Fail> {
+    let old = Index::open(old)?;
+    let newer = Index::open(newer)?;
+    Ok(merge(alloc, &old, &newer)? == rebuilt(alloc, &old, &newer)?)
+}
+
+/// All pairs of indexes of up to three files and three trigrams, where the newer one has some of the paths.
+#[test]
+fn all_small_indexes_are_joined_as_they_are_rebuilt(rt: HostRuntime) -> Result<(), Fail> {
+    let indexes = whole_indexes(rt.alloc())?;
+    for choice in 0..1000 {
+        let newer = partial_index(rt.alloc(), digits(choice, 10))?;
+        for old in &indexes {
+            assert!(rt; is_joined(rt.alloc(), old, &newer)?, "{choice}");
+        }
+    }
+    Ok(())
+}

@@ -66,11 +66,11 @@ fn an_option_behind_the_pattern_is_a_file(rt: HostRuntime) -> Result<(), Fail> {
 
 /// Surroundings that have words alone.
 #[derive(Drop)]
-struct Called<'a> {
-    words: &'a [&'a [u8]],
+struct Called<'a, 'w> {
+    words: &'a [&'w [u8]],
 }
 
-impl Env for Called<'_> {
+impl Env for Called<'_, '_> {
     fn arg(&self, i: usize, buf: &mut [u8]) -> Result<usize, FillError> {
         let word = self.words.get(i).ok_or(FillError::NotPresent)?;
         if buf.len() < word.len() {
@@ -90,13 +90,13 @@ impl Env for Called<'_> {
 }
 
 /// The words of a call that are read, and whether one behind them is no text.
-fn called(
+fn reads(
     rt: &(impl Abort + AllocGlobal),
     words: &[&[u8]],
     want: &[&str],
     want_end: bool,
 ) -> Result<(), Fail> {
-    let Words { text, ends_early } = words_of(rt.alloc(), &Called { words })?;
+    let Words { text, ends_early } = words_of(rt.alloc(), &Called { words: &*words })?;
     assert_eq!(rt; text.len(), want.len(), "of {words:?}");
     for (word, want) in text.iter().zip(want) {
         assert_eq!(rt; word.as_str(), *want, "of {words:?}");
@@ -109,20 +109,20 @@ const LONG: [u8; 1000] = [b'a'; 1000];
 
 #[test]
 fn words_that_are_no_text(rt: HostRuntime) -> Result<(), Fail> {
-    called(&rt, &[b"codesearch"], &[], false)?;
-    called(
+    reads(&rt, &[b"codesearch"], &[], false)?;
+    reads(
         &rt,
         &[b"c", b"cgrep", b"", "\u{e9}".as_bytes()],
         &["cgrep", "", "\u{e9}"],
         false,
     )?;
-    called(
+    reads(
         &rt,
         &[b"c", b"cgrep", b"x", b"a\xff", b"y"],
         &["cgrep", "x"],
         true,
     )?;
-    called(&rt, &[b"c", b"\xe9", b"x"], &[], true)?;
+    reads(&rt, &[b"c", b"\xe9", b"x"], &[], true)?;
     let long = str::from_utf8(&LONG).map_err(|_| "no text")?;
-    called(&rt, &[b"c", &LONG, b"x"], &[long, "x"], false)
+    reads(&rt, &[b"c", &LONG, b"x"], &[long, "x"], false)
 }

@@ -16,7 +16,7 @@ use Rattle.std.specs.FinMap.{find, get, insert, from_entries, get-from_entries, 
 use Rattle.cs_tree.specs.Cover.{slash, same}
 use Rattle.cs_tree.specs.Snapshot.{Item, item_at, folder, bad, missing}
 use Rattle.cs_tree.specs.Changes.{is_folder, unlisting, left_without, goes_with}
-use Rattle.cs_tree.specs.Stored.{snapshot_of, pair_of, item_of, place_at, left_of, left_at, unlisted_pair}
+use Rattle.cs_tree.specs.MemoryItems.{snapshot_of, pair_of, item_of, place_at, left_of, left_at, unlisted_pair}
 use Rattle.cs_tree.specs.Told.{Told, ends, fails}
 use Rattle.cs_tree.specs.Trees.{OpenReadGives}
 use Rattle.cs_tree.specs.declared.stored.Names.{Names}

@@ -7,7 +7,7 @@ ghost use Rattle.std.specs.FinMap as map';
 ghost use Rattle.cs_tree.specs.Snapshot.{item_at};
 ghost use Rattle.cs_tree.specs.Changes.{is_folder as is_folder', has_entries as has_entries', unlisting, with_name, goes_with as goes_with'};
 ghost use Rattle.cs_tree.specs.Trees.{listing_told, names_told, answered, OrMemory, kind_of, listing_of};
-ghost use Rattle.cs_tree.specs.Stored.{item_of, item_put, place_at, pair_of, snapshot_of, left_at, left_of, unlisted_pair, IsOpening};
+ghost use Rattle.cs_tree.specs.MemoryItems.{item_of, item_put, place_at, pair_of, snapshot_of, left_at, left_of, unlisted_pair, IsOpening};
 
 use crate::fault::TreeFault;
 use crate::mem_tree::Item;

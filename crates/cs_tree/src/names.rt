@@ -4,7 +4,7 @@ ghost use Rattle.cs_tree.specs.Folders.{is_name};
 ghost use Rattle.std.specs.List.{list_any};
 ghost use Rattle.cs_tree.specs.Cover.{same, begins, slash};
 ghost use Rattle.cs_tree.specs.Changes.{names_with, names_left};
-ghost use Rattle.cs_tree.specs.Stored.{listed_names};
+ghost use Rattle.cs_tree.specs.MemoryItems.{listed_names};
 
 use crate::paths::{covers, is_child};
 use crate::stored::Names;

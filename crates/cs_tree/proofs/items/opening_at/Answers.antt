@@ -1,6 +1,6 @@
 use Rattle.std.proofs.Common.{ap, sym, subst, ◌∙◌, Some}
 use Rattle.cs_tree.specs.TreeAnswers.{opening_of}
-use Rattle.cs_tree.specs.Stored.{left_at}
+use Rattle.cs_tree.specs.MemoryItems.{left_at}
 use Rattle.cs_tree.specs.Trees.{OpenedAs}
 use Rattle.cs_tree.proofs.PlaceLemmas.{item_placed, item_unplaced, left_placed}
 use Rattle.cs_tree.proofs.items.opening_at.Goals as goal

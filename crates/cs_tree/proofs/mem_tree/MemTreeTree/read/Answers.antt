@@ -1,5 +1,5 @@
 use Rattle.std.proofs.Common.{ap, sym, ◌∙◌}
-use Rattle.cs_tree.specs.Stored.{left_at}
+use Rattle.cs_tree.specs.MemoryItems.{left_at}
 use Rattle.cs_tree.proofs.PlaceLemmas.{reads_on}
 use Rattle.cs_tree.proofs.mem_tree.MemTreeTree.read.Goals as goal
 

@@ -1,7 +1,7 @@
 use Rattle.std.proofs.Common.{cond, [], ◌∷◌, ◌++◌, ap, sym, ◌∙◌}
 use Rattle.std.specs.Prelude.{string_bytes, is_ok}
 use Rattle.cs_tree.specs.Cover.{same}
-use Rattle.cs_tree.specs.Stored.{listed_names}
+use Rattle.cs_tree.specs.MemoryItems.{listed_names}
 use Rattle.cs_tree.proofs.NameLemmas.{list_any-map, pushed_names, added_names}
 use Rattle.cs_tree.proofs.stored.Names.add.Goals as goal
 

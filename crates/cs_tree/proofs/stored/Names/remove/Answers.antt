@@ -3,7 +3,7 @@ use Rattle.cs_tree.specs.Folders.{child, are_names}
 use Rattle.std.proofs.lemmas.Fn.{filter_same}
 use Rattle.std.specs.Prelude.{string_bytes}
 use Rattle.cs_tree.specs.Cover.{same}
-use Rattle.cs_tree.specs.Stored.{listed_names}
+use Rattle.cs_tree.specs.MemoryItems.{listed_names}
 use Rattle.cs_tree.proofs.NameLemmas.{map-filter, are_names-filter, names_beside, names_below}
 use Rattle.cs_tree.proofs.stored.Names.remove.Goals as goal
 

@@ -11,7 +11,7 @@ use Rattle.cs_history.specs.Jobs.{history_after, snapshot_told, IsFitting}
 use Rattle.cs_history.specs.Headline.{Premises, Indexes}
 use Rattle.cs_history.proofs.FollowingLemmas.{followed-push, later_premises}
 use Rattle.cs_history.proofs.RefusalLemmas.{right_more}
-use Rattle.cs_cindex.specs.Steps.{RightAfter, RightAll, Standing, JobTree, job_tree, job_trees, IsStep, LeavesFlushed, Steps}
+use Rattle.cs_cindex.specs.Steps.{RightAfter, RightAll, Standing, JobTree, job_tree, job_trees, IsWholeStep, Steps}
 
 all_front : {A : Type 0} (P : A → Type 0) (xs ys : List A) → AllByRecursion P (xs ++ ys) → AllByRecursion P xs
 all_front P [] ys all = tt
@@ -98,13 +98,13 @@ indexes_none index = record { index = λ earlier p. sym p.they_left; fitting = t
 -- ---- one step after another
 
 module _ (job : IndexJob) (tree : JobTree) (reply : Reply) (mid new : Standing) where
-  pub steps_push : (jobs : List IndexJob) (trees : List JobTree) (replies : List Reply) (old : Standing) → Steps jobs trees replies old mid → IsStep job tree reply mid new → LeavesFlushed reply new.outputs → Steps (jobs ++ job ∷ []) (trees ++ tree ∷ []) (replies ++ reply ∷ []) old new
-  steps_push [] [] [] old h step flushed = (new, subst (λ (m : Standing). IsStep job tree reply m new) h step, flushed, refl)
-  steps_push [] [] (r ∷ rs) old h step flushed = absurd h
-  steps_push [] (t ∷ ts) rs old h step flushed = absurd h
-  steps_push (j ∷ js) [] rs old h step flushed = absurd h
-  steps_push (j ∷ js) (t ∷ ts) [] old h step flushed = absurd h
-  steps_push (j ∷ js) (t ∷ ts) (r ∷ rs) old h step flushed = (h.0, h.1, h.2, steps_push js ts rs h.0 h.3 step flushed)
+  pub steps_push : (jobs : List IndexJob) (trees : List JobTree) (replies : List Reply) (old : Standing) → Steps jobs trees replies old mid → IsWholeStep job tree reply mid new → Steps (jobs ++ job ∷ []) (trees ++ tree ∷ []) (replies ++ reply ∷ []) old new
+  steps_push [] [] [] old h step = (new, subst (λ (m : Standing). IsWholeStep job tree reply m new) h step, refl)
+  steps_push [] [] (r ∷ rs) old h step = absurd h
+  steps_push [] (t ∷ ts) rs old h step = absurd h
+  steps_push (j ∷ js) [] rs old h step = absurd h
+  steps_push (j ∷ js) (t ∷ ts) [] old h step = absurd h
+  steps_push (j ∷ js) (t ∷ ts) (r ∷ rs) old h step = (h.0, h.1, steps_push js ts rs h.0 h.2 step)
 
 module _ {T : Type 0} (snapshot : T → Option Snapshot) (failed : T → ℕ) where
   trees_push : (trees later : List T) (tree then : T) → length later ≡ length trees → job_trees snapshot failed (trees ++ tree ∷ []) (later ++ then ∷ []) ≡ job_trees snapshot failed trees later ++ job_tree snapshot failed tree then ∷ []
@@ -113,8 +113,8 @@ module _ {T : Type 0} (snapshot : T → Option Snapshot) (failed : T → ℕ) wh
   trees_push (t ∷ ts) [] tree then e = absurd (omega (arith, e))
   trees_push (t ∷ ts) (u ∷ us) tree then e = ap (λ rest. job_tree snapshot failed t u ∷ rest) (trees_push ts us tree then (omega (arith, e)))
 
-  pub steps_more : (jobs : List IndexJob) (trees later : List T) (replies : List Reply) (i : ℕ) (job : IndexJob) (tree then : T) (reply : Reply) (old mid new : Standing) → length trees ≡ length jobs → length later ≡ length jobs → length replies ≡ length jobs → i < length jobs → job ≡ get_or jobs i job → tree ≡ get_or trees i tree → Steps (take i jobs) (job_trees snapshot failed (take i trees) (take i later)) (take i replies) old mid → IsStep job (job_tree snapshot failed tree then) reply mid new → LeavesFlushed reply new.outputs → Steps (take (i + 1) jobs) (job_trees snapshot failed (take (i + 1) trees) (take (i + 1) (set later i then))) (take (i + 1) (set replies i reply)) old new
-  steps_more jobs trees later replies i job tree then reply old mid new e g f within is_job is_tree so_far step flushed =
+  pub steps_more : (jobs : List IndexJob) (trees later : List T) (replies : List Reply) (i : ℕ) (job : IndexJob) (tree then : T) (reply : Reply) (old mid new : Standing) → length trees ≡ length jobs → length later ≡ length jobs → length replies ≡ length jobs → i < length jobs → job ≡ get_or jobs i job → tree ≡ get_or trees i tree → Steps (take i jobs) (job_trees snapshot failed (take i trees) (take i later)) (take i replies) old mid → IsWholeStep job (job_tree snapshot failed tree then) reply mid new → Steps (take (i + 1) jobs) (job_trees snapshot failed (take (i + 1) trees) (take (i + 1) (set later i then))) (take (i + 1) (set replies i reply)) old new
+  steps_more jobs trees later replies i job tree then reply old mid new e g f within is_job is_tree so_far step =
       let one : JobTree = job_tree snapshot failed tree then in
       let js : take (i + 1) jobs ≡ take i jobs ++ job ∷ [] = take_more jobs i job within ∙ ap (λ j. take i jobs ++ j ∷ []) (sym is_job) in
       let ts : take (i + 1) trees ≡ take i trees ++ tree ∷ [] = take_more trees i tree (omega (arith, e, within)) ∙ ap (λ t. take i trees ++ t ∷ []) (sym is_tree) in
@@ -128,4 +128,4 @@ module _ {T : Type 0} (snapshot : T → Option Snapshot) (failed : T → ℕ) wh
       subst (λ xs. Steps xs (job_trees snapshot failed (take (i + 1) trees) (take (i + 1) (set later i then))) (take (i + 1) (set replies i reply)) old new) (sym js)
       (subst (λ xs. Steps (take i jobs ++ job ∷ []) xs (take (i + 1) (set replies i reply)) old new) (sym ss)
       (subst (λ xs. Steps (take i jobs ++ job ∷ []) (job_trees snapshot failed (take i trees) (take i later) ++ one ∷ []) xs old new) (sym rs)
-      (steps_push job one reply mid new (take i jobs) (job_trees snapshot failed (take i trees) (take i later)) (take i replies) old so_far step flushed)))
+      (steps_push job one reply mid new (take i jobs) (job_trees snapshot failed (take i trees) (take i later)) (take i replies) old so_far step)))

@@ -14,7 +14,7 @@ use Rattle.std.proofs.lemmas.List.{take_at, take_more, take-append-drop, map-app
 use Rattle.std.proofs.lemmas.List.Elements.{filter_map-append}
 use Rattle.cs_tree.specs.Cover.{is_among, same}
 use Rattle.cs_tree.specs.Snapshot.{Snapshot}
-use Rattle.cs_tree.specs.Told.{Grows}
+use Rattle.cs_tree.specs.Told.{Grows, Taken}
 use Rattle.cs_trigram.specs.Trigram.{set_of_numbers}
 use Rattle.cs_index.specs.Image.{Entry, names_of}
 use Rattle.cs_index.specs.Built.{is_storable, is_above}
@@ -25,9 +25,9 @@ use Rattle.cs_tree.specs.Taken.{TakesFront}
 use Rattle.cs_cindex.specs.Notices.{Line, faulted, file_line, text_of, AreCounted, Prints, PrintsFront}
 use Rattle.cs_cindex.specs.Verdicts.{trigrams_told, line_told, file_trigrams, IsVerdict, IsVerdictIn, IsVerdictCounted, one_line, noted_line, added_entries, noted_entries}
 use Rattle.cs_cindex.specs.Files.{texts_at, are_storable, AreTextsIn, AreTooManyIn, AreFileLinesIn, BeginFileLinesIn, AreAbove, HaveNamesOf}
-use Rattle.cs_cindex.proofs.FrontLemmas.{grows_none, front_all}
+use Rattle.cs_tree.proofs.Fronts.{front_all}
 use Rattle.cs_cindex.proofs.LineLemmas.{front_after, text-append, AreCounted-wider, AreCounted-append}
-use Rattle.cs_tree.proofs.Growing.{Grows-chain}
+use Rattle.cs_tree.proofs.Growing.{Grows-chain, Grows-same}
 
 -- ---- lists of names
 
@@ -103,8 +103,8 @@ noted_counted true name (Skipped reason) old new h = (tt, tt)
 noted_counted false name (Skipped reason) old new h = tt
 noted_counted log_skip name (Left why) old new h = (h, tt)
 
-module _ (log_skip : Bool) (told : Option Snapshot) (names : List (List ℕ)) (before failed failed' : ℕ) (rises : before ≤ failed) (more : failed ≤ failed') (taken now : Option (List ℕ)) (p : Prints (AreFileLinesIn log_skip told names) before failed taken now) where
-  pub prints_step : (later : Option (List ℕ)) (name : List ℕ) (verdict : Verdict) → IsVerdictIn told name verdict → IsVerdictCounted verdict failed failed' → Grows now later (text_of (one_line (noted_line log_skip name verdict))) → Prints (AreFileLinesIn log_skip told (names ++ name ∷ [])) before failed' taken later
+module _ (log_skip : Bool) (told : Option Snapshot) (names : List (List ℕ)) (before failed failed' : ℕ) (rises : before ≤ failed) (more : failed ≤ failed') (taken now : Option Taken) (p : Prints (AreFileLinesIn log_skip told names) before failed taken now) where
+  pub prints_step : (later : Option Taken) (name : List ℕ) (verdict : Verdict) → IsVerdictIn told name verdict → IsVerdictCounted verdict failed failed' → Grows now later (text_of (one_line (noted_line log_skip name verdict))) → Prints (AreFileLinesIn log_skip told (names ++ name ∷ [])) before failed' taken later
   prints_step later name verdict is counted grows = record {
     lines = p.lines ++ one_line (noted_line log_skip name verdict);
     due = lines_step log_skip told names p.lines name verdict p.due is;
@@ -138,7 +138,7 @@ module _ (log_skip : Bool) (told : Option Snapshot) (names : List (List ℕ)) (b
       }
 
   -- while its line is printed
-  pub front_noted : (later : Option (List ℕ)) (all rest : List (List ℕ)) (name : List ℕ) (verdict : Verdict) → all ≡ names ++ name ∷ rest → IsVerdictIn told name verdict → IsVerdictCounted verdict failed failed' → TakesFront (text_of (one_line (noted_line log_skip name verdict))) now later → PrintsFront (BeginFileLinesIn log_skip told all) before failed' taken later
+  pub front_noted : (later : Option Taken) (all rest : List (List ℕ)) (name : List ℕ) (verdict : Verdict) → all ≡ names ++ name ∷ rest → IsVerdictIn told name verdict → IsVerdictCounted verdict failed failed' → TakesFront (text_of (one_line (noted_line log_skip name verdict))) now later → PrintsFront (BeginFileLinesIn log_skip told all) before failed' taken later
   front_noted later all rest name verdict is verdict_is counted front =
       let line = one_line (noted_line log_skip name verdict) in
       let whole = front_after p.lines line [] taken now later p.grows front in
@@ -281,5 +281,5 @@ lines_none : (log_skip : Bool) (told : Option Snapshot) → AreFileLinesIn log_s
 lines_none log_skip None = tt
 lines_none log_skip (Some tree) = λ storable. refl
 
-pub prints_none : (log_skip : Bool) (told : Option Snapshot) (failed : ℕ) (taken : Option (List ℕ)) → Prints (AreFileLinesIn log_skip told []) failed failed taken taken
-prints_none log_skip told failed taken = record { lines = []; due = lines_none log_skip told; counted = tt; grows = grows_none taken }
+pub prints_none : (log_skip : Bool) (told : Option Snapshot) (failed : ℕ) (taken : Option Taken) → Prints (AreFileLinesIn log_skip told []) failed failed taken taken
+prints_none log_skip told failed taken = record { lines = []; due = lines_none log_skip told; counted = tt; grows = Grows-same taken }

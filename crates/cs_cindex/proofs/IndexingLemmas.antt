@@ -5,7 +5,7 @@ use Rattle.std.proofs.lemmas.List.{take_at, take_all, take-append-drop}
 use Rattle.std.specs.Prelude.{filter_map}
 use Rattle.cs_tree.specs.PathSet as set
 use Rattle.cs_tree.specs.Snapshot.{Snapshot}
-use Rattle.cs_tree.specs.Told.{Grows}
+use Rattle.cs_tree.specs.Told.{Grows, Taken}
 use Rattle.cs_tree.specs.Walks.{Left, FindsIn, CountsFaults}
 use Rattle.cs_tree.proofs.Growing.{Grows-chain}
 use Rattle.cs_index.specs.Built.{are_paths}
@@ -13,16 +13,16 @@ use Rattle.cs_tree.specs.Taken.{TakesFront}
 use Rattle.cs_cindex.specs.Notices.{Line, left_line, file_line, text_of, AreLinesIn, BeginLinesIn, AreCounted, Prints, PrintsFront}
 use Rattle.cs_index.specs.Image.{Entry}
 use Rattle.cs_cindex.specs.Files.{AreFileLinesIn, BeginFileLinesIn, AreTextsIn, AreTooManyIn}
-use Rattle.cs_cindex.proofs.FrontLemmas.{front_all}
+use Rattle.cs_tree.proofs.Fronts.{front_all}
 use Rattle.cs_cindex.proofs.LineLemmas.{front_after, text-append, AreCounted-wider, AreCounted-append, walk_counted}
 use Rattle.cs_cindex.proofs.OrderLemmas.{lines_once}
 use Rattle.cs_cindex.proofs.IndexLemmas.{names_stored}
 
 -- what was printed of files, where what the code has is known by equations
-pub files_printed : (log_skip log_skip' : Bool) (told told' : Option Snapshot) (names names' : List (List ℕ)) (failed failed' : ℕ) (taken taken' : Option (List ℕ)) → log_skip ≡ log_skip' → told ≡ told' → names ≡ names' → Prints (AreFileLinesIn log_skip told names) failed failed' taken taken' → Prints (AreFileLinesIn log_skip' told' names') failed failed' taken taken'
+pub files_printed : (log_skip log_skip' : Bool) (told told' : Option Snapshot) (names names' : List (List ℕ)) (failed failed' : ℕ) (taken taken' : Option Taken) → log_skip ≡ log_skip' → told ≡ told' → names ≡ names' → Prints (AreFileLinesIn log_skip told names) failed failed' taken taken' → Prints (AreFileLinesIn log_skip' told' names') failed failed' taken taken'
 files_printed log_skip log_skip' told told' names names' failed failed' taken taken' a b c p = rw (← a, ← b, ← c) p
 
-pub files_front : (log_skip log_skip' : Bool) (told told' : Option Snapshot) (names names' : List (List ℕ)) (failed failed' : ℕ) (taken taken' : Option (List ℕ)) → log_skip ≡ log_skip' → told ≡ told' → names ≡ names' → PrintsFront (BeginFileLinesIn log_skip told names) failed failed' taken taken' → PrintsFront (BeginFileLinesIn log_skip' told' names') failed failed' taken taken'
+pub files_front : (log_skip log_skip' : Bool) (told told' : Option Snapshot) (names names' : List (List ℕ)) (failed failed' : ℕ) (taken taken' : Option Taken) → log_skip ≡ log_skip' → told ≡ told' → names ≡ names' → PrintsFront (BeginFileLinesIn log_skip told names) failed failed' taken taken' → PrintsFront (BeginFileLinesIn log_skip' told' names') failed failed' taken taken'
 files_front log_skip log_skip' told told' names names' failed failed' taken taken' a b c p = rw (← a, ← b, ← c) p
 
 pub texts_walked : (told told' : Option Snapshot) (names names' : List (List ℕ)) (entries : List Entry) → told ≡ told' → names ≡ names' → AreTextsIn told names entries → AreTextsIn told' names' entries
@@ -66,7 +66,7 @@ module _ (log_skip : Bool) (told : Option Snapshot) (paths names : List (List �
   none_front None = tt
   none_front (Some tree) = λ stored. refl
 
-  module _ (before failed : ℕ) (taken now : Option (List ℕ)) (counted : CountsFaults faults before failed) where
+  module _ (before failed : ℕ) (taken now : Option Taken) (counted : CountsFaults faults before failed) where
     -- while the walk's faults are printed
     pub front_left : TakesFront (text_of walked) taken now → PrintsFront (BeginLinesIn log_skip told (set.from_list paths)) before failed taken now
     front_left front = record {
@@ -76,7 +76,7 @@ module _ (log_skip : Bool) (told : Option Snapshot) (paths names : List (List �
       front = front;
     }
 
-    module _ (failed' : ℕ) (later : Option (List ℕ)) (rises : before ≤ failed) (more : failed ≤ failed') (printed : Grows taken now (text_of walked)) where
+    module _ (failed' : ℕ) (later : Option Taken) (rises : before ≤ failed) (more : failed ≤ failed') (printed : Grows taken now (text_of walked)) where
       all_counted : (lines : List Line) → AreCounted lines failed failed' → AreCounted (walked ++ lines) before failed'
       all_counted lines h = AreCounted-append walked lines before failed'
           (AreCounted-wider before before failed failed' (omega arith) more walked (walk_counted faults before failed counted))
@@ -103,7 +103,7 @@ module _ (log_skip : Bool) (told : Option Snapshot) (paths names : List (List �
       }
 
 -- all lines are the first of them
-pub front_whole : (log_skip : Bool) (told : Option Snapshot) (paths : Paths) (failed failed' : ℕ) (taken taken' : Option (List ℕ)) → Prints (AreLinesIn log_skip told paths) failed failed' taken taken' → PrintsFront (BeginLinesIn log_skip told paths) failed failed' taken taken'
+pub front_whole : (log_skip : Bool) (told : Option Snapshot) (paths : Paths) (failed failed' : ℕ) (taken taken' : Option Taken) → Prints (AreLinesIn log_skip told paths) failed failed' taken taken' → PrintsFront (BeginLinesIn log_skip told paths) failed failed' taken taken'
 front_whole log_skip told paths failed failed' taken taken' p =
     let front = front_all (text_of p.lines) taken taken' p.grows in
     record { lines = p.lines; due = by_tree told p.due; counted = p.counted; front = front }

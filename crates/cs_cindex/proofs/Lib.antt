@@ -1,4 +1,3 @@
-pub mod FrontLemmas
 pub mod LineLemmas
 pub mod VerdictLemmas
 pub mod FileLemmas

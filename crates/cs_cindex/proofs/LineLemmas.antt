@@ -7,7 +7,7 @@ use Rattle.cs_tree.specs.Failures.{HasFailed}
 use Rattle.std.proofs.lemmas.List.{take_more, take-append-drop, map-append}
 use Rattle.std.proofs.lemmas.List.Concat.{flat_map-append}
 use Rattle.cs_tree.specs.Snapshot.{Snapshot}
-use Rattle.cs_tree.specs.Told.{Grows}
+use Rattle.cs_tree.specs.Told.{Grows, Taken}
 use Rattle.cs_tree.specs.Walks.{Left, left_entry, CountsFault, CountsFaults}
 use Rattle.cs_tree.specs.declared.walking.WalkFault.{WalkFault}
 use Rattle.cs_tree.specs.declared.walking.WalkFault.TheVariants as walk
@@ -19,7 +19,7 @@ use Rattle.cs_trigram.specs.declared.scan.Reason.{Reason}
 use Rattle.cs_words.specs.declared.jobs.Tool.TheVariants.{Cindex}
 use Rattle.cs_words.specs.declared.fault.FileFault.{FileFault}
 use Rattle.cs_words.specs.declared.fault.FileFault.TheVariants.{Missing, Denied, Output, Failed, Unnamed, PathTooLong, InputTooLong}
-use Rattle.cs_cindex.proofs.FrontLemmas.{front_none, front_left, front_right}
+use Rattle.cs_tree.proofs.Fronts.{front_none, front_left, front_right}
 use Rattle.cs_tree.specs.Taken.{TakesFront}
 use Rattle.cs_cindex.specs.Notices.{Line, faulted, skipped, line_text, text_of, left_line, walk_fault, BeginLinesIn, PrintsFront, IsCounted, IsLineCounted, AreCounted}
 use Rattle.cs_cindex.specs.Verdicts.{PrintsAll}
@@ -29,18 +29,18 @@ use Rattle.cs_cindex.specs.Verdicts.{PrintsAll}
 pub text-append : (a b : List Line) → text_of (a ++ b) ≡ text_of a ++ text_of b
 text-append a b = flat_map-append line_text a b
 
-pub refused : {A E : Type 0} (lines : List Line) (taken later : Option (List ℕ)) (r : Result A E) (fault : E) → r ≡ Err fault → TakesFront (text_of lines) taken later → PrintsAll lines taken later r
+pub refused : {A E : Type 0} (lines : List Line) (taken later : Option Taken) (r : Result A E) (fault : E) → r ≡ Err fault → TakesFront (text_of lines) taken later → PrintsAll lines taken later r
 refused lines taken later r fault is front = rw is front
 
 -- after lines that were printed whole, and before others
-pub front_after : (front lines rest : List Line) (taken now later : Option (List ℕ)) → Grows taken now (text_of front) → TakesFront (text_of lines) now later → TakesFront (text_of (front ++ (lines ++ rest))) taken later
+pub front_after : (front lines rest : List Line) (taken now later : Option Taken) → Grows taken now (text_of front) → TakesFront (text_of lines) now later → TakesFront (text_of (front ++ (lines ++ rest))) taken later
 front_after front lines rest taken now later grows part =
     subst (λ bytes. TakesFront bytes taken later) (sym (text-append front (lines ++ rest) ∙ ap (λ t. text_of front ++ t) (text-append lines rest)))
     (front_right (text_of front) (text_of lines ++ text_of rest) taken now later grows (front_left (text_of lines) (text_of rest) now later part))
 
 -- ---- one line
 
-module _ (line : Line) (text : List ℕ) (taken later : Option (List ℕ)) (is : text ≡ line_text line) where
+module _ (line : Line) (text : List ℕ) (taken later : Option Taken) (is : text ≡ line_text line) where
   one : text ≡ text_of (line ∷ [])
   one = is ∙ sym (append-nil (line_text line))
 
@@ -71,12 +71,12 @@ module _ {X : Type 0} (lines : List X → List Line) (lines-append : (a b : List
       ∙ ap (λ (l : List Line). l ++ lines (drop (i + 1) xs)) lines_more
       ∙ append_assoc (lines (take i xs)) (lines (x ∷ [])) (lines (drop (i + 1) xs))
 
-  printed_more : (taken now later : Option (List ℕ)) → Grows taken now (text_of (lines (take i xs))) → Grows now later (text_of (lines (x ∷ []))) → Grows taken later (text_of (lines (take (i + 1) xs)))
+  printed_more : (taken now later : Option Taken) → Grows taken now (text_of (lines (take i xs))) → Grows now later (text_of (lines (x ∷ []))) → Grows taken later (text_of (lines (take (i + 1) xs)))
   printed_more taken now later front line =
       subst (λ (l : List Line). Grows taken later (text_of l)) (sym lines_more)
       (subst (Grows taken later) (sym (text-append (lines (take i xs)) (lines (x ∷ [])))) (Grows-chain taken now later (text_of (lines (take i xs))) (text_of (lines (x ∷ []))) front line))
 
-  front_all_lines : (taken now later : Option (List ℕ)) → Grows taken now (text_of (lines (take i xs))) → TakesFront (text_of (lines (x ∷ []))) now later → TakesFront (text_of (lines xs)) taken later
+  front_all_lines : (taken now later : Option Taken) → Grows taken now (text_of (lines (take i xs))) → TakesFront (text_of (lines (x ∷ []))) now later → TakesFront (text_of (lines xs)) taken later
   front_all_lines taken now later front front' =
       subst (λ (l : List Line). TakesFront (text_of l) taken later) (sym lines_all) (front_after (lines (take i xs)) (lines (x ∷ [])) (lines (drop (i + 1) xs)) taken now later front front')
 
@@ -90,7 +90,7 @@ left_lines faults = map left_line (map left_entry faults)
 left-append : (a b : List LeftEntry) → left_lines (a ++ b) ≡ left_lines a ++ left_lines b
 left-append a b = ap (map left_line) (map-append left_entry a b) ∙ map-append left_line (map left_entry a) (map left_entry b)
 
-module _ (faults : List LeftEntry) (i : ℕ) (entry : LeftEntry) (low : i < length faults) (is : entry ≡ get_or faults i entry) (taken now later : Option (List ℕ)) (front : Grows taken now (text_of (map left_line (map left_entry (take i faults))))) (line : Line) (line_is : line ≡ left_line (left_entry entry)) where
+module _ (faults : List LeftEntry) (i : ℕ) (entry : LeftEntry) (low : i < length faults) (is : entry ≡ get_or faults i entry) (taken now later : Option Taken) (front : Grows taken now (text_of (map left_line (map left_entry (take i faults))))) (line : Line) (line_is : line ≡ left_line (left_entry entry)) where
   pub left_more : Grows now later (text_of (line ∷ [])) → Grows taken later (text_of (map left_line (map left_entry (take (i + 1) faults))))
   left_more grows = printed_more left_lines left-append faults i entry low is taken now later front (subst (λ (l : Line). Grows now later (text_of (l ∷ []))) line_is grows)
 
@@ -139,7 +139,7 @@ module _ (log_skip : Bool) (paths : Paths) where
   Begin-none None = tt
   Begin-none (Some tree) = λ is all are. refl
 
-  pub Front-none : (told : Option Snapshot) (failed failed' : ℕ) (taken : Option (List ℕ)) → PrintsFront (BeginLinesIn log_skip told paths) failed failed' taken taken
+  pub Front-none : (told : Option Snapshot) (failed failed' : ℕ) (taken : Option Taken) → PrintsFront (BeginLinesIn log_skip told paths) failed failed' taken taken
   Front-none told failed failed' taken = record { lines = []; due = Begin-none told; counted = tt; front = front_none [] taken }
 
 -- ---- clauses on a `Result`, from what holds at any

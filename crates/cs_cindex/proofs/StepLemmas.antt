@@ -8,7 +8,7 @@ use Rattle.std.proofs.lemmas.Bool.{true≢false, eqb-true}
 use Rattle.std.proofs.lemmas.List.{length-map}
 use Rattle.cs_tree.specs.Failures.{count_if, CountsOne}
 use Rattle.cs_tree.specs.Snapshot.{Snapshot}
-use Rattle.cs_tree.specs.Told.{Grows}
+use Rattle.cs_tree.specs.Told.{Grows, GrowsFlushed}
 use Rattle.cs_tree.specs.declared.fault.IoFault.{IoFault}
 use Rattle.cs_tree.specs.declared.fault.IoFault.TheVariants as io
 use Rattle.cs_words.specs.Faults.{write_refusal}
@@ -21,15 +21,16 @@ use Rattle.cs_history.specs.Jobs.{given_texts, has_no_path, IsTaken, visit_of, s
 use Rattle.cs_history.specs.Headline.{Indexes}
 use Rattle.cs_history.specs.Replies.{Walks}
 use Rattle.cs_cindex.specs.Bytes.{index_bytes, lent_bytes}
-use Rattle.cs_tree.specs.Taken.{TakesFront}
+use Rattle.cs_tree.specs.Taken.{TakesFront, MayEnd}
 use Rattle.cs_cindex.specs.Next.{IsNext}
 use Rattle.cs_cindex.specs.Output.{TellsBy, WalkPrints, WalkPrintsSome, index_lines, list_lines, is_failed_write}
 use Rattle.cs_cindex.specs.Refusals.{JobKind, lists, clears, walks, job_kind, base, list_fault, early_walk_fault, early_fault_of, IsOutputFault, IsWalkFault, IsLateFault, EarlyOr}
-use Rattle.cs_cindex.specs.Steps.{JobTree, Outputs, Standing, IsStep}
+use Rattle.cs_cindex.specs.Steps.{JobTree, Outputs, Standing, IsStep, IsWholeStep}
 use Rattle.cs_cindex.specs.declared.outcome.Outcome.{Outcome}
-use Rattle.cs_cindex.specs.Outcomes.{IsStepTo, index_from, reply_of}
-use Rattle.cs_cindex.proofs.FrontLemmas.{grows_then, front_all, front_then}
-use Rattle.cs_cindex.proofs.ToldLemmas.{tells_then, tells_refused}
+use Rattle.cs_cindex.specs.Outcomes.{IsWholeStepTo, index_from, reply_of}
+use Rattle.cs_tree.proofs.Fronts.{front_none, front_all}
+use Rattle.cs_tree.proofs.Growing.{Grows-same}
+use Rattle.cs_cindex.proofs.ToldLemmas.{tells_refused}
 use Rattle.cs_cindex.proofs.OutcomeLemmas.{walks_kind, walk_indexes}
 
 -- ---- the index after a job that does not walk
@@ -163,41 +164,54 @@ is_write : (fault : IoFault) → is_io_failure fault ≡ is_failed_write (write_
 is_write io.Failed = refl
 is_write io.Memory = refl
 
-module _ (job : IndexJob) (tree : JobTree) (old : Standing) (index : Option (List ℕ)) (mid later : Outputs) (done : IsStep job tree Done old (record { index = index; outputs = mid })) (out : Grows mid.out later.out []) (err : Grows mid.err later.err []) where
-  pub step_flushed : later.out_failed ≡ mid.out_failed → later.err_failed ≡ mid.err_failed → IsStep job tree Done old (record { index = index; outputs = later })
-  step_flushed o e = record {
-    index = done.index;
-    cause = done.cause;
-    keeps = done.keeps;
-    walked = done.walked;
-    out = grows_then old.outputs.out mid.out later.out (list_lines (job_kind job) old.index) done.out out;
-    err = tells_then (job_kind job) job tree.snapshot old.index tree.failed tree.failed_then old.outputs.err mid.err later.err done.err err;
-    writes = (o ∙ done.writes.0, e ∙ done.writes.1);
-  }
+-- refused before the outputs are flushed
+pub step_refused : (job : IndexJob) (tree : JobTree) (old : Standing) (later : Outputs) (fault : CindexFault) → IsStep job tree (Refused fault) old (record { index = old.index; outputs = later }) → IsWholeStep job tree (Refused fault) old (record { index = old.index; outputs = later })
+step_refused job tree old later fault step = record {
+  printed = later;
+  step = step;
+  flushes = (inl (front_none [] later.out), Grows-same later.err);
+  out_failed = refl;
+  err_failed = refl;
+}
 
+module _ (job : IndexJob) (tree : JobTree) (old : Standing) (index : Option (List ℕ)) (mid later : Outputs) (done : IsStep job tree Done old (record { index = index; outputs = mid })) where
+  pub step_flushed : GrowsFlushed mid.out later.out [] → GrowsFlushed mid.err later.err [] → later.out_failed ≡ mid.out_failed → later.err_failed ≡ mid.err_failed → IsWholeStep job tree Done old (record { index = index; outputs = later })
+  step_flushed out err o e = record { printed = mid; step = done; flushes = (out, err); out_failed = o; err_failed = e }
+
+  -- a flush has failed: what was printed before it, with the failure counted
   module _ (fault : CindexFault) (why : IoFault) (is : fault ≡ write_refusal why) where
-    unflushed : CountsOne (is_failed_write (write_refusal why)) old.outputs.out_failed later.out_failed old.outputs.err_failed later.err_failed → IsStep job tree (Refused fault) old (record { index = old.index; outputs = later })
-    unflushed counts = rw is (record {
-      index = refused_indexes job tree.snapshot (write_refusal why) old.index;
-      cause = subst (λ early. EarlyOr early (IsLateFault (job_kind job) job tree.snapshot old.index (write_refusal why)) (write_refusal why)) (sym done.cause) (late_output (job_kind job) job tree.snapshot old.index why);
-      keeps = refl;
-      walked = λ h. absurd (never_done (write_refusal why) h);
-      out = front_then (list_lines (job_kind job) old.index) old.outputs.out mid.out later.out (front_all (list_lines (job_kind job) old.index) old.outputs.out mid.out done.out) out;
-      err = tells_refused (job_kind job) job tree.snapshot old.index tree.failed tree.failed_then old.outputs.err later.err (write_refusal why) done.cause
-          (tells_then (job_kind job) job tree.snapshot old.index tree.failed tree.failed_then old.outputs.err mid.err later.err done.err err);
-      writes = counts;
+    abbrev printed : Outputs
+    printed = record { out = mid.out; err = mid.err; out_failed = later.out_failed; err_failed = later.err_failed }
+
+    unflushed : CountsOne (is_failed_write (write_refusal why)) old.outputs.out_failed later.out_failed old.outputs.err_failed later.err_failed → MayEnd [] mid.out later.out → Grows mid.err later.err [] → IsWholeStep job tree (Refused fault) old (record { index = old.index; outputs = later })
+    unflushed counts out err = rw is (record {
+      printed = printed;
+      step = record {
+        index = refused_indexes job tree.snapshot (write_refusal why) old.index;
+        cause = subst (λ early. EarlyOr early (IsLateFault (job_kind job) job tree.snapshot old.index (write_refusal why)) (write_refusal why)) (sym done.cause) (late_output (job_kind job) job tree.snapshot old.index why);
+        keeps = refl;
+        walked = λ h. absurd (never_done (write_refusal why) h);
+        out = front_all (list_lines (job_kind job) old.index) old.outputs.out mid.out done.out;
+        err = tells_refused (job_kind job) job tree.snapshot old.index tree.failed tree.failed_then old.outputs.err mid.err (write_refusal why) done.cause done.err;
+        writes = counts;
+      };
+      flushes = (out, err);
+      out_failed = refl;
+      err_failed = refl;
     })
 
-    pub out_unflushed : later.out_failed ≡ count_if (is_io_failure why) mid.out_failed → later.err_failed ≡ mid.err_failed → IsStep job tree (Refused fault) old (record { index = old.index; outputs = later })
-    out_unflushed o e = unflushed (counts_out (is_failed_write (write_refusal why)) old.outputs.out_failed later.out_failed old.outputs.err_failed later.err_failed
+    pub out_unflushed : later.out_failed ≡ count_if (is_io_failure why) mid.out_failed → later.err_failed ≡ mid.err_failed → Grows mid.out later.out [] → Grows mid.err later.err [] → IsWholeStep job tree (Refused fault) old (record { index = old.index; outputs = later })
+    out_unflushed o e out err = unflushed (counts_out (is_failed_write (write_refusal why)) old.outputs.out_failed later.out_failed old.outputs.err_failed later.err_failed
         (o ∙ ap (λ b. count_if b mid.out_failed) (is_write why) ∙ ap (count_if (is_failed_write (write_refusal why))) done.writes.0) (e ∙ done.writes.1))
+        (inl (front_all [] mid.out later.out out)) err
 
-    pub err_unflushed : later.out_failed ≡ mid.out_failed → later.err_failed ≡ count_if (is_io_failure why) mid.err_failed → IsStep job tree (Refused fault) old (record { index = old.index; outputs = later })
-    err_unflushed o e = unflushed (counts_err (is_failed_write (write_refusal why)) old.outputs.out_failed later.out_failed old.outputs.err_failed later.err_failed
+    pub err_unflushed : later.out_failed ≡ mid.out_failed → later.err_failed ≡ count_if (is_io_failure why) mid.err_failed → GrowsFlushed mid.out later.out [] → Grows mid.err later.err [] → IsWholeStep job tree (Refused fault) old (record { index = old.index; outputs = later })
+    err_unflushed o e out err = unflushed (counts_err (is_failed_write (write_refusal why)) old.outputs.out_failed later.out_failed old.outputs.err_failed later.err_failed
         (o ∙ done.writes.0) (e ∙ ap (λ b. count_if b mid.err_failed) (is_write why) ∙ ap (count_if (is_failed_write (write_refusal why))) done.writes.1))
+        (inr out) err
 
 -- ---- and then the new index is taken
 
-pub step_taken : (job : IndexJob) (tree : JobTree) (old : Option (Vec ℕ Global)) (lent : Option (Bor (List ℕ))) (before later : Outputs) (outcome : Result Outcome CindexFault) (index : Option (List ℕ)) (reply : Reply) → lent_bytes lent ≡ index_bytes old → IsStepTo job tree outcome (record { index = lent_bytes lent; outputs = before }) later → index ≡ index_from (index_bytes old) outcome → reply ≡ reply_of outcome → IsStep job tree reply (record { index = index_bytes old; outputs = before }) (record { index = index; outputs = later })
+pub step_taken : (job : IndexJob) (tree : JobTree) (old : Option (Vec ℕ Global)) (lent : Option (Bor (List ℕ))) (before later : Outputs) (outcome : Result Outcome CindexFault) (index : Option (List ℕ)) (reply : Reply) → lent_bytes lent ≡ index_bytes old → IsWholeStepTo job tree outcome (record { index = lent_bytes lent; outputs = before }) later → index ≡ index_from (index_bytes old) outcome → reply ≡ reply_of outcome → IsWholeStep job tree reply (record { index = index_bytes old; outputs = before }) (record { index = index; outputs = later })
 step_taken job tree old lent before later outcome index reply same step e f =
-    rw (e, f) (subst (λ bytes. IsStepTo job tree outcome (record { index = bytes; outputs = before }) later) same step)
+    rw (e, f) (subst (λ bytes. IsWholeStepTo job tree outcome (record { index = bytes; outputs = before }) later) same step)

@@ -7,7 +7,7 @@ use Rattle.std.proofs.lemmas.Bool.{ne_eqb, eq-eqb}
 use Rattle.cs_tree.specs.PathSet as set
 use Rattle.cs_tree.specs.Cover.{least}
 use Rattle.cs_tree.specs.Snapshot.{Snapshot}
-use Rattle.cs_tree.specs.Told.{Grows}
+use Rattle.cs_tree.specs.Told.{Grows, Taken}
 use Rattle.cs_index.specs.Opening.{Parts, opening}
 use Rattle.cs_index.specs.declared.fault.IndexFault.{IndexFault}
 use Rattle.cs_words.specs.declared.jobs.IndexJob.{IndexJob}
@@ -22,7 +22,8 @@ use Rattle.cs_cindex.specs.JobPaths.{AreCleanFault, AreCleaned, starts}
 use Rattle.cs_cindex.specs.Next.{opening_paths, base_paths, paths_walked}
 use Rattle.cs_words.specs.declared.fault.CindexFault.TheVariants.{NoIndex, BadIndex, Unsorted, TooLarge, BadPath, Write, Memory}
 use Rattle.cs_cindex.specs.Output.{path_lines, AreTooMany, IsMidway, WalkPrints, WalkPrintsFront, WalkPrintsSome, TellsBy}
-use Rattle.cs_cindex.proofs.FrontLemmas.{grows_none, grows_then, front_none, front_left, front_right}
+use Rattle.cs_tree.proofs.Fronts.{front_none, front_left, front_right}
+use Rattle.cs_tree.proofs.Growing.{Grows-same}
 use Rattle.cs_cindex.proofs.GoingLemmas.{walk_as_set, count_texts}
 
 -- ---- lines of walks
@@ -31,11 +32,11 @@ begin_none : (log_skip : Bool) (tree : Option Snapshot) (paths : Paths) → Begi
 begin_none log_skip None paths = tt
 begin_none log_skip (Some tree) paths = λ is all h. refl
 
-cut_none : (job : IndexJob) (tree : Option Snapshot) (old : Option (List ℕ)) (n : ℕ) (taken : Option (List ℕ)) → WalkPrintsFront job tree old n n taken taken
+cut_none : (job : IndexJob) (tree : Option Snapshot) (old : Option (List ℕ)) (n : ℕ) (taken : Option Taken) → WalkPrintsFront job tree old n n taken taken
 cut_none job tree old n taken = record { lines = []; due = begin_none job.log_skip tree (paths_walked job old); counted = tt; front = front_none [] taken }
 
 -- nothing was printed
-pub nothing_printed : (early : Option CindexFault) (fault : CindexFault) (job : IndexJob) (tree : Option Snapshot) (old : Option (List ℕ)) (n : ℕ) (taken : Option (List ℕ)) → EarlyOr early (IsOutputFault fault) fault → WalkPrintsSome early fault job tree old n n taken taken
+pub nothing_printed : (early : Option CindexFault) (fault : CindexFault) (job : IndexJob) (tree : Option Snapshot) (old : Option (List ℕ)) (n : ℕ) (taken : Option Taken) → EarlyOr early (IsOutputFault fault) fault → WalkPrintsSome early fault job tree old n n taken taken
 nothing_printed None Write job tree old n taken h = inr (tt, cut_none job tree old n taken)
 nothing_printed None Memory job tree old n taken h = inr (tt, cut_none job tree old n taken)
 nothing_printed None TooLarge job tree old n taken h = absurd h
@@ -43,7 +44,7 @@ nothing_printed None NoIndex job tree old n taken h = absurd h
 nothing_printed None (BadIndex fault) job tree old n taken h = absurd h
 nothing_printed None Unsorted job tree old n taken h = absurd h
 nothing_printed None (BadPath place) job tree old n taken h = absurd h
-nothing_printed (Some early) fault job tree old n taken h = grows_none taken
+nothing_printed (Some early) fault job tree old n taken h = Grows-same taken
 
 -- where a path of the job is refused
 clean_midway : (job : IndexJob) (tree : Option Snapshot) (old : Option (List ℕ)) (fault : CindexFault) → AreCleanFault (string_bytes job.cwd) (given_texts job) fault → early_walk_fault job old ≡ None → IsOutputFault fault
@@ -59,12 +60,12 @@ clean_midway job tree old Unsorted h e = absurd h
 clean_midway job tree old TooLarge h e = absurd h
 clean_midway job tree old Write h e = absurd h
 
-pub unclean_printed : (job : IndexJob) (tree : Option Snapshot) (old : Option (List ℕ)) (fault : CindexFault) (n : ℕ) (taken : Option (List ℕ)) → AreCleanFault (string_bytes job.cwd) (given_texts job) fault → WalkPrintsSome (early_walk_fault job old) fault job tree old n n taken taken
+pub unclean_printed : (job : IndexJob) (tree : Option Snapshot) (old : Option (List ℕ)) (fault : CindexFault) (n : ℕ) (taken : Option Taken) → AreCleanFault (string_bytes job.cwd) (given_texts job) fault → WalkPrintsSome (early_walk_fault job old) fault job tree old n n taken taken
 unclean_printed job tree old fault n taken h = by_early (early_walk_fault job old) (clean_midway job tree old fault h)
   where
     by_early : (early : Option CindexFault) → (early ≡ None → IsOutputFault fault) → WalkPrintsSome early fault job tree old n n taken taken
     by_early None midway = nothing_printed None fault job tree old n taken (midway refl)
-    by_early (Some early) midway = grows_none taken
+    by_early (Some early) midway = Grows-same taken
 
 -- ---- the paths that are walked
 
@@ -81,10 +82,10 @@ start_walk job old parts (t ∷ ts) paths clean opens e =
     own_walked job (t ∷ ts) paths (Some old) clean (λ none. let n = count_texts job (t ∷ ts) clean in omega (arith, none, n)) e
 
 -- the same lines, over the paths in other words
-pub prints_over : (job : IndexJob) (tree : Option Snapshot) (paths : Paths) (old : Option (List ℕ)) (n m : ℕ) (a b : Option (List ℕ)) → paths ≡ paths_walked job old → Prints (AreLinesIn job.log_skip tree paths) n m a b → WalkPrints job tree old n m a b
+pub prints_over : (job : IndexJob) (tree : Option Snapshot) (paths : Paths) (old : Option (List ℕ)) (n m : ℕ) (a b : Option Taken) → paths ≡ paths_walked job old → Prints (AreLinesIn job.log_skip tree paths) n m a b → WalkPrints job tree old n m a b
 prints_over job tree paths old n m a b e h = subst (λ ps. Prints (AreLinesIn job.log_skip tree ps) n m a b) e h
 
-module _ (job : IndexJob) (tree : Option Snapshot) (paths : Paths) (old : Option (List ℕ)) (early : Option CindexFault) (n m : ℕ) (a b : Option (List ℕ)) (fault : CindexFault) (e : paths ≡ paths_walked job old) (none : early ≡ None) where
+module _ (job : IndexJob) (tree : Option Snapshot) (paths : Paths) (old : Option (List ℕ)) (early : Option CindexFault) (n m : ℕ) (a b : Option Taken) (fault : CindexFault) (e : paths ≡ paths_walked job old) (none : early ≡ None) where
   -- all of them
   pub whole_over : Prints (AreLinesIn job.log_skip tree paths) n m a b → WalkPrintsSome early fault job tree old n m a b
   whole_over h = subst (λ o. WalkPrintsSome o fault job tree old n m a b) (sym none) (inl (prints_over job tree paths old n m a b e h))
@@ -114,14 +115,9 @@ module _ (job : IndexJob) (tree : Option Snapshot) (paths : Paths) (old : Option
       cases_midway Unsorted is = inr is
       cases_midway (BadPath place) is = inr is
 
--- ---- flushes
+-- ---- refusals after all was printed
 
-pub tells_then : (kind : JobKind) (job : IndexJob) (tree : Option Snapshot) (old : Option (List ℕ)) (n m : ℕ) (a b c : Option (List ℕ)) → TellsBy kind Done job tree old n m a b → Grows b c [] → TellsBy kind Done job tree old n m a c
-tells_then lists job tree old n m a b c h g = grows_then a b c [] h g
-tells_then clears job tree old n m a b c h g = grows_then a b c [] h g
-tells_then walks job tree old n m a b c h g = record { lines = h.lines; due = h.due; counted = h.counted; grows = grows_then a b c _ h.grows g }
-
-pub tells_refused : (kind : JobKind) (job : IndexJob) (tree : Option Snapshot) (old : Option (List ℕ)) (n m : ℕ) (a b : Option (List ℕ)) (fault : CindexFault) → early_fault_of kind job old ≡ None → TellsBy kind Done job tree old n m a b → TellsBy kind (Refused fault) job tree old n m a b
+pub tells_refused : (kind : JobKind) (job : IndexJob) (tree : Option Snapshot) (old : Option (List ℕ)) (n m : ℕ) (a b : Option Taken) (fault : CindexFault) → early_fault_of kind job old ≡ None → TellsBy kind Done job tree old n m a b → TellsBy kind (Refused fault) job tree old n m a b
 tells_refused lists job tree old n m a b fault none h = h
 tells_refused clears job tree old n m a b fault none h = h
 tells_refused walks job tree old n m a b fault none h = subst (λ o. WalkPrintsSome o fault job tree (base job old) n m a b) (sym none) (inl h)
@@ -134,9 +130,9 @@ line_of path = path ++ codes "\n"
 pub lines_more : (done text all : List ℕ) (rest later : List (List ℕ)) → rest ≡ text ∷ later → done ++ path_lines rest ≡ all → (done ++ line_of text) ++ path_lines later ≡ all
 lines_more done text all rest later e h = append_assoc done (line_of text) (path_lines later) ∙ ap (λ ps. done ++ path_lines ps) (sym e) ∙ h
 
-pub lines_cut : (done text all : List ℕ) (rest later : List (List ℕ)) (a b c : Option (List ℕ)) → rest ≡ text ∷ later → done ++ path_lines rest ≡ all → Grows a b done → TakesFront (line_of text) b c → TakesFront all a c
+pub lines_cut : (done text all : List ℕ) (rest later : List (List ℕ)) (a b c : Option Taken) → rest ≡ text ∷ later → done ++ path_lines rest ≡ all → Grows a b done → TakesFront (line_of text) b c → TakesFront all a c
 lines_cut done text all rest later a b c e h g f =
     subst (λ xs. TakesFront xs a c) (ap (λ ps. done ++ path_lines ps) (sym e) ∙ h) (front_right done (line_of text ++ path_lines later) a b c g (front_left (line_of text) (path_lines later) b c f))
 
-pub lines_end : (done all : List ℕ) (rest : List (List ℕ)) (a b : Option (List ℕ)) → rest ≡ [] → done ++ path_lines rest ≡ all → Grows a b done → Grows a b all
+pub lines_end : (done all : List ℕ) (rest : List (List ℕ)) (a b : Option Taken) → rest ≡ [] → done ++ path_lines rest ≡ all → Grows a b done → Grows a b all
 lines_end done all rest a b e h g = subst (Grows a b) (sym (append-nil done) ∙ ap (λ ps. done ++ path_lines ps) (sym e) ∙ h) g

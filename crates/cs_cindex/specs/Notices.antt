@@ -11,7 +11,7 @@ use Rattle.cs_trigram.specs.Scans.{Finding, finding, text, left_out, unread}
 use Rattle.cs_tree.specs.Failures.{HasFailed}
 use Rattle.std.specs.List.{AllByRecursion, flat_map}
 use Rattle.cs_tree.specs.Snapshot.{Snapshot, item_at}
-use Rattle.cs_tree.specs.Told.{Told, Grows}
+use Rattle.cs_tree.specs.Told.{Told, Grows, Taken}
 use Rattle.cs_tree.specs.Taken.{TakesFront}
 use Rattle.cs_tree.specs.Walks.{Left, Finds}
 use Rattle.cs_tree.specs.declared.fault.TreeFault.{TreeFault}
@@ -106,14 +106,14 @@ abbrev pub AreCounted : List Line → ℕ → ℕ → Type 0
 AreCounted lines old new = AllByRecursion (IsLineCounted old new) lines
 
 -- The lines that are due were printed and nothing else, and the failures that they tell of were counted.
-pub record Prints (Due : List Line → Type 0) (failed failed' : ℕ) (taken taken' : Option (List ℕ)) : Type 0 where
+pub record Prints (Due : List Line → Type 0) (failed failed' : ℕ) (taken taken' : Option Taken) : Type 0 where
   pub lines : List Line
   pub due : Due lines
   pub counted : AreCounted lines failed failed'
   pub grows : Grows taken taken' (text_of lines)
 
 -- The same, but of the last of these lines maybe not all bytes.
-pub record PrintsFront (Due : List Line → Type 0) (failed failed' : ℕ) (taken taken' : Option (List ℕ)) : Type 0 where
+pub record PrintsFront (Due : List Line → Type 0) (failed failed' : ℕ) (taken taken' : Option Taken) : Type 0 where
   pub lines : List Line
   pub due : Due lines
   pub counted : AreCounted lines failed failed'

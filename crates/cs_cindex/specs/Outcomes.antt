@@ -6,7 +6,7 @@ use Rattle.cs_words.specs.declared.jobs.IndexJob.{IndexJob}
 use Rattle.cs_words.specs.declared.fault.CindexFault.{CindexFault}
 use Rattle.cs_cindex.specs.declared.outcome.Outcome.{Outcome}
 use Rattle.cs_cindex.specs.declared.outcome.Outcome.TheVariants.{Kept, Gone, Index}
-use Rattle.cs_cindex.specs.Steps.{JobTree, Outputs, Standing, IsStep}
+use Rattle.cs_cindex.specs.Steps.{JobTree, Outputs, Standing, IsStep, IsWholeStep}
 
 -- the index after the job
 abbrev pub index_after : Option (List ℕ) → Outcome → Option (List ℕ)
@@ -27,3 +27,8 @@ reply_of (Err fault) = Refused fault
 abbrev pub IsStepTo : IndexJob → JobTree → Result Outcome CindexFault → Standing → Outputs → Type 0
 IsStepTo job tree outcome old later =
     IsStep job tree (reply_of outcome) old (record { index = index_from old.index outcome; outputs = later })
+
+-- that, its flushes among it
+abbrev pub IsWholeStepTo : IndexJob → JobTree → Result Outcome CindexFault → Standing → Outputs → Type 0
+IsWholeStepTo job tree outcome old later =
+    IsWholeStep job tree (reply_of outcome) old (record { index = index_from old.index outcome; outputs = later })

@@ -2,7 +2,7 @@
 use Rattle.std.specs.Prelude.{◌≤◌, ◌⊎◌, ℕ, length, List, [], ◌++◌, codes, Option, Some, None, Result, Ok, Err, MatchResult, Bool, true, false}
 use Rattle.std.specs.List.{flat_map}
 use Rattle.cs_tree.specs.Snapshot.{Snapshot}
-use Rattle.cs_tree.specs.Told.{Grows}
+use Rattle.cs_tree.specs.Told.{Taken, Grows}
 use Rattle.cs_tree.specs.Folders.{IsTree}
 use Rattle.cs_tree.specs.PathSet.{Paths}
 use Rattle.cs_tree.specs.Reached.{files_reached}
@@ -42,18 +42,18 @@ list_lines clears old = []
 list_lines walks old = []
 
 -- An output has taken these bytes, and where the job is refused, a front of them.
-abbrev pub TakesBy : Reply → List ℕ → Option (List ℕ) → Option (List ℕ) → Type 0
+abbrev pub TakesBy : Reply → List ℕ → Option Taken → Option Taken → Type 0
 TakesBy Done bytes taken later = Grows taken later bytes
 TakesBy (Refused fault) bytes taken later = TakesFront bytes taken later
 
 -- ---- standard error
 
 -- a job that walks has printed the lines that are due, of what its walk leaves and of its files
-abbrev pub WalkPrints : IndexJob → Option Snapshot → Option (List ℕ) → ℕ → ℕ → Option (List ℕ) → Option (List ℕ) → Type 0
+abbrev pub WalkPrints : IndexJob → Option Snapshot → Option (List ℕ) → ℕ → ℕ → Option Taken → Option Taken → Type 0
 WalkPrints job tree old failed failed_then err later = Prints (AreLinesIn job.log_skip tree (paths_walked job old)) failed failed_then err later
 
 -- a front of them
-abbrev pub WalkPrintsFront : IndexJob → Option Snapshot → Option (List ℕ) → ℕ → ℕ → Option (List ℕ) → Option (List ℕ) → Type 0
+abbrev pub WalkPrintsFront : IndexJob → Option Snapshot → Option (List ℕ) → ℕ → ℕ → Option Taken → Option Taken → Type 0
 WalkPrintsFront job tree old failed failed_then err later = PrintsFront (BeginLinesIn job.log_skip tree (paths_walked job old)) failed failed_then err later
 
 -- More texts are found than an index may name: then it would be too large in any case.
@@ -73,23 +73,23 @@ IsMidway Unsorted tree paths = ⊥
 IsMidway (BadPath place) tree paths = ⊥
 
 -- One that was refused early has printed nothing, and another all of them, or a front where it was refused midway.
-abbrev pub WalkPrintsSome : Option CindexFault → CindexFault → IndexJob → Option Snapshot → Option (List ℕ) → ℕ → ℕ → Option (List ℕ) → Option (List ℕ) → Type 0
+abbrev pub WalkPrintsSome : Option CindexFault → CindexFault → IndexJob → Option Snapshot → Option (List ℕ) → ℕ → ℕ → Option Taken → Option Taken → Type 0
 WalkPrintsSome None fault job tree old failed failed_then err later =
     WalkPrints job tree old failed failed_then err later
     ⊎ (IsMidway fault tree (paths_walked job old) × WalkPrintsFront job tree old failed failed_then err later)
 WalkPrintsSome (Some early) fault job tree old failed failed_then err later = Grows err later []
 
 -- what one has printed, by its answer
-abbrev pub WalkPrintsFor : {A : Type 0} → Result A CindexFault → Option CindexFault → IndexJob → Option Snapshot → Option (List ℕ) → ℕ → ℕ → Option (List ℕ) → Option (List ℕ) → Type 0
+abbrev pub WalkPrintsFor : {A : Type 0} → Result A CindexFault → Option CindexFault → IndexJob → Option Snapshot → Option (List ℕ) → ℕ → ℕ → Option Taken → Option Taken → Type 0
 WalkPrintsFor result early job tree old failed failed_then err later =
     MatchResult result (λ _. WalkPrints job tree old failed failed_then err later) (λ fault. WalkPrintsSome early fault job tree old failed failed_then err later)
 
-abbrev pub WalkPrintsBy : Reply → IndexJob → Option Snapshot → Option (List ℕ) → ℕ → ℕ → Option (List ℕ) → Option (List ℕ) → Type 0
+abbrev pub WalkPrintsBy : Reply → IndexJob → Option Snapshot → Option (List ℕ) → ℕ → ℕ → Option Taken → Option Taken → Type 0
 WalkPrintsBy Done job tree old failed failed_then err later = WalkPrints job tree old failed failed_then err later
 WalkPrintsBy (Refused fault) job tree old failed failed_then err later = WalkPrintsSome (early_walk_fault job old) fault job tree old failed failed_then err later
 
 -- No other job prints there.
-abbrev pub TellsBy : JobKind → Reply → IndexJob → Option Snapshot → Option (List ℕ) → ℕ → ℕ → Option (List ℕ) → Option (List ℕ) → Type 0
+abbrev pub TellsBy : JobKind → Reply → IndexJob → Option Snapshot → Option (List ℕ) → ℕ → ℕ → Option Taken → Option Taken → Type 0
 TellsBy lists reply job tree old failed failed_then err later = Grows err later []
 TellsBy clears reply job tree old failed failed_then err later = Grows err later []
 TellsBy walks reply job tree old failed failed_then err later = WalkPrintsBy reply job tree (base job old) failed failed_then err later

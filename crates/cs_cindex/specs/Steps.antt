@@ -2,6 +2,8 @@
 -- docs/PROMISES.md, "Jobs of cindex".
 use Rattle.std.specs.Prelude.{◌≡◌, ℕ, true, false, List, [], ◌∷◌, map, Option, None}
 use Rattle.cs_tree.specs.Failures.{CountsOne}
+use Rattle.cs_tree.specs.Told.{Taken, Grows, HasFlushed, GrowsFlushed}
+use Rattle.cs_tree.specs.Taken.{MayEnd}
 use Rattle.cs_tree.specs.Snapshot.{Snapshot}
 use Rattle.cs_words.specs.declared.jobs.IndexJob.{IndexJob}
 use Rattle.cs_words.specs.declared.jobs.Reply.{Reply}
@@ -34,13 +36,10 @@ RightAll trees old jobs replies = (earlier : History) → Premises trees old ear
 
 -- ---- job by job
 
--- what the outputs have taken, where they tell it, how many of these bytes wait for a flush, and how many of their
--- calls have failed
+-- what the outputs have taken, where they tell it, and how many of their calls have failed
 pub record Outputs : Type 0 where
-  pub out : Option (List ℕ)
-  pub err : Option (List ℕ)
-  pub out_unflushed : ℕ
-  pub err_unflushed : ℕ
+  pub out : Option Taken
+  pub err : Option Taken
   pub out_failed : ℕ
   pub err_failed : ℕ
 
@@ -50,13 +49,11 @@ pub record Standing : Type 0 where
   pub outputs : Outputs
 
 -- of two sinks, by what they tell
-module _ {O E : Type 0} (out_taken : O → Option (List ℕ)) (out_unflushed out_failed : O → ℕ) (err_taken : E → Option (List ℕ)) (err_unflushed err_failed : E → ℕ) where
+module _ {O E : Type 0} (out_taken : O → Option Taken) (out_failed : O → ℕ) (err_taken : E → Option Taken) (err_failed : E → ℕ) where
   abbrev pub outputs : O → E → Outputs
   outputs out err = record {
     out = out_taken out;
     err = err_taken err;
-    out_unflushed = out_unflushed out;
-    err_unflushed = err_unflushed err;
     out_failed = out_failed out;
     err_failed = err_failed err;
   }
@@ -80,8 +77,8 @@ module _ {T : Type 0} (snapshot : T → Option Snapshot) (failed : T → ℕ) wh
   job_trees (tree ∷ trees) [] = []
   job_trees (tree ∷ trees) (then ∷ later) = job_tree tree then ∷ job_trees trees later
 
--- What a job does: the index after it is that of its history, its refusal has a cause, the index is kept
--- where it has to be and joined where the job walks, and the lines that are due are printed.
+-- What a job does, but for flushes: the index after it is that of its history, its refusal has a cause, the index is
+-- kept where it has to be and joined where the job walks, and the lines that are due are printed.
 pub record IsStep (job : IndexJob) (tree : JobTree) (reply : Reply) (old new : Standing) : Type 0 where
   pub index : Indexes (job ∷ []) (tree.snapshot ∷ []) (reply ∷ []) old.index new.index
   pub cause : HasCause job tree.snapshot old.index reply
@@ -92,15 +89,29 @@ pub record IsStep (job : IndexJob) (tree : JobTree) (reply : Reply) (old new : S
   pub err : TellsBy (job_kind job) reply job tree.snapshot old.index tree.failed tree.failed_then old.outputs.err new.outputs.err
   pub writes : CountsOne (has_failed_write reply) old.outputs.out_failed new.outputs.out_failed old.outputs.err_failed new.outputs.err_failed
 
+-- A job that is done ends by flushing both outputs once; in a refused one `out` was flushed once at most and `err` never:
+-- so `out` is flushed first.
+abbrev pub FlushesBy : Reply → Outputs → Outputs → Type 0
+FlushesBy Done printed later = GrowsFlushed printed.out later.out [] × GrowsFlushed printed.err later.err []
+FlushesBy (Refused fault) printed later = MayEnd [] printed.out later.out × Grows printed.err later.err []
+
+-- What a job does: it prints, and then it flushes.
+pub record IsWholeStep (job : IndexJob) (tree : JobTree) (reply : Reply) (old new : Standing) : Type 0 where
+  pub printed : Outputs
+  pub step : IsStep job tree reply old (record { index = new.index; outputs = printed })
+  pub flushes : FlushesBy reply printed new.outputs
+  pub out_failed : new.outputs.out_failed ≡ printed.out_failed
+  pub err_failed : new.outputs.err_failed ≡ printed.err_failed
+
 -- Where a job is done both outputs were flushed after all that it printed.
 abbrev pub LeavesFlushed : Reply → Outputs → Type 0
-LeavesFlushed Done outputs = (outputs.out_unflushed ≡ 0) × (outputs.err_unflushed ≡ 0)
+LeavesFlushed Done outputs = HasFlushed outputs.out × HasFlushed outputs.err
 LeavesFlushed (Refused fault) outputs = Unit {0}
 
 -- each job in order goes on from what the one before it left
 abbrev pub Steps : List IndexJob → List JobTree → List Reply → Standing → Standing → Type 0
 Steps [] [] [] old new = new ≡ old
-Steps (job ∷ jobs) (tree ∷ trees) (reply ∷ replies) old new = (mid : Standing) × IsStep job tree reply old mid × LeavesFlushed reply mid.outputs × Steps jobs trees replies mid new
+Steps (job ∷ jobs) (tree ∷ trees) (reply ∷ replies) old new = (mid : Standing) × IsWholeStep job tree reply old mid × Steps jobs trees replies mid new
 Steps [] [] (reply ∷ replies) old new = ⊥
 Steps [] (tree ∷ trees) replies old new = ⊥
 Steps (job ∷ jobs) [] replies old new = ⊥

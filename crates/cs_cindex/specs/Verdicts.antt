@@ -10,6 +10,7 @@ use Rattle.cs_index.specs.Built.{is_storable}
 use Rattle.cs_words.specs.declared.fault.FileFault.TheVariants.{Unnamed}
 use Rattle.cs_cindex.specs.declared.reading.Verdict.{Verdict}
 use Rattle.cs_cindex.specs.declared.reading.Verdict.TheVariants.{Text, Skipped, Left}
+use Rattle.cs_tree.specs.Told.{Taken}
 use Rattle.cs_tree.specs.Taken.{TakesAll}
 use Rattle.cs_cindex.specs.Notices.{Line, faulted, skipped, file_line, text_of, IsCounted}
 
@@ -75,5 +76,5 @@ noted_entries name (Left why) = []
 -- ---- what was printed
 
 -- The lines were printed, and where the call was refused, a front of their bytes.
-abbrev pub PrintsAll : {A E : Type 0} → List Line → Option (List ℕ) → Option (List ℕ) → Result A E → Type 0
+abbrev pub PrintsAll : {A E : Type 0} → List Line → Option Taken → Option Taken → Result A E → Type 0
 PrintsAll lines taken later result = TakesAll (text_of lines) taken later result

@@ -13,7 +13,7 @@ use std::alloc::Global;
 /// Does the jobs in their order, each over its tree, and gives the index after them: `None` is no index.
 /// Each reply tells what became of its job; a refused one leaves the index as it was, and the next one
 /// goes on. Paths of the index are printed on `out`, and lines on what is left out on `err`; each job that
-/// is not refused before ends by flushing `out`, then `err`, before its index is taken.
+/// is not refused before ends by flushing `out`, then `err`, once each, before its index is taken.
 pub fn cindex<T: Tree, O: Sink, E: Sink>(
     alloc: Global,
     old: Option<Vec<u8>>,
@@ -30,9 +30,9 @@ pub fn cindex<T: Tree, O: Sink, E: Sink>(
         (index_bytes old) (index_bytes result) }
     ensures replies { RightAll (map T.snapshot trees.old) (index_bytes old) jobs.now replies.new }
     ensures steps { Steps jobs.now (job_trees T.snapshot T.failed trees.old trees.new) replies.new
-        (standing O.taken O.unflushed O.failed E.taken E.unflushed E.failed
+        (standing O.taken O.failed E.taken E.failed
         (index_bytes old) out.old err.old)
-        (standing O.taken O.unflushed O.failed E.taken E.unflushed E.failed
+        (standing O.taken O.failed E.taken E.failed
         (index_bytes result) out.new err.new) }
     ensures keeps { map T.snapshot trees.new ≡ map T.snapshot trees.old }
 {

@@ -1,9 +1,9 @@
 // One job.
 ghost use Rattle.std.specs.Prelude.{◌≡◌};
 ghost use Rattle.cs_cindex.specs.Bytes.{index_bytes, lent_bytes};
-ghost use Rattle.cs_cindex.specs.Outcomes.{IsStepTo, reply_of};
+ghost use Rattle.cs_cindex.specs.Outcomes.{IsStepTo, IsWholeStepTo};
 ghost use Rattle.cs_cindex.specs.Refusals.{HasAbsoluteFolder};
-ghost use Rattle.cs_cindex.specs.Steps.{IsStep, LeavesFlushed, RightAfter, job_tree, outputs, standing};
+ghost use Rattle.cs_cindex.specs.Steps.{IsWholeStep, RightAfter, job_tree, outputs, standing};
 
 use crate::listing::list_paths;
 use crate::outcome::{Outcome, index_and_reply};
@@ -23,13 +23,11 @@ pub(crate) fn do_job<T: Tree, O: Sink, E: Sink>(
 ) -> (Option<Vec<u8>>, Reply)
     requires { HasAbsoluteFolder job.now }
     ensures replies { RightAfter (T.snapshot tree.old) (index_bytes old) job.now result.1 }
-    ensures step { IsStep job.now (job_tree T.snapshot T.failed tree.old tree.new) result.1
-        (standing O.taken O.unflushed O.failed E.taken E.unflushed E.failed
+    ensures step { IsWholeStep job.now (job_tree T.snapshot T.failed tree.old tree.new) result.1
+        (standing O.taken O.failed E.taken E.failed
         (index_bytes old) out.old err.old)
-        (standing O.taken O.unflushed O.failed E.taken E.unflushed E.failed
+        (standing O.taken O.failed E.taken E.failed
         (index_bytes result.0) out.new err.new) }
-    ensures flushed { LeavesFlushed result.1
-        (outputs O.taken O.unflushed O.failed E.taken E.unflushed E.failed out.new err.new) }
     ensures tree_keeps { T.snapshot tree.new ≡ T.snapshot tree.old }
 {
     let outcome = run_job(alloc, old.as_deref(), job, tree, out, err);
@@ -46,12 +44,10 @@ fn run_job<T: Tree, O: Sink, E: Sink>(
     err: &mut E,
 ) -> Result<Outcome, CindexFault>
     requires { HasAbsoluteFolder job.now }
-    ensures step { IsStepTo job.now (job_tree T.snapshot T.failed tree.old tree.new) result
-        (standing O.taken O.unflushed O.failed E.taken E.unflushed E.failed
+    ensures step { IsWholeStepTo job.now (job_tree T.snapshot T.failed tree.old tree.new) result
+        (standing O.taken O.failed E.taken E.failed
         (lent_bytes old.entry) out.old err.old)
-        (outputs O.taken O.unflushed O.failed E.taken E.unflushed E.failed out.new err.new) }
-    ensures flushed { LeavesFlushed (reply_of result)
-        (outputs O.taken O.unflushed O.failed E.taken E.unflushed E.failed out.new err.new) }
+        (outputs O.taken O.failed E.taken E.failed out.new err.new) }
     ensures tree_keeps { T.snapshot tree.new ≡ T.snapshot tree.old }
 {
     let outcome = outcome_of(alloc, old, job, tree, out, err)?;
@@ -71,9 +67,9 @@ fn outcome_of<T: Tree, O: Sink, E: Sink>(
 ) -> Result<Outcome, CindexFault>
     requires { HasAbsoluteFolder job.now }
     ensures step { IsStepTo job.now (job_tree T.snapshot T.failed tree.old tree.new) result
-        (standing O.taken O.unflushed O.failed E.taken E.unflushed E.failed
+        (standing O.taken O.failed E.taken E.failed
         (lent_bytes old.entry) out.old err.old)
-        (outputs O.taken O.unflushed O.failed E.taken E.unflushed E.failed out.new err.new) }
+        (outputs O.taken O.failed E.taken E.failed out.new err.new) }
     ensures tree_keeps { T.snapshot tree.new ≡ T.snapshot tree.old }
 {
     if job.list {

@@ -8,7 +8,7 @@ ghost use Rattle.cs_cindex.specs.Bytes.{lent_bytes};
 ghost use Rattle.cs_cindex.specs.Outcomes.{reply_of};
 ghost use Rattle.cs_cindex.specs.Output.{index_lines, path_lines, is_failed_write};
 ghost use Rattle.cs_cindex.specs.Refusals.{AnswersFor, IsOutputFault, list_fault};
-ghost use Rattle.cs_cindex.specs.Steps.{IsStep, JobTree, LeavesFlushed, outputs, standing};
+ghost use Rattle.cs_cindex.specs.Steps.{IsWholeStep, JobTree, LeavesFlushed, outputs, standing};
 
 use cs_index::{Index, IndexFault, StoredIndex, Texts};
 use cs_tree::{Sink, write_all};
@@ -22,13 +22,13 @@ pub fn list_stored<O: Sink, E: Sink>(
     err: &mut E,
 ) -> Reply
     ensures step { (job : IndexJob') (tree : JobTree) (bytes : List ℕ) → job.list ≡ true →
-        OpensAs bytes opened → IsStep job tree result
-        (standing O.taken O.unflushed O.failed E.taken E.unflushed E.failed
+        OpensAs bytes opened → IsWholeStep job tree result
+        (standing O.taken O.failed E.taken E.failed
         (Some bytes) out.old err.old)
-        (standing O.taken O.unflushed O.failed E.taken E.unflushed E.failed
+        (standing O.taken O.failed E.taken E.failed
         (Some bytes) out.new err.new) }
     ensures flushed { LeavesFlushed result
-        (outputs O.taken O.unflushed O.failed E.taken E.unflushed E.failed out.new err.new) }
+        (outputs O.taken O.failed E.taken E.failed out.new err.new) }
 {
     match list_opened(opened, out, err) {
         Ok(()) => Reply::Done,
@@ -43,13 +43,13 @@ fn list_opened<O: Sink, E: Sink>(
     err: &mut E,
 ) -> Result<(), CindexFault>
     ensures step { (job : IndexJob') (tree : JobTree) (bytes : List ℕ) → job.list ≡ true →
-        OpensAs bytes opened → IsStep job tree (reply_of result)
-        (standing O.taken O.unflushed O.failed E.taken E.unflushed E.failed
+        OpensAs bytes opened → IsWholeStep job tree (reply_of result)
+        (standing O.taken O.failed E.taken E.failed
         (Some bytes) out.old err.old)
-        (standing O.taken O.unflushed O.failed E.taken E.unflushed E.failed
+        (standing O.taken O.failed E.taken E.failed
         (Some bytes) out.new err.new) }
     ensures flushed { LeavesFlushed (reply_of result)
-        (outputs O.taken O.unflushed O.failed E.taken E.unflushed E.failed out.new err.new) }
+        (outputs O.taken O.failed E.taken E.failed out.new err.new) }
 {
     print_opened(opened, out)?;
     out.flush()?;

@@ -8,9 +8,11 @@ use Rattle.cs_syntax.specs.declared.fault.PatternFault.{PatternFault}
 use Rattle.cs_syntax.specs.declared.fault.PatternFault.TheVariants as pattern
 use Rattle.cs_syntax.specs.declared.fault.PatternError.{PatternError}
 use Rattle.cs_match.specs.Finding.{Decides}
-use Rattle.cs_tree.specs.Told.{Told, Grows}
+use Rattle.cs_tree.specs.Taken.{EndsAfter}
+use Rattle.cs_tree.specs.Told.{Told, Taken, GrowsFlushed}
 use Rattle.cs_tree.specs.Snapshot.{Snapshot}
-use Rattle.cs_tree.proofs.Growing.{Grows-chain}
+use Rattle.cs_tree.proofs.Growing.{GrowsFlushed-chain}
+use Rattle.cs_words.specs.declared.jobs.Tool.{Tool}
 use Rattle.cs_words.specs.declared.jobs.Tool.TheVariants.{Cgrep}
 use Rattle.cs_words.specs.declared.jobs.GrepJob.{GrepJob}
 use Rattle.cs_search.specs.declared.status.Status.{Status}
@@ -22,7 +24,7 @@ use Rattle.cs_search.specs.Programs.{IsProgramOf, RefusesPattern}
 use Rattle.cs_search.specs.Refusals.{QuietAtRefusal}
 use Rattle.cs_words.specs.declared.fault.ToolFault.{ToolFault}
 use Rattle.cs_words.specs.declared.fault.ToolFault.TheVariants.{Pattern, FilePattern, NoIndex, BadIndex}
-use Rattle.cs_search.proofs.PrintedLemmas.{done, Tells-none, Tells-flushed}
+use Rattle.cs_search.proofs.PrintedLemmas.{Tells-no}
 use Rattle.cs_words.specs.Faults.{pattern_fault, pattern_fault_at}
 
 module _ (most : ℕ) (job : GrepJob) (finds : List ℕ → Bool) (snapshot : Option Snapshot) (input : Option Told) where
@@ -51,37 +53,39 @@ all_quiet Quiet (Err (BadIndex fault)) quiet = quiet
 all_quiet Quiet answer quiet = tt
 
 -- both outputs are flushed
-pub PrintsStatus-flushed : (printed : Option Printed) (out now later err err-now err-later : Option (List ℕ)) (matched : Bool) (status : Status) → Prints printed out now err err-now matched → Grows now later [] → Grows err-now err-later [] → status ≡ status_of matched → PrintsStatus printed out later err err-later status
+pub PrintsStatus-flushed : (printed : Option Printed) (out now later err err-now err-later : Option Taken) (matched : Bool) (status : Status) → Prints printed out now err err-now matched → GrowsFlushed now later [] → GrowsFlushed err-now err-later [] → status ≡ status_of matched → PrintsStatus printed out later err err-later status
 PrintsStatus-flushed None out now later err err-now err-later matched status p flushed flushed-err is = tt
 PrintsStatus-flushed (Some printed) out now later err err-now err-later matched status p flushed flushed-err is = (
-  subst (Grows out later) (append-nil printed.output) (Grows-chain out now later printed.output [] p.0 flushed),
-  subst (Grows err err-later) (append-nil printed.errors) (Grows-chain err err-now err-later printed.errors [] p.1 flushed-err),
+  subst (GrowsFlushed out later) (append-nil printed.output) (GrowsFlushed-chain out now later printed.output [] p.0 flushed),
+  subst (GrowsFlushed err err-later) (append-nil printed.errors) (GrowsFlushed-chain err err-now err-later printed.errors [] p.1 flushed-err),
   is ∙ ap status_of p.2,
 )
 
 -- ---- the faults that are told
 
-module _ {A E : Type 0} (r : Result A E) (job : GrepJob) (tree tree' input input' : ℕ) (err err' : Option (List ℕ)) where
-  pub Tells-standard : job.standard ≡ true → tree' ≡ tree → TellsFaults Cgrep (standard_name ∷ []) input input' err err' r → TellsFaultsOf job tree tree' input input' err err' r
-  Tells-standard e same told = rw e (same, told)
+module _ (job : GrepJob) (tree tree' input input' : ℕ) where
+  module _ (Takes : List ℕ → Type 0) where
+    pub Tells-standard : job.standard ≡ true → tree' ≡ tree → TellsFaults Cgrep (standard_name ∷ []) input input' Takes → TellsFaultsOf job tree tree' input input' Takes
+    Tells-standard e same told = rw e (same, told)
 
-  pub Tells-files : job.standard ≡ false → input' ≡ input → TellsFaults Cgrep (map string_bytes job.files.items) tree tree' err err' r → TellsFaultsOf job tree tree' input input' err err' r
-  Tells-files e same told = rw e (same, told)
+    pub Tells-files : job.standard ≡ false → input' ≡ input → TellsFaults Cgrep (map string_bytes job.files.items) tree tree' Takes → TellsFaultsOf job tree tree' input input' Takes
+    Tells-files e same told = rw e (same, told)
 
-  by_standard : (b : Bool) → job.standard ≡ b → tree' ≡ tree → input' ≡ input → err' ≡ err → TellsFaultsOf job tree tree' input input' err err' r
-  by_standard true e tree-same input-same is = Tells-standard e tree-same (Tells-none Cgrep r (standard_name ∷ []) input input' err err' input-same is)
-  by_standard false e tree-same input-same is = Tells-files e input-same (Tells-none Cgrep r (map string_bytes job.files.items) tree tree' err err' tree-same is)
+  -- of other lines, whichever inputs they tell of
+  module _ (Takes Wanted : List ℕ → Type 0) (gives : (tool : Tool) (names : List (List ℕ)) (failed failed' : ℕ) → TellsFaults tool names failed failed' Takes → TellsFaults tool names failed failed' Wanted) where
+    as_by : (b : Bool) → job.standard ≡ b → TellsFaultsOf job tree tree' input input' Takes → TellsFaultsOf job tree tree' input input' Wanted
+    as_by true e told = let now = rw e at told in Tells-standard Wanted e now.0 (gives Cgrep (standard_name ∷ []) input input' now.1)
+    as_by false e told = let now = rw e at told in Tells-files Wanted e now.0 (gives Cgrep (map string_bytes job.files.items) tree tree' now.1)
 
-  pub Tells-nothing : tree' ≡ tree → input' ≡ input → err' ≡ err → TellsFaultsOf job tree tree' input input' err err' r
-  Tells-nothing = by_standard job.standard refl
+    pub Tells-as : TellsFaultsOf job tree tree' input input' Takes → TellsFaultsOf job tree tree' input input' Wanted
+    Tells-as told = as_by job.standard refl told
 
-  module _ (err-now : Option (List ℕ)) (flushed : Grows err-now err' []) where
-    flushed_by : (b : Bool) → job.standard ≡ b → TellsFaultsOf job tree tree' input input' err err-now done → TellsFaultsOf job tree tree' input input' err err' r
-    flushed_by true e told = let now = rw e at told in Tells-standard e now.0 (Tells-flushed Cgrep r (standard_name ∷ []) input input' err err-now err' now.1 flushed)
-    flushed_by false e told = let now = rw e at told in Tells-files e now.0 (Tells-flushed Cgrep r (map string_bytes job.files.items) tree tree' err err-now err' now.1 flushed)
-
-    pub Tells-of-flushed : TellsFaultsOf job tree tree' input input' err err-now done → TellsFaultsOf job tree tree' input input' err err' r
-    Tells-of-flushed told = flushed_by job.standard refl told
+pub Tells-nothing : {A E : Type 0} (r : Result A E) (fault : E) (job : GrepJob) (tree input : ℕ) (err : Option Taken) → r ≡ Err fault → TellsFaultsOf job tree tree input input (λ lines. EndsAfter lines err err r)
+Tells-nothing r fault job tree input err is = by_standard job.standard refl
+  where
+    by_standard : (b : Bool) → job.standard ≡ b → TellsFaultsOf job tree tree input input (λ lines. EndsAfter lines err err r)
+    by_standard true e = Tells-standard job tree tree input input (λ lines. EndsAfter lines err err r) e refl (Tells-no Cgrep r fault (standard_name ∷ []) input err is)
+    by_standard false e = Tells-files job tree tree input input (λ lines. EndsAfter lines err err r) e refl (Tells-no Cgrep r fault (map string_bytes job.files.items) tree err is)
 
 -- the tree that a text reads as
 pub read_once : (text : List ℕ) (fold : Bool) (t u : Tree) → Reads text fold t → Reads text fold u → t ≡ u

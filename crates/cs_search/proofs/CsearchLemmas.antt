@@ -1,5 +1,7 @@
 -- The parts of csearch put together.
-use Rattle.std.proofs.Common.{◌≡◌, ℕ, ◌+◌, ◌<◌, ◌≤◌, Bool, true, false, cond, List, [], ◌∷◌, ◌++◌, length, map, take, drop, get_or, refl, sym, ap, subst, ◌∙◌, append_assoc, length-append, Option, Some, None, Result, Err, inl, inr}
+use Rattle.std.proofs.Common.{◌≡◌, ℕ, ◌+◌, ◌<◌, Bool, true, false, cond, List, [], ◌∷◌, ◌++◌, length, map, take, drop, get_or, refl, sym, ap, subst, ◌∙◌, append_assoc, length-append, Option, Some, None, Result, Err, inl, inr}
+use Rattle.cs_tree.specs.Told.{Taken}
+use Rattle.cs_tree.proofs.Growing.{Grows-same}
 use Rattle.cs_index.specs.Postings.{IsListFault}
 use Rattle.cs_index.specs.PostingLists.{set_at, entries_of}
 use Rattle.cs_trigram.specs.Trigram.{has}
@@ -10,7 +12,6 @@ use Rattle.std.proofs.lemmas.List.Elements.{filter-append, filter_map-append}
 use Rattle.cs_syntax.specs.Matching.{Tree}
 use Rattle.cs_syntax.specs.Reading.{Reads}
 use Rattle.cs_syntax.specs.Refusal.{IsRefused}
-use Rattle.cs_syntax.specs.Weight.{weight, most_weight}
 use Rattle.cs_syntax.specs.declared.fault.PatternFault.{PatternFault}
 use Rattle.cs_syntax.specs.declared.fault.PatternFault.TheVariants as pattern
 use Rattle.cs_syntax.specs.declared.fault.PatternError.{PatternError}
@@ -32,15 +33,14 @@ use Rattle.cs_index.specs.Candidates.{candidates_of, is_answerable}
 use Rattle.cs_search.specs.declared.report.TheConstants.{MOST_SEARCHED}
 use Rattle.cs_match.specs.Finding.{Decides}
 use Rattle.cs_search.specs.Refusals.{IsAccepted, QuietAtRefusal, has_write_failed}
-use Rattle.cs_search.specs.Searcher.{IsSearchFault, Prints, IsPrinted}
-use Rattle.cs_search.specs.Csearch.{names_meeting, OpensWith, IsQueryOf, Asks, file_text, Keeps, csearch_printed, IsFileAccepted, AreAccepted, IsReady, RefusedInOrder}
+use Rattle.cs_search.specs.Searcher.{IsSearchFault, Prints, IsPrinted, TellsAll, PrintsFront}
+use Rattle.cs_search.specs.Csearch.{names_meeting, IsQueryOf, Asks, file_text, Keeps, csearch_printed, IsFileAccepted, AreAccepted, IsReady, RefusedInOrder}
 use Rattle.cs_search.specs.Plans.{IsPlan, RefusesPlan}
 use Rattle.cs_search.specs.declared.plan.Plan.{Plan}
 use Rattle.cs_search.specs.declared.status.Status.{Status}
 use Rattle.cs_search.proofs.CgrepLemmas.{read_once, decides_program}
 use Rattle.cs_search.specs.IndexSearch.{FileRefused, OpenRefused, file_fault_at, file_pattern_fault, names_at, IsCompiled, DecidesNames}
-use Rattle.cs_search.specs.Printed.{Printed, PrintsFront, NamedFault, AreFaultsOf, TellsFaults, file_printed, all_printed, then, nothing}
-use Rattle.cs_search.proofs.Printing.{Grows-same}
+use Rattle.cs_search.specs.Printed.{Printed, NamedFault, AreFaultsOf, file_printed, all_printed, then, nothing}
 use Rattle.cs_search.proofs.PrintedLemmas.{all_append, then_nothing}
 
 -- ---- the pattern of `-f` that is refused
@@ -247,15 +247,15 @@ module _ (Holds : Option Printed → Type 0) (tree : Option Snapshot) (names : L
 
 -- ---- what was printed of a name
 
-pub Prints-nothing : (tree : Option Snapshot) (printed : Snapshot → Printed) (out err : Option (List ℕ)) → ((s : Snapshot) → printed s ≡ nothing) → Prints (option_map printed tree) out out err err false
+pub Prints-nothing : (tree : Option Snapshot) (printed : Snapshot → Printed) (out err : Option Taken) → ((s : Snapshot) → printed s ≡ nothing) → Prints (option_map printed tree) out out err err false
 Prints-nothing None printed out err is = tt
 Prints-nothing (Some s) printed out err is = subst (λ (p : Printed). IsPrinted p out out err err false) (sym (is s)) (Grows-same out, Grows-same err, refl)
 
-pub Prints-as : (tree : Option Snapshot) (printed wanted : Snapshot → Printed) (out out' err err' : Option (List ℕ)) (matched : Bool) → ((s : Snapshot) → wanted s ≡ printed s) → Prints (option_map printed tree) out out' err err' matched → Prints (option_map wanted tree) out out' err err' matched
+pub Prints-as : (tree : Option Snapshot) (printed wanted : Snapshot → Printed) (out out' err err' : Option Taken) (matched : Bool) → ((s : Snapshot) → wanted s ≡ printed s) → Prints (option_map printed tree) out out' err err' matched → Prints (option_map wanted tree) out out' err err' matched
 Prints-as None printed wanted out out' err err' matched is p = tt
 Prints-as (Some s) printed wanted out out' err err' matched is p = subst (λ (x : Printed). IsPrinted x out out' err err' matched) (sym (is s)) p
 
-pub PrintsFront-as : (tree : Option Snapshot) (printed wanted : Snapshot → Printed) (out out' err err' : Option (List ℕ)) → ((s : Snapshot) → wanted s ≡ printed s) → PrintsFront (option_map printed tree) out out' err err' → PrintsFront (option_map wanted tree) out out' err err'
+pub PrintsFront-as : (tree : Option Snapshot) (printed wanted : Snapshot → Printed) (out out' err err' : Option Taken) → ((s : Snapshot) → wanted s ≡ printed s) → PrintsFront (option_map printed tree) out out' err err' → PrintsFront (option_map wanted tree) out out' err err'
 PrintsFront-as None printed wanted out out' err err' is p = tt
 PrintsFront-as (Some s) printed wanted out out' err err' is p = subst (λ (x : Printed). PrintsFront (Some x) out out' err err') (sym (is s)) p
 
@@ -278,5 +278,5 @@ faults_chosen parts query ids faults is are =
     (subst (λ (l : List (List ℕ)). AreFaultsOf l faults) (ap (names_at parts.names) is ∙ candidates_named parts query) are))
 
 -- those of the candidates are those of the files that have them
-pub Tells-chosen : {A E : Type 0} (r : Result A E) (tool : Tool) (parts : Parts) (query : Query) (ids : List ℕ) (failed failed' : ℕ) (err err' : Option (List ℕ)) → ids ≡ candidates_of parts query → TellsFaults tool (names_at parts.names ids) failed failed' err err' r → TellsFaults tool parts.names failed failed' err err' r
+pub Tells-chosen : {A E : Type 0} (r : Result A E) (tool : Tool) (parts : Parts) (query : Query) (ids : List ℕ) (failed failed' : ℕ) (err err' : Option Taken) → ids ≡ candidates_of parts query → TellsAll tool (names_at parts.names ids) failed failed' err err' r → TellsAll tool parts.names failed failed' err err' r
 Tells-chosen r tool parts query ids failed failed' err err' is told = (told.0, faults_chosen parts query ids told.0 is told.1, told.2, told.3)

@@ -7,7 +7,6 @@ use Rattle.cs_search.specs.declared.grep_fault.ReadFault.{ReadFault}
 use Rattle.cs_search.specs.declared.grep_fault.ReadFault.TheVariants.{Read}
 use Rattle.cs_match.specs.Lines.{lines, ended_lines}
 use Rattle.cs_words.specs.declared.fault.FileFault.TheVariants.{Missing, Denied, InputTooLong}
-use Rattle.cs_tree.specs.Taken.{TakesFront}
 use Rattle.cs_search.specs.Printed.{AreFaultsOf, failures_of}
 use Rattle.cs_search.specs.Report.{report, printed, hits_from, hit_line, name_line, count_line}
 
@@ -56,9 +55,6 @@ unfolding one listed report printed hits_from name_line ended_lines
 no_fault_after_a_listed_hit = refl
 
 -- ---- where a search is refused
-
-front_of_a_line : TakesFront (codes "t:one\n") (Some (codes "s:two\n")) (Some (codes "s:two\nt:o"))
-front_of_a_line = record { count = 3; grows = refl }
 
 fault_of_the_second_name : AreFaultsOf (codes "a" ∷ codes "b" ∷ codes "c" ∷ []) ((codes "b", Missing) ∷ [])
 fault_of_the_second_name = inl (inr (Missing, [], refl, inl refl))

@@ -5,7 +5,7 @@ use Rattle.std.specs.List.{flat_map}
 use Rattle.std.proofs.lemmas.List.{nil_from_length, take-append-drop, take-take}
 use Rattle.std.proofs.lemmas.List.Concat.{flat_map-append}
 use Rattle.std.proofs.lemmas.Bool.{cases_Bool, false≢true}
-use Rattle.cs_tree.specs.Told.{Told, Grows}
+use Rattle.cs_tree.specs.Told.{Told, Grows, Taken}
 use Rattle.cs_tree.specs.Transfers.{Loses}
 use Rattle.cs_words.specs.declared.jobs.Style.{Style}
 use Rattle.cs_search.specs.declared.tally.Tally.{Tally}
@@ -20,7 +20,7 @@ use Rattle.cs_search.specs.GrepReports.{ReportsFront}
 use Rattle.cs_search.specs.InputReport.{told_report, fault_within}
 use Rattle.cs_search.specs.TestedLines.{shown, total, Tests, TestsFront}
 use Rattle.cs_search.specs.Progress.{HasRead, HasTested, Stops, FindsBy, FindsFront}
-use Rattle.cs_search.proofs.Printing.{front_left, front_right, front_all}
+use Rattle.cs_tree.proofs.Fronts.{front_left, front_right, front_all}
 use Rattle.cs_search.proofs.ReportLemmas.{hits_from-append, hits_from-one}
 use Rattle.cs_search.proofs.HitLemmas.{shown_listed, shown_counted, shown_plain, printed_listed, printed_counted, printed_plain, printed_left, printed_end, few_last}
 use Rattle.cs_search.proofs.TestedLemmas.{Tests-more}
@@ -41,12 +41,12 @@ module _ (style : Style) (name : List ℕ) where
       (λ h. shown_plain style name e h hit ∙ sym (append-nil (hit_line style name hit)) ∙ sym (printed_plain style name e h false (hit ∷ [])))
       (cases_Bool style.count)) (cases_Bool style.list)
 
-  listed_front : (hits more : List Hit) (a b : Option (List ℕ)) → TakesFront (cond (some_hit hits) (name ++ newline ∷ []) []) a b → TakesFront (cond (some_hit (hits ++ more)) (name ++ newline ∷ []) []) a b
+  listed_front : (hits more : List Hit) (a b : Option Taken) → TakesFront (cond (some_hit hits) (name ++ newline ∷ []) []) a b → TakesFront (cond (some_hit (hits ++ more)) (name ++ newline ∷ []) []) a b
   listed_front [] more a b front = front_left [] _ a b front
   listed_front (hit ∷ hits) more a b front = front
 
   -- what is printed before the end, and then at more hits, or at the end
-  pub front_printed : (whole : Bool) (hits more : List Hit) (a b : Option (List ℕ)) → TakesFront (printed style name false hits) a b → TakesFront (printed style name whole (hits ++ more)) a b
+  pub front_printed : (whole : Bool) (hits more : List Hit) (a b : Option Taken) → TakesFront (printed style name false hits) a b → TakesFront (printed style name whole (hits ++ more)) a b
   front_printed whole hits more a b front =
       ⊎_elim (λ e. subst (λ bytes. TakesFront bytes a b) (sym (printed_listed style name e whole (hits ++ more)))
       (listed_front hits more a b (subst (λ bytes. TakesFront bytes a b) (printed_listed style name e false hits) front)))
@@ -56,7 +56,7 @@ module _ (style : Style) (name : List ℕ) where
       (cases_Bool style.count)) (cases_Bool style.list)
 
   -- what was shown at the hits, and then a front of what is printed at more
-  pub front_shown : (hits more : List Hit) (a b c : Option (List ℕ)) → (style.list ≡ true → hits ≡ []) → Grows a b (flat_map (shown style name) hits) → TakesFront (printed style name false more) b c → TakesFront (printed style name false (hits ++ more)) a c
+  pub front_shown : (hits more : List Hit) (a b c : Option Taken) → (style.list ≡ true → hits ≡ []) → Grows a b (flat_map (shown style name) hits) → TakesFront (printed style name false more) b c → TakesFront (printed style name false (hits ++ more)) a c
   front_shown hits more a b c none grows front =
       ⊎_elim (λ e. subst (λ (hs : List Hit). TakesFront (printed style name false (hs ++ more)) a c) (sym (none e))
       (front_right [] _ a b c (subst (λ (hs : List Hit). Grows a b (flat_map (shown style name) hs)) (none e) grows) front))
@@ -69,19 +69,19 @@ module _ (style : Style) (name : List ℕ) where
 
 module _ (style : Style) (name : List ℕ) (finds : List ℕ → Bool) where
   -- something is found in the line
-  pub TestsFront-hit : (line : List ℕ) (first : ℕ) (taken later : Option (List ℕ)) → finds line ≡ true → TakesFront (shown style name (first, line)) taken later → TestsFront style name finds (line ∷ []) first taken later
+  pub TestsFront-hit : (line : List ℕ) (first : ℕ) (taken later : Option Taken) → finds line ≡ true → TakesFront (shown style name (first, line)) taken later → TestsFront style name finds (line ∷ []) first taken later
   TestsFront-hit line first taken later e front =
       subst (λ (hits : List Hit). TakesFront (printed style name false hits) taken later) (sym (hits_from-one finds first line ∙ ap (λ t. cond t ((first, line) ∷ []) []) e))
       (subst (λ bytes. TakesFront bytes taken later) (printed_one style name (first, line)) front)
 
   -- and more lines change nothing
-  pub TestsFront-more : (a b : List (List ℕ)) (first : ℕ) (taken later : Option (List ℕ)) → TestsFront style name finds a first taken later → TestsFront style name finds (a ++ b) first taken later
+  pub TestsFront-more : (a b : List (List ℕ)) (first : ℕ) (taken later : Option Taken) → TestsFront style name finds a first taken later → TestsFront style name finds (a ++ b) first taken later
   TestsFront-more a b first taken later front =
       subst (λ (hits : List Hit). TakesFront (printed style name false hits) taken later) (sym (hits_from-append finds first a b))
       (front_printed style name false _ _ taken later front)
 
   -- after lines that were tested
-  pub TestsFront-after : (a b : List (List ℕ)) (before mid : Tally) (taken now later : Option (List ℕ)) → (style.list ≡ true → mid.hits ≡ 0) → mid.lines ≡ before.lines + length a → Tests style name finds a before mid taken now → TestsFront style name finds b (mid.lines + 1) now later → TestsFront style name finds (a ++ b) (before.lines + 1) taken later
+  pub TestsFront-after : (a b : List (List ℕ)) (before mid : Tally) (taken now later : Option Taken) → (style.list ≡ true → mid.hits ≡ 0) → mid.lines ≡ before.lines + length a → Tests style name finds a before mid taken now → TestsFront style name finds b (mid.lines + 1) now later → TestsFront style name finds (a ++ b) (before.lines + 1) taken later
   TestsFront-after a b before mid taken now later none counted tests front =
       let at : mid.lines + 1 ≡ before.lines + 1 + length a = omega arith in
       subst (λ (hits : List Hit). TakesFront (printed style name false hits) taken later) (sym (hits_from-append finds (before.lines + 1) a b))
@@ -89,13 +89,13 @@ module _ (style : Style) (name : List ℕ) (finds : List ℕ → Bool) where
       (subst (λ n. TestsFront style name finds b n now later) at front))
 
   -- all that was tested
-  pub TestsFront-all : (a : List (List ℕ)) (before after : Tally) (taken later : Option (List ℕ)) → (style.list ≡ true → after.hits ≡ 0) → Tests style name finds a before after taken later → TestsFront style name finds a (before.lines + 1) taken later
+  pub TestsFront-all : (a : List (List ℕ)) (before after : Tally) (taken later : Option Taken) → (style.list ≡ true → after.hits ≡ 0) → Tests style name finds a before after taken later → TestsFront style name finds a (before.lines + 1) taken later
   TestsFront-all a before after taken later none tests =
       front_all _ taken later (subst (Grows taken later) (printed_left style name _ (λ listed. nil_from_length _ (let h = none listed in omega (arith, tests.hits, h)))) tests.written)
 
 -- ---- an input that is read piece by piece
 
-module _ (style : Style) (name : List ℕ) (finds : List ℕ → Bool) (before mid : Tally) (taken now : Option (List ℕ)) (most : ℕ) where
+module _ (style : Style) (name : List ℕ) (finds : List ℕ → Bool) (before mid : Tally) (taken now : Option Taken) (most : ℕ) where
   -- the lines of the bytes that are searched begin with those of a front
   lines_searched : (told : Told) (n : ℕ) → n ≤ most → ended_lines (take most told.bytes) ≡ ended_lines (take n told.bytes) ++ ended_lines (unended (take n told.bytes) ++ drop n (take most told.bytes))
   lines_searched told n within =
@@ -110,7 +110,7 @@ module _ (style : Style) (name : List ℕ) (finds : List ℕ → Bool) (before m
       (TestsFront-more style name finds _ _ _ taken now (TestsFront-all style name finds _ before mid taken now none t))
 
   -- the piece that was read last is tested in part
-  pub FindsFront-piece : (told left later : Option Told) (n : ℕ) (rest piece : List ℕ) (lines : ℕ) (out : Option (List ℕ)) → n + length piece ≤ most → HasRead told left n rest lines → Loses left later piece → (style.list ≡ true → mid.hits ≡ 0) → mid.lines ≡ before.lines + lines → HasTested told n (λ ls. Tests style name finds ls before mid taken now) → TestsFront style name finds (ended_lines (rest ++ piece)) (mid.lines + 1) now out → FindsFront style name finds (before.lines + 1) taken out most told
+  pub FindsFront-piece : (told left later : Option Told) (n : ℕ) (rest piece : List ℕ) (lines : ℕ) (out : Option Taken) → n + length piece ≤ most → HasRead told left n rest lines → Loses left later piece → (style.list ≡ true → mid.hits ≡ 0) → mid.lines ≡ before.lines + lines → HasTested told n (λ ls. Tests style name finds ls before mid taken now) → TestsFront style name finds (ended_lines (rest ++ piece)) (mid.lines + 1) now out → FindsFront style name finds (before.lines + 1) taken out most told
   FindsFront-piece None left later n rest piece lines out within r l none counted t front = tt
   FindsFront-piece (Some told) None later n rest piece lines out within r l none counted t front = absurd r
   FindsFront-piece (Some told) (Some left) None n rest piece lines out within r l none counted t front = absurd l
@@ -124,7 +124,7 @@ module _ (style : Style) (name : List ℕ) (finds : List ℕ → Bool) (before m
 
 -- ---- the report
 
-module _ (style : Style) (name : List ℕ) (finds : List ℕ → Bool) (text : List ℕ) (taken out : Option (List ℕ)) where
+module _ (style : Style) (name : List ℕ) (finds : List ℕ → Bool) (text : List ℕ) (taken out : Option Taken) where
   -- before the end of the input
   lines_tested : (whole : Bool) → TestsFront style name finds (ended_lines text) 1 taken out → TakesFront (printed style name whole (hits_from 1 finds (tested whole text))) taken out
   lines_tested true front =
@@ -137,11 +137,11 @@ module _ (style : Style) (name : List ℕ) (finds : List ℕ → Bool) (text : L
   unfolding report
   report_front fault front = lines_tested (is_none fault) front
 
-module _ (style : Style) (name : List ℕ) (finds : List ℕ → Bool) (before : Tally) (no_lines : before.lines ≡ 0) (no_hits : before.hits ≡ 0) (taken : Option (List ℕ)) (most : ℕ) where
+module _ (style : Style) (name : List ℕ) (finds : List ℕ → Bool) (before : Tally) (no_lines : before.lines ≡ 0) (no_hits : before.hits ≡ 0) (taken : Option Taken) (most : ℕ) where
   from_one : (ls : List (List ℕ)) → hits_from (before.lines + 1) finds ls ≡ hits_from 1 finds ls
   from_one ls = ap (λ n. hits_from (n + 1) finds ls) no_lines
 
-  pub ReportsFront-read : (told : Option Told) (out : Option (List ℕ)) → FindsFront style name finds (before.lines + 1) taken out most told → ReportsFront told (told_report most style name finds) taken out
+  pub ReportsFront-read : (told : Option Told) (out : Option Taken) → FindsFront style name finds (before.lines + 1) taken out most told → ReportsFront told (told_report most style name finds) taken out
   unfolding told_report
   ReportsFront-read None out front = tt
   ReportsFront-read (Some told) out front =
@@ -149,7 +149,7 @@ module _ (style : Style) (name : List ℕ) (finds : List ℕ → Bool) (before :
       (subst (λ n. TestsFront style name finds (ended_lines (take most told.bytes)) (n + 1) taken out) no_lines front)
 
   -- at the end of the input, in what is left unended
-  pub ReportsFront-rest : (told : Option Told) (mid : Tally) (now : Option (List ℕ)) (rest : List ℕ) (out : Option (List ℕ)) → Stops most End told rest mid.lines → (style.list ≡ true → mid.hits ≡ 0) → FindsBy style name finds before mid taken now most End told → TestsFront style name finds (last_line rest) (mid.lines + 1) now out → ReportsFront told (told_report most style name finds) taken out
+  pub ReportsFront-rest : (told : Option Told) (mid : Tally) (now : Option Taken) (rest : List ℕ) (out : Option Taken) → Stops most End told rest mid.lines → (style.list ≡ true → mid.hits ≡ 0) → FindsBy style name finds before mid taken now most End told → TestsFront style name finds (last_line rest) (mid.lines + 1) now out → ReportsFront told (told_report most style name finds) taken out
   unfolding told_report report
   ReportsFront-rest None mid now rest out stops none tests front = tt
   ReportsFront-rest (Some told) mid now rest out stops none tests front =
@@ -163,7 +163,7 @@ module _ (style : Style) (name : List ℕ) (finds : List ℕ → Bool) (before :
       (subst (λ ls. TakesFront (printed style name false ls) taken out) (ap (λ ls. hits_from (before.lines + 1) finds ls) all ∙ from_one (lines text)) tested_all)))
 
   -- and in the count
-  pub ReportsFront-total : (told : Option Told) (mid after : Tally) (now later : Option (List ℕ)) (rest : List ℕ) (out : Option (List ℕ)) → Stops most End told rest mid.lines → (style.list ≡ true → mid.hits ≡ 0) → FindsBy style name finds before mid taken now most End told → Tests style name finds (last_line rest) mid after now later → TakesFront (total style name after.hits) later out → ReportsFront told (told_report most style name finds) taken out
+  pub ReportsFront-total : (told : Option Told) (mid after : Tally) (now later : Option Taken) (rest : List ℕ) (out : Option Taken) → Stops most End told rest mid.lines → (style.list ≡ true → mid.hits ≡ 0) → FindsBy style name finds before mid taken now most End told → Tests style name finds (last_line rest) mid after now later → TakesFront (total style name after.hits) later out → ReportsFront told (told_report most style name finds) taken out
   unfolding told_report report
   ReportsFront-total None mid after now later rest out stops none tests last front = tt
   ReportsFront-total (Some told) mid after now later rest out stops none tests last front =

@@ -4,7 +4,7 @@ use Rattle.std.specs.Prelude.{◌&&◌}
 use Rattle.std.specs.List.{flat_map}
 use Rattle.std.proofs.lemmas.List.{nil_from_length}
 use Rattle.std.proofs.lemmas.Bool.{lt-ltb, cases_Bool}
-use Rattle.cs_tree.specs.Told.{Grows}
+use Rattle.cs_tree.specs.Told.{Grows, Taken}
 use Rattle.cs_tree.proofs.Growing.{Grows-chain}
 use Rattle.cs_words.specs.declared.jobs.Style.{Style}
 use Rattle.cs_search.specs.declared.tally.Tally.{Tally}
@@ -94,7 +94,7 @@ unfolding hits_from
 few_last style name finds n [] = omega arith
 few_last style name finds n (b ∷ rest) = few_hits style name finds n (b ∷ rest)
 
-module _ (style : Style) (name : List ℕ) (finds : List ℕ → Bool) (text : List ℕ) (before after : Tally) (no_lines : before.lines ≡ 0) (no_hits : before.hits ≡ 0) (taken out : Option (List ℕ)) where
+module _ (style : Style) (name : List ℕ) (finds : List ℕ → Bool) (text : List ℕ) (before after : Tally) (no_lines : before.lines ≡ 0) (no_hits : before.hits ≡ 0) (taken out : Option Taken) where
   from_one : (ls : List (List ℕ)) → hits_from (before.lines + 1) finds ls ≡ hits_from 1 finds ls
   from_one ls = ap (λ n. hits_from (n + 1) finds ls) no_lines
 
@@ -144,7 +144,7 @@ module _ (style : Style) (name : List ℕ) (finds : List ℕ → Bool) (text : L
   kept_fault false = refl
 
   -- at its end
-  pub reported_end : (mid : Tally) (now : Option (List ℕ)) (rest : List ℕ) (later : Option (List ℕ)) → rest ≡ unended text → mid.lines ≡ length (ended_lines text) → (style.list ≡ true → mid.hits ≡ 0) → Tests style name finds (ended_lines text) before mid taken now → Tests style name finds (last_line rest) mid after now out → Grows out later (total style name after.hits) → IsReported (report style name finds text None) taken later (record { matched = nat_lt 0 after.hits; fault = None })
+  pub reported_end : (mid : Tally) (now : Option Taken) (rest : List ℕ) (later : Option Taken) → rest ≡ unended text → mid.lines ≡ length (ended_lines text) → (style.list ≡ true → mid.hits ≡ 0) → Tests style name finds (ended_lines text) before mid taken now → Tests style name finds (last_line rest) mid after now out → Grows out later (total style name after.hits) → IsReported (report style name finds text None) taken later (record { matched = nat_lt 0 after.hits; fault = None })
   unfolding report
   reported_end mid now rest later is counted unlisted front last written =
       let all : ended_lines text ++ last_line rest ≡ lines text = ap (λ r. ended_lines text ++ last_line r) is ∙ sym (lines-split text) in

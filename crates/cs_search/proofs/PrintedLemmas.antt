@@ -7,7 +7,7 @@ use Rattle.std.specs.Prelude.{option_map, map}
 use Rattle.std.proofs.lemmas.List.{take_more, map-append, take-append-drop}
 use Rattle.std.proofs.Math.Bool.{or-false, or_assoc}
 use Rattle.std.proofs.lemmas.List.Concat.{flat_map-append}
-use Rattle.cs_tree.specs.Told.{Told, Grows}
+use Rattle.cs_tree.specs.Told.{Told, Grows, Taken}
 use Rattle.cs_tree.specs.Snapshot.{Snapshot, item_at}
 use Rattle.cs_tree.specs.Trees.{Opens, OpensAs, OpenedAs, open_told, is_tree_failure}
 use Rattle.cs_tree.specs.declared.fault.TreeFault.{TreeFault}
@@ -20,27 +20,27 @@ use Rattle.cs_search.specs.declared.grep_fault.ReadFault.TheVariants.{Read, TooL
 use Rattle.cs_search.specs.declared.grepped.Grepped.{Grepped}
 use Rattle.cs_search.specs.GrepReports.{Reports, ReportsFront}
 use Rattle.cs_search.specs.InputReport.{told_report}
-use Rattle.cs_tree.specs.Taken.{TakesFront, TakesAll}
+use Rattle.cs_tree.specs.Taken.{TakesFront, TakesAll, EndsAfter, MayEnd}
 use Rattle.cs_search.specs.GrepFaults.{is_failed_read}
-use Rattle.cs_search.specs.Printed.{left_fault, fault_text, Printed, then, nothing, all_printed, input_printed, opened_printed, file_printed, PrintsFront, NamedFault, fault_lines, failures_of, AreFaultsOf, TellsFaults, is_file_failure}
-use Rattle.cs_search.specs.Searcher.{Prints, IsPrinted}
-use Rattle.cs_tree.proofs.Growing.{Grows-chain}
-use Rattle.cs_search.proofs.Printing.{Grows-same, front_none, front_all, front_left, front_right, front_then}
+use Rattle.cs_search.specs.Printed.{left_fault, fault_text, Printed, then, nothing, all_printed, input_printed, opened_printed, file_printed, NamedFault, fault_lines, failures_of, AreFaultsOf, is_file_failure, PrintsSome, TellsFaults}
+use Rattle.cs_search.specs.Searcher.{Prints, IsPrinted, TellsAll, PrintsFront}
+use Rattle.cs_tree.proofs.Growing.{Grows-chain, Grows-same}
+use Rattle.cs_tree.proofs.Fronts.{front_none, front_all, front_left, front_right, front_after, ends_quiet, ends_after, may_end_after}
 
 module _ (most : ℕ) (tool : Tool) (style : Style) (finds : List ℕ → Bool) (name : List ℕ) where
   -- one input
-  pub Prints-input : (told : Option Told) (answer : Grepped) (out out' err err' : Option (List ℕ)) → Reports told (told_report most style name finds) out out' answer → Grows err err' (fault_text tool name (option_map left_fault answer.fault)) → Prints (option_map (input_printed most tool style finds name) told) out out' err err' answer.matched
+  pub Prints-input : (told : Option Told) (answer : Grepped) (out out' err err' : Option Taken) → Reports told (told_report most style name finds) out out' answer → Grows err err' (fault_text tool name (option_map left_fault answer.fault)) → Prints (option_map (input_printed most tool style finds name) told) out out' err err' answer.matched
   unfolding input_printed
   Prints-input None answer out out' err err' r grows = tt
   Prints-input (Some told) answer out out' err err' r grows =
       (r.0, subst (λ fault. Grows err err' (fault_text tool name (option_map left_fault fault))) r.2 grows, r.1)
 
   -- what was opened
-  opened-at : (opening : Result Told TreeFault) (later : Option Told) (out out' err err' : Option (List ℕ)) (matched : Bool) → OpenedAs opening later → Prints (option_map (input_printed most tool style finds name) later) out out' err err' matched → IsPrinted (opened_printed most tool style finds name opening) out out' err err' matched
+  opened-at : (opening : Result Told TreeFault) (later : Option Told) (out out' err err' : Option Taken) (matched : Bool) → OpenedAs opening later → Prints (option_map (input_printed most tool style finds name) later) out out' err err' matched → IsPrinted (opened_printed most tool style finds name opening) out out' err err' matched
   opened-at (Ok told) later out out' err err' matched is p = rw is at p
   opened-at (Err fault) later out out' err err' matched is p = absurd is
 
-  pub Prints-opened : (snapshot : Option Snapshot) (later : Option Told) (out out' err err' : Option (List ℕ)) (matched : Bool) → Opens snapshot name (Ok tt) later → Prints (option_map (input_printed most tool style finds name) (open_told snapshot later)) out out' err err' matched → Prints (option_map (λ (s : Snapshot). file_printed most tool style finds s name) snapshot) out out' err err' matched
+  pub Prints-opened : (snapshot : Option Snapshot) (later : Option Told) (out out' err err' : Option Taken) (matched : Bool) → Opens snapshot name (Ok tt) later → Prints (option_map (input_printed most tool style finds name) (open_told snapshot later)) out out' err err' matched → Prints (option_map (λ (s : Snapshot). file_printed most tool style finds s name) snapshot) out out' err err' matched
   unfolding file_printed
   Prints-opened None later out out' err err' matched opens p = tt
   Prints-opened (Some s) later out out' err err' matched opens p = opened-at (opening_of (item_at s name)) later out out' err err' matched opens p
@@ -53,7 +53,7 @@ module _ (most : ℕ) (tool : Tool) (style : Style) (finds : List ℕ → Bool) 
   refused-at tree.Failed opening later not o = o.0
   refused-at tree.Memory opening later not o = absurd (not refl)
 
-  pub Prints-refused : (snapshot : Option Snapshot) (fault : TreeFault) (later : Option Told) (out err err' : Option (List ℕ)) → fault ≢ tree.Memory → Opens snapshot name (Err fault) later → Grows err err' (fault_line_of tool name (file_fault_of fault)) → Prints (option_map (λ (s : Snapshot). file_printed most tool style finds s name) snapshot) out out err err' false
+  pub Prints-refused : (snapshot : Option Snapshot) (fault : TreeFault) (later : Option Told) (out err err' : Option Taken) → fault ≢ tree.Memory → Opens snapshot name (Err fault) later → Grows err err' (fault_line_of tool name (file_fault_of fault)) → Prints (option_map (λ (s : Snapshot). file_printed most tool style finds s name) snapshot) out out err err' false
   unfolding file_printed
   Prints-refused None fault later out err err' not opens grows = tt
   Prints-refused (Some s) fault later out err err' not opens grows =
@@ -61,43 +61,53 @@ module _ (most : ℕ) (tool : Tool) (style : Style) (finds : List ℕ → Bool) 
       (Grows-same out, grows, refl)
 
   -- a refused search
-  pub PrintsFront-input : (told : Option Told) (out out' err : Option (List ℕ)) → ReportsFront told (told_report most style name finds) out out' → PrintsFront (option_map (input_printed most tool style finds name) told) out out' err err
+  pub PrintsFront-input : (told : Option Told) (out out' err : Option Taken) → ReportsFront told (told_report most style name finds) out out' → PrintsFront (option_map (input_printed most tool style finds name) told) out out' err err
   unfolding input_printed
   PrintsFront-input None out out' err front = tt
   PrintsFront-input (Some told) out out' err front = (front, front_none _ err)
 
   -- a refused line of a fault
-  pub PrintsFront-fault : (told : Option Told) (answer : Grepped) (fault : ReadFault) (out out' err err' : Option (List ℕ)) → answer.fault ≡ Some fault → Reports told (told_report most style name finds) out out' answer → TakesFront (fault_line_of tool name (left_fault fault)) err err' → PrintsFront (option_map (input_printed most tool style finds name) told) out out' err err'
+  pub PrintsFront-fault : (told : Option Told) (answer : Grepped) (fault : ReadFault) (out out' err err' : Option Taken) → answer.fault ≡ Some fault → Reports told (told_report most style name finds) out out' answer → TakesFront (fault_line_of tool name (left_fault fault)) err err' → PrintsFront (option_map (input_printed most tool style finds name) told) out out' err err'
   unfolding input_printed
   PrintsFront-fault None answer fault out out' err err' is r front = tt
   PrintsFront-fault (Some told) answer fault out out' err err' is r front =
       (front_all _ out out' r.0, subst (λ (why : Option ReadFault). TakesFront (fault_text tool name (option_map left_fault why)) err err') (sym is ∙ r.2) front)
 
-  front-at : (opening : Result Told TreeFault) (later : Option Told) (out out' err err' : Option (List ℕ)) → OpenedAs opening later → PrintsFront (option_map (input_printed most tool style finds name) later) out out' err err' → PrintsFront (Some (opened_printed most tool style finds name opening)) out out' err err'
+  front-at : (opening : Result Told TreeFault) (later : Option Told) (out out' err err' : Option Taken) → OpenedAs opening later → PrintsFront (option_map (input_printed most tool style finds name) later) out out' err err' → PrintsFront (Some (opened_printed most tool style finds name opening)) out out' err err'
   front-at (Ok told) later out out' err err' is p = rw is at p
   front-at (Err fault) later out out' err err' is p = absurd is
 
-  pub PrintsFront-opened : (snapshot : Option Snapshot) (later : Option Told) (out out' err err' : Option (List ℕ)) → Opens snapshot name (Ok tt) later → PrintsFront (option_map (input_printed most tool style finds name) (open_told snapshot later)) out out' err err' → PrintsFront (option_map (λ (s : Snapshot). file_printed most tool style finds s name) snapshot) out out' err err'
+  pub PrintsFront-opened : (snapshot : Option Snapshot) (later : Option Told) (out out' err err' : Option Taken) → Opens snapshot name (Ok tt) later → PrintsFront (option_map (input_printed most tool style finds name) (open_told snapshot later)) out out' err err' → PrintsFront (option_map (λ (s : Snapshot). file_printed most tool style finds s name) snapshot) out out' err err'
   unfolding file_printed
   PrintsFront-opened None later out out' err err' opens p = tt
   PrintsFront-opened (Some s) later out out' err err' opens p = front-at (opening_of (item_at s name)) later out out' err err' opens p
 
-  pub PrintsFront-refused : (snapshot : Option Snapshot) (fault : TreeFault) (later : Option Told) (out err err' : Option (List ℕ)) → fault ≢ tree.Memory → Opens snapshot name (Err fault) later → TakesFront (fault_line_of tool name (file_fault_of fault)) err err' → PrintsFront (option_map (λ (s : Snapshot). file_printed most tool style finds s name) snapshot) out out err err'
+  pub PrintsFront-refused : (snapshot : Option Snapshot) (fault : TreeFault) (later : Option Told) (out err err' : Option Taken) → fault ≢ tree.Memory → Opens snapshot name (Err fault) later → TakesFront (fault_line_of tool name (file_fault_of fault)) err err' → PrintsFront (option_map (λ (s : Snapshot). file_printed most tool style finds s name) snapshot) out out err err'
   unfolding file_printed
   PrintsFront-refused None fault later out err err' not opens front = tt
   PrintsFront-refused (Some s) fault later out err err' not opens front =
       subst (λ (opening : Result Told TreeFault). PrintsFront (Some (opened_printed most tool style finds name opening)) out out err err') (sym (refused-at fault (opening_of (item_at s name)) later not opens))
       (front_none _ out, front)
 
-pub PrintsFront-none : (printed : Option Printed) (out err : Option (List ℕ)) → PrintsFront printed out out err err
+pub PrintsFront-none : (printed : Option Printed) (out err : Option Taken) → PrintsFront printed out out err err
 PrintsFront-none None out err = tt
 PrintsFront-none (Some printed) out err = (front_none _ out, front_none _ err)
 
--- all was printed, and nothing more was taken
-pub PrintsFront-all : (printed : Option Printed) (out now later err err-now err-later : Option (List ℕ)) (matched : Bool) → Prints printed out now err err-now matched → Grows now later [] → Grows err-now err-later [] → PrintsFront printed out later err err-later
-PrintsFront-all None out now later err err-now err-later matched p flushed flushed-err = tt
-PrintsFront-all (Some printed) out now later err err-now err-later matched p flushed flushed-err =
-    (front_then _ out now later (front_all _ out now p.0) flushed, front_then _ err err-now err-later (front_all _ err err-now p.1) flushed-err)
+-- ---- at the end of a search
+
+-- a front
+pub PrintsSome-front : (printed : Option Printed) (out out' err err' : Option Taken) → PrintsFront printed out out' err err' → PrintsSome printed out out' err err'
+PrintsSome-front None out out' err err' p = tt
+PrintsSome-front (Some printed) out out' err err' p = (inl p.0, p.1)
+
+pub PrintsSome-none : (printed : Option Printed) (out err : Option Taken) → PrintsSome printed out out err err
+PrintsSome-none printed out err = PrintsSome-front printed out out err err (PrintsFront-none printed out err)
+
+-- all, and then a flush has failed
+pub PrintsSome-all : (printed : Option Printed) (out now later err err-now err-later : Option Taken) (matched : Bool) → Prints printed out now err err-now matched → MayEnd [] now later → TakesFront [] err-now err-later → PrintsSome printed out later err err-later
+PrintsSome-all None out now later err err-now err-later matched p ends ends-err = tt
+PrintsSome-all (Some printed) out now later err err-now err-later matched p ends ends-err =
+    (may_end_after _ out now later p.0 ends, front_after _ err err-now err-later p.1 ends-err)
 
 -- ---- one after the other
 
@@ -117,20 +127,20 @@ all_more printed (first ∷ names) name =
     ap (λ (rest : Printed). then (printed first) rest) (all_more printed names name)
     ∙ same_printed _ _ _ _ _ _ (sym (append_assoc (printed first).output _ _)) (sym (append_assoc (printed first).errors _ _)) (sym (or_assoc (printed first).matched _ _))
 
-pub Prints-then : (tree : Option Snapshot) (first next both : Snapshot → Printed) (out now later err err-now err-later : Option (List ℕ)) (matched last : Bool) → ((s : Snapshot) → both s ≡ then (first s) (next s)) → Prints (option_map first tree) out now err err-now matched → Prints (option_map next tree) now later err-now err-later last → Prints (option_map both tree) out later err err-later (matched || last)
+pub Prints-then : (tree : Option Snapshot) (first next both : Snapshot → Printed) (out now later err err-now err-later : Option Taken) (matched last : Bool) → ((s : Snapshot) → both s ≡ then (first s) (next s)) → Prints (option_map first tree) out now err err-now matched → Prints (option_map next tree) now later err-now err-later last → Prints (option_map both tree) out later err err-later (matched || last)
 Prints-then None first next both out now later err err-now err-later matched last is p q = tt
 Prints-then (Some s) first next both out now later err err-now err-later matched last is p q =
     subst (λ (printed : Printed). IsPrinted printed out later err err-later (matched || last)) (sym (is s))
     (Grows-chain out now later _ _ p.0 q.0, Grows-chain err err-now err-later _ _ p.1 q.1, ap (λ b. b || last) p.2 ∙ ap (λ b. (first s).matched || b) q.2)
 
 -- of the first all, of the next a front, and of what follows nothing
-pub PrintsFront-then : (tree : Option Snapshot) (first next more both : Snapshot → Printed) (out now later err err-now err-later : Option (List ℕ)) (matched : Bool) → ((s : Snapshot) → both s ≡ then (then (first s) (next s)) (more s)) → Prints (option_map first tree) out now err err-now matched → PrintsFront (option_map next tree) now later err-now err-later → PrintsFront (option_map both tree) out later err err-later
+pub PrintsFront-then : (tree : Option Snapshot) (first next more both : Snapshot → Printed) (out now later err err-now err-later : Option Taken) (matched : Bool) → ((s : Snapshot) → both s ≡ then (then (first s) (next s)) (more s)) → Prints (option_map first tree) out now err err-now matched → PrintsFront (option_map next tree) now later err-now err-later → PrintsFront (option_map both tree) out later err err-later
 PrintsFront-then None first next more both out now later err err-now err-later matched is p q = tt
 PrintsFront-then (Some s) first next more both out now later err err-now err-later matched is p q =
     subst (λ (printed : Printed). PrintsFront (Some printed) out later err err-later) (sym (is s))
     (front_left _ _ out later (front_right _ _ out now later p.0 q.0), front_left _ _ err err-later (front_right _ _ err err-now err-later p.1 q.1))
 
-pub Prints-none : (tree : Option Snapshot) (printed : Snapshot → List ℕ → Printed) (out err : Option (List ℕ)) → Prints (option_map (λ (s : Snapshot). all_printed (printed s) []) tree) out out err err false
+pub Prints-none : (tree : Option Snapshot) (printed : Snapshot → List ℕ → Printed) (out err : Option Taken) → Prints (option_map (λ (s : Snapshot). all_printed (printed s) []) tree) out out err err false
 unfolding all_printed
 Prints-none None printed out err = tt
 Prints-none (Some s) printed out err = (Grows-same out, Grows-same err, refl)
@@ -189,19 +199,19 @@ module _ (tool : Tool) where
   open_counted tree.Failed n not = refl
   open_counted tree.Memory n not = absurd (not refl)
 
-  takes-line : {A E : Type 0} (r : Result A E) (name : List ℕ) (fault : FileFault) (err err' : Option (List ℕ)) → TakesAll (fault_line_of tool name fault) err err' r → TakesAll (fault_lines tool ((name, fault) ∷ [])) err err' r
+  takes-line : {A E : Type 0} (r : Result A E) (name : List ℕ) (fault : FileFault) (err err' : Option Taken) → TakesAll (fault_line_of tool name fault) err err' r → TakesAll (fault_lines tool ((name, fault) ∷ [])) err err' r
   takes-line r name fault err err' takes = subst (λ bytes. TakesAll bytes err err' r) (sym (append-nil (fault_line_of tool name fault))) takes
 
   -- nothing failed, and nothing was printed
-  pub Tells-none : {A E : Type 0} (r : Result A E) (names : List (List ℕ)) (failed failed' : ℕ) (err err' : Option (List ℕ)) → failed' ≡ failed → err' ≡ err → TellsFaults tool names failed failed' err err' r
-  Tells-none (Ok x) names failed failed' err err' same is = ([], faults_none names, same, subst (λ (e : Option (List ℕ)). Grows err e []) (sym is) (Grows-same err))
+  pub Tells-none : {A E : Type 0} (r : Result A E) (names : List (List ℕ)) (failed failed' : ℕ) (err err' : Option Taken) → failed' ≡ failed → err' ≡ err → TellsAll tool names failed failed' err err' r
+  Tells-none (Ok x) names failed failed' err err' same is = ([], faults_none names, same, subst (λ (e : Option Taken). Grows err e []) (sym is) (Grows-same err))
   Tells-none (Err e) names failed failed' err err' same is = ([], faults_none names, same, subst (TakesFront [] err) (sym is) (front_none [] err))
 
-  pub Tells-left : {A E : Type 0} (r : Result A E) (fault : ReadFault) (name : List ℕ) (failed failed' : ℕ) (err err' : Option (List ℕ)) → failed' ≡ count_if (is_failed_read (Some fault)) failed → TakesAll (fault_line_of tool name (left_fault fault)) err err' r → TellsFaults tool (name ∷ []) failed failed' err err' r
+  pub Tells-left : {A E : Type 0} (r : Result A E) (fault : ReadFault) (name : List ℕ) (failed failed' : ℕ) (err err' : Option Taken) → failed' ≡ count_if (is_failed_read (Some fault)) failed → TakesAll (fault_line_of tool name (left_fault fault)) err err' r → TellsAll tool (name ∷ []) failed failed' err err' r
   Tells-left r fault name failed failed' err err' count takes =
       ((name, left_fault fault) ∷ [], faults_one name (left_fault fault), count ∙ left_counted fault failed, takes-line r name (left_fault fault) err err' takes)
 
-  pub Tells-open : {A E : Type 0} (r : Result A E) (fault : TreeFault) (name : List ℕ) (failed failed' : ℕ) (err err' : Option (List ℕ)) → fault ≢ tree.Memory → failed' ≡ count_after {A = Unit {0}} is_tree_failure (Err fault) failed → TakesAll (fault_line_of tool name (file_fault_of fault)) err err' r → TellsFaults tool (name ∷ []) failed failed' err err' r
+  pub Tells-open : {A E : Type 0} (r : Result A E) (fault : TreeFault) (name : List ℕ) (failed failed' : ℕ) (err err' : Option Taken) → fault ≢ tree.Memory → failed' ≡ count_after {A = Unit {0}} is_tree_failure (Err fault) failed → TakesAll (fault_line_of tool name (file_fault_of fault)) err err' r → TellsAll tool (name ∷ []) failed failed' err err' r
   Tells-open r fault name failed failed' err err' not count takes =
       ((name, file_fault_of fault) ∷ [], faults_one name (file_fault_of fault), count ∙ open_counted fault failed not, takes-line r name (file_fault_of fault) err err' takes)
 
@@ -209,14 +219,14 @@ module _ (tool : Tool) where
   failures_of-append [] b n = refl
   failures_of-append (fault ∷ a) b n = failures_of-append a b (count_if (is_file_failure fault.1) n)
 
-  takes-more : {A E : Type 0} (r : Result A E) (first next : List NamedFault) (err err-now err-later : Option (List ℕ)) → Grows err err-now (fault_lines tool first) → TakesAll (fault_lines tool next) err-now err-later r → TakesAll (fault_lines tool (first ++ next)) err err-later r
+  takes-more : {A E : Type 0} (r : Result A E) (first next : List NamedFault) (err err-now err-later : Option Taken) → Grows err err-now (fault_lines tool first) → TakesAll (fault_lines tool next) err-now err-later r → TakesAll (fault_lines tool (first ++ next)) err err-later r
   takes-more (Ok x) first next err err-now err-later grows takes =
       subst (Grows err err-later) (sym (flat_map-append (λ (fault : NamedFault). fault_line_of tool fault.0 fault.1) first next)) (Grows-chain err err-now err-later _ _ grows takes)
   takes-more (Err e) first next err err-now err-later grows takes =
       subst (λ bytes. TakesFront bytes err err-later) (sym (flat_map-append (λ (fault : NamedFault). fault_line_of tool fault.0 fault.1) first next)) (front_right _ _ err err-now err-later grows takes)
 
   -- faults of some names, and then of more
-  pub Tells-more : {A E : Type 0} (r : Result A E) (names more : List (List ℕ)) (failed now later : ℕ) (err err-now err-later : Option (List ℕ)) → TellsFaults tool names failed now err err-now done → TellsFaults tool more now later err-now err-later r → TellsFaults tool (names ++ more) failed later err err-later r
+  pub Tells-more : {A E : Type 0} (r : Result A E) (names more : List (List ℕ)) (failed now later : ℕ) (err err-now err-later : Option Taken) → TellsAll tool names failed now err err-now done → TellsAll tool more now later err-now err-later r → TellsAll tool (names ++ more) failed later err err-later r
   Tells-more r names more failed now later err err-now err-later first next = (
     first.0 ++ next.0,
     faults_append names more first.0 next.0 first.1 next.1,
@@ -225,16 +235,26 @@ module _ (tool : Tool) where
   )
 
   -- the names that follow have none
-  pub Tells-rest : {A E : Type 0} (r : Result A E) (names more : List (List ℕ)) (failed failed' : ℕ) (err err' : Option (List ℕ)) → TellsFaults tool names failed failed' err err' r → TellsFaults tool (names ++ more) failed failed' err err' r
+  pub Tells-rest : {A E : Type 0} (r : Result A E) (names more : List (List ℕ)) (failed failed' : ℕ) (err err' : Option Taken) → TellsAll tool names failed failed' err err' r → TellsAll tool (names ++ more) failed failed' err err' r
   Tells-rest r names more failed failed' err err' told =
       (told.0, subst (AreFaultsOf (names ++ more)) (append-nil told.0) (faults_append names more told.0 [] told.1 (faults_none more)), told.2, told.3)
 
-  -- the outputs are flushed
-  pub Tells-flushed : {A E : Type 0} (r : Result A E) (names : List (List ℕ)) (failed failed' : ℕ) (err err-now err-later : Option (List ℕ)) → TellsFaults tool names failed failed' err err-now done → Grows err-now err-later [] → TellsFaults tool names failed failed' err err-later r
-  Tells-flushed (Ok x) names failed failed' err err-now err-later told flushed =
-      (told.0, told.1, told.2, subst (Grows err err-later) (append-nil (fault_lines tool told.0)) (Grows-chain err err-now err-later _ [] told.3 flushed))
-  Tells-flushed (Err e) names failed failed' err err-now err-later told flushed =
-      (told.0, told.1, told.2, front_then _ err err-now err-later (front_all _ err err-now told.3) flushed)
-
-  pub Tells-refused : {A E : Type 0} (r : Result A E) (fault : E) (names : List (List ℕ)) (failed failed' : ℕ) (err err' : Option (List ℕ)) → r ≡ Err fault → TellsFaults tool names failed failed' err err' undone → TellsFaults tool names failed failed' err err' r
+  pub Tells-refused : {A E : Type 0} (r : Result A E) (fault : E) (names : List (List ℕ)) (failed failed' : ℕ) (err err' : Option Taken) → r ≡ Err fault → TellsAll tool names failed failed' err err' undone → TellsAll tool names failed failed' err err' r
   Tells-refused r fault names failed failed' err err' is told = rw is told
+
+  -- ---- at the end of a search
+
+  abbrev Ends : {A E : Type 0} → List (List ℕ) → ℕ → ℕ → Option Taken → Option Taken → Result A E → Type 0
+  Ends names failed failed' err err' r = TellsFaults tool names failed failed' (λ lines. EndsAfter lines err err' r)
+
+  pub Tells-no : {A E : Type 0} (r : Result A E) (fault : E) (names : List (List ℕ)) (failed : ℕ) (err : Option Taken) → r ≡ Err fault → Ends names failed failed err err r
+  Tells-no r fault names failed err is = ([], faults_none names, refl, ends_quiet err r fault is)
+
+  -- refused before the outputs are flushed
+  pub Tells-cut : {A E : Type 0} (r : Result A E) (fault : E) (names : List (List ℕ)) (failed failed' : ℕ) (err err' : Option Taken) → r ≡ Err fault → TellsAll tool names failed failed' err err' undone → Ends names failed failed' err err' r
+  Tells-cut r fault names failed failed' err err' is told = rw is told
+
+  -- and then they are flushed
+  pub Tells-flushed : {A E : Type 0} (r : Result A E) (names : List (List ℕ)) (failed failed' : ℕ) (err err-now err-later : Option Taken) → TellsAll tool names failed failed' err err-now done → EndsAfter [] err-now err-later r → Ends names failed failed' err err-later r
+  Tells-flushed r names failed failed' err err-now err-later told ends =
+      (told.0, told.1, told.2, ends_after (fault_lines tool told.0) err err-now err-later r told.3 ends)

@@ -3,7 +3,7 @@ use Rattle.std.proofs.Common.{◌≡◌, ℕ, ◌+◌, ◌-◌, ◌≤◌, Bool,
 use Rattle.cs_tree.specs.Transfers.{Loses, IsAt, LosesAtMost}
 use Rattle.std.proofs.lemmas.List.{take_at, drop_at, take-append-drop, take-take, take_all, drop-drop}
 use Rattle.std.proofs.lemmas.Bool.{le-ltb, lt-ltb}
-use Rattle.cs_tree.specs.Told.{Told, Ending}
+use Rattle.cs_tree.specs.Told.{Told, Ending, Taken}
 use Rattle.cs_tree.proofs.Growing.{take_on}
 use Rattle.cs_tree.proofs.Losing.{Loses_few}
 use Rattle.cs_words.specs.declared.jobs.Style.{Style}
@@ -75,7 +75,7 @@ all_read told n most rest within split none =
     let size : length told.bytes ≤ most = omega (arith, ap (λ (b : List ℕ). length b) whole, length-take n told.bytes) in
     sym whole ∙ sym (take_all most told.bytes size)
 
-module _ (style : Style) (name : List ℕ) (finds : List ℕ → Bool) (before after : Tally) (taken out : Option (List ℕ)) (most : ℕ) where
+module _ (style : Style) (name : List ℕ) (finds : List ℕ → Bool) (before after : Tally) (taken out : Option Taken) (most : ℕ) where
   abbrev pub OfLines : List (List ℕ) → Type 0
   OfLines lines = Tests style name finds lines before after taken out
 
@@ -90,7 +90,7 @@ module _ (style : Style) (name : List ℕ) (finds : List ℕ → Bool) (before a
       ⊎_elim (λ e. subst (λ s. FindsBy style name finds before after taken out most s (Some told)) (sym e) tests) (λ e. subst (λ s. FindsBy style name finds before after taken out most s (Some told)) (sym e) tests) is
 
   -- the first hit has ended the search, in what was read last
-  pub FindsBy-listed : (told left later : Option Told) (n : ℕ) (rest piece : List ℕ) (lines : ℕ) (mid : Tally) (now : Option (List ℕ)) → n + length piece ≤ most → HasRead told left n rest lines → Loses left later piece → mid.hits ≡ 0 → mid.lines ≡ before.lines + lines → HasTested told n (λ ls. Tests style name finds ls before mid taken now) → IsListed style name finds (ended_lines (rest ++ piece)) (mid.lines + 1) after now out → FindsBy style name finds before after taken out most Listed told
+  pub FindsBy-listed : (told left later : Option Told) (n : ℕ) (rest piece : List ℕ) (lines : ℕ) (mid : Tally) (now : Option Taken) → n + length piece ≤ most → HasRead told left n rest lines → Loses left later piece → mid.hits ≡ 0 → mid.lines ≡ before.lines + lines → HasTested told n (λ ls. Tests style name finds ls before mid taken now) → IsListed style name finds (ended_lines (rest ++ piece)) (mid.lines + 1) after now out → FindsBy style name finds before after taken out most Listed told
   FindsBy-listed None left later n rest piece lines mid now within r l none counted t s = tt
   FindsBy-listed (Some told) None later n rest piece lines mid now within r l none counted t s = absurd r
   FindsBy-listed (Some told) (Some left) None n rest piece lines mid now within r l none counted t s = absurd l

@@ -1,5 +1,6 @@
 -- csearch prints what cgrep does where the files still read as they were indexed, and so where jobs left the index.
 use Rattle.std.proofs.Common.{◌≡◌, ℕ, ◌<◌, ◌^◌, List, length, refl, sym, ap, subst, ◌∙◌, Bool, true, false, Option, Some, None, Result, Ok}
+use Rattle.cs_tree.specs.Told.{Taken}
 use Rattle.cs_index.specs.Roundtrip.{parts_written, Has}
 use Rattle.std.specs.Prelude.{filter, option_map, string_bytes}
 use Rattle.std.specs.List.{AllByRecursion}
@@ -25,6 +26,7 @@ use Rattle.cs_history.specs.WellFormed.{IsHistory}
 use Rattle.cs_history.proofs.HistoryLemmas.{history_content, index_is}
 use Rattle.cs_words.specs.declared.jobs.Tool.TheVariants.{Csearch, Cgrep}
 use Rattle.cs_words.specs.declared.jobs.SearchJob.{SearchJob}
+use Rattle.cs_search.specs.Searcher.{TellsAll}
 use Rattle.cs_search.specs.declared.report.TheConstants.{MOST_SEARCHED}
 use Rattle.cs_search.specs.Cgrep.{searched_by_cgrep}
 use Rattle.cs_search.specs.IndexSearch.{names_at, DecidesNames}
@@ -35,9 +37,9 @@ use Rattle.cs_words.specs.Faults.{index_fault}
 use Rattle.cs_search.specs.Plans.{IsPlan, IsLent, RefusesPlan}
 use Rattle.cs_search.specs.declared.plan.Plan.{Plan}
 use Rattle.cs_search.specs.Csearch.{file_text, OpensWith, IsQueryOf, Asks, Seeks, ReadsAs, Agrees, names_meeting, csearch_printed, AreAccepted, IsReady, PrintsAsked, PrintsLikeCgrep, PrintsAsPromised}
-use Rattle.cs_search.specs.Printed.{Printed, PrintsFront, TellsFaults, all_printed, file_printed}
+use Rattle.cs_search.specs.Printed.{Printed, all_printed, file_printed, PrintsSome}
 use Rattle.cs_search.proofs.AgreementLemmas.{search_alike}
-use Rattle.cs_search.proofs.PrintedLemmas.{PrintsFront-none}
+use Rattle.cs_search.proofs.PrintedLemmas.{PrintsSome-none}
 use Rattle.cs_search.proofs.CgrepLemmas.{decides_program}
 use Rattle.cs_search.proofs.CsearchLemmas.{names_of_files, names_decided, accepted_plan, lists_fourth, chosen, Tells-chosen}
 
@@ -99,12 +101,12 @@ module _ (job : SearchJob) (index : Option (List ℕ)) (plan : Plan) (is : IsPla
         )
 
       -- faults of the names that are chosen are faults of indexed names
-      pub faults_chosen : {A E : Type 0} (r : Result A E) (opened : Parts) (failed failed' : ℕ) (err err' : Option (List ℕ)) → OpensWith index opened →
-          TellsFaults Csearch (names_at parts.names ids) failed failed' err err' r → TellsFaults Csearch opened.names failed failed' err err' r
+      pub faults_chosen : {A E : Type 0} (r : Result A E) (opened : Parts) (failed failed' : ℕ) (err err' : Option Taken) → OpensWith index opened →
+          TellsAll Csearch (names_at parts.names ids) failed failed' err err' r → TellsAll Csearch opened.names failed failed' err err' r
       faults_chosen r opened failed failed' err err' opens told =
-          subst (λ (p : Parts). TellsFaults Csearch p.names failed failed' err err' r) (opens_once index lent.whole opened lent.opens opens)
+          subst (λ (p : Parts). TellsAll Csearch p.names failed failed' err err' r) (opens_once index lent.whole opened lent.opens opens)
           (Tells-chosen r Csearch lent.whole plan.query ids failed failed' err err' chosen_ids
-          (subst (λ (names : List (List ℕ)). TellsFaults Csearch (names_at names ids) failed failed' err err' r) lent.answers.names told))
+          (subst (λ (names : List (List ℕ)). TellsAll Csearch (names_at names ids) failed failed' err err' r) lent.answers.names told))
 
 module _ (job : SearchJob) (index : Option (List ℕ)) (tree : Option Snapshot) (Prints : Option Printed → Type 0) (by_index : PrintsAsked MOST_SEARCHED job index tree Prints) where
   -- what was printed, where the tree tells its snapshot
@@ -121,8 +123,8 @@ module _ (job : SearchJob) (index : Option (List ℕ)) (tree : Option Snapshot) 
       subst Prints (ap (λ (p : Printed). Some p) (alike job index finds keeps asks tests snapshot there ∙ ap (λ (p : Parts). searched_by_cgrep MOST_SEARCHED job.style finds snapshot (filter keeps p.names)) (sym same))) (told_printed snapshot finds keeps is tests)
 
 -- where nothing was printed
-pub like_cgrep_quiet : (job : SearchJob) (index : Option (List ℕ)) (tree : Option Snapshot) (out err : Option (List ℕ)) → PrintsLikeCgrep MOST_SEARCHED job index tree (λ printed. PrintsFront printed out out err err)
-like_cgrep_quiet job index tree out err parts snapshot finds keeps opens is agrees seeks = PrintsFront-none (Some (searched_by_cgrep MOST_SEARCHED job.style finds snapshot (filter keeps parts.names))) out err
+pub like_cgrep_quiet : (job : SearchJob) (index : Option (List ℕ)) (tree : Option Snapshot) (out err : Option Taken) → PrintsLikeCgrep MOST_SEARCHED job index tree (λ printed. PrintsSome printed out out err err)
+like_cgrep_quiet job index tree out err parts snapshot finds keeps opens is agrees seeks = PrintsSome-none (Some (searched_by_cgrep MOST_SEARCHED job.style finds snapshot (filter keeps parts.names))) out err
 
 -- ---- an index that jobs left
 

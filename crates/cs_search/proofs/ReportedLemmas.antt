@@ -1,6 +1,6 @@
 -- A search that stops has the report of what was told.
 use Rattle.std.proofs.Common.{◌≡◌, ℕ, Bool, true, nat_lt, List, take, sym, subst, Option, Some, None}
-use Rattle.cs_tree.specs.Told.{Told, Grows}
+use Rattle.cs_tree.specs.Told.{Told, Grows, Taken}
 use Rattle.cs_words.specs.declared.jobs.Style.{Style}
 use Rattle.cs_search.specs.declared.tally.Tally.{Tally}
 use Rattle.cs_search.specs.declared.grep_fault.ReadFault.{ReadFault}
@@ -13,7 +13,7 @@ use Rattle.cs_search.specs.TestedLines.{total, Tests}
 use Rattle.cs_search.specs.Progress.{Stops, FindsBy}
 use Rattle.cs_search.proofs.HitLemmas.{reported_left, reported_listed, reported_end}
 
-module _ (style : Style) (name : List ℕ) (finds : List ℕ → Bool) (before after : Tally) (no_lines : before.lines ≡ 0) (no_hits : before.hits ≡ 0) (taken out : Option (List ℕ)) (most : ℕ) where
+module _ (style : Style) (name : List ℕ) (finds : List ℕ → Bool) (before after : Tally) (no_lines : before.lines ≡ 0) (no_hits : before.hits ≡ 0) (taken out : Option Taken) (most : ℕ) where
   pub Reports-listed : (told : Option Told) → FindsBy style name finds before after taken out most Listed told → Reports told (told_report most style name finds) taken out (record { matched = true; fault = None })
   unfolding told_report
   Reports-listed None f = tt
@@ -27,7 +27,7 @@ module _ (style : Style) (name : List ℕ) (finds : List ℕ → Bool) (before a
       subst (λ e. IsReported (report style name finds (take most told.bytes) e) taken out (record { matched = nat_lt 0 after.hits; fault = Some fault })) (sym stops.0)
       (reported_left style name finds (take most told.bytes) before after no_lines no_hits taken out fault unlisted f)
 
-  pub Reports-end : (told : Option Told) (mid : Tally) (now : Option (List ℕ)) (rest : List ℕ) (later : Option (List ℕ)) → Stops most End told rest mid.lines → (style.list ≡ true → mid.hits ≡ 0) → FindsBy style name finds before mid taken now most End told → Tests style name finds (last_line rest) mid after now out → Grows out later (total style name after.hits) → Reports told (told_report most style name finds) taken later (record { matched = nat_lt 0 after.hits; fault = None })
+  pub Reports-end : (told : Option Told) (mid : Tally) (now : Option Taken) (rest : List ℕ) (later : Option Taken) → Stops most End told rest mid.lines → (style.list ≡ true → mid.hits ≡ 0) → FindsBy style name finds before mid taken now most End told → Tests style name finds (last_line rest) mid after now out → Grows out later (total style name after.hits) → Reports told (told_report most style name finds) taken later (record { matched = nat_lt 0 after.hits; fault = None })
   unfolding told_report
   Reports-end None mid now rest later stops unlisted f last written = tt
   Reports-end (Some told) mid now rest later stops unlisted f last written =

@@ -1,5 +1,8 @@
 -- The clauses of a search by an index, at each of its ends.
-use Rattle.std.proofs.Common.{ℕ, List, Option, Result, Ok, Err, refl, inl, inr}
+use Rattle.std.proofs.Common.{ℕ, List, Option, Ok, Err, refl, inl, inr}
+use Rattle.cs_tree.specs.Taken.{EndsAfter}
+use Rattle.cs_tree.specs.Told.{Taken}
+use Rattle.cs_tree.proofs.Growing.{Grows-same}
 use Rattle.cs_tree.specs.Snapshot.{Snapshot}
 use Rattle.cs_index.specs.Opening.{Parts}
 use Rattle.cs_words.specs.declared.jobs.Tool.TheVariants.{Csearch}
@@ -9,17 +12,16 @@ use Rattle.cs_search.specs.declared.report.TheConstants.{MOST_SEARCHED}
 use Rattle.cs_search.specs.declared.status.Status.{Status}
 use Rattle.cs_search.specs.Csearch.{OpensWith, PrintsAsked, AreAccepted, IsReady}
 use Rattle.cs_search.specs.Plans.{RefusesPlan}
-use Rattle.cs_search.specs.Printed.{Printed, PrintsStatus, PrintsFront, TellsFaults}
+use Rattle.cs_search.specs.Printed.{Printed, PrintsStatus, PrintsSome, TellsFaults}
 use Rattle.cs_search.specs.Searched.{IsSearch}
 use Rattle.cs_search.specs.Searcher.{IsSearchFault}
 use Rattle.cs_search.proofs.CsearchLemmas.{search_last}
-use Rattle.cs_search.proofs.PrintedLemmas.{Tells-none}
-use Rattle.cs_search.proofs.Printing.{Grows-same}
+use Rattle.cs_search.proofs.PrintedLemmas.{Tells-no}
 use Rattle.cs_search.proofs.PromiseLemmas.{like_cgrep, like_cgrep_quiet, as_promised}
 
 module _ (job : SearchJob) (index : Option (List ℕ)) (tree : Option Snapshot) where
   -- refused before anything is searched
-  pub refused_first : (failed : ℕ) (out err : Option (List ℕ)) (fault : ToolFault) → RefusesPlan job index fault → IsSearch job index tree failed failed out out err err (Err fault)
+  pub refused_first : (failed : ℕ) (out err : Option Taken) (fault : ToolFault) → RefusesPlan job index fault → IsSearch job index tree failed failed out out err err (Err fault)
   refused_first failed out err fault refused = record {
     prints = tt;
     agrees = tt;
@@ -27,26 +29,26 @@ module _ (job : SearchJob) (index : Option (List ℕ)) (tree : Option Snapshot) 
     front = inl (Grows-same out, Grows-same err);
     front_agrees = like_cgrep_quiet job index tree out err;
     refused = refused.0;
-    faults = λ parts opens. Tells-none Csearch {A = Status} (Err fault) parts.names failed failed err err refl refl;
+    faults = λ parts opens. Tells-no Csearch {A = Status} (Err fault) fault parts.names failed err refl;
   }
 
-  module _ (failed failed' : ℕ) (out out' err err' : Option (List ℕ)) (ready : AreAccepted job × IsReady job index) where
+  module _ (failed failed' : ℕ) (out out' err err' : Option Taken) (ready : AreAccepted job × IsReady job index) where
     -- refused while files are searched, or at the end
-    pub refused_late : (fault : ToolFault) → IsSearchFault {A = Status} (Err fault) → PrintsAsked MOST_SEARCHED job index tree (λ printed. PrintsFront printed out out' err err') →
-        ((parts : Parts) → OpensWith index parts → TellsFaults {A = Status} Csearch parts.names failed failed' err err' (Err fault)) →
+    pub refused_late : (fault : ToolFault) → IsSearchFault {A = Status} (Err fault) → PrintsAsked MOST_SEARCHED job index tree (λ printed. PrintsSome printed out out' err err') →
+        ((parts : Parts) → OpensWith index parts → TellsFaults Csearch parts.names failed failed' (λ lines. EndsAfter {A = Status} lines err err' (Err fault))) →
         IsSearch job index tree failed failed' out out' err err' (Err fault)
     refused_late fault is prints faults = record {
       prints = tt;
       agrees = tt;
       promised = tt;
       front = inr (ready.0, prints);
-      front_agrees = like_cgrep job index tree (λ (printed : Option Printed). PrintsFront printed out out' err err') prints;
+      front_agrees = like_cgrep job index tree (λ (printed : Option Printed). PrintsSome printed out out' err err') prints;
       refused = search_last job index fault ready.0 ready.1 is;
       faults = faults;
     }
 
     pub searched_to_the_end : (status : Status) → PrintsAsked MOST_SEARCHED job index tree (λ printed. PrintsStatus printed out out' err err' status) →
-        ((parts : Parts) → OpensWith index parts → TellsFaults {E = ToolFault} Csearch parts.names failed failed' err err' (Ok status)) →
+        ((parts : Parts) → OpensWith index parts → TellsFaults Csearch parts.names failed failed' (λ lines. EndsAfter {E = ToolFault} lines err err' (Ok status))) →
         IsSearch job index tree failed failed' out out' err err' (Ok status)
     searched_to_the_end status prints faults = record {
       prints = prints;

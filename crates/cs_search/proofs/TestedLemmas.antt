@@ -5,15 +5,14 @@ use Rattle.std.specs.List.{flat_map}
 use Rattle.std.proofs.lemmas.List.{nil_from_length}
 use Rattle.std.proofs.lemmas.List.Concat.{flat_map-append}
 use Rattle.std.proofs.lemmas.List.Elements.{recursion_from_All}
-use Rattle.cs_tree.specs.Told.{Grows}
-use Rattle.cs_tree.proofs.Growing.{Grows-chain}
+use Rattle.cs_tree.specs.Told.{Grows, Taken}
+use Rattle.cs_tree.proofs.Growing.{Grows-chain, Grows-same}
 use Rattle.cs_match.specs.Lines.{newline}
 use Rattle.cs_match.specs.Skipping.{NoneFound}
 use Rattle.cs_words.specs.declared.jobs.Style.{Style}
 use Rattle.cs_search.specs.declared.tally.Tally.{Tally}
 use Rattle.cs_search.specs.Report.{Hit, hits_from, some_hit}
 use Rattle.cs_search.specs.TestedLines.{shown, Tests, IsListed}
-use Rattle.cs_search.proofs.Printing.{Grows-same}
 use Rattle.cs_search.proofs.ReportLemmas.{hits_from-append, hits_from-none, hits_from-one, some_hit-append}
 
 -- tests that tell the same thing answer alike
@@ -23,7 +22,7 @@ decided_alike false false p q = refl
 decided_alike true false p q = q.1 (p.0 refl)
 decided_alike false true p q = sym (p.1 (q.0 refl))
 
-module _ (style : Style) (name : List ℕ) (finds : List ℕ → Bool) (line : List ℕ) (before after : Tally) (taken later : Option (List ℕ)) where
+module _ (style : Style) (name : List ℕ) (finds : List ℕ → Bool) (line : List ℕ) (before after : Tally) (taken later : Option Taken) where
   Of : List Hit → Type 0
   Of hits = (after.hits ≡ before.hits + length hits) × Grows taken later (flat_map (shown style name) hits)
 
@@ -46,16 +45,16 @@ module _ (style : Style) (name : List ℕ) (finds : List ℕ → Bool) (line : L
   -- nothing is
   pub Tests-miss : finds line ≡ false → after.hits ≡ before.hits → later ≡ taken → Tests style name finds (line ∷ []) before after taken later
   Tests-miss e count same =
-      from-hits [] (hits_are false e) (omega arith) (subst (λ (t : Option (List ℕ)). Grows taken t []) (sym same) (Grows-same taken))
+      from-hits [] (hits_are false e) (omega arith) (subst (λ (t : Option Taken). Grows taken t []) (sym same) (Grows-same taken))
 
 module _ (style : Style) (name : List ℕ) (finds : List ℕ → Bool) where
   -- no line was tested
-  pub Tests-none : (before : Tally) (taken : Option (List ℕ)) → Tests style name finds [] before before taken taken
+  pub Tests-none : (before : Tally) (taken : Option Taken) → Tests style name finds [] before before taken taken
   unfolding hits_from
   Tests-none before taken = record { hits = omega arith; written = Grows-same taken }
 
   -- nothing is found in the lines
-  pub Tests-passed : (lines : List (List ℕ)) (before after : Tally) (taken : Option (List ℕ)) → NoneFound finds lines → after.hits ≡ before.hits → Tests style name finds lines before after taken taken
+  pub Tests-passed : (lines : List (List ℕ)) (before after : Tally) (taken : Option Taken) → NoneFound finds lines → after.hits ≡ before.hits → Tests style name finds lines before after taken taken
   Tests-passed lines before after taken none same =
       let nothing : hits_from (before.lines + 1) finds lines ≡ [] = hits_from-none finds (before.lines + 1) lines (recursion_from_All (λ line. finds line ≡ false) lines none) in
       record {
@@ -64,7 +63,7 @@ module _ (style : Style) (name : List ℕ) (finds : List ℕ → Bool) where
       }
 
   -- lines, and then lines
-  pub Tests-more : (a b : List (List ℕ)) (before mid after : Tally) (taken now later : Option (List ℕ)) → mid.lines ≡ before.lines + length a → Tests style name finds a before mid taken now → Tests style name finds b mid after now later → Tests style name finds (a ++ b) before after taken later
+  pub Tests-more : (a b : List (List ℕ)) (before mid after : Tally) (taken now later : Option Taken) → mid.lines ≡ before.lines + length a → Tests style name finds a before mid taken now → Tests style name finds b mid after now later → Tests style name finds (a ++ b) before after taken later
   Tests-more a b before mid after taken now later lines first next =
       let at : mid.lines + 1 ≡ before.lines + 1 + length a = omega arith in
       let hits : hits_from (before.lines + 1) finds (a ++ b) ≡ hits_from (before.lines + 1) finds a ++ hits_from (mid.lines + 1) finds b = hits_from-append finds (before.lines + 1) a b ∙ ap (λ n. hits_from (before.lines + 1) finds a ++ hits_from n finds b) (sym at) in
@@ -80,7 +79,7 @@ module _ (style : Style) (name : List ℕ) (finds : List ℕ → Bool) where
   unfolding shown
   shown_listed e hit = rw e (append-nil (name ++ newline ∷ []))
 
-  one_hit : (hits : List Hit) (taken later : Option (List ℕ)) → style.list ≡ true → 0 < length hits → length hits ≤ 1 → Grows taken later (flat_map (shown style name) hits) → (some_hit hits ≡ true) × Grows taken later (name ++ newline ∷ [])
+  one_hit : (hits : List Hit) (taken later : Option Taken) → style.list ≡ true → 0 < length hits → length hits ≤ 1 → Grows taken later (flat_map (shown style name) hits) → (some_hit hits ≡ true) × Grows taken later (name ++ newline ∷ [])
   one_hit [] taken later e low high g = absurd (omega arith)
   one_hit (hit ∷ []) taken later e low high g = (refl, subst (Grows taken later) (shown_listed e hit) g)
   one_hit (hit ∷ other ∷ hits) taken later e low high g = absurd (omega arith)
@@ -89,7 +88,7 @@ module _ (style : Style) (name : List ℕ) (finds : List ℕ → Bool) where
   few_hits n line = rw hits_from-one (elim (finds line) as (λ t. length {A = Hit} (cond t ((n, line) ∷ []) []) ≤ 1) [ true ↦ omega arith | false ↦ omega arith ])
 
   -- with `-l`, the first hit settles the search
-  pub IsListed-first : (a : List (List ℕ)) (line : List ℕ) (before mid after : Tally) (taken now later : Option (List ℕ)) → style.list ≡ true → mid.hits ≡ 0 → mid.lines ≡ before.lines + length a → Tests style name finds a before mid taken now → Tests style name finds (line ∷ []) mid after now later → 0 < after.hits → IsListed style name finds (a ++ line ∷ []) (before.lines + 1) after taken later
+  pub IsListed-first : (a : List (List ℕ)) (line : List ℕ) (before mid after : Tally) (taken now later : Option Taken) → style.list ≡ true → mid.hits ≡ 0 → mid.lines ≡ before.lines + length a → Tests style name finds a before mid taken now → Tests style name finds (line ∷ []) mid after now later → 0 < after.hits → IsListed style name finds (a ++ line ∷ []) (before.lines + 1) after taken later
   IsListed-first a line before mid after taken now later list none lines first next some =
       let none_before : hits_from (before.lines + 1) finds a ≡ [] = nil_from_length _ (omega (arith, first.hits)) in
       let whole = Tests-more a (line ∷ []) before mid after taken now later lines first next in
@@ -100,7 +99,7 @@ module _ (style : Style) (name : List ℕ) (finds : List ℕ → Bool) where
       record { listed = list; found = one.0; hits = some; written = one.1 }
 
   -- and more lines change nothing
-  pub IsListed-more : (a b : List (List ℕ)) (first : ℕ) (after : Tally) (taken later : Option (List ℕ)) → IsListed style name finds a first after taken later → IsListed style name finds (a ++ b) first after taken later
+  pub IsListed-more : (a b : List (List ℕ)) (first : ℕ) (after : Tally) (taken later : Option Taken) → IsListed style name finds a first after taken later → IsListed style name finds (a ++ b) first after taken later
   IsListed-more a b first after taken later s =
       record {
         listed = s.listed;
@@ -110,7 +109,7 @@ module _ (style : Style) (name : List ℕ) (finds : List ℕ → Bool) where
       }
 
   -- nothing was found in the lines before
-  pub IsListed-after : (a b : List (List ℕ)) (before mid after : Tally) (taken now later : Option (List ℕ)) → mid.hits ≡ 0 → mid.lines ≡ before.lines + length a → Tests style name finds a before mid taken now → IsListed style name finds b (mid.lines + 1) after now later → IsListed style name finds (a ++ b) (before.lines + 1) after taken later
+  pub IsListed-after : (a b : List (List ℕ)) (before mid after : Tally) (taken now later : Option Taken) → mid.hits ≡ 0 → mid.lines ≡ before.lines + length a → Tests style name finds a before mid taken now → IsListed style name finds b (mid.lines + 1) after now later → IsListed style name finds (a ++ b) (before.lines + 1) after taken later
   IsListed-after a b before mid after taken now later none lines first s =
       let none_before : hits_from (before.lines + 1) finds a ≡ [] = nil_from_length _ (omega (arith, first.hits)) in
       let at : mid.lines + 1 ≡ before.lines + 1 + length a = omega arith in

@@ -1,5 +1,5 @@
 -- Which pattern cgrep refuses, and which faults it tells of. docs/PROMISES.md, "What is printed".
-use Rattle.std.specs.Prelude.{ℕ, ◌≡◌, Bool, List, [], ◌∷◌, map, Option, string_bytes, Result, Ok, Err, MatchBool}
+use Rattle.std.specs.Prelude.{ℕ, ◌≡◌, Bool, List, [], ◌∷◌, map, string_bytes, Result, Ok, Err, MatchBool}
 use Rattle.cs_words.specs.declared.jobs.Tool.TheVariants.{Cgrep}
 use Rattle.cs_words.specs.declared.jobs.GrepJob.{GrepJob}
 use Rattle.cs_words.specs.declared.fault.ToolFault.{ToolFault}
@@ -17,9 +17,8 @@ PatternFirst text fold (Err Memory) = Unit {0}
 PatternFirst text fold (Err fault) = ⊥
 
 -- The faults that are told are those of standard input, or of the files and counted by the tree.
-abbrev pub TellsFaultsOf : {A E : Type 0} → GrepJob → ℕ → ℕ → ℕ → ℕ → Option (List ℕ) → Option (List ℕ) →
-    Result A E → Type 0
-TellsFaultsOf job tree tree' input input' err err' result =
+abbrev pub TellsFaultsOf : GrepJob → ℕ → ℕ → ℕ → ℕ → (List ℕ → Type 0) → Type 0
+TellsFaultsOf job tree tree' input input' Takes =
     MatchBool job.standard
-    ((tree' ≡ tree) × TellsFaults Cgrep (standard_name ∷ []) input input' err err' result)
-    ((input' ≡ input) × TellsFaults Cgrep (map string_bytes job.files.items) tree tree' err err' result)
+    ((tree' ≡ tree) × TellsFaults Cgrep (standard_name ∷ []) input input' Takes)
+    ((input' ≡ input) × TellsFaults Cgrep (map string_bytes job.files.items) tree tree' Takes)

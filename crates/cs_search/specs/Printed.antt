@@ -5,7 +5,7 @@ use Rattle.cs_tree.specs.TreeAnswers.{opening_of}
 use Rattle.cs_words.specs.FileFaults.{fault_line_of, file_fault_of}
 use Rattle.cs_tree.specs.Failures.{count_if}
 use Rattle.std.specs.List.{flat_map}
-use Rattle.cs_tree.specs.Told.{Told, Grows}
+use Rattle.cs_tree.specs.Told.{Told, Taken, Grows, GrowsFlushed}
 use Rattle.cs_tree.specs.Snapshot.{Snapshot, item_at}
 use Rattle.cs_tree.specs.declared.fault.TreeFault.{TreeFault}
 use Rattle.cs_words.specs.declared.jobs.Tool.{Tool}
@@ -16,7 +16,7 @@ use Rattle.cs_search.specs.declared.grep_fault.ReadFault.{ReadFault}
 use Rattle.cs_search.specs.declared.grep_fault.ReadFault.TheVariants.{Read, TooLong}
 use Rattle.cs_search.specs.declared.status.Status.{Status}
 use Rattle.cs_search.specs.declared.status.Status.TheVariants.{Matched, NoMatch}
-use Rattle.cs_tree.specs.Taken.{TakesFront, TakesAll}
+use Rattle.cs_tree.specs.Taken.{TakesFront, MayEnd}
 use Rattle.cs_search.specs.Report.{Report}
 use Rattle.cs_search.specs.InputReport.{told_report}
 
@@ -81,21 +81,23 @@ abbrev pub status_of : Bool → Status
 status_of true = Matched
 status_of false = NoMatch
 
--- This was printed, and the answer is its mark as a status, where what was searched tells its bytes.
-abbrev pub PrintsStatus : Option Printed → Option (List ℕ) → Option (List ℕ) → Option (List ℕ) → Option (List ℕ) → Status → Type 0
+-- This was printed, then each output was flushed once, and the answer is its mark as a status, where what was searched
+-- tells its bytes.
+abbrev pub PrintsStatus : Option Printed → Option Taken → Option Taken → Option Taken → Option Taken → Status → Type 0
 PrintsStatus None out out' err err' status = Unit {0}
 PrintsStatus (Some printed) out out' err err' status =
-    Grows out out' printed.output × Grows err err' printed.errors × (status ≡ status_of printed.matched)
+    GrowsFlushed out out' printed.output × GrowsFlushed err err' printed.errors × (status ≡ status_of printed.matched)
 
 -- ---- where a search is refused
 
-abbrev pub PrintsNothing : Option (List ℕ) → Option (List ℕ) → Option (List ℕ) → Option (List ℕ) → Type 0
+abbrev pub PrintsNothing : Option Taken → Option Taken → Option Taken → Option Taken → Type 0
 PrintsNothing out out' err err' = Grows out out' [] × Grows err err' []
 
--- Of this each output has taken a front, where what was searched tells its bytes.
-abbrev pub PrintsFront : Option Printed → Option (List ℕ) → Option (List ℕ) → Option (List ℕ) → Option (List ℕ) → Type 0
-PrintsFront None out out' err err' = Unit {0}
-PrintsFront (Some printed) out out' err err' = TakesFront printed.output out out' × TakesFront printed.errors err err'
+-- Of this each output has taken a front, and the first may have been flushed after all of it, where what was searched
+-- tells its bytes: so `err` is flushed last.
+abbrev pub PrintsSome : Option Printed → Option Taken → Option Taken → Option Taken → Option Taken → Type 0
+PrintsSome None out out' err err' = Unit {0}
+PrintsSome (Some printed) out out' err err' = MayEnd printed.output out out' × TakesFront printed.errors err err'
 
 -- ---- faults that are printed, and failures that are counted
 
@@ -123,10 +125,9 @@ AreFaultsOf (name ∷ names) faults =
     AreFaultsOf names faults
     ⊎ ((why : FileFault) × (rest : List NamedFault) × (faults ≡ (name, why) ∷ rest) × AreFaultsOf names rest)
 
--- The lines of some faults of the names were printed and no other, and where the call was refused a front of them; the
--- failures that were counted are those among these faults.
-abbrev pub TellsFaults : {A E : Type 0} → Tool → List (List ℕ) → ℕ → ℕ → Option (List ℕ) → Option (List ℕ) →
-    Result A E → Type 0
-TellsFaults tool names failed failed' err err' result =
+-- An output takes the lines of some faults of the names and no other; the failures that were counted are those among
+-- these faults. `Takes` says what it takes of some lines.
+abbrev pub TellsFaults : Tool → List (List ℕ) → ℕ → ℕ → (List ℕ → Type 0) → Type 0
+TellsFaults tool names failed failed' Takes =
     (faults : List NamedFault) × AreFaultsOf names faults
-    × (failed' ≡ failures_of faults failed) × TakesAll (fault_lines tool faults) err err' result
+    × (failed' ≡ failures_of faults failed) × Takes (fault_lines tool faults)

@@ -1,6 +1,6 @@
 -- How far the reading of an input has come, and where it stops.
 use Rattle.std.specs.Prelude.{ℕ, ◌+◌, ◌<◌, ◌≤◌, ◌≡◌, Bool, List, [], ◌++◌, length, take, Option, Some, None, Result, Ok, Err, false}
-use Rattle.cs_tree.specs.Told.{Told, ends, fails}
+use Rattle.cs_tree.specs.Told.{Told, ends, fails, Taken}
 use Rattle.cs_words.specs.declared.jobs.Style.{Style}
 use Rattle.cs_search.specs.declared.tally.Tally.{Tally}
 use Rattle.cs_search.specs.declared.grep_fault.ReadFault.{ReadFault}
@@ -49,7 +49,7 @@ abbrev pub Stops : ℕ → Stop → Option Told → List ℕ → ℕ → Type 0
 Stops most stop None rest lines = Unit {0}
 Stops most stop (Some told) rest lines = StopsAt most stop told rest lines
 
-module _ (style : Style) (name : List ℕ) (finds : List ℕ → Bool) (before after : Tally) (taken later : Option (List ℕ)) where
+module _ (style : Style) (name : List ℕ) (finds : List ℕ → Bool) (before after : Tally) (taken later : Option Taken) where
   -- and what was found and printed there
   abbrev pub FindsAt : ℕ → Stop → Told → Type 0
   FindsAt most Listed told = IsListed style name finds (ended_lines (take most told.bytes)) (before.lines + 1) after taken later
@@ -60,7 +60,7 @@ module _ (style : Style) (name : List ℕ) (finds : List ℕ → Bool) (before a
   FindsBy most stop (Some told) = FindsAt most stop told
 
 -- a refused search has written a front of what is printed at the hits
-abbrev pub FindsFront : Style → List ℕ → (List ℕ → Bool) → ℕ → Option (List ℕ) → Option (List ℕ) → ℕ →
+abbrev pub FindsFront : Style → List ℕ → (List ℕ → Bool) → ℕ → Option Taken → Option Taken → ℕ →
     Option Told → Type 0
 FindsFront style name finds first taken later most None = Unit {0}
 FindsFront style name finds first taken later most (Some told) =

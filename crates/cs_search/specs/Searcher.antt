@@ -1,6 +1,7 @@
 -- What the functions of a searcher promise each other: what stays as it was, what they print, and what refuses them.
 use Rattle.std.specs.Prelude.{ℕ, ◌≡◌, Bool, List, Option, Some, None, Result, Ok, Err}
-use Rattle.cs_tree.specs.Told.{Told, Grows}
+use Rattle.cs_tree.specs.Told.{Told, Taken, Grows}
+use Rattle.cs_tree.specs.Taken.{TakesFront, TakesAll}
 use Rattle.cs_tree.specs.Transfers.{LosesAtMost}
 use Rattle.cs_tree.specs.Snapshot.{Snapshot, item_at}
 use Rattle.cs_tree.specs.TreeAnswers.{opening_of}
@@ -8,7 +9,8 @@ use Rattle.cs_tree.specs.declared.fault.TreeFault.{TreeFault}
 use Rattle.cs_words.specs.declared.fault.ToolFault.{ToolFault}
 use Rattle.cs_words.specs.declared.fault.ToolFault.TheVariants.{Write, Memory}
 use Rattle.cs_search.specs.declared.searcher.Searcher.{Searcher}
-use Rattle.cs_search.specs.Printed.{Printed}
+use Rattle.cs_words.specs.declared.jobs.Tool.{Tool}
+use Rattle.cs_search.specs.Printed.{Printed, TellsFaults}
 
 pub record IsKept (old new : Searcher) : Type 0 where
   pub tool : new.tool ≡ old.tool
@@ -16,14 +18,24 @@ pub record IsKept (old new : Searcher) : Type 0 where
   pub matcher : new.matcher ≡ old.matcher
 
 -- this was printed, and the answer is its mark
-abbrev pub IsPrinted : Printed → Option (List ℕ) → Option (List ℕ) → Option (List ℕ) → Option (List ℕ) → Bool → Type 0
+abbrev pub IsPrinted : Printed → Option Taken → Option Taken → Option Taken → Option Taken → Bool → Type 0
 IsPrinted printed out out' err err' matched =
     Grows out out' printed.output × Grows err err' printed.errors × (matched ≡ printed.matched)
 
 -- that, where what was searched tells its bytes
-abbrev pub Prints : Option Printed → Option (List ℕ) → Option (List ℕ) → Option (List ℕ) → Option (List ℕ) → Bool → Type 0
+abbrev pub Prints : Option Printed → Option Taken → Option Taken → Option Taken → Option Taken → Bool → Type 0
 Prints None out out' err err' matched = Unit {0}
 Prints (Some printed) out out' err err' matched = IsPrinted printed out out' err err' matched
+
+-- Of this each output has taken a front, where what was searched tells its bytes. Nothing was flushed.
+abbrev pub PrintsFront : Option Printed → Option Taken → Option Taken → Option Taken → Option Taken → Type 0
+PrintsFront None out out' err err' = Unit {0}
+PrintsFront (Some printed) out out' err err' = TakesFront printed.output out out' × TakesFront printed.errors err err'
+
+-- The lines of some faults of the names were printed, and where the call was refused a front of them.
+abbrev pub TellsAll : {A E : Type 0} → Tool → List (List ℕ) → ℕ → ℕ → Option Taken → Option Taken → Result A E → Type 0
+TellsAll tool names failed failed' err err' result =
+    TellsFaults tool names failed failed' (λ lines. TakesAll lines err err' result)
 
 -- Of what was opened at most so many bytes were read, where it is open yet.
 abbrev pub OpenLosesAtMost : ℕ → Result Told TreeFault → Option Told → Type 0

@@ -1,7 +1,7 @@
 -- What functions inside a search promise each other: which lines were tested, and what was printed of them.
 use Rattle.std.specs.Prelude.{ℕ, ◌+◌, ◌<◌, ◌≡◌, nat_lt, true, false, if◌then◌else◌, Bool, List, [], ◌∷◌, ◌++◌, length, Option, codes, decimal}
 use Rattle.std.specs.List.{flat_map}
-use Rattle.cs_tree.specs.Told.{Grows}
+use Rattle.cs_tree.specs.Told.{Grows, Taken}
 use Rattle.cs_words.specs.declared.jobs.Style.{Style}
 use Rattle.cs_search.specs.declared.tally.Tally.{Tally}
 use Rattle.cs_match.specs.Lines.{newline}
@@ -14,19 +14,19 @@ shown style name hit = if style.list then name ++ newline ∷ [] else (if style.
 
 -- These lines were tested after those that the first tally counts: they and their hits are counted, and what is
 -- printed at the hits was written.
-pub record Tests (style : Style) (name : List ℕ) (finds : List ℕ → Bool) (lines : List (List ℕ)) (before after : Tally) (taken later : Option (List ℕ)) : Type 0 where
+pub record Tests (style : Style) (name : List ℕ) (finds : List ℕ → Bool) (lines : List (List ℕ)) (before after : Tally) (taken later : Option Taken) : Type 0 where
   pub hits : after.hits ≡ before.hits + length (hits_from (before.lines + 1) finds lines)
   pub written : Grows taken later (flat_map (shown style name) (hits_from (before.lines + 1) finds lines))
 
 -- A refused test of these lines, of which the first has this number, has written a front of what is printed at their
 -- hits.
-abbrev pub TestsFront : Style → List ℕ → (List ℕ → Bool) → List (List ℕ) → ℕ → Option (List ℕ) →
-    Option (List ℕ) → Type 0
+abbrev pub TestsFront : Style → List ℕ → (List ℕ → Bool) → List (List ℕ) → ℕ → Option Taken →
+    Option Taken → Type 0
 TestsFront style name finds lines first taken later =
     TakesFront (printed style name false (hits_from first finds lines)) taken later
 
 -- With `-l` something was found in one of these lines, and the name was written.
-pub record IsListed (style : Style) (name : List ℕ) (finds : List ℕ → Bool) (lines : List (List ℕ)) (first : ℕ) (after : Tally) (taken later : Option (List ℕ)) : Type 0 where
+pub record IsListed (style : Style) (name : List ℕ) (finds : List ℕ → Bool) (lines : List (List ℕ)) (first : ℕ) (after : Tally) (taken later : Option Taken) : Type 0 where
   pub listed : style.list ≡ true
   pub found : some_hit (hits_from first finds lines) ≡ true
   pub hits : 0 < after.hits

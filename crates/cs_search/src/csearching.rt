@@ -1,16 +1,18 @@
 // The tool that searches by an index.
 ghost use Rattle.std.specs.Prelude.{◌≡◌, ◌⊎◌, ℕ, Bool, List, Option, [], ◌∷◌, IfOk, IfErr, OnOk, OnErr, option_map, option_copied, filter};
 ghost use Rattle.cs_tree.specs.Failures.{CountsOne};
+ghost use Rattle.cs_tree.specs.Taken.{EndsAfter};
+ghost use Rattle.cs_tree.specs.Told.{HasFlushed};
 ghost use Rattle.cs_match.specs.Finding.{Decides};
 ghost use Rattle.cs_index.specs.Opening.{Parts};
 ghost use Rattle.cs_tree.specs.Snapshot.{Snapshot};
 ghost use Rattle.cs_words.specs.declared.jobs.Tool.TheVariants.{Csearch};
-ghost use Rattle.cs_search.specs.Searcher.{IsSearchFault, IsKept, Prints};
+ghost use Rattle.cs_search.specs.Searcher.{IsSearchFault, IsKept, Prints, PrintsFront, TellsAll};
 ghost use Rattle.cs_search.specs.Refusals.{has_write_failed, QuietAtRefusal};
 ghost use Rattle.cs_search.specs.Csearch.{OpensWith, PrintsAsked, PrintsLikeCgrep, PrintsAsPromised, AreAccepted, RefusedInOrder};
 ghost use Rattle.cs_search.specs.IndexSearch.{names_at, DecidesNames, OpenRefused};
 ghost use Rattle.cs_search.specs.Plans.{IsPlan, IsLent, RefusesPlan};
-ghost use Rattle.cs_search.specs.Printed.{PrintsStatus, PrintsNothing, PrintsFront, TellsFaults, all_printed, file_printed};
+ghost use Rattle.cs_search.specs.Printed.{PrintsStatus, PrintsNothing, PrintsSome, TellsFaults, all_printed, file_printed};
 ghost use Rattle.cs_search.specs.Searched.{IsSearch};
 
 use crate::names::NameFilter;
@@ -26,9 +28,9 @@ use std::alloc::Global;
 
 /// Prints the lines that match the pattern of the job, in the indexed files that may have one, in the order of their
 /// ids. A line on `err` names each file that could not be searched to its end. At the end both outputs are flushed,
-/// `out` first. Refusals come before any output: of the pattern, of that of `-f`, for want of an index, of a bad one.
-/// Where it is refused for a write or for want of memory, each output has taken a front of what it prints, and a line
-/// that blames a file tells of a failure that the tree counted.
+/// `out` first, once each. Refusals come before any output: of the pattern, of that of `-f`, for want of an index, of a
+/// bad one. Where it is refused for a write or for want of memory, each output has taken a front of what it prints, `err`
+/// was not flushed, and a line that blames a file tells of a failure that the tree counted.
 pub fn csearch<T: Tree, O: Sink, E: Sink>(
     alloc: Global,
     job: &SearchJob,
@@ -53,19 +55,19 @@ pub fn csearch<T: Tree, O: Sink, E: Sink>(
         (PrintsNothing (O.taken out.old) (O.taken out.new) (E.taken err.old) (E.taken err.new)
         ⊎ (AreAccepted job.now × PrintsAsked MOST_SEARCHED job.now
         (option_copied index.entry) (T.snapshot tree.old)
-        (λ printed. PrintsFront printed
+        (λ printed. PrintsSome printed
         (O.taken out.old) (O.taken out.new) (E.taken err.old) (E.taken err.new)))) }
     ensures front_agrees { OnErr result (PrintsLikeCgrep MOST_SEARCHED job.now
         (option_copied index.entry) (T.snapshot tree.old)
-        (λ printed. PrintsFront printed
+        (λ printed. PrintsSome printed
         (O.taken out.old) (O.taken out.new) (E.taken err.old) (E.taken err.new))) }
     ensures refused { RefusedInOrder job.now (option_copied index.entry) result }
     ensures quiet { QuietAtRefusal result
         (PrintsNothing (O.taken out.old) (O.taken out.new) (E.taken err.old) (E.taken err.new)) }
     ensures faults { (parts : Parts) → OpensWith (option_copied index.entry) parts →
-        TellsFaults Csearch parts.names
-        (T.failed tree.old) (T.failed tree.new) (E.taken err.old) (E.taken err.new) result }
-    ensures flushed { OnOk result ((O.unflushed out.new ≡ 0) × (E.unflushed err.new ≡ 0)) }
+        TellsFaults Csearch parts.names (T.failed tree.old) (T.failed tree.new)
+        (λ lines. EndsAfter lines (E.taken err.old) (E.taken err.new) result) }
+    ensures flushed { OnOk result (HasFlushed (O.taken out.new) × HasFlushed (E.taken err.new)) }
     ensures writes { CountsOne (has_write_failed result)
         (O.failed out.old) (O.failed out.new) (E.failed err.old) (E.failed err.new) }
     ensures keeps { T.snapshot tree.new ≡ T.snapshot tree.old }
@@ -117,7 +119,7 @@ pub(crate) fn search_by<T: Tree, O: Sink, E: Sink>(
         (O.taken out.old) (O.taken out.new) (E.taken err.old) (E.taken err.new) result }
     ensures quiet { QuietAtRefusal result
         (PrintsNothing (O.taken out.old) (O.taken out.new) (E.taken err.old) (E.taken err.new)) }
-    ensures flushed { OnOk result ((O.unflushed out.new ≡ 0) × (E.unflushed err.new ≡ 0)) }
+    ensures flushed { OnOk result (HasFlushed (O.taken out.new) × HasFlushed (E.taken err.new)) }
     ensures writes { CountsOne (has_write_failed result)
         (O.failed out.old) (O.failed out.new) (E.failed err.old) (E.failed err.new) }
     ensures keeps { T.snapshot tree.new ≡ T.snapshot tree.old }
@@ -150,7 +152,7 @@ pub(crate) fn search_ids<T: Tree, O: Sink, E: Sink>(
         (file_printed MOST_SEARCHED searcher.old.tool searcher.old.style finds tree)
         (filter keeps (names_at index.now.names ids.now))) (T.snapshot tree.old))
         (O.taken out.old) (O.taken out.new) (E.taken err.old) (E.taken err.new)) }
-    ensures faults { TellsFaults searcher.old.tool (names_at index.now.names ids.now)
+    ensures faults { TellsAll searcher.old.tool (names_at index.now.names ids.now)
         (T.failed tree.old) (T.failed tree.new) (E.taken err.old) (E.taken err.new) result }
     ensures writes { CountsOne (has_write_failed result)
         (O.failed out.old) (O.failed out.new) (E.failed err.old) (E.failed err.new) }
@@ -186,7 +188,7 @@ fn search_id<T: Tree, O: Sink, E: Sink>(
         (file_printed MOST_SEARCHED searcher.old.tool searcher.old.style finds tree)
         (filter keeps (names_at index.now.names (id ∷ [])))) (T.snapshot tree.old))
         (O.taken out.old) (O.taken out.new) (E.taken err.old) (E.taken err.new)) }
-    ensures faults { TellsFaults searcher.old.tool (names_at index.now.names (id ∷ []))
+    ensures faults { TellsAll searcher.old.tool (names_at index.now.names (id ∷ []))
         (T.failed tree.old) (T.failed tree.new) (E.taken err.old) (E.taken err.new) result }
     ensures writes { CountsOne (has_write_failed result)
         (O.failed out.old) (O.failed out.new) (E.failed err.old) (E.failed err.new) }

@@ -5,7 +5,7 @@ ghost use Rattle.cs_syntax.specs.Matching.{Tree};
 ghost use Rattle.cs_syntax.specs.Reading.{Reads};
 ghost use Rattle.cs_match.specs.Finding.{Decides};
 ghost use Rattle.cs_match.specs.Lines.{lines};
-ghost use Rattle.cs_tree.specs.Told.{Told};
+ghost use Rattle.cs_tree.specs.Told.{Told, Taken};
 ghost use Rattle.cs_tree.specs.Snapshot.{Snapshot};
 ghost use Rattle.cs_trigram.specs.declared.queries.Query.{Query};
 ghost use Rattle.cs_trigram.specs.Trigram.{has};
@@ -79,7 +79,7 @@ pub fn searches_are_those_of_cgrep()
         IsSameSearch job names like → cgrep_printed MOST_SEARCHED like finds (Some tree) input ≡
         Some (searched_by_cgrep MOST_SEARCHED job.style finds tree names) }
     ensures promised { (job : SearchJob) (index : Option (List ℕ)) (tree : Snapshot)
-        (input : Option Told) (out out' err err' : Option (List ℕ)) (status : Status)
+        (input : Option Told) (out out' err err' : Option Taken) (status : Status)
         (finds keeps : List ℕ → Bool) (earlier : History) (like : GrepJob) →
         PrintsAsPromised MOST_SEARCHED job index (Some tree)
         (λ printed. PrintsStatus printed out out' err err' status) → Seeks job finds keeps →

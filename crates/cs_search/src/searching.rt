@@ -1,17 +1,18 @@
 // The tools that search.
-ghost use Rattle.std.specs.Prelude.{◌≡◌, ◌+◌, ◌⊎◌, ℕ, Bool, List, [], IfOk, IfErr, OnOk, OnErr, string_bytes};
+ghost use Rattle.std.specs.Prelude.{◌≡◌, ◌+◌, ◌⊎◌, ℕ, Bool, List, [], IfOk, IfErr, OnOk, OnErr, MatchResult, string_bytes};
 ghost use Rattle.cs_tree.specs.Failures.{CountsOne};
 ghost use Rattle.cs_tree.specs.Transfers.{LosesAtMost};
 ghost use Rattle.cs_syntax.specs.Matching.{Tree as PatternTree};
 ghost use Rattle.cs_syntax.specs.Reading.{Reads};
 ghost use Rattle.cs_match.specs.Finding.{Decides};
-ghost use Rattle.cs_tree.specs.Told.{Grows};
+ghost use Rattle.cs_tree.specs.Taken.{EndsAfter, MayEnd, TakesAll};
+ghost use Rattle.cs_tree.specs.Told.{GrowsFlushed, HasFlushed};
 ghost use Rattle.cs_search.specs.Cgrep.{cgrep_printed};
 ghost use Rattle.cs_search.specs.CgrepFaults.{PatternFirst, TellsFaultsOf};
 ghost use Rattle.cs_search.specs.Refusals.{IsAccepted, QuietAtRefusal, has_write_failed};
 ghost use Rattle.cs_search.specs.Programs.{IsProgramOf, RefusesPattern};
-ghost use Rattle.cs_search.specs.Searcher.{IsSearchFault, Prints};
-ghost use Rattle.cs_search.specs.Printed.{PrintsStatus, PrintsNothing, PrintsFront, status_of};
+ghost use Rattle.cs_search.specs.Searcher.{IsSearchFault, Prints, PrintsFront};
+ghost use Rattle.cs_search.specs.Printed.{PrintsStatus, PrintsNothing, PrintsSome, status_of};
 
 use crate::report::MOST_SEARCHED;
 use crate::searcher::Searcher;
@@ -24,8 +25,8 @@ use std::alloc::Global;
 
 /// Prints the lines that match the pattern of the job: those of standard input, or those of its files in the order of
 /// the words. A line on `err` names each input that could not be searched to its end. At the end both outputs are
-/// flushed, `out` first. Where it is refused, each output has taken a front of that, and a line that blames an input
-/// tells of a failure that it counted.
+/// flushed, `out` first, once each. Where it is refused, each output has taken a front of that, `err` was not flushed,
+/// and a line that blames an input tells of a failure that it counted.
 pub fn cgrep<T: Tree, R: Source, O: Sink, E: Sink>(
     alloc: Global,
     job: &GrepJob,
@@ -44,7 +45,7 @@ pub fn cgrep<T: Tree, R: Source, O: Sink, E: Sink>(
         ⊎ (IsAccepted (string_bytes job.now.pattern) job.now.fold
         × ((pattern : PatternTree) (finds : List ℕ → Bool) →
         Reads (string_bytes job.now.pattern) job.now.fold pattern → Decides finds pattern →
-        PrintsFront
+        PrintsSome
         (cgrep_printed MOST_SEARCHED job.now finds (T.snapshot tree.old) (R.told input.old))
         (O.taken out.old) (O.taken out.new) (E.taken err.old) (E.taken err.new)))) }
     ensures pattern { PatternFirst (string_bytes job.now.pattern) job.now.fold result }
@@ -53,8 +54,8 @@ pub fn cgrep<T: Tree, R: Source, O: Sink, E: Sink>(
     ensures loses { LosesAtMost (MOST_SEARCHED + 1) (R.told input.old) (R.told input.new) }
     ensures faults { TellsFaultsOf job.now
         (T.failed tree.old) (T.failed tree.new) (R.failed input.old) (R.failed input.new)
-        (E.taken err.old) (E.taken err.new) result }
-    ensures flushed { OnOk result ((O.unflushed out.new ≡ 0) × (E.unflushed err.new ≡ 0)) }
+        (λ lines. EndsAfter lines (E.taken err.old) (E.taken err.new) result) }
+    ensures flushed { OnOk result (HasFlushed (O.taken out.new) × HasFlushed (E.taken err.new)) }
     ensures writes { CountsOne (has_write_failed result)
         (O.failed out.old) (O.failed out.new) (E.failed err.old) (E.failed err.new) }
     ensures tree_keeps { T.snapshot tree.new ≡ T.snapshot tree.old }
@@ -84,9 +85,10 @@ pub(crate) fn finish<O: Sink, E: Sink>(
     err: &mut E,
 ) -> Result<Status, ToolFault>
     ensures status { IfOk result (λ status. status ≡ status_of matched) }
-    ensures out { Grows (O.taken out.old) (O.taken out.new) [] }
-    ensures err { Grows (E.taken err.old) (E.taken err.new) [] }
-    ensures flushed { OnOk result ((O.unflushed out.new ≡ 0) × (E.unflushed err.new ≡ 0)) }
+    ensures out { MatchResult result
+        (λ _. GrowsFlushed (O.taken out.old) (O.taken out.new) [])
+        (λ _. MayEnd [] (O.taken out.old) (O.taken out.new)) }
+    ensures err { EndsAfter [] (E.taken err.old) (E.taken err.new) result }
     ensures writes { CountsOne (has_write_failed result)
         (O.failed out.old) (O.failed out.new) (E.failed err.old) (E.failed err.new) }
     ensures only { IsSearchFault result }
@@ -118,7 +120,7 @@ fn search_job<T: Tree, R: Source, O: Sink, E: Sink>(
     ensures loses { LosesAtMost (MOST_SEARCHED + 1) (R.told input.old) (R.told input.new) }
     ensures faults { TellsFaultsOf job.now
         (T.failed tree.old) (T.failed tree.new) (R.failed input.old) (R.failed input.new)
-        (E.taken err.old) (E.taken err.new) result }
+        (λ lines. TakesAll lines (E.taken err.old) (E.taken err.new) result) }
     ensures writes { CountsOne (has_write_failed result)
         (O.failed out.old) (O.failed out.new) (E.failed err.old) (E.failed err.new) }
     ensures only { IsSearchFault result }

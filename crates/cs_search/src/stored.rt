@@ -1,13 +1,15 @@
 // The tool that searches by an index that lies in a store.
 ghost use Rattle.std.specs.Prelude.{◌≡◌, ◌⊎◌, ℕ, List, Option, IfOk, IfErr, OnOk, OnErr, false};
 ghost use Rattle.cs_tree.specs.Failures.{CountsOne, count_after};
+ghost use Rattle.cs_tree.specs.Taken.{EndsAfter};
+ghost use Rattle.cs_tree.specs.Told.{HasFlushed};
 ghost use Rattle.cs_tree.specs.Transfers.{is_io_failure};
 ghost use Rattle.cs_index.specs.Opening.{Parts};
 ghost use Rattle.cs_words.specs.declared.jobs.Tool.TheVariants.{Csearch};
 ghost use Rattle.cs_search.specs.Refusals.{has_write_failed, QuietAtRefusal};
 ghost use Rattle.cs_search.specs.Csearch.{OpensWith, PrintsAsked, PrintsLikeCgrep, PrintsAsPromised, AreAccepted, RefusedInOrder};
 ghost use Rattle.cs_search.specs.Plans.{IsPlan, IsLent, RefusesPlan};
-ghost use Rattle.cs_search.specs.Printed.{PrintsStatus, PrintsNothing, PrintsFront, TellsFaults};
+ghost use Rattle.cs_search.specs.Printed.{PrintsStatus, PrintsNothing, PrintsSome, TellsFaults};
 ghost use Rattle.cs_search.specs.StoredSearch.{IsOpened, IfRead, has_output_failed};
 
 use crate::csearching::search_by;
@@ -47,23 +49,24 @@ pub fn csearch_stored<S: Store, T: Tree, O: Sink, E: Sink>(
     ensures front { IfRead (S.told store.old) result (λ index answer. OnErr answer
         (PrintsNothing (O.taken out.old) (O.taken out.new) (E.taken err.old) (E.taken err.new)
         ⊎ (AreAccepted job.now × PrintsAsked MOST_SEARCHED job.now index (T.snapshot tree.old)
-        (λ printed. PrintsFront printed
+        (λ printed. PrintsSome printed
         (O.taken out.old) (O.taken out.new) (E.taken err.old) (E.taken err.new))))) }
     ensures front_agrees { IfRead (S.told store.old) result (λ index answer.
         OnErr answer (PrintsLikeCgrep MOST_SEARCHED job.now index (T.snapshot tree.old)
-        (λ printed. PrintsFront printed
+        (λ printed. PrintsSome printed
         (O.taken out.old) (O.taken out.new) (E.taken err.old) (E.taken err.new)))) }
     ensures refused { IfRead (S.told store.old) result (RefusedInOrder job.now) }
     ensures quiet { IfOk result (λ answer. QuietAtRefusal answer
         (PrintsNothing (O.taken out.old) (O.taken out.new) (E.taken err.old) (E.taken err.new))) }
     ensures faults { IfRead (S.told store.old) result (λ index answer. (parts : Parts) →
         OpensWith index parts → TellsFaults Csearch parts.names
-        (T.failed tree.old) (T.failed tree.new) (E.taken err.old) (E.taken err.new) answer) }
+        (T.failed tree.old) (T.failed tree.new)
+        (λ lines. EndsAfter lines (E.taken err.old) (E.taken err.new) answer)) }
     ensures unread { IfErr result (λ _. AreAccepted job.now
         × (T.failed tree.new ≡ T.failed tree.old)
         × PrintsNothing (O.taken out.old) (O.taken out.new) (E.taken err.old) (E.taken err.new)) }
     ensures flushed { IfOk result (λ answer. OnOk answer
-        ((O.unflushed out.new ≡ 0) × (E.unflushed err.new ≡ 0))) }
+        (HasFlushed (O.taken out.new) × HasFlushed (E.taken err.new))) }
     ensures writes { CountsOne (has_output_failed result)
         (O.failed out.old) (O.failed out.new) (E.failed err.old) (E.failed err.new) }
     ensures keeps { T.snapshot tree.new ≡ T.snapshot tree.old }

@@ -4,7 +4,7 @@ use Rattle.std.specs.Prelude.{◌≡◌, ℕ, ◌+◌, ◌-◌, ◌<◌, ◌≤�
 use Rattle.std.specs.declared.alloc.Global.{Global}
 use Rattle.cs_tree.specs.declared.fault.IoFault.{IoFault}
 use Rattle.cs_tree.specs.declared.fault.IoFault.TheVariants.{Failed, Memory}
-use Rattle.cs_tree.specs.Told.{Ending, Told, Grows, ends, fails}
+use Rattle.cs_tree.specs.Told.{Ending, Told, Taken, Grows, GrowsFlushed, ends, fails}
 
 -- what is told loses these bytes at its front, and its ending stays
 abbrev pub Loses : Option Told → Option Told → List ℕ → Type 0
@@ -50,13 +50,17 @@ items_of (Ok v) = Ok v.items
 items_of (Err fault) = Err fault
 
 -- A write takes a front of its bytes. A refused one takes none.
-abbrev pub Writes : Option (List ℕ) → Option (List ℕ) → Result ℕ IoFault → List ℕ → Type 0
+abbrev pub Writes : Option Taken → Option Taken → Result ℕ IoFault → List ℕ → Type 0
 Writes taken later answer buf = MatchResult answer (λ n. Grows taken later (take n buf)) (λ fault. Grows taken later [])
 
 -- All of the bytes are taken, and where the call was refused, a front of them.
-abbrev pub WritesFront : Option (List ℕ) → Option (List ℕ) → Result (Unit {0}) IoFault → List ℕ → Type 0
+abbrev pub WritesFront : Option Taken → Option Taken → Result (Unit {0}) IoFault → List ℕ → Type 0
 WritesFront taken later answer bytes =
     MatchResult answer (λ _. Grows taken later bytes) (λ fault. (n : ℕ) × (n ≤ length bytes) × Grows taken later (take n bytes))
+
+-- A flush passes on all that was taken. A refused one passes on nothing.
+abbrev pub Flushes : {A E : Type 0} → Option Taken → Option Taken → Result A E → Type 0
+Flushes taken later answer = MatchResult answer (λ _. GrowsFlushed taken later []) (λ _. Grows taken later [])
 
 -- want of memory is no failure
 abbrev pub is_io_failure : IoFault → Bool

@@ -17,9 +17,9 @@ jobs-preserved g c =
       keeps = map-set_same snapshot c.jobs.trees c.jobs.i c.do_job-next.new.tree c.index-trees-i.result c.do_job-next.ensures.tree_keeps ∙ inv.keeps;
       rest = λ k d h. let other : k ≢ c.jobs.i = omega arith in rw get_or-set_other (inv.rest k d (omega arith));
       index = indexes_more snapshot c.args.jobs.now c.args.trees.now c.jobs.replies c.jobs.i c.index-jobs-i.result tree c.do_job-next.result.1 _ _ _
-          c.requires.trees (c.jobs.auto.replies ∙ c.requires.replies) within c.index-jobs-i.is again inv.index c.do_job-next.ensures.step.index;
+          c.requires.trees (c.jobs.auto.replies ∙ c.requires.replies) within c.index-jobs-i.is again inv.index c.do_job-next.ensures.step.step.index;
       steps = steps_more snapshot g.T.Tree.failed c.args.jobs.now c.args.trees.now c.jobs.trees c.jobs.replies c.jobs.i c.index-jobs-i.result tree c.do_job-next.new.tree c.do_job-next.result.1 _ _ _
-          c.requires.trees (c.jobs.auto.trees ∙ c.requires.trees) (c.jobs.auto.replies ∙ c.requires.replies) within c.index-jobs-i.is again inv.steps c.do_job-next.ensures.step c.do_job-next.ensures.flushed;
+          c.requires.trees (c.jobs.auto.trees ∙ c.requires.trees) (c.jobs.auto.replies ∙ c.requires.replies) within c.index-jobs-i.is again inv.steps c.do_job-next.ensures.step;
       right = right_all_more snapshot c.args.jobs.now c.args.trees.now c.jobs.replies c.jobs.i c.index-jobs-i.result tree c.do_job-next.result.1 _ _
           c.requires.trees (c.jobs.auto.replies ∙ c.requires.replies) within c.index-jobs-i.is again inv.index inv.right c.do_job-next.ensures.replies;
     }

@@ -7,7 +7,7 @@ pub returns-clause-replies : goal.returns-clause-replies
 returns-clause-replies g c =
     let done = c.index_and_reply.ensures in
     let step = step_taken _ _ c.args.old c.as_deref.result _ _ _ _ _ c.as_deref.ensures.value c.run_job-outcome.ensures.step done.index done.reply in
-    right_after c.args.job.now (g.T.Tree.snapshot c.args.tree.now) (index_bytes c.args.old) (index_bytes c.index_and_reply.result.0) c.index_and_reply.result.1 step.cause step.walked
+    right_after c.args.job.now (g.T.Tree.snapshot c.args.tree.now) (index_bytes c.args.old) (index_bytes c.index_and_reply.result.0) c.index_and_reply.result.1 step.step.cause step.step.walked
 
 pub returns-clause-step : goal.returns-clause-step
 returns-clause-step g c =

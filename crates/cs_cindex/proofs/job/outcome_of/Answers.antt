@@ -4,7 +4,7 @@ use Rattle.std.proofs.lemmas.Bool.{not-true, not-false}
 use Rattle.std.proofs.lemmas.Result.{err_from_is_err_and}
 use Rattle.std.specs.Option.{option_copied}
 use Rattle.cs_history.specs.Jobs.{has_no_path}
-use Rattle.cs_cindex.proofs.FrontLemmas.{grows_none}
+use Rattle.cs_tree.proofs.Growing.{Grows-same}
 use Rattle.cs_cindex.proofs.StepLemmas.{list_done, list_refused, clear_done, walk_done, walk_refused}
 use Rattle.cs_cindex.proofs.job.outcome_of.Goals as goal
 
@@ -12,12 +12,12 @@ pub returns-in_err-list_paths-clause-step : goal.returns-in_err-list_paths-claus
 returns-in_err-list_paths-clause-step g c =
     let p = err_from_is_err_and c.from_residual.result c.from_residual.ensures.1 in
     let told = c.in_err-list_paths.ensures in
-    rw (p.1, p.2) (list_refused c.args.job.now _ _ _ c.in_err-list_paths.field-0.0 c.if-job.true told.refusal told.out (grows_none _) told.writes refl)
+    rw (p.1, p.2) (list_refused c.args.job.now _ _ _ c.in_err-list_paths.field-0.0 c.if-job.true told.refusal told.out (Grows-same _) told.writes refl)
 
 pub returns-then-job-clause-step : goal.returns-then-job-clause-step
 returns-then-job-clause-step g c =
     let told = c.in_ok-list_paths.ensures in
-    list_done c.args.job.now _ _ _ c.if-job.true told.refusal told.out (grows_none _) told.writes refl
+    list_done c.args.job.now _ _ _ c.if-job.true told.refusal told.out (Grows-same _) told.writes refl
 
 pub returns-in_err-index-clause-step : goal.returns-in_err-index-clause-step
 returns-in_err-index-clause-step g c =
@@ -25,7 +25,7 @@ returns-in_err-index-clause-step g c =
     let job = c.args.job.now in
     let r : job.reset ≡ false = search (rules, not-true) in
     let told = c.in_err-index.ensures in
-    rw (p.1, p.2) (walk_refused job _ _ _ (c.if-job.false, ap (λ b. b && has_no_path job) r) (option_copied c.args.old) (ap (λ b. cond b None (option_copied c.args.old)) r) (grows_none _) refl
+    rw (p.1, p.2) (walk_refused job _ _ _ (c.if-job.false, ap (λ b. b && has_no_path job) r) (option_copied c.args.old) (ap (λ b. cond b None (option_copied c.args.old)) r) (Grows-same _) refl
     c.in_err-index.field-0.0 told.refusal told.prints told.writes)
 
 pub returns-then-not-job-clause-step : goal.returns-then-not-job-clause-step
@@ -33,13 +33,13 @@ returns-then-not-job-clause-step g c =
     let job = c.args.job.now in
     let r : job.reset ≡ false = search (rules, not-true) in
     let told = c.in_ok-index.ensures in
-    walk_done job _ _ _ (c.if-job.false, ap (λ b. b && has_no_path job) r) (option_copied c.args.old) (ap (λ b. cond b None (option_copied c.args.old)) r) (grows_none _) refl
+    walk_done job _ _ _ (c.if-job.false, ap (λ b. b && has_no_path job) r) (option_copied c.args.old) (ap (λ b. cond b None (option_copied c.args.old)) r) (Grows-same _) refl
     c.in_ok-index.index.items told.refusal told.next told.prints told.writes
 
 pub returns-then-is_empty-clause-step : goal.returns-then-is_empty-clause-step
 returns-then-is_empty-clause-step g c =
     let r : c.args.job.now.reset ≡ true = search (rules, not-false) in
-    clear_done c.args.job.now _ _ _ c.if-job.false r (ap (λ n. nat_eq n 0) (sym c.args.job.now.paths.ok.0) ∙ sym c.if-is_empty.ensures) (grows_none _) (grows_none _) refl refl
+    clear_done c.args.job.now _ _ _ c.if-job.false r (ap (λ n. nat_eq n 0) (sym c.args.job.now.paths.ok.0) ∙ sym c.if-is_empty.ensures) (Grows-same _) (Grows-same _) refl refl
 
 pub returns-in_err-index-2-clause-step : goal.returns-in_err-index-2-clause-step
 returns-in_err-index-2-clause-step g c =
@@ -48,7 +48,7 @@ returns-in_err-index-2-clause-step g c =
     let r : job.reset ≡ true = search (rules, not-false) in
     let some = ap (λ n. nat_eq n 0) (sym job.paths.ok.0) ∙ sym c.if-is_empty.ensures in
     let told = c.in_err-index-2.ensures in
-    rw (p.1, p.2) (walk_refused job _ _ _ (c.if-job.false, ap (λ b. b && has_no_path job) r ∙ some) None (ap (λ b. cond b None (option_copied c.args.old)) r) (grows_none _) refl
+    rw (p.1, p.2) (walk_refused job _ _ _ (c.if-job.false, ap (λ b. b && has_no_path job) r ∙ some) None (ap (λ b. cond b None (option_copied c.args.old)) r) (Grows-same _) refl
     c.in_err-index-2.field-0.0 told.refusal told.prints told.writes)
 
 pub returns-clause-step : goal.returns-clause-step
@@ -57,5 +57,5 @@ returns-clause-step g c =
     let r : job.reset ≡ true = search (rules, not-false) in
     let some = ap (λ n. nat_eq n 0) (sym job.paths.ok.0) ∙ sym c.if-is_empty.ensures in
     let told = c.in_ok-index-2.ensures in
-    walk_done job _ _ _ (c.if-job.false, ap (λ b. b && has_no_path job) r ∙ some) None (ap (λ b. cond b None (option_copied c.args.old)) r) (grows_none _) refl
+    walk_done job _ _ _ (c.if-job.false, ap (λ b. b && has_no_path job) r ∙ some) None (ap (λ b. cond b None (option_copied c.args.old)) r) (Grows-same _) refl
     c.in_ok-index-2.index.items told.refusal told.next told.prints told.writes

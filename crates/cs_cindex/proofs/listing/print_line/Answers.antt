@@ -2,7 +2,7 @@ use Rattle.std.proofs.Common.{subst, take}
 use Rattle.std.specs.Prelude.{codes}
 use Rattle.std.proofs.lemmas.Result.{err_from_is_err_and}
 use Rattle.cs_tree.specs.Told.{Grows}
-use Rattle.cs_cindex.proofs.FrontLemmas.{front_left, front_right}
+use Rattle.cs_tree.proofs.Fronts.{front_left, front_right}
 use Rattle.cs_tree.proofs.Growing.{Grows-chain}
 use Rattle.cs_cindex.proofs.listing.print_line.Goals as goal
 

@@ -4,12 +4,12 @@ use Rattle.std.proofs.lemmas.Result.{err_from_is_err_and}
 use Rattle.cs_tree.specs.Told.{Grows}
 use Rattle.cs_tree.specs.Walks.{left_entry}
 use Rattle.cs_cindex.specs.Notices.{faulted, left_line, text_of}
-use Rattle.cs_cindex.proofs.FrontLemmas.{grows_none}
+use Rattle.cs_tree.proofs.Growing.{Grows-same}
 use Rattle.cs_cindex.proofs.LineLemmas.{left_is, left_more, left_front, refused}
 use Rattle.cs_cindex.proofs.printing.print_left.Goals as goal
 
 pub loop-path-init : goal.loop-path-init
-loop-path-init g c = record { printed = grows_none (g.E.Sink.taken c.args.err.now); writes = refl }
+loop-path-init g c = record { printed = Grows-same (g.E.Sink.taken c.args.err.now); writes = refl }
 
 pub returns-in_err-print_fault-clause-prints : goal.returns-in_err-print_fault-clause-prints
 returns-in_err-print_fault-clause-prints g c =

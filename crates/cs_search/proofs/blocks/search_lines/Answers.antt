@@ -1,5 +1,6 @@
 use Rattle.std.proofs.Common.{◌≡◌, ◌≤◌, ◌+◌, ◌-◌, ◌∷◌, ◌++◌, [], Bool, List, ℕ, Option, length, take, drop, refl, sym, ap, subst, ◌∙◌, arith, length-append}
 use Rattle.std.proofs.lemmas.Bool.{false≢true}
+use Rattle.cs_tree.specs.Told.{Taken}
 use Rattle.cs_words.specs.declared.jobs.Style.{Style}
 use Rattle.cs_match.specs.Finding.{Decides}
 use Rattle.cs_match.specs.Lines.{ended_lines}
@@ -19,7 +20,7 @@ module _ (block : List ℕ) (from to : ℕ) (rising : from ≤ to) (whole : AreW
   counted_on before mid after h k =
       omega (arith, h, k, ap (λ (ls : List (List ℕ)). length ls) (lines_on block from to rising whole), length-append (ended_lines (take from block)) (ended_lines (take (to - from) (drop from block))))
 
-  tests_on : (style : Style) (name : List ℕ) (finds : List ℕ → Bool) (before mid after : Tally) (taken now later : Option (List ℕ)) → mid.lines ≡ before.lines + length (ended_lines (take from block)) → Tests style name finds (ended_lines (take from block)) before mid taken now → Tests style name finds (ended_lines (take (to - from) (drop from block))) mid after now later → Tests style name finds (ended_lines (take to block)) before after taken later
+  tests_on : (style : Style) (name : List ℕ) (finds : List ℕ → Bool) (before mid after : Tally) (taken now later : Option Taken) → mid.lines ≡ before.lines + length (ended_lines (take from block)) → Tests style name finds (ended_lines (take from block)) before mid taken now → Tests style name finds (ended_lines (take (to - from) (drop from block))) mid after now later → Tests style name finds (ended_lines (take to block)) before after taken later
   tests_on style name finds before mid after taken now later counted first next =
       subst (λ (ls : List (List ℕ)). Tests style name finds ls before after taken later) (sym (lines_on block from to rising whole))
       (Tests-more style name finds (ended_lines (take from block)) (ended_lines (take (to - from) (drop from block))) before mid after taken now later counted first next)

@@ -1,12 +1,12 @@
 use Rattle.std.proofs.Common.{subst, refl, sym, inl}
 use Rattle.std.specs.Prelude.{option_copied}
 use Rattle.std.proofs.lemmas.Result.{err_from_is_err_and}
+use Rattle.cs_tree.proofs.Growing.{Grows-same}
 use Rattle.cs_tree.specs.Failures.{CountsOne}
 use Rattle.cs_words.specs.declared.jobs.Tool.TheVariants.{Csearch}
 use Rattle.cs_search.proofs.CgrepLemmas.{all_quiet}
 use Rattle.cs_search.proofs.FrontLemmas.{any_err}
-use Rattle.cs_search.proofs.PrintedLemmas.{Tells-none}
-use Rattle.cs_search.proofs.Printing.{Grows-same}
+use Rattle.cs_search.proofs.PrintedLemmas.{Tells-no}
 use Rattle.cs_search.proofs.PromiseLemmas.{like_cgrep_quiet}
 use Rattle.cs_search.proofs.csearching.csearch.Goals as goal
 
@@ -29,7 +29,8 @@ returns-in_err-plan-clause-quiet g c = all_quiet _ c.from_residual.result (Grows
 
 pub returns-in_err-plan-clause-faults : goal.returns-in_err-plan-clause-faults
 returns-in_err-plan-clause-faults g c = λ opened opens.
-    Tells-none Csearch c.from_residual.result opened.names (g.T.Tree.failed c.args.tree.now) (g.T.Tree.failed c.args.tree.now) (g.E.Sink.taken c.args.err.now) (g.E.Sink.taken c.args.err.now) refl refl
+    let p = err_from_is_err_and c.from_residual.result c.from_residual.ensures.1 in
+    Tells-no Csearch c.from_residual.result p.0 opened.names (g.T.Tree.failed c.args.tree.now) (g.E.Sink.taken c.args.err.now) p.1
 
 pub returns-in_err-plan-clause-front : goal.returns-in_err-plan-clause-front
 returns-in_err-plan-clause-front g c = any_err c.from_residual.result (inl (Grows-same _, Grows-same _))

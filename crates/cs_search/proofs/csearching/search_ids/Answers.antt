@@ -6,8 +6,8 @@ use Rattle.cs_match.specs.Finding.{Decides}
 use Rattle.cs_tree.specs.Snapshot.{Snapshot}
 use Rattle.cs_search.specs.declared.report.TheConstants.{MOST_SEARCHED}
 use Rattle.cs_search.specs.IndexSearch.{names_at, DecidesNames}
-use Rattle.cs_search.specs.Searcher.{Prints}
-use Rattle.cs_search.specs.Printed.{Printed, PrintsFront, file_printed, all_printed, TellsFaults}
+use Rattle.cs_search.specs.Searcher.{Prints, TellsAll, PrintsFront}
+use Rattle.cs_search.specs.Printed.{Printed, file_printed, all_printed}
 use Rattle.cs_search.proofs.FrontLemmas.{any_err}
 use Rattle.cs_search.proofs.PrintedLemmas.{Prints-none, Prints-then, PrintsFront-then, done, undone, Tells-none, Tells-more, Tells-rest, Tells-refused}
 use Rattle.cs_search.proofs.CsearchLemmas.{chosen_more, chosen_rest, names_at_more, names_at_rest}
@@ -50,8 +50,8 @@ loop-id-preserved g c =
           let all = c.args.index.now.names in
           let ids = c.args.ids.now in
           let at = c.loop-id.id-index in
-          let last = subst (λ t. TellsFaults t (names_at all (get_or ids at 0 ∷ [])) (g.T.Tree.failed c.loop-id.tree) (g.T.Tree.failed c.search_id.new.tree) (g.E.Sink.taken c.loop-id.err) (g.E.Sink.taken c.search_id.new.err) done) i.kept.tool s.faults in
-          subst (λ l. TellsFaults tool l (g.T.Tree.failed c.args.tree.now) (g.T.Tree.failed c.search_id.new.tree) (g.E.Sink.taken c.args.err.now) (g.E.Sink.taken c.search_id.new.err) done) (sym (names_at_more all ids at c.loop-id-test.true))
+          let last = subst (λ t. TellsAll t (names_at all (get_or ids at 0 ∷ [])) (g.T.Tree.failed c.loop-id.tree) (g.T.Tree.failed c.search_id.new.tree) (g.E.Sink.taken c.loop-id.err) (g.E.Sink.taken c.search_id.new.err) done) i.kept.tool s.faults in
+          subst (λ l. TellsAll tool l (g.T.Tree.failed c.args.tree.now) (g.T.Tree.failed c.search_id.new.tree) (g.E.Sink.taken c.args.err.now) (g.E.Sink.taken c.search_id.new.err) done) (sym (names_at_more all ids at c.loop-id-test.true))
           (Tells-more tool done (names_at all (take at ids)) (names_at all (get_or ids at 0 ∷ [])) _ (g.T.Tree.failed c.loop-id.tree) _ _ (g.E.Sink.taken c.loop-id.err) _ i.faults last);
       out_failed = s.writes.0 ∙ i.out_failed;
       err_failed = s.writes.1 ∙ i.err_failed;
@@ -89,7 +89,7 @@ returns-in_err-matched-clause-front g c =
 pub returns-clause-faults : goal.returns-clause-faults
 returns-clause-faults g c =
     let i = c.loop-id.invariant in
-    subst (λ (l : List ℕ). TellsFaults c.args.searcher.now.tool (names_at c.args.index.now.names l) (g.T.Tree.failed c.args.tree.now) (g.T.Tree.failed c.loop-id.tree) (g.E.Sink.taken c.args.err.now) (g.E.Sink.taken c.loop-id.err) done)
+    subst (λ (l : List ℕ). TellsAll c.args.searcher.now.tool (names_at c.args.index.now.names l) (g.T.Tree.failed c.args.tree.now) (g.T.Tree.failed c.loop-id.tree) (g.E.Sink.taken c.args.err.now) (g.E.Sink.taken c.loop-id.err) done)
     (take_all c.loop-id.id-index c.args.ids.now c.loop-id-test.false) i.faults
 
 pub returns-in_err-matched-clause-faults : goal.returns-in_err-matched-clause-faults
@@ -100,8 +100,8 @@ returns-in_err-matched-clause-faults g c =
     let all = c.args.index.now.names in
     let ids = c.args.ids.now in
     let at = c.loop-id.id-index in
-    let last = subst (λ t. TellsFaults t (names_at all (get_or ids at 0 ∷ [])) (g.T.Tree.failed c.loop-id.tree) (g.T.Tree.failed c.search_id.new.tree) (g.E.Sink.taken c.loop-id.err) (g.E.Sink.taken c.search_id.new.err) undone) i.kept.tool c.in_err-matched.ensures.faults in
+    let last = subst (λ t. TellsAll t (names_at all (get_or ids at 0 ∷ [])) (g.T.Tree.failed c.loop-id.tree) (g.T.Tree.failed c.search_id.new.tree) (g.E.Sink.taken c.loop-id.err) (g.E.Sink.taken c.search_id.new.err) undone) i.kept.tool c.in_err-matched.ensures.faults in
     let told = Tells-more tool undone (names_at all (take at ids)) (names_at all (get_or ids at 0 ∷ [])) (g.T.Tree.failed c.args.tree.now) (g.T.Tree.failed c.loop-id.tree) (g.T.Tree.failed c.search_id.new.tree) (g.E.Sink.taken c.args.err.now) (g.E.Sink.taken c.loop-id.err) (g.E.Sink.taken c.search_id.new.err) i.faults last in
     Tells-refused tool c.from_residual.result p.0 (names_at all ids) _ _ _ _ p.1
-    (subst (λ l. TellsFaults tool l (g.T.Tree.failed c.args.tree.now) (g.T.Tree.failed c.search_id.new.tree) (g.E.Sink.taken c.args.err.now) (g.E.Sink.taken c.search_id.new.err) undone) (sym (names_at_rest all ids at c.loop-id-test.true))
+    (subst (λ l. TellsAll tool l (g.T.Tree.failed c.args.tree.now) (g.T.Tree.failed c.search_id.new.tree) (g.E.Sink.taken c.args.err.now) (g.E.Sink.taken c.search_id.new.err) undone) (sym (names_at_rest all ids at c.loop-id-test.true))
     (Tells-rest tool undone _ (names_at all (drop (at + 1) ids)) _ _ _ _ told))

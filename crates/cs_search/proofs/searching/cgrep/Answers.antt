@@ -1,12 +1,13 @@
-use Rattle.std.proofs.Common.{refl, sym, subst, inl, inr}
+use Rattle.std.proofs.Common.{Err, refl, sym, subst, inl, inr}
 use Rattle.std.specs.Prelude.{string_bytes}
 use Rattle.std.proofs.lemmas.Result.{err_from_is_err_and}
+use Rattle.cs_tree.proofs.Growing.{Grows-same, leaves_flushed}
 use Rattle.cs_match.specs.Finding.{Decides}
 use Rattle.cs_tree.specs.Failures.{CountsOne}
+use Rattle.cs_tree.specs.Taken.{TakesAll, EndsAfter}
 use Rattle.cs_search.proofs.FrontLemmas.{any_err}
-use Rattle.cs_search.proofs.Printing.{Grows-same}
-use Rattle.cs_search.proofs.PrintedLemmas.{done, PrintsFront-all}
-use Rattle.cs_search.proofs.CgrepLemmas.{all_quiet, decides_program, PrintsStatus-flushed, Tells-of-flushed, Tells-nothing}
+use Rattle.cs_search.proofs.PrintedLemmas.{done, PrintsSome-front, PrintsSome-all, Tells-flushed}
+use Rattle.cs_search.proofs.CgrepLemmas.{all_quiet, decides_program, PrintsStatus-flushed, Tells-as, Tells-nothing}
 use Rattle.cs_search.proofs.searching.cgrep.Goals as goal
 
 -- ---- no program
@@ -27,13 +28,17 @@ pub returns-in_err-program-clause-quiet : goal.returns-in_err-program-clause-qui
 returns-in_err-program-clause-quiet g c = all_quiet _ c.from_residual.result (Grows-same _, Grows-same _)
 
 pub returns-in_err-program-clause-faults : goal.returns-in_err-program-clause-faults
-returns-in_err-program-clause-faults g c = Tells-nothing c.from_residual.result c.args.job.now (g.T.Tree.failed c.args.tree.now) (g.T.Tree.failed c.args.tree.now) (g.R.Source.failed c.args.input.now) (g.R.Source.failed c.args.input.now) (g.E.Sink.taken c.args.err.now) (g.E.Sink.taken c.args.err.now) refl refl refl
+returns-in_err-program-clause-faults g c =
+    let p = err_from_is_err_and c.from_residual.result c.from_residual.ensures.1 in
+    Tells-nothing c.from_residual.result p.0 c.args.job.now (g.T.Tree.failed c.args.tree.now) (g.R.Source.failed c.args.input.now) (g.E.Sink.taken c.args.err.now) p.1
 
 pub returns-in_err-program-clause-front : goal.returns-in_err-program-clause-front
 returns-in_err-program-clause-front g c = any_err c.from_residual.result (inl (Grows-same _, Grows-same _))
 
 pub returns-in_err-searcher-clause-faults : goal.returns-in_err-searcher-clause-faults
-returns-in_err-searcher-clause-faults g c = Tells-nothing c.from_residual-in_err-searcher.result c.args.job.now (g.T.Tree.failed c.args.tree.now) (g.T.Tree.failed c.args.tree.now) (g.R.Source.failed c.args.input.now) (g.R.Source.failed c.args.input.now) (g.E.Sink.taken c.args.err.now) (g.E.Sink.taken c.args.err.now) refl refl refl
+returns-in_err-searcher-clause-faults g c =
+    let p = err_from_is_err_and c.from_residual-in_err-searcher.result c.from_residual-in_err-searcher.ensures.1 in
+    Tells-nothing c.from_residual-in_err-searcher.result p.0 c.args.job.now (g.T.Tree.failed c.args.tree.now) (g.R.Source.failed c.args.input.now) (g.E.Sink.taken c.args.err.now) p.1
 
 pub returns-in_err-searcher-clause-front : goal.returns-in_err-searcher-clause-front
 returns-in_err-searcher-clause-front g c = any_err c.from_residual-in_err-searcher.result (inl (Grows-same _, Grows-same _))
@@ -53,12 +58,18 @@ returns-in_err-matched-clause-front g c =
       (is.0, is.1, is.2),
       λ pattern finds reads decides.
           let program = decides_program (string_bytes job.pattern) job.fold c.in_ok-program.program pattern finds is reads decides in
-          c.in_err-matched.ensures.front finds (subst (Decides finds) (sym c.in_ok-searcher.ensures.matcher) program),
+          PrintsSome-front _ _ _ _ _ (c.in_err-matched.ensures.front finds (subst (Decides finds) (sym c.in_ok-searcher.ensures.matcher) program)),
     ))
 
 pub returns-in_err-status-clause-faults : goal.returns-in_err-status-clause-faults
 returns-in_err-status-clause-faults g c =
-    Tells-of-flushed c.from_residual-in_err-status.result c.args.job.now (g.T.Tree.failed c.args.tree.now) (g.T.Tree.failed c.search_job.new.tree) (g.R.Source.failed c.args.input.now) (g.R.Source.failed c.search_job.new.input) (g.E.Sink.taken c.args.err.now) (g.E.Sink.taken c.finish.new.err) (g.E.Sink.taken c.search_job.new.err) c.in_err-status.ensures.err c.in_ok-matched.ensures.faults
+    let p = err_from_is_err_and c.from_residual-in_err-status.result c.from_residual-in_err-status.ensures.1 in
+    let err = g.E.Sink.taken c.args.err.now in
+    let now = g.E.Sink.taken c.search_job.new.err in
+    let later = g.E.Sink.taken c.finish.new.err in
+    rw p.1 (Tells-as c.args.job.now _ _ _ _ (λ lines. TakesAll lines err now done) (λ lines. EndsAfter {A = Unit {0}} lines err later (Err p.0))
+    (λ tool names failed failed' told. Tells-flushed tool {A = Unit {0}} (Err p.0) names failed failed' err now later told c.in_err-status.ensures.err)
+    c.in_ok-matched.ensures.faults)
 
 pub returns-in_err-status-clause-front : goal.returns-in_err-status-clause-front
 returns-in_err-status-clause-front g c =
@@ -69,7 +80,7 @@ returns-in_err-status-clause-front g c =
       λ pattern finds reads decides.
           let program = decides_program (string_bytes job.pattern) job.fold c.in_ok-program.program pattern finds is reads decides in
           let matcher = subst (Decides finds) (sym c.in_ok-searcher.ensures.matcher) program in
-          PrintsFront-all _ _ (g.O.Sink.taken c.search_job.new.out) _ _ (g.E.Sink.taken c.search_job.new.err) _ c.in_ok-matched.matched (c.in_ok-matched.ensures.prints finds matcher) c.in_err-status.ensures.out c.in_err-status.ensures.err,
+          PrintsSome-all _ _ (g.O.Sink.taken c.search_job.new.out) _ _ (g.E.Sink.taken c.search_job.new.err) _ c.in_ok-matched.matched (c.in_ok-matched.ensures.prints finds matcher) c.in_err-status.ensures.out c.in_err-status.ensures.err,
     ))
 
 -- ---- a search that is done
@@ -83,4 +94,12 @@ returns-clause-prints g c = λ pattern finds reads decides.
 
 pub returns-clause-faults : goal.returns-clause-faults
 returns-clause-faults g c =
-    Tells-of-flushed done c.args.job.now (g.T.Tree.failed c.args.tree.now) (g.T.Tree.failed c.search_job.new.tree) (g.R.Source.failed c.args.input.now) (g.R.Source.failed c.search_job.new.input) (g.E.Sink.taken c.args.err.now) (g.E.Sink.taken c.finish.new.err) (g.E.Sink.taken c.search_job.new.err) c.in_ok-status.ensures.err c.in_ok-matched.ensures.faults
+    let err = g.E.Sink.taken c.args.err.now in
+    let now = g.E.Sink.taken c.search_job.new.err in
+    let later = g.E.Sink.taken c.finish.new.err in
+    Tells-as c.args.job.now _ _ _ _ (λ lines. TakesAll lines err now done) (λ lines. EndsAfter lines err later done)
+    (λ tool names failed failed' told. Tells-flushed tool done names failed failed' err now later told c.in_ok-status.ensures.err)
+    c.in_ok-matched.ensures.faults
+
+pub returns-clause-flushed : goal.returns-clause-flushed
+returns-clause-flushed g c = (leaves_flushed _ _ _ c.in_ok-status.ensures.out, leaves_flushed _ _ _ c.in_ok-status.ensures.err)

@@ -1,8 +1,6 @@
-use Rattle.std.proofs.Common.{ℕ, List, Some, sym, subst}
+use Rattle.std.proofs.Common.{Some, sym, subst}
 use Rattle.cs_index.proofs.StoredLemmas.{told_any, told_so}
 use Rattle.cs_search.specs.Plans.{IsLent}
-use Rattle.cs_search.proofs.CgrepLemmas.{all_quiet}
-use Rattle.cs_search.proofs.Printing.{Grows-same}
 use Rattle.cs_search.proofs.SearchLemmas.{refused_first}
 use Rattle.cs_search.proofs.stored.csearch_stored.Goals as goal
 

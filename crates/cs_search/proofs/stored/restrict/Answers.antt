@@ -1,4 +1,4 @@
-use Rattle.std.proofs.Common.{ℕ, List, Some, None, refl, subst}
+use Rattle.std.proofs.Common.{Some, None, refl, subst}
 use Rattle.cs_index.specs.Stored.{whole_of}
 use Rattle.cs_index.proofs.StoredLemmas.{told_any, told_so, told_twice}
 use Rattle.cs_search.specs.StoredSearch.{IsOpened}

@@ -2,7 +2,8 @@ use Rattle.std.proofs.Common.{◌++◌, ◌∷◌, [], Bool, sym, subst, if◌th
 use Rattle.std.proofs.lemmas.Result.{err_from_is_err_and}
 use Rattle.cs_tree.specs.Told.{Grows}
 use Rattle.cs_tree.specs.Taken.{TakesFront}
-use Rattle.cs_search.proofs.Printing.{refused, front_right, front_written}
+use Rattle.cs_search.proofs.Printing.{refused}
+use Rattle.cs_tree.proofs.Fronts.{front_right, front_written}
 use Rattle.cs_search.proofs.form.Form.print_front.Goals as goal
 
 pub returns-in_err-write_all-2-clause-written : goal.returns-in_err-write_all-2-clause-written

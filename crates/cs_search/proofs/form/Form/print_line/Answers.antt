@@ -2,7 +2,8 @@ use Rattle.std.proofs.Common.{◌∷◌, []}
 use Rattle.std.proofs.lemmas.Result.{err_from_is_err_and}
 use Rattle.cs_search.specs.Report.{hit_line}
 use Rattle.cs_match.specs.Lines.{newline}
-use Rattle.cs_search.proofs.Printing.{refused, front_left, front_right, front_written}
+use Rattle.cs_search.proofs.Printing.{refused}
+use Rattle.cs_tree.proofs.Fronts.{front_left, front_right, front_written}
 use Rattle.cs_search.proofs.form.Form.print_line.Goals as goal
 
 pub returns-in_err-write_all-clause-written : goal.returns-in_err-write_all-clause-written

@@ -1,7 +1,8 @@
 use Rattle.std.proofs.Common.{◌++◌, ◌∷◌, [], sym, subst, decimal, Bool, if◌then◌else◌}
 use Rattle.std.proofs.lemmas.Result.{err_from_is_err_and}
 use Rattle.cs_tree.specs.Taken.{TakesFront}
-use Rattle.cs_search.proofs.Printing.{refused, front_right, front_written}
+use Rattle.cs_search.proofs.Printing.{refused}
+use Rattle.cs_tree.proofs.Fronts.{front_right, front_written}
 use Rattle.cs_search.proofs.form.Form.print_number.Goals as goal
 
 pub returns-in_err-write_all-clause-written : goal.returns-in_err-write_all-clause-written

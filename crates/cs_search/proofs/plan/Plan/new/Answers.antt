@@ -2,7 +2,7 @@ use Rattle.std.proofs.Common.{subst}
 use Rattle.std.proofs.lemmas.Result.{err_from_is_err_and}
 use Rattle.cs_syntax.specs.Refusal.{IsRefused}
 use Rattle.std.specs.Prelude.{string_bytes}
-use Rattle.cs_search.proofs.CsearchLemmas.{pattern_first, file_second, reads_job, right_query}
+use Rattle.cs_search.proofs.CsearchLemmas.{pattern_first, reads_job, right_query}
 use Rattle.cs_search.proofs.plan.Plan.new.Goals as goal
 
 pub returns-in_err-pattern-clause-refused : goal.returns-in_err-pattern-clause-refused

@@ -1,8 +1,8 @@
 use Rattle.std.proofs.Common.{refl, ◌∙◌, Option}
 use Rattle.cs_words.specs.declared.jobs.Tool.TheVariants.{Csearch}
-use Rattle.cs_search.specs.Printed.{Printed, PrintsFront}
+use Rattle.cs_search.specs.Printed.{Printed}
 use Rattle.cs_search.specs.IndexSearch.{names_at}
-use Rattle.cs_search.specs.Searcher.{Prints}
+use Rattle.cs_search.specs.Searcher.{Prints, PrintsFront}
 use Rattle.cs_search.proofs.FrontLemmas.{any_err}
 use Rattle.cs_search.proofs.PrintedLemmas.{Tells-none}
 use Rattle.cs_search.proofs.CsearchLemmas.{by_csearch}

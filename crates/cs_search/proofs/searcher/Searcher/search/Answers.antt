@@ -1,5 +1,6 @@
 use Rattle.std.proofs.Common.{◌≡◌, ◌∷◌, [], refl, sym, subst}
 use Rattle.std.proofs.lemmas.Result.{err_from_is_err_and}
+use Rattle.cs_tree.proofs.Growing.{Grows-same}
 use Rattle.cs_words.specs.FileFaults.{fault_line_of}
 use Rattle.cs_search.specs.GrepFaults.{is_failed_read}
 use Rattle.cs_tree.specs.Failures.{count_if}
@@ -8,7 +9,6 @@ use Rattle.cs_tree.specs.Told.{Grows}
 use Rattle.cs_search.specs.Printed.{left_fault, fault_text}
 use Rattle.cs_tree.specs.Taken.{TakesFront}
 use Rattle.cs_search.proofs.FrontLemmas.{any_err}
-use Rattle.cs_search.proofs.Printing.{Grows-same}
 use Rattle.cs_search.proofs.PrintedLemmas.{Prints-input, PrintsFront-input, PrintsFront-fault, done, undone, Tells-none, Tells-left, Tells-refused}
 use Rattle.cs_search.proofs.searcher.Searcher.search.Goals as goal
 

@@ -7,9 +7,9 @@ use Rattle.std.specs.Prelude.{option_map}
 use Rattle.cs_tree.specs.Told.{Grows}
 use Rattle.cs_tree.specs.Trees.{open_told}
 use Rattle.cs_search.specs.declared.report.TheConstants.{MOST_SEARCHED}
-use Rattle.cs_search.specs.Searcher.{Prints}
+use Rattle.cs_search.specs.Searcher.{Prints, PrintsFront}
 use Rattle.cs_tree.specs.Taken.{TakesFront}
-use Rattle.cs_search.specs.Printed.{PrintsFront, input_printed}
+use Rattle.cs_search.specs.Printed.{input_printed}
 use Rattle.cs_search.proofs.FrontLemmas.{any_err}
 use Rattle.cs_search.proofs.PrintedLemmas.{Prints-opened, Prints-refused, PrintsFront-none, PrintsFront-opened, PrintsFront-refused, done, undone, Tells-none, Tells-open, Tells-refused}
 use Rattle.cs_search.proofs.searcher.Searcher.search_file.Goals as goal

@@ -6,8 +6,8 @@ use Rattle.cs_match.specs.Finding.{Decides}
 use Rattle.cs_words.specs.declared.jobs.Tool.{Tool}
 use Rattle.cs_tree.specs.Snapshot.{Snapshot}
 use Rattle.cs_search.specs.declared.report.TheConstants.{MOST_SEARCHED}
-use Rattle.cs_search.specs.Searcher.{Prints}
-use Rattle.cs_search.specs.Printed.{Printed, PrintsFront, file_printed, all_printed, TellsFaults}
+use Rattle.cs_search.specs.Searcher.{Prints, TellsAll, PrintsFront}
+use Rattle.cs_search.specs.Printed.{Printed, file_printed, all_printed}
 use Rattle.cs_search.proofs.FrontLemmas.{any_err}
 use Rattle.cs_search.proofs.PrintedLemmas.{Prints-none, Prints-then, PrintsFront-then, all_mapped, all_more, mapped_more, mapped_rest, done, undone, Tells-none, Tells-more, Tells-rest, Tells-refused}
 use Rattle.cs_search.proofs.searcher.Searcher.search_files.Goals as goal
@@ -46,9 +46,9 @@ loop-name-preserved g c =
           let names = c.args.names.now in
           let at = c.loop-name.name-index in
           let item = c.name-item.result in
-          let Tells = λ (t : Tool) (name : List ℕ). TellsFaults t (name ∷ []) (g.T.Tree.failed c.loop-name.tree) (g.T.Tree.failed c.search_file.new.tree) (g.E.Sink.taken c.loop-name.err) (g.E.Sink.taken c.search_file.new.err) done in
+          let Tells = λ (t : Tool) (name : List ℕ). TellsAll t (name ∷ []) (g.T.Tree.failed c.loop-name.tree) (g.T.Tree.failed c.search_file.new.tree) (g.E.Sink.taken c.loop-name.err) (g.E.Sink.taken c.search_file.new.err) done in
           let last = subst (Tells tool) c.as_str.ensures.value (subst (λ t. Tells t c.as_str.result.now) i.kept.tool s.faults) in
-          subst (λ l. TellsFaults tool l (g.T.Tree.failed c.args.tree.now) (g.T.Tree.failed c.search_file.new.tree) (g.E.Sink.taken c.args.err.now) (g.E.Sink.taken c.search_file.new.err) done) (sym (mapped_more string_bytes names at item c.loop-name-test.true c.name-item.is))
+          subst (λ l. TellsAll tool l (g.T.Tree.failed c.args.tree.now) (g.T.Tree.failed c.search_file.new.tree) (g.E.Sink.taken c.args.err.now) (g.E.Sink.taken c.search_file.new.err) done) (sym (mapped_more string_bytes names at item c.loop-name-test.true c.name-item.is))
           (Tells-more tool done (map string_bytes (take at names)) (string_bytes item ∷ []) _ (g.T.Tree.failed c.loop-name.tree) _ _ (g.E.Sink.taken c.loop-name.err) _ i.faults last);
       out_failed = s.writes.0 ∙ i.out_failed;
       err_failed = s.writes.1 ∙ i.err_failed;
@@ -85,7 +85,7 @@ returns-in_err-matched-clause-front g c =
 pub returns-clause-faults : goal.returns-clause-faults
 returns-clause-faults g c =
     let i = c.loop-name.invariant in
-    subst (λ (l : List _). TellsFaults c.args.self.now.tool (map string_bytes l) (g.T.Tree.failed c.args.tree.now) (g.T.Tree.failed c.loop-name.tree) (g.E.Sink.taken c.args.err.now) (g.E.Sink.taken c.loop-name.err) done)
+    subst (λ (l : List _). TellsAll c.args.self.now.tool (map string_bytes l) (g.T.Tree.failed c.args.tree.now) (g.T.Tree.failed c.loop-name.tree) (g.E.Sink.taken c.args.err.now) (g.E.Sink.taken c.loop-name.err) done)
     (take_all c.loop-name.name-index c.args.names.now c.loop-name-test.false) i.faults
 
 pub returns-in_err-matched-clause-faults : goal.returns-in_err-matched-clause-faults
@@ -96,9 +96,9 @@ returns-in_err-matched-clause-faults g c =
     let names = c.args.names.now in
     let at = c.loop-name.name-index in
     let item = c.name-item.result in
-    let Tells = λ (t : Tool) (name : List ℕ). TellsFaults t (name ∷ []) (g.T.Tree.failed c.loop-name.tree) (g.T.Tree.failed c.search_file.new.tree) (g.E.Sink.taken c.loop-name.err) (g.E.Sink.taken c.search_file.new.err) undone in
+    let Tells = λ (t : Tool) (name : List ℕ). TellsAll t (name ∷ []) (g.T.Tree.failed c.loop-name.tree) (g.T.Tree.failed c.search_file.new.tree) (g.E.Sink.taken c.loop-name.err) (g.E.Sink.taken c.search_file.new.err) undone in
     let last = subst (Tells tool) c.as_str.ensures.value (subst (λ t. Tells t c.as_str.result.now) i.kept.tool c.in_err-matched.ensures.faults) in
     let told = Tells-more tool undone (map string_bytes (take at names)) (string_bytes item ∷ []) (g.T.Tree.failed c.args.tree.now) (g.T.Tree.failed c.loop-name.tree) (g.T.Tree.failed c.search_file.new.tree) (g.E.Sink.taken c.args.err.now) (g.E.Sink.taken c.loop-name.err) (g.E.Sink.taken c.search_file.new.err) i.faults last in
     Tells-refused tool c.from_residual.result p.0 (map string_bytes names) _ _ _ _ p.1
-    (subst (λ l. TellsFaults tool l (g.T.Tree.failed c.args.tree.now) (g.T.Tree.failed c.search_file.new.tree) (g.E.Sink.taken c.args.err.now) (g.E.Sink.taken c.search_file.new.err) undone) (sym (mapped_rest string_bytes names at item c.loop-name-test.true c.name-item.is))
+    (subst (λ l. TellsAll tool l (g.T.Tree.failed c.args.tree.now) (g.T.Tree.failed c.search_file.new.tree) (g.E.Sink.taken c.args.err.now) (g.E.Sink.taken c.search_file.new.err) undone) (sym (mapped_rest string_bytes names at item c.loop-name-test.true c.name-item.is))
     (Tells-rest tool undone _ (map string_bytes (drop (at + 1) names)) _ _ _ _ told))

@@ -144,7 +144,7 @@ pub(crate) fn all_trigrams(alloc: Global, text: &[u8]) -> Result<Query, AllocErr
     if let [a, b, c] = text {
         return Ok(Query::Tri(trigram(*a, *b, *c)));
     }
-    let mut members = Vec::new(alloc);
+    let mut members = Vec::with_capacity(alloc, text.len().saturating_sub(2).min(LAST))?;
     let mut next = 0;
     let mut at = 0;
     while text.len() - at > 2 {
@@ -173,7 +173,7 @@ pub(crate) fn any_word(alloc: Global, words: &[Word]) -> Result<Query, AllocErro
     ensures asks { IfOk result (λ query. AsksForWord query words.now) }
     ensures numbers { IfOk result (λ query. are_trigrams query ≡ true) }
 {
-    let mut members = Vec::new(alloc);
+    let mut members = Vec::with_capacity(alloc, words.len())?;
     for word in words {
         if word.bytes().len() < 3 {
             return Ok(Query::All);

@@ -13,7 +13,6 @@ use crate::affixes::{Affix, Side, short_affixes};
 use crate::asking::{add_need, all_trigrams, any_of, trigram};
 use crate::queries::Query;
 use crate::short_word::ShortWord;
-use crate::words::Word;
 use std::alloc::{AllocError, Global};
 
 /// So many joinings are asked for with all their trigrams at most.
@@ -31,8 +30,7 @@ fn query_across(alloc: Global, suffix: ShortWord, prefix: ShortWord) -> Result<Q
     if let Some(ShortWord::Three(a, b, c)) = suffix.before(prefix) {
         return Ok(Query::Tri(trigram(a, b, c)));
     }
-    let word = Word::across(alloc, suffix, prefix)?;
-    all_trigrams(alloc, word.bytes())
+    all_trigrams(alloc, suffix.joined(prefix).bytes())
 }
 
 /// Adds what the joinings of the suffix of a text with each of the prefixes of another ask.

@@ -1,8 +1,8 @@
 // Words of at most three bytes.
-ghost use Rattle.std.specs.Prelude.{◌≡◌, ◌≤◌, ◌++◌, ◌-◌, ℕ, true, length, take, drop, IfSome, OnOk};
+ghost use Rattle.std.specs.Prelude.{◌≡◌, ◌≤◌, ◌+◌, ◌++◌, ◌-◌, ℕ, true, length, take, drop, IfSome};
 ghost use Rattle.cs_trigram.specs.ShortWord.{bytes_of};
 
-use std::alloc::AllocError;
+use crate::inline_word::InlineWord;
 
 /// A word of at most three bytes, which needs no memory of its own.
 #[derive(Clone, Copy, PartialEq, Eq)]
@@ -81,14 +81,25 @@ impl ShortWord {
     }
 
     /// Adds its bytes behind others.
-    pub(crate) fn lay(self, bytes: &mut Vec<u8>) -> Result<(), AllocError>
-        ensures { OnOk result (bytes.new.items ≡ bytes.old.items ++ bytes_of self) }
+    fn lay(self, word: &mut InlineWord)
+        requires { length word.old + length (bytes_of self) ≤ 24 }
+        ensures { word.new ≡ word.old ++ bytes_of self }
     {
         match self {
-            ShortWord::Empty => Ok(()),
-            ShortWord::One(a) => bytes.extend_from_slice(&[a]),
-            ShortWord::Two(a, b) => bytes.extend_from_slice(&[a, b]),
-            ShortWord::Three(a, b, c) => bytes.extend_from_slice(&[a, b, c]),
+            ShortWord::Empty => {}
+            ShortWord::One(a) => word.extend(&[a]),
+            ShortWord::Two(a, b) => word.extend(&[a, b]),
+            ShortWord::Three(a, b, c) => word.extend(&[a, b, c]),
         }
+    }
+
+    /// This one and then the other.
+    pub(crate) fn joined(self, back: ShortWord) -> InlineWord
+        ensures { result ≡ bytes_of self ++ bytes_of back }
+    {
+        let mut word = InlineWord::empty();
+        self.lay(&mut word);
+        back.lay(&mut word);
+        word
     }
 }

@@ -24,7 +24,7 @@ fn add_byte(alloc: Global, set: &ByteSet, byte: u8, words: &mut Vec<Word>) -> Re
     ensures { OnOk result (words.new.items ≡ with_byte words.old.items set.now byte) }
 {
     if set.contains(byte) {
-        add_word(words, Word::of_byte(alloc, byte)?)?;
+        add_word(words, Word::of_byte(alloc, byte))?;
     }
     Ok(())
 }

@@ -2,10 +2,9 @@
 ghost use Rattle.std.specs.Prelude.{nat_lt, nat_eq, true, ◌≡◌, ◌≤◌, ◌<◌, ◌++◌, ◌∷◌, [], List, IfOk, OnOk, MatchOption, length, map};
 ghost use Rattle.std.specs.List.{list_all, list_any};
 ghost use Rattle.std.specs.Str.{bytes_eq};
-ghost use Rattle.cs_trigram.specs.ShortWord.{bytes_of};
 ghost use Rattle.cs_trigram.specs.Sample.{with_word, with_words, joinings, AreDifferent, AreFewJoinings};
 
-use crate::short_word::ShortWord;
+use crate::inline_word::InlineWord;
 use std::alloc::{AllocError, Global};
 use std::marker::Model;
 
@@ -15,49 +14,65 @@ pub(crate) const FEW: usize = 20;
 /// A word of a finite tree.
 #[derive(Drop)]
 pub(crate) struct Word {
-    /// Its bytes are those from `start` on. The others leave room for bytes that go before.
+    /// Its bytes, where they are few.
+    few: InlineWord,
+    /// Else its bytes are those from `start` on. The others leave room for bytes that go before.
     bytes: Vec<u8>,
     start: usize,
 }
 
 impl Model for Word {
-    ghost use Rattle.std.specs.Prelude.{List, ℕ, drop, length, ◌≤◌};
+    ghost use Rattle.std.specs.Prelude.{List, ℕ, [], drop, length, ◌≡◌, ◌≤◌, ◌<◌, ◌++◌};
 
     ghost Value = { List ℕ };
 
-    ghost view = { λ word. drop word.start word.bytes.items };
+    ghost view = { λ word. word.few ++ drop word.start word.bytes.items };
 
-    ghost invariant = { λ word. word.start ≤ length word.bytes.items };
+    ghost invariant = { λ word. (word.start ≤ length word.bytes.items)
+        × (0 < length word.bytes.items → word.few ≡ []) };
 }
 
 impl Word {
-    /// The word without bytes.
-    pub(crate) fn empty(alloc: Global) -> Word
-        ensures { result ≡ [] }
+    /// The word of few bytes.
+    pub(crate) fn of_few(alloc: Global, few: InlineWord) -> Word
+        ensures { result ≡ few }
     {
         Word {
+            few,
             bytes: Vec::new(alloc),
             start: 0,
         }
     }
 
-    /// The word of one byte.
-    pub(crate) fn of_byte(alloc: Global, byte: u8) -> Result<Word, AllocError>
-        ensures { IfOk result (λ word. word ≡ byte ∷ []) }
+    /// The word without bytes.
+    pub(crate) fn empty(alloc: Global) -> Word
+        ensures { result ≡ [] }
     {
-        let mut bytes = Vec::new(alloc);
-        bytes.push(byte)?;
-        Ok(Word { bytes, start: 0 })
+        Word::of_few(alloc, InlineWord::empty())
     }
 
-    /// The word of these bytes.
-    pub(crate) fn of(alloc: Global, bytes: &[u8]) -> Result<Word, AllocError>
-        ensures { IfOk result (λ word. word ≡ bytes.now) }
+    /// The word of one byte.
+    pub(crate) fn of_byte(alloc: Global, byte: u8) -> Word
+        ensures { result ≡ byte ∷ [] }
     {
-        let mut word = Vec::new(alloc);
-        word.extend_from_slice(bytes)?;
+        let mut few = InlineWord::empty();
+        few.push(byte);
+        Word::of_few(alloc, few)
+    }
+
+    /// The word of a text and another behind it.
+    fn of_both(alloc: Global, front: &[u8], back: &[u8]) -> Result<Word, AllocError>
+        ensures { IfOk result (λ word. word ≡ front.now ++ back.now) }
+    {
+        if let Some(few) = InlineWord::joining(front, back) {
+            return Ok(Word::of_few(alloc, few));
+        }
+        let mut bytes = Vec::with_capacity(alloc, front.len() + back.len())?;
+        bytes.extend_from_slice(front)?;
+        bytes.extend_from_slice(back)?;
         Ok(Word {
-            bytes: word,
+            few: InlineWord::empty(),
+            bytes,
             start: 0,
         })
     }
@@ -66,18 +81,14 @@ impl Word {
     pub(crate) fn copy(&self, alloc: Global) -> Result<Word, AllocError>
         ensures { IfOk result (λ word. word ≡ self.now) }
     {
-        Word::of(alloc, self.bytes())
+        Word::of_both(alloc, self.bytes(), &[])
     }
 
     /// The one word and then the other.
     pub(crate) fn joining(alloc: Global, front: &Word, back: &Word) -> Result<Word, AllocError>
         ensures { IfOk result (λ word. word ≡ front.now ++ back.now) }
     {
-        let (front, back) = (front.bytes(), back.bytes());
-        let mut bytes = Vec::with_capacity(alloc, front.len() + back.len())?;
-        bytes.extend_from_slice(front)?;
-        bytes.extend_from_slice(back)?;
-        Ok(Word { bytes, start: 0 })
+        Word::of_both(alloc, front.bytes(), back.bytes())
     }
 
     /// The word with a byte before it, and room for as many bytes more before that.
@@ -85,11 +96,15 @@ impl Word {
         ensures { IfOk result (λ word. word ≡ byte ∷ self.now) }
     {
         let word = self.bytes();
+        if let Some(few) = InlineWord::joining(&[byte], word) {
+            return Ok(Word::of_few(alloc, few));
+        }
         let mut bytes = Vec::with_capacity(alloc, 2 * word.len() + 1)?;
         bytes.extend_from_slice(word)?;
         bytes.push(byte)?;
         bytes.extend_from_slice(word)?;
         Ok(Word {
+            few: InlineWord::empty(),
             bytes,
             start: word.len(),
         })
@@ -102,9 +117,14 @@ impl Word {
         if self.start == 0 {
             return self.behind_byte(alloc, byte);
         }
-        let Word { mut bytes, start } = self;
+        let Word {
+            few,
+            mut bytes,
+            start,
+        } = self;
         bytes[start - 1] = byte;
         Ok(Word {
+            few,
             bytes,
             start: start - 1,
         })
@@ -120,24 +140,13 @@ impl Word {
         }
     }
 
-    /// The one short word and then the other.
-    pub(crate) fn across(
-        alloc: Global,
-        front: ShortWord,
-        back: ShortWord,
-    ) -> Result<Word, AllocError>
-        ensures { IfOk result (λ word. word ≡ bytes_of front ++ bytes_of back) }
-    {
-        let mut bytes = Vec::with_capacity(alloc, front.len() + back.len())?;
-        front.lay(&mut bytes)?;
-        back.lay(&mut bytes)?;
-        Ok(Word { bytes, start: 0 })
-    }
-
     /// The bytes of the word.
     pub(crate) fn bytes(&self) -> &[u8]
         ensures { result.now ≡ self.now }
     {
+        if self.bytes.is_empty() {
+            return self.few.bytes();
+        }
         &self.bytes[self.start..]
     }
 

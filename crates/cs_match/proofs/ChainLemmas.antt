@@ -64,6 +64,25 @@ module _ (cells : List ℕ) (fits : (at : ℕ) → at < 65536 → get_or cells a
       let up : first_noisy ≤ bit_or row b = omega (arith, le_or_l row b) in
       stays_noisy (get_or cells (bit_or row b) 0) text (absorbs (bit_or row b) up at) (fits (bit_or row b) at) (All-tail IsByte b text bytes)
 
+  small_row : (row : ℕ) (text : List ℕ) → row < 65536 → AreBytes text → row_after cells row text < 65536
+  unfolding row_after
+  small_row row [] low bytes = low
+  small_row row (b ∷ text) low bytes =
+      let byte : b < 256 = All-head IsByte b text bytes in
+      small_row (get_or cells (bit_or row b) 0) text (fits (bit_or row b) (or_of_16 row b (omega arith) (omega arith))) (All-tail IsByte b text bytes)
+
+  -- a run that is quiet over a text is quiet over each front of it
+  pub quiet_in_front : (text : List ℕ) (m : ℕ) → AreBytes text → IsQuiet cells text → IsQuiet cells (take m text)
+  quiet_in_front text m bytes quiet =
+      let row = row_after cells 0 (take m text) in
+      elim (cases_lt row first_noisy) [
+        | inl low ↦ low
+        | inr noisy ↦
+            let small : row < 65536 = small_row 0 (take m text) (omega arith) (All-take IsByte m text bytes) in
+            let high = stays_noisy row (drop m text) noisy small (All-drop IsByte m text bytes) in
+            absurd (omega (arith, high, after_parts cells 0 m text, quiet))
+      ]
+
 module _ (finds : List ℕ → Bool) (cells : List ℕ) (fits : (at : ℕ) → Fits w16 (get_or cells at 0)) (tells : TellsLines finds cells) where
   -- a run that is quiet behind the end of a line was quiet there
   quiet_before : (part text : List ℕ) → AreBytes text → row_after cells (row_after cells 0 (part ++ newline ∷ [])) text < first_noisy → IsQuiet cells (part ++ newline ∷ [])
@@ -206,3 +225,20 @@ module _ (cells block : List ℕ) (fits : (at : ℕ) → Fits w16 (get_or cells 
       passed_append (λ finds. TellsLines finds cells) block from to (get_or (to ∷ ends) n 0)
       (quiet_part from to cuts.0.0 cuts.0.1 cuts.0.2 (quiet 0 (omega arith)))
       (passed_parts to ends n cuts.0.1 cuts.1 (omega arith) (λ k low. quiet (suc k) (omega arith)))
+
+  bytes_in_block : (n from : ℕ) → AreBytes (take n (drop from block))
+  bytes_in_block n from = All-take IsByte n (drop from block) (All-drop IsByte from block (All-from_get_or IsByte block 0 (λ i _. omega (arith, bytes i))))
+
+  -- whole lines at the front of a text over which a run is quiet
+  pub passed_front : (from n m : ℕ) → from + n ≤ length block → m ≤ n → AreWhole (take m (drop from block)) → IsQuiet cells (take n (drop from block)) → AreQuiet from (from + m)
+  passed_front from n m within most whole quiet =
+      let rest = drop from block in
+      let same : m ≡ from + m - from = omega arith in
+      record {
+        low = omega arith;
+        high = omega (arith, within, most);
+        whole = subst (λ k. AreWhole (take k rest)) same whole;
+        none = λ finds tells.
+            let front : IsQuiet cells (take m rest) = subst (IsQuiet cells) (take-take m n rest most) (quiet_in_front cells (λ at _. omega (arith, fits at)) tells.absorbs (take n rest) m (bytes_in_block n from) quiet) in
+            subst (λ k. NoneFound finds (ended_lines (take k rest))) same (none_in_quiet finds cells fits tells (take m rest) (bytes_in_block m from) front);
+      }

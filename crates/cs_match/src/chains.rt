@@ -3,8 +3,9 @@
 ghost use Rattle.std.specs.Prelude.{◌≡◌, ◌≤◌, ◌<◌, ◌+◌, ◌-◌, ◌∷◌, ℕ, Bool, List, [], map, true, length, slice_index, take, drop};
 ghost use Rattle.cs_match.specs.Lines.{newline, ended_lines, IsPart};
 ghost use Rattle.cs_match.specs.Skipping.{AreWhole, NoneFound, ArePassed};
-ghost use Rattle.cs_match.specs.Chains.{row_after, first_noisy, TellsLines};
+ghost use Rattle.cs_match.specs.Chains.{row_after, first_noisy, IsQuiet, TellsLines};
 
+use crate::finding::whole_lines;
 use memchr::memchr;
 
 /// From this row on, a row is no set of places: something is found, or nothing is known.
@@ -171,4 +172,32 @@ pub(crate) fn pass_quiet(cells: &[u16], block: &[u8], from: usize) -> usize
         at = passed.to;
     }
     at
+}
+
+/// How many bytes a run from the start of a line goes over in sets of places.
+#[tactic(auto, using(crate::proofs::ChainLemmas::after_more, crate::proofs::ChainLemmas::after_all), unfolding(crate::specs::Chains::row_after))]
+fn quiet_len(cells: &[u16], text: &[u8]) -> usize
+    requires { length cells.now ≡ 65536 }
+    ensures within { result ≤ length text.now }
+    ensures quiet { IsQuiet cells.now (take result text.now) }
+{
+    let mut row = 0u16;
+    for (at, byte) in text.iter().enumerate() {
+        row = cells[(row | u16::from(*byte)) as usize];
+        if row >= FIRST_NOISY {
+            return at;
+        }
+    }
+    text.len()
+}
+
+/// A line's start from `from` on, such that nothing is found in the lines before it: that of the line in which one run
+/// over them all comes to no set of places, or behind the last line.
+pub(crate) fn pass_run(cells: &[u16], block: &[u8], from: usize) -> usize
+    requires full { length cells.now ≡ 65536 }
+    requires within { from ≤ length block.now }
+    ensures { ArePassed (λ finds. TellsLines finds cells.now) block.now from result }
+{
+    let quiet = quiet_len(cells, &block[from..]);
+    from + whole_lines(&block[from..from + quiet])
 }

@@ -25,8 +25,14 @@ impl Choice {
         }
     }
 
-    /// The window of the last three sets of a run, where it has as many.
-    pub(crate) fn last_of(alloc: Global, run: &[ByteSet]) -> Result<Option<Choice>, AllocError>
+    /// The window of the last three sets of a run, which have these weights, where it has as many
+    /// and the window's share is less than that.
+    pub(crate) fn last_of(
+        alloc: Global,
+        run: &[ByteSet],
+        weights: [u64; 3],
+        most: u64,
+    ) -> Result<Option<Choice>, AllocError>
         ensures { IfOk result (λ choice. (line : List ℕ) (j : ℕ) →
             EndAt line run.now j → HasChosen line choice) }
     {
@@ -39,9 +45,13 @@ impl Choice {
             second: run[at + 1],
             third: run[at + 2],
         };
+        let share = window_share(&window, weights);
+        if share >= most {
+            return Ok(None);
+        }
         let mut choice = Choice::none(alloc);
         choice.windows.push(window)?;
-        choice.share = window_share(&window);
+        choice.share = share;
         Ok(Some(choice))
     }
 

@@ -5,7 +5,7 @@ ghost use Rattle.cs_match.specs.Finding.{Decides};
 ghost use Rattle.cs_match.specs.Lines.{ended_lines};
 ghost use Rattle.cs_match.specs.Skipping.{AreWhole, NoneFound, ArePassed};
 
-use crate::chains::{GROUP, cut, line_end, pass_quiet};
+use crate::chains::{GROUP, cut, line_end, pass_quiet, pass_run};
 use crate::finding::{skip_to_needle, skip_to_window};
 use crate::pause::Pause;
 use crate::program::Program;
@@ -22,6 +22,9 @@ const NEAR: usize = 256;
 /// More of them in a row than these are no chance.
 const MOST_MISSES: usize = 16;
 
+/// Where one run passes so many bytes, six side by side pass lines faster.
+const FAR: usize = 1024;
+
 /// A program with what its runs remember. Contracts see it as the program's tree.
 #[derive(Drop)]
 pub struct Matcher<'a> {
@@ -31,8 +34,10 @@ pub struct Matcher<'a> {
     pub(crate) seeks: bool,
     /// What else passes lines faster than the table.
     pub(crate) sieve: Option<&'a Sieve>,
-    /// The calls of `skip` that pass nothing.
+    /// The calls of `skip` for which six runs side by side are not worth their while.
     pause: Pause,
+    /// Those of them that pass nothing, as one run is not worth its while either.
+    stop: Pause,
     /// The calls of `skip` that look for no needle and no windows.
     rest: Pause,
     /// Whether the last search for them stopped close to where it began.
@@ -75,6 +80,7 @@ impl<'a> Matcher<'a> {
             seeks: is_worth(needle, sieve.is_some()),
             sieve,
             pause: Pause::new(),
+            stop: Pause::new(),
             rest: Pause::new(),
             near: false,
             misses: 0,
@@ -119,7 +125,7 @@ impl<'a> Matcher<'a> {
             }
         }
         if self.pauses() {
-            return from;
+            return self.pass_run(block, from);
         }
         let mut at = from;
         'parts: while at < block.len() {
@@ -158,6 +164,30 @@ impl<'a> Matcher<'a> {
         ensures { ArePassed (λ finds. Decides finds self.now) block.now from result }
     {
         pass_quiet(&self.table.cells, block, from)
+    }
+
+    /// Passes lines by one run over them, where that is worth its while.
+    fn pass_run(&mut self, block: &[u8], from: usize) -> usize
+        requires within { from ≤ length block.now }
+        requires whole { AreWhole (drop from block.now) }
+        ensures passed { ArePassed (λ finds. Decides finds self.old) block.now from result }
+        ensures same { self.new ≡ self.old }
+    {
+        if self.stops() {
+            return from;
+        }
+        let to = self.run_to(block, from);
+        self.note_run(to - from);
+        to
+    }
+
+    /// Up to where one run passes lines by the cells that are known.
+    fn run_to(&self, block: &[u8], from: usize) -> usize
+        requires within { from ≤ length block.now }
+        requires whole { AreWhole (drop from block.now) }
+        ensures { ArePassed (λ finds. Decides finds self.now) block.now from result }
+    {
+        pass_run(&self.table.cells, block, from)
     }
 
     /// The start of the first line of a part in which something is found, or the part's end.
@@ -208,6 +238,27 @@ impl<'a> Matcher<'a> {
         ensures { self.new ≡ self.old }
     {
         self.pause.takes_one()
+    }
+
+    /// Whether this call is not worth a run.
+    fn stops(&mut self) -> bool
+        ensures { self.new ≡ self.old }
+    {
+        self.stop.takes_one()
+    }
+
+    /// Notes how many bytes a run passed.
+    fn note_run(&mut self, passed: usize)
+        ensures { self.new ≡ self.old }
+    {
+        if passed == 0 {
+            self.stop.begin();
+        } else {
+            self.stop.forget();
+        }
+        if passed >= FAR {
+            self.pause.end();
+        }
     }
 
     /// Notes how many bytes were quiet before a part, and whether something was found in the part.

@@ -34,4 +34,10 @@ impl Pause {
     pub(crate) fn forget(&mut self) {
         self.last = 0;
     }
+
+    /// No call is passed by any more.
+    pub(crate) fn end(&mut self) {
+        self.left = 0;
+        self.last = 0;
+    }
 }

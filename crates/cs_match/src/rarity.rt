@@ -89,7 +89,7 @@ pub(crate) fn is_worth(word: &[u8], has_windows: bool) -> bool {
 }
 
 /// How often a byte of the set stands in source text, of 10,000 bytes.
-fn set_weight(set: &ByteSet) -> u64 {
+pub(crate) fn set_weight(set: &ByteSet) -> u64 {
     let mut sum = 0u64;
     for byte in 0..=255u8 {
         if set.contains(byte) {
@@ -99,11 +99,11 @@ fn set_weight(set: &ByteSet) -> u64 {
     sum.min(10000)
 }
 
-/// The share of the places of a text at which the window stands, of 10^12.
-pub(crate) fn window_share(window: &Window) -> u64 {
-    set_weight(&window.first)
-        .saturating_mul(set_weight(&window.second))
-        .saturating_mul(set_weight(&window.third))
+/// The share of the places of a text at which the window stands, whose sets have these weights, of 10^12.
+pub(crate) fn window_share(window: &Window, weights: [u64; 3]) -> u64 {
+    weights[0]
+        .saturating_mul(weights[1])
+        .saturating_mul(weights[2])
         .saturating_add(common_share(window))
 }
 

@@ -3,6 +3,7 @@ ghost use Rattle.std.specs.Prelude.{◌≡◌, ◌≤◌, ◌++◌, ◌∷◌, [
 ghost use Rattle.cs_match.specs.Windows.{EndAt, HasChosen};
 
 use crate::choice::Choice;
+use crate::rarity::set_weight;
 use cs_syntax::ByteSet;
 use std::alloc::{AllocError, Global};
 
@@ -15,6 +16,8 @@ pub(crate) struct Trail {
     pub(crate) start: usize,
     /// The best windows so far.
     pub(crate) best: Option<Choice>,
+    /// How often the bytes of the last three sets stand in source text.
+    weights: [u64; 3],
     ghost within: { start ≤ vec_len sets },
 }
 
@@ -28,6 +31,7 @@ impl Trail {
             sets: Vec::new(alloc),
             start: 0,
             best: None,
+            weights: [0; 3],
         }
     }
 
@@ -40,7 +44,9 @@ impl Trail {
             HasChosen line self.old.best → HasChosen line self.new.best) }
     {
         self.sets.push(*set)?;
-        let choice = Choice::last_of(alloc, &self.sets[self.start..])?;
+        self.weights = [self.weights[1], self.weights[2], set_weight(set)];
+        let most = share_of(&self.best);
+        let choice = Choice::last_of(alloc, &self.sets[self.start..], self.weights, most)?;
         self.offer(choice);
         Ok(())
     }

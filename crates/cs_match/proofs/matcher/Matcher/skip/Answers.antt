@@ -19,8 +19,9 @@ returns-in-Some-clause-none c finds decides = c.in-Some.ensures.none finds (subs
 
 pub returns-then-pauses : goal.returns-then-pauses
 returns-then-pauses c =
-    let p = passed_none (λ finds. Decides finds c.args.self.now) c.args.block.now c.args.from c.requires.within in
-    record { low = p.low; high = p.high; whole = p.whole; none = p.none; same = c.pauses.ensures ∙ c.rests.ensures }
+    let same = c.pauses.ensures ∙ c.rests.ensures in
+    let p = subst (λ (tree : Tree). ArePassed (λ finds. Decides finds tree) c.args.block.now c.args.from c.pass_run.result) same c.pass_run.ensures.passed in
+    record { low = p.low; high = p.high; whole = p.whole; none = p.none; same = c.pass_run.ensures.same ∙ same }
 
 pub parts-init : goal.parts-init
 parts-init c = record { passed = passed_none (λ finds. Decides finds c.args.self.now) c.args.block.now c.args.from c.requires.within; same = c.pauses.ensures ∙ c.rests.ensures }

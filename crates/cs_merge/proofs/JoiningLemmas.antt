@@ -8,7 +8,7 @@ use Rattle.cs_index.specs.declared.fault.IndexFault.TheVariants.{BadList}
 use Rattle.cs_merge.specs.declared.fault.MergeFault.{MergeFault}
 use Rattle.cs_merge.specs.declared.fault.MergeFault.TheVariants.{Unsorted, Uncovered, Index, TooLarge}
 use Rattle.cs_merge.specs.Joinable.{are_covered, both_ascend, both_whole, joined_index, AreJoinable, AreTested}
-use Rattle.cs_merge.specs.Building.{IsWithin, IsBuildFault, long as too_long, memory}
+use Rattle.cs_merge.specs.JoinOutcome.{IsWithin, IsBuildFault, long as too_long, memory}
 use Rattle.cs_merge.specs.Joining.{IsJoined, IsJoinFault, unsorted, uncovered as outside, damaged, long, refused}
 
 -- ---- what is answered

@@ -12,7 +12,7 @@ pub mod Joinable
 pub mod Joining
 -- What functions inside promise each other.
 pub mod ListFault
-pub mod Covering
+pub mod SomePaths
 pub mod Renumbering
 pub mod SideBySide
-pub mod Building
+pub mod JoinOutcome

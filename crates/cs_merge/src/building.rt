@@ -3,7 +3,7 @@ ghost use Rattle.std.specs.Prelude.{◌≡◌, ◌⊎◌, ◌<◌, [], true, map
 ghost use Rattle.cs_index.specs.Built.{are_paths};
 ghost use Rattle.cs_index.specs.Image.{image_of};
 ghost use Rattle.cs_index.specs.Laid.{entries_laid};
-ghost use Rattle.cs_merge.specs.Building.{IsBuildFault, IsWithin};
+ghost use Rattle.cs_merge.specs.JoinOutcome.{IsBuildFault, IsWithin};
 
 use crate::fault::MergeFault;
 use cs_index::{BuildFault, Sections};

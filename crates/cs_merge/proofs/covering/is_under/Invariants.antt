@@ -3,7 +3,7 @@ use Rattle.std.specs.List.{list_all}
 use Rattle.std.specs.Prelude.{IfSome}
 use Rattle.cs_tree.specs.Cover.{is_covered}
 use Rattle.cs_merge.specs.Content.{paths_in}
-use Rattle.cs_merge.specs.Covering.{AreAmong}
+use Rattle.cs_merge.specs.SomePaths.{AreAmong}
 use Rattle.cs_merge.proofs.covering.is_under.Given as goal
 
 abbrev pub invariant-names : goal.invariant-names

@@ -240,11 +240,12 @@ impl<'a> Matcher<'a> {
         self.pause.takes_one()
     }
 
-    /// Whether this call is not worth a run.
+    /// Whether this call is not worth a run: hits stand in neighbouring lines, or a search for the needle or the
+    /// windows is soon taken up again.
     fn stops(&mut self) -> bool
         ensures { self.new ≡ self.old }
     {
-        self.stop.takes_one()
+        self.seeks || self.sieve.is_some() || self.stop.takes_one()
     }
 
     /// Notes how many bytes a run passed.

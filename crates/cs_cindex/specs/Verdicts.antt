@@ -11,7 +11,7 @@ use Rattle.cs_words.specs.declared.fault.FileFault.TheVariants.{Unnamed}
 use Rattle.cs_cindex.specs.declared.reading.Verdict.{Verdict}
 use Rattle.cs_cindex.specs.declared.reading.Verdict.TheVariants.{Text, Skipped, Left}
 use Rattle.cs_tree.specs.Told.{Taken}
-use Rattle.cs_tree.specs.Taken.{TakesAll}
+use Rattle.cs_tree.specs.TakenAll.{TakesAll}
 use Rattle.cs_cindex.specs.Notices.{Line, faulted, skipped, file_line, text_of, IsCounted}
 
 -- ---- what it says

@@ -1,7 +1,7 @@
 // The paths of an index, on lines.
 ghost use Rattle.std.specs.Prelude.{◌≡◌, ◌++◌, ℕ, List, Some, codes, true, IfErr};
 ghost use Rattle.cs_tree.specs.Failures.{count_after};
-ghost use Rattle.cs_tree.specs.Taken.{TakesAll};
+ghost use Rattle.cs_tree.specs.TakenAll.{TakesAll};
 ghost use Rattle.cs_index.specs.Stored.{OpensAs};
 ghost use Rattle.cs_words.specs.declared.jobs.IndexJob.{IndexJob as IndexJob'};
 ghost use Rattle.cs_cindex.specs.Bytes.{lent_bytes};

@@ -11,7 +11,7 @@ use Rattle.cs_match.specs.Skipping.{AreWhole}
 use Rattle.cs_match.specs.Standings.{standing, is_left_before}
 use Rattle.cs_match.specs.Table.{blank_cell}
 use Rattle.cs_match.specs.Chains.{row_after}
-use Rattle.cs_match.specs.Windows.{HasOne, AreNeeded}
+use Rattle.cs_match.specs.NeededWindows.{HasOne, AreNeeded}
 
 lines_of_two : lines (codes "ab\ncd\n") ≡ codes "ab" ∷ codes "cd" ∷ []
 unfolding lines

@@ -11,7 +11,7 @@ use Rattle.cs_syntax.specs.Node.{tree_of}
 use Rattle.cs_syntax.specs.declared.node.Node.{Node}
 use Rattle.cs_syntax.specs.declared.node.Node.TheVariants.{Empty, LineStart, LineEnd, WordEdge, NotWordEdge}
 use Rattle.cs_sieve.specs.declared.window.Window.{Window}
-use Rattle.cs_match.specs.Windows.{HasOne, HasChosen, EndAt}
+use Rattle.cs_match.specs.NeededWindows.{HasOne, HasChosen, EndAt}
 use Rattle.cs_match.specs.Trails.{run_from, run_of, Follow}
 use Rattle.cs_match.specs.declared.trail.Trail.{Trail}
 use Rattle.cs_match.proofs.NeedleLemmas.{within, first_round, last_round, still}

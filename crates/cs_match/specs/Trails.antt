@@ -1,6 +1,6 @@
 -- Trails: what is known of the bytes before a place of a line, as a tree's sequence is gone through from left to right.
 use Rattle.std.specs.Prelude.{ℕ, ◌≤◌, Bool, List, length, drop, max}
-use Rattle.cs_match.specs.Windows.{EndAt, HasChosen}
+use Rattle.cs_match.specs.NeededWindows.{EndAt, HasChosen}
 use Rattle.cs_match.specs.declared.trail.Trail.{Trail}
 
 -- the sets from a place on

@@ -1,6 +1,6 @@
 // Choices: lists of windows, some of which stands in each line that is looked for.
 ghost use Rattle.std.specs.Prelude.{◌≡◌, ◌++◌, ◌≤◌, ℕ, List, IfOk, OnOk, length, []};
-ghost use Rattle.cs_match.specs.Windows.{EndAt, HasChosen};
+ghost use Rattle.cs_match.specs.NeededWindows.{EndAt, HasChosen};
 
 use crate::rarity::window_share;
 use cs_sieve::Window;

@@ -3,7 +3,7 @@ ghost use Rattle.std.specs.Prelude.{◌≡◌, ◌≤◌, ◌-◌, take, drop, l
 ghost use Rattle.cs_match.specs.Lines.{ended_lines};
 ghost use Rattle.cs_match.specs.Needle.{AreWithout};
 ghost use Rattle.cs_match.specs.Skipping.{AreWhole};
-ghost use Rattle.cs_match.specs.Windows.{HaveNone};
+ghost use Rattle.cs_match.specs.NeededWindows.{HaveNone};
 
 use cs_sieve::Sieve;
 use memchr::memmem::Finder;

@@ -58,7 +58,7 @@ impl<'a> Model for Matcher<'a> {
 
     ghost use Rattle.std.specs.Prelude.{IfSome};
     ghost use Rattle.cs_match.specs.Remembering.{HasNeedle, tree_in};
-    ghost use Rattle.cs_match.specs.Windows.{AreNeeded};
+    ghost use Rattle.cs_match.specs.NeededWindows.{AreNeeded};
 
     ghost view = { λ matcher. tree_in matcher.table };
 

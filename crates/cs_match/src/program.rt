@@ -4,7 +4,7 @@ ghost use Rattle.cs_syntax.specs.Matching.{Found};
 ghost use Rattle.cs_syntax.specs.Node.{tree_of};
 ghost use Rattle.cs_match.specs.Places.{places, repeats, IsLooped};
 ghost use Rattle.cs_match.specs.Needle.{IsNeeded};
-ghost use Rattle.cs_match.specs.Windows.{AreNeeded};
+ghost use Rattle.cs_match.specs.NeededWindows.{AreNeeded};
 
 use crate::compiler::write_out;
 use crate::needle::needle;
@@ -38,7 +38,7 @@ impl Model for Program {
     ghost use Rattle.cs_syntax.specs.Node.{tree_of};
     ghost use Rattle.cs_match.specs.Places.{IsProgram};
     ghost use Rattle.cs_match.specs.Needle.{IsNeeded};
-    ghost use Rattle.cs_match.specs.Windows.{AreNeeded};
+    ghost use Rattle.cs_match.specs.NeededWindows.{AreNeeded};
 
     ghost view = { λ program. tree_of program.root };
 

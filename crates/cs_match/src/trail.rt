@@ -1,6 +1,6 @@
 // Trails: the sets that a sequence takes one after another, as it is gone through from left to right.
 ghost use Rattle.std.specs.Prelude.{◌≡◌, ◌≤◌, ◌++◌, ◌∷◌, [], ℕ, List, None, OnOk, drop, max, vec_len};
-ghost use Rattle.cs_match.specs.Windows.{EndAt, HasChosen};
+ghost use Rattle.cs_match.specs.NeededWindows.{EndAt, HasChosen};
 
 use crate::choice::Choice;
 use crate::rarity::set_weight;

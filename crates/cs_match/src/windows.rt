@@ -2,7 +2,7 @@
 ghost use Rattle.std.specs.Prelude.{ℕ, ◌≤◌, List, IfOk, IfSome, OnOk, length};
 ghost use Rattle.cs_syntax.specs.Matching.{Takes, TakesAll, TakesSome};
 ghost use Rattle.cs_syntax.specs.Node.{tree_of, trees_of};
-ghost use Rattle.cs_match.specs.Windows.{AreNeeded, HasChosen};
+ghost use Rattle.cs_match.specs.NeededWindows.{AreNeeded, HasChosen};
 ghost use Rattle.cs_match.specs.Trails.{Follow};
 
 use crate::choice::Choice;

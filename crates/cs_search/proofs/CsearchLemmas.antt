@@ -5,7 +5,7 @@ use Rattle.cs_tree.proofs.Growing.{Grows-same}
 use Rattle.cs_index.specs.Postings.{IsListFault}
 use Rattle.cs_index.specs.PostingLists.{set_at, entries_of}
 use Rattle.cs_trigram.specs.Trigram.{has}
-use Rattle.std.specs.Prelude.{filter, slice_get, option_map, string_bytes}
+use Rattle.std.specs.Prelude.{filter, slice_get, option_map, string_bytes, IfSome}
 use Rattle.std.specs.List.{filter_map, range_with_len, cons_option}
 use Rattle.std.proofs.lemmas.List.{take_more, take-append-drop}
 use Rattle.std.proofs.lemmas.List.Elements.{filter-append, filter_map-append}
@@ -34,7 +34,7 @@ use Rattle.cs_search.specs.declared.report.TheConstants.{MOST_SEARCHED}
 use Rattle.cs_match.specs.Finding.{Decides}
 use Rattle.cs_search.specs.Refusals.{IsAccepted, QuietAtRefusal, has_write_failed}
 use Rattle.cs_search.specs.Searcher.{IsSearchFault, Prints, IsPrinted, TellsAll, PrintsFront}
-use Rattle.cs_search.specs.Csearch.{names_meeting, IsQueryOf, Asks, file_text, Keeps, csearch_printed, IsFileAccepted, AreAccepted, IsReady, RefusedInOrder}
+use Rattle.cs_search.specs.Csearch.{names_meeting, IsQueryOf, Asks, file_text, Keeps, csearch_printed, AreAccepted, IsReady, RefusedInOrder}
 use Rattle.cs_search.specs.Plans.{IsPlan, RefusesPlan}
 use Rattle.cs_search.specs.declared.plan.Plan.{Plan}
 use Rattle.cs_search.specs.declared.status.Status.{Status}
@@ -150,7 +150,7 @@ right_query brute query text fold read reads right pattern wanted = subst (λ (t
 
 -- ---- refusals, in their order
 
-pub accepted_file : (text : Option (List ℕ)) (program : Option Tree) → IsCompiled text program → IsFileAccepted text
+pub accepted_file : (text : Option (List ℕ)) (program : Option Tree) → IsCompiled text program → IfSome text (λ text. IsAccepted text false)
 accepted_file None None is = tt
 accepted_file (Some text) (Some program) is = (is.0, is.1, is.2)
 accepted_file None (Some program) is = absurd is
@@ -192,8 +192,7 @@ module _ (job : SearchJob) (index : Option (List ℕ)) where
   bad_index bytes fault accepted is = ((accepted, inl is), refl)
 
   bad_list : (bytes : Option (List ℕ)) → AreAccepted job → (asks : Asks job bytes) → is_answerable asks.parts asks.query ≡ false → RefusesPlan job bytes (BadIndex BadList)
-  bad_list None accepted asks damaged = absurd asks.opens
-  bad_list (Some bytes) accepted asks damaged = ((accepted, inr (refl, (asks, damaged))), refl)
+  bad_list bytes accepted asks damaged = ((accepted, inr (refl, (asks, damaged))), refl)
 
   pub lists_fourth : (fault : IndexFault) → AreAccepted job → (asks : Asks job index) → IsListFault (is_answerable asks.parts asks.query) fault → RefusesPlan job index (index_fault fault)
   lists_fourth fault accepted asks (inl bad) = subst (λ (f : IndexFault). RefusesPlan job index (index_fault f)) (sym bad.0) (bad_list index accepted asks bad.1)

@@ -20,20 +20,25 @@ use Rattle.cs_search.specs.declared.grep_fault.ReadFault.TheVariants.{Read, TooL
 use Rattle.cs_search.specs.declared.grepped.Grepped.{Grepped}
 use Rattle.cs_search.specs.GrepReports.{Reports, ReportsFront}
 use Rattle.cs_search.specs.InputReport.{told_report}
-use Rattle.cs_tree.specs.Taken.{TakesFront, TakesAll, EndsAfter, MayEnd}
+use Rattle.cs_tree.specs.Taken.{TakesFront, EndsAfter, MayEnd}
+use Rattle.cs_tree.specs.TakenAll.{TakesAll}
 use Rattle.cs_search.specs.GrepFaults.{is_failed_read}
-use Rattle.cs_search.specs.Printed.{left_fault, fault_text, Printed, then, nothing, all_printed, input_printed, opened_printed, file_printed, NamedFault, fault_lines, failures_of, AreFaultsOf, is_file_failure, PrintsSome, TellsFaults}
+use Rattle.cs_search.specs.Printed.{left_fault, Printed, then, nothing, all_printed, input_printed, opened_printed, file_printed, NamedFault, fault_lines, failures_of, AreFaultsOf, is_file_failure, PrintsSome, TellsFaults}
 use Rattle.cs_search.specs.Searcher.{Prints, IsPrinted, TellsAll, PrintsFront}
 use Rattle.cs_tree.proofs.Growing.{Grows-chain, Grows-same}
 use Rattle.cs_tree.proofs.Fronts.{front_none, front_all, front_left, front_right, front_after, ends_quiet, ends_after, may_end_after}
 
+-- the line of a fault, where there is one
+abbrev pub fault_text : Tool → List ℕ → Option ReadFault → List ℕ
+fault_text tool name why = elim why [ None ↦ [] | Some fault ↦ fault_line_of tool name (left_fault fault) ]
+
 module _ (most : ℕ) (tool : Tool) (style : Style) (finds : List ℕ → Bool) (name : List ℕ) where
   -- one input
-  pub Prints-input : (told : Option Told) (answer : Grepped) (out out' err err' : Option Taken) → Reports told (told_report most style name finds) out out' answer → Grows err err' (fault_text tool name (option_map left_fault answer.fault)) → Prints (option_map (input_printed most tool style finds name) told) out out' err err' answer.matched
+  pub Prints-input : (told : Option Told) (answer : Grepped) (out out' err err' : Option Taken) → Reports told (told_report most style name finds) out out' answer → Grows err err' (fault_text tool name answer.fault) → Prints (option_map (input_printed most tool style finds name) told) out out' err err' answer.matched
   unfolding input_printed
   Prints-input None answer out out' err err' r grows = tt
   Prints-input (Some told) answer out out' err err' r grows =
-      (r.0, subst (λ fault. Grows err err' (fault_text tool name (option_map left_fault fault))) r.2 grows, r.1)
+      (r.0, subst (λ fault. Grows err err' (fault_text tool name fault)) r.2 grows, r.1)
 
   -- what was opened
   opened-at : (opening : Result Told TreeFault) (later : Option Told) (out out' err err' : Option Taken) (matched : Bool) → OpenedAs opening later → Prints (option_map (input_printed most tool style finds name) later) out out' err err' matched → IsPrinted (opened_printed most tool style finds name opening) out out' err err' matched
@@ -71,7 +76,7 @@ module _ (most : ℕ) (tool : Tool) (style : Style) (finds : List ℕ → Bool) 
   unfolding input_printed
   PrintsFront-fault None answer fault out out' err err' is r front = tt
   PrintsFront-fault (Some told) answer fault out out' err err' is r front =
-      (front_all _ out out' r.0, subst (λ (why : Option ReadFault). TakesFront (fault_text tool name (option_map left_fault why)) err err') (sym is ∙ r.2) front)
+      (front_all _ out out' r.0, subst (λ (why : Option ReadFault). TakesFront (fault_text tool name why) err err') (sym is ∙ r.2) front)
 
   front-at : (opening : Result Told TreeFault) (later : Option Told) (out out' err err' : Option Taken) → OpenedAs opening later → PrintsFront (option_map (input_printed most tool style finds name) later) out out' err err' → PrintsFront (Some (opened_printed most tool style finds name opening)) out out' err err'
   front-at (Ok told) later out out' err err' is p = rw is at p

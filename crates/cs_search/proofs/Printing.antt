@@ -3,7 +3,8 @@ use Rattle.std.proofs.Common.{◌≡◌, ℕ, List, Option, Result, Err}
 use Rattle.cs_tree.specs.Told.{Taken}
 use Rattle.cs_tree.proofs.Growing.{Grows-chain, Grows-same}
 use Rattle.cs_tree.proofs.Fronts.{front_none, front_written, front_left, front_right}
-use Rattle.cs_tree.specs.Taken.{TakesFront, TakesAll}
+use Rattle.cs_tree.specs.Taken.{TakesFront}
+use Rattle.cs_tree.specs.TakenAll.{TakesAll}
 
 pub refused : {A E : Type 0} (xs : List ℕ) (a b : Option Taken) (r : Result A E) (fault : E) → r ≡ Err fault → TakesFront xs a b → TakesAll xs a b r
 refused xs a b r fault is front = rw is front

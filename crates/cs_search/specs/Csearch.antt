@@ -1,5 +1,5 @@
 -- What csearch prints and answers. docs/PROMISES.md, "What is printed" and "The main promise".
-use Rattle.std.specs.Prelude.{ℕ, ◌≡◌, ◌⊎◌, Bool, true, false, List, map, filter, Option, Some, None, option_map, string_bytes, Result, Ok, Err}
+use Rattle.std.specs.Prelude.{ℕ, ◌≡◌, ◌⊎◌, Bool, true, false, List, map, filter, Option, Some, None, option_map, string_bytes, Result, Ok, Err, IfSome, IsSomeAnd}
 use Rattle.cs_trigram.specs.Trigram.{has}
 use Rattle.std.specs.List.{AllByRecursion}
 use Rattle.cs_syntax.specs.Matching.{Tree}
@@ -33,8 +33,7 @@ use Rattle.cs_search.specs.Printed.{Printed, file_printed, all_printed}
 
 -- the bytes of the index are there, and open with these parts
 abbrev pub OpensWith : Option (List ℕ) → Parts → Type 0
-OpensWith None parts = ⊥
-OpensWith (Some bytes) parts = opening bytes ≡ Ok parts
+OpensWith index parts = IsSomeAnd index (λ bytes. opening bytes ≡ Ok parts)
 
 -- By `-brute` every file meets the query. Else it loses no line in which the pattern finds something, and is sharp.
 abbrev pub IsQueryOf : Bool → Tree → Query → Type 0
@@ -114,17 +113,9 @@ module _ (most : ℕ) (job : SearchJob) (index : Option (List ℕ)) (tree : Opti
 
 -- ---- refusals
 
-abbrev pub IsFileAccepted : Option (List ℕ) → Type 0
-IsFileAccepted None = Unit {0}
-IsFileAccepted (Some text) = IsAccepted text false
-
-abbrev pub IsFileRefused : Option (List ℕ) → PatternError → Type 0
-IsFileRefused None error = ⊥
-IsFileRefused (Some text) error = IsPatternRefused text false error
-
 -- both patterns are accepted
 abbrev pub AreAccepted : SearchJob → Type 0
-AreAccepted job = IsAccepted (string_bytes job.pattern) job.fold × IsFileAccepted (file_text job)
+AreAccepted job = IsAccepted (string_bytes job.pattern) job.fold × IfSome (file_text job) (λ text. IsAccepted text false)
 
 -- The index opens, and each list that is asked for is whole.
 abbrev pub IsReady : SearchJob → Option (List ℕ) → Type 0
@@ -132,16 +123,16 @@ IsReady job index = (asks : Asks job index) × (is_answerable asks.parts asks.qu
 
 -- The bytes do not open, or a list that is asked for is damaged.
 abbrev pub IsBad : SearchJob → Option (List ℕ) → IndexFault → Type 0
-IsBad job None fault = ⊥
-IsBad job (Some bytes) fault =
-    (opening bytes ≡ Err fault)
-    ⊎ ((fault ≡ BadList) × ((asks : Asks job (Some bytes)) × (is_answerable asks.parts asks.query ≡ false)))
+IsBad job index fault =
+    IsSomeAnd index (λ bytes. opening bytes ≡ Err fault)
+    ⊎ ((fault ≡ BadList) × ((asks : Asks job index) × (is_answerable asks.parts asks.query ≡ false)))
 
 -- The pattern is refused first, then that of `-f`, then the index that is not there, then the bad one; all else comes after.
 abbrev pub RefusedInOrder : {A : Type 0} → SearchJob → Option (List ℕ) → Result A ToolFault → Type 0
 RefusedInOrder job index (Ok answer) = AreAccepted job × IsReady job index
 RefusedInOrder job index (Err (Pattern error)) = IsPatternRefused (string_bytes job.pattern) job.fold error
-RefusedInOrder job index (Err (FilePattern error)) = IsAccepted (string_bytes job.pattern) job.fold × IsFileRefused (file_text job) error
+RefusedInOrder job index (Err (FilePattern error)) =
+    IsAccepted (string_bytes job.pattern) job.fold × IsSomeAnd (file_text job) (λ text. IsPatternRefused text false error)
 RefusedInOrder job index (Err NoIndex) = AreAccepted job × (index ≡ None)
 RefusedInOrder job index (Err (BadIndex fault)) = AreAccepted job × IsBad job index fault
 RefusedInOrder job index (Err Write) = AreAccepted job × IsReady job index

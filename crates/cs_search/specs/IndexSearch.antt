@@ -1,5 +1,5 @@
 -- What functions inside a search of an index promise each other: which names are chosen, and by what.
-use Rattle.std.specs.Prelude.{ℕ, ◌≡◌, Bool, true, false, List, filter_map, Option, Some, None, slice_get, Err}
+use Rattle.std.specs.Prelude.{ℕ, ◌≡◌, Bool, true, false, List, filter_map, Option, Some, None, slice_get, Err, IsSomeAnd}
 use Rattle.cs_syntax.specs.Matching.{Tree}
 use Rattle.cs_syntax.specs.declared.fault.PatternFault.{PatternFault}
 use Rattle.cs_syntax.specs.declared.fault.PatternFault.TheVariants as pattern
@@ -8,7 +8,7 @@ use Rattle.cs_match.specs.Finding.{Decides}
 use Rattle.cs_index.specs.Opening.{opening}
 use Rattle.cs_words.specs.declared.fault.ToolFault.{ToolFault}
 use Rattle.cs_words.specs.declared.fault.ToolFault.TheVariants.{FilePattern, NoIndex, BadIndex, Memory}
-use Rattle.cs_search.specs.Csearch.{IsFileRefused}
+use Rattle.cs_search.specs.Refusals.{IsPatternRefused}
 use Rattle.cs_search.specs.Programs.{IsProgramOf}
 
 -- the names that have these ids
@@ -35,7 +35,7 @@ abbrev pub file_pattern_fault : PatternError → ToolFault
 file_pattern_fault error = file_fault_at error.fault error
 
 abbrev pub FileRefused : Option (List ℕ) → ToolFault → Type 0
-FileRefused text (FilePattern error) = IsFileRefused text error
+FileRefused text (FilePattern error) = IsSomeAnd text (λ text. IsPatternRefused text false error)
 FileRefused text Memory = Unit {0}
 FileRefused text fault = ⊥
 

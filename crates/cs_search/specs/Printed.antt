@@ -1,6 +1,6 @@
 -- What a tool prints and answers of the inputs that it searches, one after another.
 -- docs/PROMISES.md, "What is printed".
-use Rattle.std.specs.Prelude.{ℕ, ◌≡◌, ◌⊎◌, Bool, true, false, ◌||◌, List, [], ◌∷◌, ◌++◌, Option, Some, None, option_map, Result, Ok, Err}
+use Rattle.std.specs.Prelude.{ℕ, ◌≡◌, ◌⊎◌, Bool, true, false, ◌||◌, List, [], ◌∷◌, ◌++◌, Option, Some, None, Result, Ok, Err}
 use Rattle.cs_tree.specs.TreeAnswers.{opening_of}
 use Rattle.cs_words.specs.FileFaults.{fault_line_of, file_fault_of}
 use Rattle.cs_tree.specs.Failures.{count_if}
@@ -31,15 +31,11 @@ pub record Printed : Type 0 where
   pub errors : List ℕ
   pub matched : Bool
 
-abbrev pub fault_text : Tool → List ℕ → Option FileFault → List ℕ
-fault_text tool name None = []
-fault_text tool name (Some fault) = fault_line_of tool name fault
-
 -- the report of an input with this name, and the line of its fault
 abbrev pub printed_of : Tool → List ℕ → Report ReadFault → Printed
 printed_of tool name report = record {
   output = report.output;
-  errors = fault_text tool name (option_map left_fault report.fault);
+  errors = elim report.fault [ None ↦ [] | Some fault ↦ fault_line_of tool name (left_fault fault) ];
   matched = report.matched;
 }
 

@@ -1,7 +1,8 @@
 -- What the functions of a searcher promise each other: what stays as it was, what they print, and what refuses them.
 use Rattle.std.specs.Prelude.{ℕ, ◌≡◌, Bool, List, Option, Some, None, Result, Ok, Err}
 use Rattle.cs_tree.specs.Told.{Told, Taken, Grows}
-use Rattle.cs_tree.specs.Taken.{TakesFront, TakesAll}
+use Rattle.cs_tree.specs.Taken.{TakesFront}
+use Rattle.cs_tree.specs.TakenAll.{TakesAll}
 use Rattle.cs_tree.specs.Transfers.{LosesAtMost}
 use Rattle.cs_tree.specs.Snapshot.{Snapshot, item_at}
 use Rattle.cs_tree.specs.TreeAnswers.{opening_of}

@@ -3,7 +3,7 @@ ghost use Rattle.std.specs.Prelude.{◌≡◌, ◌++◌, ◌∷◌, [], ℕ, cod
 ghost use Rattle.cs_search.specs.GrepFaults.{is_grep_failure};
 ghost use Rattle.cs_tree.specs.Failures.{count_after};
 ghost use Rattle.cs_match.specs.Lines.{newline};
-ghost use Rattle.cs_tree.specs.Taken.{TakesAll};
+ghost use Rattle.cs_tree.specs.TakenAll.{TakesAll};
 ghost use Rattle.cs_search.specs.Report.{hit_line};
 ghost use Rattle.cs_search.specs.TestedLines.{shown, total};
 

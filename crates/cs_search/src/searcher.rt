@@ -4,7 +4,7 @@ ghost use Rattle.cs_words.specs.FileFaults.{fault_line_of};
 ghost use Rattle.cs_tree.specs.Failures.{count_if, CountsOne};
 ghost use Rattle.cs_tree.specs.Transfers.{LosesAtMost};
 ghost use Rattle.cs_match.specs.Finding.{Decides};
-ghost use Rattle.cs_tree.specs.Taken.{TakesAll};
+ghost use Rattle.cs_tree.specs.TakenAll.{TakesAll};
 ghost use Rattle.cs_search.specs.Searcher.{IsSearchFault, Prints, FileLosesAtMost, PrintsFront, TellsAll};
 ghost use Rattle.cs_search.specs.Refusals.{has_write_failed};
 ghost use Rattle.cs_search.specs.Printed.{input_printed, file_printed, all_printed, left_fault};

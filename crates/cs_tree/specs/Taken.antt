@@ -8,11 +8,6 @@ pub record TakesFront (bytes : List ℕ) (taken later : Option Taken) : Type 0 w
   pub count : ℕ
   pub grows : Grows taken later (take count bytes)
 
--- It has taken all of them, and where the call was refused, a front of them.
-abbrev pub TakesAll : {A E : Type 0} → List ℕ → Option Taken → Option Taken → Result A E → Type 0
-TakesAll bytes taken later result =
-    MatchResult result (λ _. Grows taken later bytes) (λ _. TakesFront bytes taken later)
-
 -- It has taken all of them and was flushed, and where the call was refused, it has taken a front of them.
 abbrev pub EndsAfter : {A E : Type 0} → List ℕ → Option Taken → Option Taken → Result A E → Type 0
 EndsAfter bytes taken later result =

@@ -4,8 +4,8 @@ use Rattle.std.proofs.lemmas.Bool.{cases_Bool, true≢false}
 use Rattle.std.proofs.lemmas.List.{append_assoc, append-nil}
 use Rattle.cs_trigram.specs.declared.found.Found.{Found}
 use Rattle.cs_trigram.specs.Trigram.{has, set_of_numbers, trigram_sequence}
-use Rattle.cs_trigram.specs.Marks.{Holds, CollectsOn}
-use Rattle.cs_trigram.specs.Parts.{parts_trigrams, AreAmong, Remembers, AreFresh, IsLast}
+use Rattle.cs_trigram.specs.TrigramMarks.{Holds, CollectsOn}
+use Rattle.cs_trigram.specs.SixBytes.{parts_trigrams, AreAmong, Remembers, AreFresh, IsLast}
 use Rattle.cs_trigram.specs.Found.{Keeps}
 use Rattle.cs_trigram.proofs.SetLemmas.{has-set_of_numbers, ascends_set, ascends_same, set_of_numbers-push, length-with_number-ge}
 use Rattle.cs_trigram.proofs.BlockLemmas.{sequence-split}

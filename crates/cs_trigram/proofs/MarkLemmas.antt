@@ -12,7 +12,7 @@ use Rattle.std.proofs.lemmas.List.Folds.{list_any_at}
 use Rattle.std.specs.Int.{bit_at}
 use Rattle.std.specs.List.{AllByRecursion}
 use Rattle.cs_trigram.specs.Trigram.{Ascends, with_number, set_of_numbers, has}
-use Rattle.cs_trigram.specs.Marks.{bit_of, as_bit, Marks, Holds, Collects, CollectsOn}
+use Rattle.cs_trigram.specs.TrigramMarks.{bit_of, as_bit, Marks, Holds, Collects, CollectsOn}
 use Rattle.cs_trigram.proofs.SetLemmas.{has-append, has-set_of_numbers, ascends_set, set_of_numbers-push, with_number-member, length-with_number}
 
 -- the cells with one more bit set

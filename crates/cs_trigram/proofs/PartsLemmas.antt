@@ -4,7 +4,7 @@ use Rattle.std.proofs.lemmas.Bool.{false≢true, cases_eq, or_cases, or_left, or
 use Rattle.std.proofs.lemmas.List.{set-get_or, append-nil, take-set-le, drop_all, take_more}
 use Rattle.std.proofs.Common.{append_assoc, take_all}
 use Rattle.cs_trigram.specs.Trigram.{trigram_sequence, has}
-use Rattle.cs_trigram.specs.Parts.{part_trigrams, parts_trigrams, file_of, AreAmong, Remembers, AreFresh}
+use Rattle.cs_trigram.specs.SixBytes.{part_trigrams, parts_trigrams, file_of, AreAmong, Remembers, AreFresh}
 use Rattle.cs_trigram.proofs.SetLemmas.{has-append}
 use Rattle.cs_trigram.proofs.BlockLemmas.{sequence-split, sequence-part, sequence-short}
 

@@ -2,8 +2,8 @@
 use Rattle.std.specs.Prelude.{◌≡◌, ℕ, ◌+◌, ◌<◌, ◌≤◌, ◌++◌, ◌↔◌, Bool, IsTrue, List, length, take}
 use Rattle.cs_trigram.specs.declared.found.Found.{Found}
 use Rattle.cs_trigram.specs.Trigram.{set_of_numbers, trigram_sequence}
-use Rattle.cs_trigram.specs.Marks.{Holds, Collects}
-use Rattle.cs_trigram.specs.Parts.{Remembers, IsLast}
+use Rattle.cs_trigram.specs.TrigramMarks.{Holds, Collects}
+use Rattle.cs_trigram.specs.SixBytes.{Remembers, IsLast}
 
 -- the trigrams that are found, in the order in which they were
 abbrev pub numbers_of : Found → List ℕ

@@ -2,7 +2,7 @@
 use Rattle.std.specs.Prelude.{◌≡◌, ℕ, List, [], take}
 use Rattle.cs_trigram.specs.declared.parts.Parts.{Parts}
 use Rattle.cs_trigram.specs.declared.parts.Split.{Split}
-use Rattle.cs_trigram.specs.Parts.{Remembers, IsLast, AreFresh}
+use Rattle.cs_trigram.specs.SixBytes.{Remembers, IsLast, AreFresh}
 
 -- nothing is remembered of the file, nor of a later one
 abbrev pub AreNone : Parts → Type 0

@@ -1,8 +1,8 @@
 // The trigrams that were found in a file.
 ghost use Rattle.std.specs.Prelude.{◌≡◌, ◌+◌, ◌*◌, ◌-◌, ◌<◌, ◌≤◌, ◌^◌, ℕ, List, [], ◌∷◌, ◌++◌, length, vec_len, IfOk, IsTrue, ◌↔◌, nat_lt};
 ghost use Rattle.cs_trigram.specs.Trigram.{trigram_count, trigram_sequence};
-ghost use Rattle.cs_trigram.specs.Marks.{Marks, Collects, CollectsOn};
-ghost use Rattle.cs_trigram.specs.Parts.{part_trigrams, parts_trigrams};
+ghost use Rattle.cs_trigram.specs.TrigramMarks.{Marks, Collects, CollectsOn};
+ghost use Rattle.cs_trigram.specs.SixBytes.{part_trigrams, parts_trigrams};
 
 use crate::asking::trigram;
 use crate::parts::Parts;

@@ -1,7 +1,7 @@
 // The parts of six bytes that are remembered of a file, so that what it repeats is not looked at again.
 ghost use Rattle.std.specs.Prelude.{◌≡◌, ◌+◌, ◌*◌, ◌<◌, ◌≤◌, ◌^◌, ◌++◌, ◌∷◌, [], ℕ, List, length, vec_len, take, drop, IfOk};
 ghost use Rattle.cs_trigram.specs.Trigram.{trigram_sequence};
-ghost use Rattle.cs_trigram.specs.Parts.{part_trigrams, parts_trigrams, file_of, Remembers, IsLast, AreFresh, AreAmong};
+ghost use Rattle.cs_trigram.specs.SixBytes.{part_trigrams, parts_trigrams, file_of, Remembers, IsLast, AreFresh, AreAmong};
 
 use std::alloc::{AllocError, Global};
 

@@ -1,7 +1,7 @@
 use Rattle.std.proofs.Common.{◌≡◌, ℕ, List, ◌+◌, ◌-◌, length, take, drop, subst, arith, length-drop}
 use Rattle.std.proofs.lemmas.List.{take_all}
 use Rattle.cs_match.specs.Lines.{ended_lines}
-use Rattle.cs_match.specs.Windows.{HaveNone}
+use Rattle.cs_match.specs.NeededWindows.{HaveNone}
 use Rattle.cs_match.proofs.finding.skip_to_window.Goals as goal
 
 pub returns-clause-none : goal.returns-clause-none

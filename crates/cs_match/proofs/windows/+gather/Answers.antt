@@ -6,7 +6,7 @@ use Rattle.cs_syntax.specs.Node.{tree_of, trees_of}
 use Rattle.cs_syntax.specs.declared.node.Node.{Node}
 use Rattle.cs_syntax.proofs.NodeLemmas.{tree_of-Set, tree_of-Cat, tree_of-Alt, tree_of-Rep}
 use Rattle.cs_syntax.proofs.TreeLemmas.{trees_from}
-use Rattle.cs_match.specs.Windows.{HasOne, HasChosen}
+use Rattle.cs_match.specs.NeededWindows.{HasOne, HasChosen}
 use Rattle.cs_match.specs.Trails.{Follow}
 use Rattle.cs_match.proofs.NeedleLemmas.{on_ok_both}
 use Rattle.cs_match.proofs.WindowLemmas.{follow_none, follow_set, follow_cut, follow_more, follow_rounds, follow_same, chosen, one_before, one_behind}

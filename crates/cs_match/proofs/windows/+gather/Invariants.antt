@@ -1,7 +1,7 @@
 use Rattle.std.proofs.Common.{ℕ, ◌≤◌, ◌⊎◌, List, length, drop}
 use Rattle.cs_syntax.specs.Matching.{TakesAll, TakesSome}
 use Rattle.cs_syntax.specs.Node.{trees_of}
-use Rattle.cs_match.specs.Windows.{HasOne}
+use Rattle.cs_match.specs.NeededWindows.{HasOne}
 use Rattle.cs_match.specs.Trails.{Follow}
 use Rattle.cs_match.specs.declared.trail.Trail.{Trail}
 use Rattle.cs_match.proofs.windows.+gather.Given as goal

@@ -4,7 +4,8 @@ use Rattle.std.proofs.lemmas.Result.{err_from_is_err_and}
 use Rattle.cs_tree.proofs.Growing.{Grows-same, leaves_flushed}
 use Rattle.cs_match.specs.Finding.{Decides}
 use Rattle.cs_tree.specs.Failures.{CountsOne}
-use Rattle.cs_tree.specs.Taken.{TakesAll, EndsAfter}
+use Rattle.cs_tree.specs.Taken.{EndsAfter}
+use Rattle.cs_tree.specs.TakenAll.{TakesAll}
 use Rattle.cs_search.proofs.FrontLemmas.{any_err}
 use Rattle.cs_search.proofs.PrintedLemmas.{done, PrintsSome-front, PrintsSome-all, Tells-flushed}
 use Rattle.cs_search.proofs.CgrepLemmas.{all_quiet, decides_program, PrintsStatus-flushed, Tells-as, Tells-nothing}

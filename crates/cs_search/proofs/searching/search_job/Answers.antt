@@ -2,7 +2,7 @@ use Rattle.std.proofs.Common.{◌∷◌, [], List, refl, sym, subst, Option}
 use Rattle.std.proofs.lemmas.Result.{err_from_is_err_and}
 use Rattle.std.specs.Prelude.{option_map, map, string_bytes}
 use Rattle.cs_tree.specs.Snapshot.{Snapshot}
-use Rattle.cs_tree.specs.Taken.{TakesAll}
+use Rattle.cs_tree.specs.TakenAll.{TakesAll}
 use Rattle.cs_search.specs.declared.report.TheConstants.{MOST_SEARCHED}
 use Rattle.cs_words.specs.declared.jobs.Tool.{Tool}
 use Rattle.cs_words.specs.declared.jobs.Tool.TheVariants.{Cgrep}

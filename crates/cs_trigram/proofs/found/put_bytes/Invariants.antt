@@ -1,5 +1,5 @@
 use Rattle.std.proofs.Common.{◌+◌, ◌-◌, ◌≤◌, take, length}
-use Rattle.cs_trigram.specs.Marks.{CollectsOn}
+use Rattle.cs_trigram.specs.TrigramMarks.{CollectsOn}
 use Rattle.cs_trigram.specs.Trigram.{trigram_sequence}
 use Rattle.cs_trigram.proofs.found.put_bytes.Given as goal
 

@@ -1,6 +1,6 @@
 use Rattle.std.proofs.Common.{◌+◌, ◌*◌, ◌≤◌, take}
-use Rattle.cs_trigram.specs.Marks.{CollectsOn}
-use Rattle.cs_trigram.specs.Parts.{parts_trigrams}
+use Rattle.cs_trigram.specs.TrigramMarks.{CollectsOn}
+use Rattle.cs_trigram.specs.SixBytes.{parts_trigrams}
 use Rattle.cs_trigram.proofs.found.put_parts.Given as goal
 
 abbrev pub invariant-loop-part : goal.invariant-loop-part

@@ -1,5 +1,5 @@
 use Rattle.std.proofs.Common.{◌∙◌, arith, sym, subst}
-use Rattle.cs_trigram.specs.Parts.{IsLast}
+use Rattle.cs_trigram.specs.SixBytes.{IsLast}
 use Rattle.cs_trigram.proofs.PartsLemmas.{part_of}
 use Rattle.cs_trigram.proofs.parts.split_bytes.Goals as goal
 

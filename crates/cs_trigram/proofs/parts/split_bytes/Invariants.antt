@@ -1,5 +1,5 @@
 use Rattle.std.proofs.Common.{◌≤◌, ◌-◌, ◌*◌, ℕ, List, take, length}
-use Rattle.cs_trigram.specs.Parts.{Remembers, IsLast, AreFresh}
+use Rattle.cs_trigram.specs.SixBytes.{Remembers, IsLast, AreFresh}
 use Rattle.cs_trigram.proofs.parts.split_bytes.Given as goal
 
 abbrev pub invariant-parts : goal.invariant-parts

@@ -1,6 +1,6 @@
 use Rattle.std.proofs.Common.{◌≡◌, ◌-◌, ◌∷◌, ◌++◌, [], List, length, sym, ◌∙◌, ap, subst, arith}
 use Rattle.cs_sieve.specs.declared.window.Window.{Window}
-use Rattle.cs_match.specs.Windows.{HasOne}
+use Rattle.cs_match.specs.NeededWindows.{HasOne}
 use Rattle.cs_match.proofs.WindowLemmas.{last_stands}
 use Rattle.cs_match.proofs.choice.Choice.last_of.Goals as goal
 

@@ -2,7 +2,7 @@ use Rattle.std.proofs.Common.{List, ℕ, sym, subst}
 use Rattle.std.specs.Prelude.{IfSome}
 use Rattle.cs_syntax.specs.Matching.{Tree}
 use Rattle.cs_match.specs.Needle.{IsNeeded}
-use Rattle.cs_match.specs.Windows.{AreNeeded}
+use Rattle.cs_match.specs.NeededWindows.{AreNeeded}
 use Rattle.cs_match.specs.Remembering.{tree_in}
 use Rattle.cs_match.proofs.matcher.Matcher.new.Goals as goal
 

@@ -4,7 +4,7 @@ use Rattle.cs_match.specs.Finding.{Decides}
 use Rattle.cs_match.specs.Lines.{ended_lines}
 use Rattle.cs_match.specs.Needle.{Has}
 use Rattle.cs_match.specs.Remembering.{tree_in}
-use Rattle.cs_match.specs.Windows.{HasOne, AreNeeded}
+use Rattle.cs_match.specs.NeededWindows.{HasOne, AreNeeded}
 use Rattle.cs_match.proofs.WithoutLemmas.{none_found}
 use Rattle.cs_match.proofs.matcher.Matcher.seek.Goals as goal
 

@@ -1,6 +1,6 @@
 use Rattle.std.proofs.Common.{◌≡◌, ◌-◌, Bool, List, length, take, drop, sym, ◌∙◌, ap, subst, arith, length-drop}
 use Rattle.std.proofs.lemmas.List.{take_all}
-use Rattle.cs_match.specs.Windows.{EndAt}
+use Rattle.cs_match.specs.NeededWindows.{EndAt}
 use Rattle.cs_match.proofs.trail.Trail.add.Goals as goal
 
 pub returns-clause-best : goal.returns-clause-best

@@ -1,5 +1,5 @@
 use Rattle.std.proofs.Common.{arith, sym, subst}
-use Rattle.cs_trigram.specs.Parts.{Remembers}
+use Rattle.cs_trigram.specs.SixBytes.{Remembers}
 use Rattle.cs_trigram.proofs.PartsLemmas.{whole-write}
 use Rattle.cs_trigram.proofs.parts.Parts.split.Goals as goal
 

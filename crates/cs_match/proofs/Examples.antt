@@ -3,10 +3,11 @@ use Rattle.std.proofs.Common.{◌≡◌, ◌+◌, true, false, [], ◌∷◌, re
 use Rattle.std.specs.Prelude.{None, slice_index}
 use Rattle.cs_sieve.specs.declared.window.Window.{Window}
 use Rattle.cs_syntax.specs.Matching.{Tree, one_of, cat, rep, none, more, word_edge, line_end, member}
+use Rattle.cs_syntax.specs.Lowering.{lowered}
 use Rattle.cs_match.specs.declared.around.Around.{Around}
 use Rattle.cs_match.specs.Lines.{lines, ended_lines}
 use Rattle.cs_match.specs.Marks.{marks_of, is_marked}
-use Rattle.cs_match.specs.Places.{repeats, round_ends}
+use Rattle.cs_match.specs.Places.{places, repeats, round_ends}
 use Rattle.cs_match.specs.Skipping.{AreWhole}
 use Rattle.cs_match.specs.Standings.{standing, is_left_before}
 use Rattle.cs_match.specs.Table.{blank_cell}
@@ -130,3 +131,11 @@ window_of_three_bytes line found =
         },
       ),
     )
+
+-- all characters have 21 places, as many as all but a newline; `é` has two, and so has a block of 64
+lowered_places :
+    (places (lowered ((0, 1114111) ∷ [])) ≡ 21)
+    × (places (lowered ((0, 9) ∷ (11, 1114111) ∷ [])) ≡ 21)
+    × (places (lowered ((233, 233) ∷ [])) ≡ 2)
+    × (places (lowered ((192, 255) ∷ [])) ≡ 2)
+lowered_places = (refl, refl, refl, refl)

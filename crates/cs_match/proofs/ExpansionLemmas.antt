@@ -2,9 +2,11 @@
 use Rattle.std.proofs.Common.{◌≡◌, ℕ, zero, suc, ◌+◌, ◌-◌, ◌≤◌, inl, inr, Bool, true, false, List, refl, sym, subst, arith}
 use Rattle.std.specs.Prelude.{Option, Some, None, nat_le, ◌↔◌, if◌then◌else◌}
 use Rattle.std.proofs.lemmas.Bool.{le-leb, leb-true}
-use Rattle.cs_syntax.specs.Matching.{Tree, Trees, empty, one_of, cat, alt, rep, line_start, line_end, word_edge, not_word_edge, none, more}
+use Rattle.cs_syntax.specs.Matching.{Tree, Trees, empty, one_of, one_char, cat, alt, rep, line_start, line_end, word_edge, not_word_edge, none, more}
 use Rattle.cs_syntax.specs.Matching.{Chain, Takes, TakesAll, TakesSome, Found}
 use Rattle.cs_match.specs.Places.{IsLooped, AreLooped}
+use Rattle.cs_syntax.proofs.LoweringLemmas.{lowered_takes}
+use Rattle.cs_match.proofs.LoweredLemmas.{lowered_looped}
 use Rattle.cs_match.specs.Expansion.{copies, optional, never, repeat_expansion, expansion, expansions}
 
 chain_map : (R S : ℕ → ℕ → Type 0) → ((i j : ℕ) → R i j → S i j) → (k i j : ℕ) → Chain R k i j → Chain S k i j
@@ -89,6 +91,7 @@ module _ (s : List ℕ) where
     pub takes_expansion : (t : Tree) (i j : ℕ) → Takes s t i j → Takes s (expansion t) i j
     takes_expansion empty i j h = h
     takes_expansion (one_of set) i j h = h
+    takes_expansion (one_char runs) i j h = (lowered_takes s runs i j).1 h
     takes_expansion (cat ts) i j h = takes_all_expansions ts i j h
     takes_expansion (alt ts) i j h = takes_some_expansions ts i j h
     takes_expansion (rep x n m) i j h =
@@ -110,6 +113,7 @@ module _ (s : List ℕ) where
     pub takes_as_read : (t : Tree) (i j : ℕ) → Takes s (expansion t) i j → Takes s t i j
     takes_as_read empty i j h = h
     takes_as_read (one_of set) i j h = h
+    takes_as_read (one_char runs) i j h = (lowered_takes s runs i j).0 h
     takes_as_read (cat ts) i j h = takes_all_as_read ts i j h
     takes_as_read (alt ts) i j h = takes_some_as_read ts i j h
     takes_as_read (rep x n m) i j h =
@@ -151,6 +155,7 @@ mutual
   pub is_looped : (t : Tree) → IsLooped (expansion t)
   is_looped empty = tt
   is_looped (one_of set) = tt
+  is_looped (one_char runs) = lowered_looped runs
   is_looped (cat ts) = are_looped ts
   is_looped (alt ts) = are_looped ts
   is_looped (rep x n m) = repeat_looped (expansion x) n m (is_looped x)

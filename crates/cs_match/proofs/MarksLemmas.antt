@@ -3,7 +3,7 @@ use Rattle.std.proofs.Common.{◌≡◌, ℕ, zero, suc, ◌<◌, ◌≤◌, inl
 use Rattle.std.specs.Prelude.{slice_index, nat_eq, Option, ◌↔◌}
 use Rattle.std.proofs.lemmas.List.{take_at, drop_at, length-replicate, replicate-append-replicate}
 use Rattle.std.proofs.lemmas.Bool.{and_parts, or_cases, and_from, or_left, or_right, eqb-true, eq-eqb, not-true}
-use Rattle.cs_syntax.specs.Matching.{Tree, Trees, empty, one_of, cat, alt, rep, line_start, line_end, word_edge, not_word_edge, none, more}
+use Rattle.cs_syntax.specs.Matching.{Tree, Trees, empty, one_of, one_char, cat, alt, rep, line_start, line_end, word_edge, not_word_edge, none, more}
 use Rattle.cs_syntax.specs.Matching.{member, at_word_edge, Chain, Takes, TakesAll, TakesSome, Found}
 use Rattle.cs_match.specs.declared.around.Around.{Around}
 use Rattle.cs_match.specs.Places.{around, places, places_of, nullable, nullable_all, nullable_some, leaves, leaves_all, leaves_some, exits, step, step_all, step_each, marks, exit_at, IsLooped, AreLooped}
@@ -12,6 +12,7 @@ mutual
   pub length-step : (t : Tree) (enter : Bool) (ms : List Bool) (a : Around) (b : ℕ) → length (step t enter ms a b) ≡ places t
   length-step empty enter ms a b = refl
   length-step (one_of set) enter ms a b = refl
+  length-step (one_char runs) enter ms a b = refl
   length-step (cat ts) enter ms a b = length-step_all ts enter ms a b
   length-step (alt ts) enter ms a b = length-step_each ts enter ms a b
   length-step (rep x n m) enter ms a b = length-step x (enter || leaves x ms a) ms a b
@@ -124,6 +125,7 @@ module _ (s : List ℕ) where
     pub nullable_takes : (t : Tree) (i : ℕ) → IsLooped t → nullable t (around s i) ≡ true → Takes s t i i
     nullable_takes empty i st h = refl
     nullable_takes (one_of set) i st h = (cc)
+    nullable_takes (one_char runs) i st h = absurd st
     nullable_takes (cat ts) i st h = nullable_takes_all ts i st h
     nullable_takes (alt ts) i st h = nullable_takes_some ts i st h
     nullable_takes (rep x n m) i st h =
@@ -195,6 +197,7 @@ module _ (s : List ℕ) where
     sound (one_of set) st enter (suc i) le h =
         let p = and_parts (enter i) (member set (slice_index s i)) h in
         (i, omega arith, p.0, (omega arith, p.1, refl))
+    sound (one_char runs) st enter i le h = absurd st
     sound (cat ts) st enter i le h = sound_all ts st enter i le h
     sound (alt ts) st enter i le h = sound_some ts st enter i le h
     sound (rep x n m) st enter i le h =
@@ -278,35 +281,36 @@ module _ (s : List ℕ) where
   loop_exit x n m complete enter (suc c) k i e le h = rounds_exit x n m complete enter c k i (again_from x n m enter k e) h
 
   mutual
-    pub complete : (t : Tree) → IsComplete t
-    complete empty enter k i e h = nullable_exit empty enter k i e h refl
-    complete (one_of set) enter k i e h =
+    pub complete : (t : Tree) → IsLooped t → IsComplete t
+    complete empty st enter k i e h = nullable_exit empty enter k i e h refl
+    complete (one_of set) st enter k i e h =
         let P : ℕ → Type 0 = λ x. exit_at s (one_of set) enter x ≡ true in
         subst P (sym h.2) (or_left (enter k && member set (slice_index s k)) _ (and_from (enter k) _ e h.1))
-    complete (cat ts) enter k i e h = complete_all ts enter k i e h
-    complete (alt ts) enter k i e h = complete_some ts enter k i e h
-    complete (rep x n m) enter k i e h =
-        loop_exit x n m (complete x) enter h.0 k i e h.1 h.3
-    complete line_start enter k i e h = nullable_exit line_start enter k i e (h.0 ∙ sym h.1) (eq-eqb i 0 h.1)
-    complete line_end enter k i e h = nullable_exit line_end enter k i e (h.0 ∙ sym h.1) (eq-eqb i (length s) h.1)
-    complete word_edge enter k i e h =
+    complete (one_char runs) st enter k i e h = absurd st
+    complete (cat ts) st enter k i e h = complete_all ts st enter k i e h
+    complete (alt ts) st enter k i e h = complete_some ts st enter k i e h
+    complete (rep x n m) st enter k i e h =
+        loop_exit x n m (complete x st.2) enter h.0 k i e h.1 h.3
+    complete line_start st enter k i e h = nullable_exit line_start enter k i e (h.0 ∙ sym h.1) (eq-eqb i 0 h.1)
+    complete line_end st enter k i e h = nullable_exit line_end enter k i e (h.0 ∙ sym h.1) (eq-eqb i (length s) h.1)
+    complete word_edge st enter k i e h =
         let P : ℕ → Type 0 = λ x. at_word_edge s x ≡ true in
         nullable_exit word_edge enter k i e h.0 (subst P h.0 h.1)
-    complete not_word_edge enter k i e h =
+    complete not_word_edge st enter k i e h =
         let P : ℕ → Type 0 = λ x. at_word_edge s x ≡ false in
         nullable_exit not_word_edge enter k i e h.0 (ap not (subst P h.0 h.1))
 
-    pub complete_all : (ts : Trees) → IsComplete (cat ts)
-    complete_all none enter k i e h = nullable_exit (cat none) enter k i e h refl
-    complete_all (more t ts) enter k i e h =
-        rw (exit_cat t ts enter i) (complete_all ts (exit_at s t enter) h.0 i (complete t enter k h.0 e h.1) h.2)
+    pub complete_all : (ts : Trees) → AreLooped ts → IsComplete (cat ts)
+    complete_all none st enter k i e h = nullable_exit (cat none) enter k i e h refl
+    complete_all (more t ts) st enter k i e h =
+        rw (exit_cat t ts enter i) (complete_all ts st.1 (exit_at s t enter) h.0 i (complete t st.0 enter k h.0 e h.1) h.2)
 
-    pub complete_some : (ts : Trees) → IsComplete (alt ts)
-    complete_some none enter k i e h = elim h [ ]
-    complete_some (more t ts) enter k i e h =
+    pub complete_some : (ts : Trees) → AreLooped ts → IsComplete (alt ts)
+    complete_some none st enter k i e h = elim h [ ]
+    complete_some (more t ts) st enter k i e h =
         rw (exit_alt t ts enter i) (elim h [
-          | inl p ↦ or_left (exit_at s t enter i) _ (complete t enter k i e p)
-          | inr p ↦ or_right (exit_at s t enter i) _ (complete_some ts enter k i e p)
+          | inl p ↦ or_left (exit_at s t enter i) _ (complete t st.0 enter k i e p)
+          | inr p ↦ or_right (exit_at s t enter i) _ (complete_some ts st.1 enter k i e p)
         ])
 
 anywhere : ℕ → Bool
@@ -315,7 +319,7 @@ anywhere i = true
 -- a part of the line is taken exactly where the tree, entered everywhere, can be left somewhere
 pub found_where_left : (t : Tree) (s : List ℕ) → IsLooped t → Found t s ↔ ((i : ℕ) × (i ≤ length s) × (exit_at s t (λ _. true) i ≡ true))
 found_where_left t s st = (
-  λ f. (f.1, f.3, complete s t (λ _. true) f.0 f.1 refl f.4),
+  λ f. (f.1, f.3, complete s t st (λ _. true) f.0 f.1 refl f.4),
   λ e. let c = exit_sound s t st (sound s t st) (λ _. true) e.0 e.1 e.2 in (c.0, e.0, c.1, e.1, c.3),
 )
 

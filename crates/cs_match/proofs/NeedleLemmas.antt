@@ -4,9 +4,11 @@ use Rattle.std.specs.Prelude.{Option, Result, Ok, Err, OnOk, max, slice_index, v
 use Rattle.std.proofs.lemmas.Bool.{cases_lt}
 use Rattle.std.proofs.lemmas.List.{drop-append-le, get_or_append_left}
 use Rattle.std.proofs.Math.Seq.{get_or-append_seam, drop-length}
-use Rattle.cs_syntax.specs.Matching.{Tree, Trees, empty, one_of, cat, alt, rep, line_start, line_end, word_edge, not_word_edge, none, more}
+use Rattle.cs_syntax.specs.Matching.{Tree, Trees, empty, one_of, one_char, cat, alt, rep, line_start, line_end, word_edge, not_word_edge, none, more}
 use Rattle.cs_syntax.specs.Matching.{Chain, Takes, TakesAll, TakesSome}
+use Rattle.std.specs.Char.{encode_utf8}
 use Rattle.cs_syntax.specs.Members.{IsOnly}
+use Rattle.cs_syntax.proofs.LoweringLemmas.{stands_within}
 use Rattle.cs_syntax.specs.Node.{tree_of}
 use Rattle.cs_syntax.specs.declared.node.Node.{Node}
 use Rattle.cs_syntax.specs.declared.node.Node.TheVariants.{Empty, LineStart, LineEnd, WordEdge, NotWordEdge}
@@ -25,6 +27,7 @@ module _ (s : List ℕ) where
     pub within : (t : Tree) (i j : ℕ) → Takes s t i j → i ≤ length s → j ≤ length s
     within empty i j h le = omega (arith, h)
     within (one_of set) i j h le = omega (arith, h.0, h.2)
+    within (one_char runs) i j h le = stands_within s (encode_utf8 h.0) i j h.2 le
     within (cat ts) i j h le = within_all ts i j h le
     within (alt ts) i j h le = within_some ts i j h le
     within (rep x n m) i j h le = chain_within (Takes s x) (within x) h.0 i j h.3 le

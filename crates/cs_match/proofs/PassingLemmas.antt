@@ -5,7 +5,7 @@ use Rattle.std.proofs.Math.Bool.{or_assoc}
 use Rattle.std.proofs.Math.ListN.{drop_of_length-le}
 use Rattle.std.proofs.Math.Seq.{sets, sets-eq, length-sets, set_out, set_comm, take-take, get_or-take}
 use Rattle.std.proofs.lemmas.List.{append-nil, drop-drop, drop-take, length-take, take_at, drop_at}
-use Rattle.cs_syntax.specs.Matching.{Tree, Trees, empty, one_of, cat, alt, rep, line_start, line_end, word_edge, not_word_edge, none, more}
+use Rattle.cs_syntax.specs.Matching.{Tree, Trees, empty, one_of, one_char, cat, alt, rep, line_start, line_end, word_edge, not_word_edge, none, more}
 use Rattle.cs_match.specs.declared.around.Around.{Around}
 use Rattle.cs_match.specs.Places.{places, places_of, repeats, repeats_of, nullable, nullable_all, nullable_some, leaves, leaves_all, leaves_some, exits, round_ends, round_ends_of, step, step_all, step_each}
 use Rattle.cs_match.proofs.MarksLemmas.{length-step, cat_bools, alt_bools}
@@ -22,6 +22,7 @@ mutual
   leaves-take : (t : Tree) (n : ℕ) (ms : List Bool) (a : Around) → places t ≤ n → leaves t (take n ms) a ≡ leaves t ms a
   leaves-take empty n ms a le = refl
   leaves-take (one_of set) n ms a le = get_or-take n ms 0 false (omega arith)
+  leaves-take (one_char runs) n ms a le = refl
   leaves-take (cat ts) n ms a le = leaves_all-take ts n ms a le
   leaves-take (alt ts) n ms a le = leaves_some-take ts n ms a le
   leaves-take (rep x k m) n ms a le = leaves-take x n ms a le
@@ -44,6 +45,7 @@ mutual
   step-take : (t : Tree) (enter : Bool) (n : ℕ) (ms : List Bool) (a : Around) (b : ℕ) → places t ≤ n → step t enter (take n ms) a b ≡ step t enter ms a b
   step-take empty enter n ms a b le = refl
   step-take (one_of set) enter n ms a b le = refl
+  step-take (one_char runs) enter n ms a b le = refl
   step-take (cat ts) enter n ms a b le = step_all-take ts enter n ms a b le
   step-take (alt ts) enter n ms a b le = step_each-take ts enter n ms a b le
   step-take (rep x k m) enter n ms a b le = rw (leaves-take x n ms a le) (step-take x (enter || leaves x ms a) n ms a b le)
@@ -94,6 +96,7 @@ mutual
   pub length-round_ends : (t : Tree) (ms : List Bool) (a : Around) → length (round_ends t ms a) ≡ repeats t
   length-round_ends empty ms a = refl
   length-round_ends (one_of set) ms a = refl
+  length-round_ends (one_char runs) ms a = refl
   length-round_ends (cat ts) ms a = length-round_ends_of ts ms a
   length-round_ends (alt ts) ms a = length-round_ends_of ts ms a
   length-round_ends (rep x n m) ms a = ap suc (length-round_ends x ms a)

@@ -1,8 +1,9 @@
--- A tree that is written out has no more places than it weighs, and no more repeats.
+-- A tree that is written out has at most 55 places for each unit of its weight, and no more repeats than it weighs.
 use Rattle.std.proofs.Common.{◌≡◌, ℕ, zero, suc, ◌+◌, ◌-◌, ◌*◌, ◌≤◌, Bool, true, false, refl, ◌∙◌, ap, arith}
 use Rattle.std.specs.Prelude.{Option, Some, None, nat_le, if◌then◌else◌}
-use Rattle.cs_syntax.specs.Matching.{Tree, Trees, empty, one_of, cat, alt, rep, line_start, line_end, word_edge, not_word_edge, none, more}
+use Rattle.cs_syntax.specs.Matching.{Tree, Trees, empty, one_of, one_char, cat, alt, rep, line_start, line_end, word_edge, not_word_edge, none, more}
 use Rattle.cs_syntax.specs.Weight.{weight, weights, times}
+use Rattle.cs_match.proofs.LoweredLemmas.{lowered_places, lowered_repeats}
 use Rattle.cs_match.specs.Places.{places, places_of, repeats, repeats_of}
 use Rattle.cs_match.specs.Expansion.{copies, optional, never, repeat_expansion, expansion, expansions}
 use Rattle.std.proofs.lemmas.Bool.{leb-true}
@@ -34,19 +35,25 @@ repeat_light x (suc n) None w le =
 repeat_light x n (Some m) w le =
     omega (arith, chosen_light x n m (nat_le n m) refl, mul_both m (places x) (times n (Some m)) w (omega arith) le)
 
+-- 55 places for each round of each part
+each_round : (t w : ℕ) → 1 + t * (55 * w) ≤ 55 * (1 + t * w)
+each_round t w = omega arith
+
 mutual
-  pub places_light : (t : Tree) → places (expansion t) ≤ weight t
+  pub places_light : (t : Tree) → places (expansion t) ≤ 55 * weight t
   places_light empty = omega arith
   places_light (one_of set) = omega arith
+  places_light (one_char runs) = omega (arith, lowered_places runs)
   places_light (cat ts) = omega (arith, all_light ts)
   places_light (alt ts) = omega (arith, all_light ts)
-  places_light (rep x n m) = repeat_light (expansion x) n m (weight x) (places_light x)
+  places_light (rep x n m) =
+      omega (arith, repeat_light (expansion x) n m (55 * weight x) (places_light x), each_round (times n m) (weight x))
   places_light line_start = omega arith
   places_light line_end = omega arith
   places_light word_edge = omega arith
   places_light not_word_edge = omega arith
 
-  pub all_light : (ts : Trees) → places_of (expansions ts) ≤ weights ts
+  pub all_light : (ts : Trees) → places_of (expansions ts) ≤ 55 * weights ts
   all_light none = omega arith
   all_light (more t ts) = omega (arith, places_light t, all_light ts)
 
@@ -75,6 +82,7 @@ mutual
   pub repeats_light : (t : Tree) → repeats (expansion t) ≤ weight t
   repeats_light empty = omega arith
   repeats_light (one_of set) = omega arith
+  repeats_light (one_char runs) = omega (arith, lowered_repeats runs)
   repeats_light (cat ts) = omega (arith, all_repeats_light ts)
   repeats_light (alt ts) = omega (arith, all_repeats_light ts)
   repeats_light (rep x n m) = repeat_few (expansion x) n m (weight x) (repeats_light x)

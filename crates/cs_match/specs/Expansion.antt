@@ -1,9 +1,10 @@
 -- The expansion of a tree: its counted repeats are written out, and each repeat that is left is a loop of at least 0
--- or at least 1 rounds.
+-- or at least 1 rounds; and its sets of characters are lowered to sets of bytes.
 -- docs/PATTERNS.md, "Matching".
 use Rattle.std.specs.Prelude.{ℕ, zero, suc, ◌-◌, Option, Some, None, nat_le, if◌then◌else◌}
-use Rattle.cs_syntax.specs.Matching.{Tree, Trees, empty, one_of, cat, alt, rep, line_start, line_end, word_edge, not_word_edge, none, more}
+use Rattle.cs_syntax.specs.Matching.{Tree, Trees, empty, one_of, one_char, cat, alt, rep, line_start, line_end, word_edge, not_word_edge, none, more}
 use Rattle.cs_syntax.specs.TreeList.{append}
+use Rattle.cs_syntax.specs.Lowering.{lowered}
 
 -- n copies of t, and then the rest
 abbrev pub copies : ℕ → Tree → Trees → Trees
@@ -34,6 +35,7 @@ abbrev mutual
   pub expansion : Tree → Tree
   expansion empty = empty
   expansion (one_of set) = one_of set
+  expansion (one_char runs) = lowered runs
   expansion (cat ts) = cat (expansions ts)
   expansion (alt ts) = alt (expansions ts)
   expansion (rep x n m) = repeat_expansion (expansion x) n m

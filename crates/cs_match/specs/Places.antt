@@ -2,9 +2,10 @@
 -- place, as a set of states of Glushkov's automaton. A place is marked after a front of the line where a part that
 -- ends there was taken with that place last. Nothing of the automaton is laid out: what follows what is found anew
 -- from the tree, at each byte.
--- Every repeat is a loop here, of at least 0 or at least 1 rounds (`IsLooped`), since counted ones are written out.
+-- Every repeat is a loop here, of at least 0 or at least 1 rounds, and every set is one of bytes (`IsLooped`), since counted
+-- repeats are written out, and sets of characters lowered.
 use Rattle.std.specs.Prelude.{ℕ, zero, suc, ◌≡◌, ◌+◌, Bool, true, false, ◌&&◌, ◌||◌, not, List, [], ◌∷◌, ◌++◌, take, drop, length, replicate, nat_eq, ◌≤◌, slice_index, slice_index_or, None}
-use Rattle.cs_syntax.specs.Matching.{Tree, Trees, empty, one_of, cat, alt, rep, line_start, line_end, word_edge, not_word_edge, none, more}
+use Rattle.cs_syntax.specs.Matching.{Tree, Trees, empty, one_of, one_char, cat, alt, rep, line_start, line_end, word_edge, not_word_edge, none, more}
 use Rattle.cs_syntax.specs.Matching.{member, at_word_edge}
 use Rattle.cs_match.specs.declared.around.Around.{Around}
 
@@ -16,6 +17,7 @@ abbrev mutual
   pub places : Tree → ℕ
   places empty = 0
   places (one_of set) = 1
+  places (one_char runs) = 0
   places (cat ts) = places_of ts
   places (alt ts) = places_of ts
   places (rep x n m) = places x
@@ -33,6 +35,7 @@ abbrev mutual
   pub repeats : Tree → ℕ
   repeats empty = 0
   repeats (one_of set) = 0
+  repeats (one_char runs) = 0
   repeats (cat ts) = repeats_of ts
   repeats (alt ts) = repeats_of ts
   repeats (rep x n m) = suc (repeats x)
@@ -50,6 +53,7 @@ abbrev mutual
   pub nullable : Tree → Around → Bool
   nullable empty a = true
   nullable (one_of set) a = false
+  nullable (one_char runs) a = false
   nullable (cat ts) a = nullable_all ts a
   nullable (alt ts) a = nullable_some ts a
   nullable (rep x n m) a = nat_eq n 0 || nullable x a
@@ -72,6 +76,7 @@ abbrev mutual
   pub leaves : Tree → List Bool → Around → Bool
   leaves empty ms a = false
   leaves (one_of set) ms a = slice_index_or ms 0 false
+  leaves (one_char runs) ms a = false
   leaves (cat ts) ms a = leaves_all ts ms a
   leaves (alt ts) ms a = leaves_some ts ms a
   leaves (rep x n m) ms a = leaves x ms a
@@ -99,6 +104,7 @@ abbrev mutual
   pub round_ends : Tree → List Bool → Around → List Bool
   round_ends empty ms a = []
   round_ends (one_of set) ms a = []
+  round_ends (one_char runs) ms a = []
   round_ends (cat ts) ms a = round_ends_of ts ms a
   round_ends (alt ts) ms a = round_ends_of ts ms a
   round_ends (rep x n m) ms a = leaves x ms a ∷ round_ends x ms a
@@ -116,6 +122,7 @@ abbrev mutual
   pub step : Tree → Bool → List Bool → Around → ℕ → List Bool
   step empty enter ms a b = []
   step (one_of set) enter ms a b = (enter && member set b) ∷ []
+  step (one_char runs) enter ms a b = []
   step (cat ts) enter ms a b = step_all ts enter ms a b
   step (alt ts) enter ms a b = step_each ts enter ms a b
   step (rep x n m) enter ms a b = step x (enter || leaves x ms a) ms a b
@@ -143,11 +150,12 @@ marks s t enter (suc i) = step t (enter i) (marks s t enter i) (around s i) (sli
 abbrev pub exit_at : List ℕ → Tree → (ℕ → Bool) → ℕ → Bool
 exit_at s t enter i = exits t (enter i) (marks s t enter i) (around s i)
 
--- each repeat of the tree is a loop of at least 0 or at least 1 rounds
+-- each repeat of the tree is a loop of at least 0 or at least 1 rounds, and each set is one of bytes
 abbrev mutual
   pub IsLooped : Tree → Type 0
   IsLooped empty = Unit {0}
   IsLooped (one_of set) = Unit {0}
+  IsLooped (one_char runs) = ⊥
   IsLooped (cat ts) = AreLooped ts
   IsLooped (alt ts) = AreLooped ts
   IsLooped (rep x n m) = (n ≤ 1) × (m ≡ None) × IsLooped x
@@ -160,6 +168,6 @@ abbrev mutual
   AreLooped none = Unit {0}
   AreLooped (more t ts) = IsLooped t × AreLooped ts
 
--- a tree whose repeats are loops, with the numbers of its places and of its repeats
+-- a tree whose repeats are loops and whose sets are of bytes, with the numbers of its places and of its repeats
 abbrev pub IsProgram : Tree → ℕ → ℕ → Type 0
 IsProgram t n m = (n ≡ places t) × (m ≡ repeats t) × IsLooped t

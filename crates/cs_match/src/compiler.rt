@@ -5,10 +5,10 @@ ghost use Rattle.cs_syntax.specs.Matching.{rep};
 ghost use Rattle.cs_syntax.specs.Node.{tree_of, trees_of};
 ghost use Rattle.cs_match.specs.Expansion.{expansion, expansions, with_copies, optional, repeat_expansion};
 
-use cs_syntax::Node;
+use cs_syntax::{Node, lower};
 use std::alloc::{AllocError, Global};
 
-/// The tree with its counted repeats written out.
+/// The tree with its counted repeats written out, and its sets of characters lowered.
 #[cycle(write_out)]
 pub(crate) fn write_out(alloc: Global, node: &Node) -> Result<Node, AllocError>
     ensures { IfOk result (λ n. tree_of n ≡ expansion (tree_of node.now)) }
@@ -16,6 +16,7 @@ pub(crate) fn write_out(alloc: Global, node: &Node) -> Result<Node, AllocError>
     match node {
         Node::Empty => Ok(Node::Empty),
         Node::Set(set) => Ok(Node::Set(*set)),
+        Node::Chars(set) => lower(alloc, set),
         Node::Cat(parts) => {
             let parts = write_out_all(alloc, parts)?;
             Ok(Node::Cat(parts))

@@ -41,7 +41,7 @@ fn gather(node: &Node, runs: &mut Runs) -> Result<(), AllocError>
             gather(x, runs)?;
             runs.cut(at)
         }
-        Node::Rep(..) | Node::Alt(_) => runs.cut_here(),
+        Node::Rep(..) | Node::Alt(_) | Node::Chars(_) => runs.cut_here(),
     }
 }
 

@@ -49,7 +49,8 @@ impl Model for Program {
 
 impl Program {
     /// The program of a pattern: it finds something in the same lines. Counted repeats are written
-    /// out, so that it has at most as many places as the pattern weighs.
+    /// out, and sets of characters lowered to sets of bytes, so that it has at most 55 places for
+    /// each unit of the weight of the pattern.
     pub fn compile(alloc: Global, pattern: &Pattern) -> Result<Program, AllocError>
         ensures { IfOk result
             (λ program. (line : List ℕ) → Found program line ↔ Found pattern.now line) }

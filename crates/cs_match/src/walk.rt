@@ -187,6 +187,8 @@ fn leave(node: &Node, marks: &Marks, loops: &mut [bool], here: Around, at: &mut 
 {
     match node {
         Node::Empty => Ends::within(true),
+        // A program has none.
+        Node::Chars(_) => Ends::within(false),
         Node::Set(_) => {
             let left = get_mark(marks, at);
             Ends {
@@ -334,6 +336,7 @@ fn advance(
             left || (*least == 0 && enter)
         }
         // By `&`, which makes no branch: each branch has all clauses to prove.
+        Node::Chars(_) => false,
         Node::LineStart => enter & here.first,
         Node::LineEnd => enter & here.last,
         Node::WordEdge => enter & here.edge,

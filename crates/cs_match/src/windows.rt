@@ -61,7 +61,7 @@ fn gather(alloc: Global, node: &Node, trail: &mut Trail) -> Result<(), AllocErro
             trail.cut(at);
             Ok(())
         }
-        Node::Rep(..) => {
+        Node::Rep(..) | Node::Chars(_) => {
             trail.cut_here();
             Ok(())
         }

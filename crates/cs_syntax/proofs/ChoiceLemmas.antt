@@ -1,11 +1,11 @@
 -- A pattern, a bar and another pattern: the branches of both.
-use Rattle.std.proofs.Common.{◌≡◌, ℕ, zero, suc, ◌+◌, ◌<◌, ◌≤◌, ◌⊎◌, ◌↔◌, Bool, true, false, cond, ◌&&◌, ◌||◌, List, [], ◌∷◌, ◌++◌, length, take, drop, refl, sym, ap, subst, ◌∙◌, inl, inr, arith, Option, Some, None}
+use Rattle.std.proofs.Common.{◌≡◌, ℕ, zero, suc, ◌+◌, ◌<◌, ◌≤◌, Bool, true, false, cond, ◌&&◌, ◌||◌, List, [], ◌∷◌, ◌++◌, length, take, drop, refl, sym, ap, subst, ◌∙◌, inl, inr, arith, Option, Some, None}
 use Rattle.std.specs.Prelude.{nat_eq, nat_lt, nat_le, not, min, if◌then◌else◌, is_some, option_map, codes, map}
 use Rattle.std.specs.List.{prefix_len, starts_with}
-use Rattle.std.proofs.lemmas.Bool.{true≢false, cases_Bool, or_parts, ltb-true, eqb-true}
+use Rattle.std.proofs.lemmas.Bool.{true≢false, cases_Bool, ltb-true, eqb-true}
 use Rattle.std.proofs.lemmas.List.Sums.{prefix_len-le-length}
 use Rattle.std.proofs.Common.{length-drop}
-use Rattle.cs_syntax.specs.Matching.{Tree, Trees, one_of, none, more, Takes, TakesSome, is_word}
+use Rattle.cs_syntax.specs.Matching.{Tree, Trees, one_of, more, is_word}
 use Rattle.cs_syntax.specs.Ranges.{has}
 use Rattle.cs_syntax.specs.Fronts.{Front, Item, unit, repeat, bar, group_start, group_end, flags_from_here, item, fault, sequence, is_front, bytes_tree, char_tree}
 use Rattle.cs_syntax.specs.ByteSet.{is_letter, char_set}
@@ -16,12 +16,14 @@ use Rattle.cs_syntax.specs.declared.class_item.ClassItem.TheVariants.{Range}
 use Rattle.cs_syntax.specs.Repeats.{lazy, number, counts_to, counts_from, counts, is_bad, brace}
 use Rattle.cs_syntax.specs.declared.repeats.Number.{Number}
 use Rattle.cs_syntax.specs.declared.repeats.Counts.{Counts}
-use Rattle.cs_syntax.specs.Escapes.{is_scalar, char_by_number, octal_char, hex_char_in_braces, hex_char, control_char, escaped_char, is_left_out, escaped_class, escaped_tree, char_front, escape}
+use Rattle.cs_syntax.specs.Characters.{is_scalar}
+use Rattle.cs_syntax.specs.Escapes.{char_by_number, octal_char, hex_char_in_braces, hex_char, control_char, escaped_char, is_left_out, escaped_class, escaped_tree, char_front, escape}
 use Rattle.cs_syntax.specs.declared.escapes.EscapedChar.{EscapedChar}
 use Rattle.cs_syntax.specs.Items.{front, item_by, is_continuation}
 use Rattle.cs_syntax.specs.Signs.{sign_of}
+use Rattle.cs_syntax.proofs.TreeListLemmas.{takes_choice, takes_append}
 use Rattle.cs_syntax.specs.TreeList.{append}
-use Rattle.cs_syntax.specs.Reading.{Level, Rest, Group, tree, levels, broken, inside, with_close, with_open, with_unit, with_repeat, with_bar, whole_group, choice, most_open, rest, at_end, answer, flags_at_start, Reads}
+use Rattle.cs_syntax.specs.Reading.{Level, Rest, Group, tree, levels, broken, inside, with_close, with_open, with_unit, with_repeat, with_bar, whole_group, most_open, rest, at_end, answer, flags_at_start, Reads}
 use Rattle.cs_syntax.specs.Choices.{flags_behind, names_end, StandsApart, TakesEither}
 use Rattle.cs_syntax.specs.Groups.{name, is_flag, is_cleared_flag, with_set, with_cleared, after_flags, cleared_flags, set_flags, head, group}
 use Rattle.cs_syntax.specs.Written.{signs}
@@ -1097,18 +1099,6 @@ anywhere zero at by before gs hs flags (b ∷ text) alike is =
     (λ len before' gs' hs' flags' alike' read'. anywhere len (at + 1) (by + 1) before' gs' hs' flags' text alike' read') is
 
 -- ---- what the choice takes
-
-takes_choice : (line : List ℕ) (i j : ℕ) (t : Tree) (ts : Trees) → Takes line (choice t ts) i j ↔ TakesSome line (more t ts) i j
-takes_choice line i j t none = (inl, λ h. elim h [ inl k ↦ k | inr k ↦ absurd k ])
-takes_choice line i j t (more u us) = (λ h. h, λ h. h)
-
-takes_append : (line : List ℕ) (i j : ℕ) (ts us : Trees) → TakesSome line (append ts us) i j ↔ (TakesSome line ts i j ⊎ TakesSome line us i j)
-takes_append line i j none us = (inr, λ h. elim h [ inl k ↦ absurd k | inr k ↦ k ])
-takes_append line i j (more t ts) us =
-    let later = takes_append line i j ts us in (
-      λ h. elim h [ inl k ↦ inl (inl k) | inr k ↦ elim (later.0 k) [ inl l ↦ inl (inr l) | inr l ↦ inr l ] ],
-      λ h. elim h [ inl k ↦ elim k [ inl l ↦ inl l | inr l ↦ inr (later.1 (inl l)) ] | inr k ↦ inr (later.1 (inr k)) ],
-    )
 
 takes_both : (l m : Level) → TakesEither (whole_group (with_more (branches_of m) l)) (whole_group l) (whole_group m)
 takes_both l m line i j =

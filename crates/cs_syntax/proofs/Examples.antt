@@ -4,6 +4,8 @@ use Rattle.std.specs.Prelude.{codes, Some, None}
 use Rattle.std.specs.Char.{encode_utf8}
 use Rattle.std.proofs.lemmas.Fmt.{decimal_digit}
 use Rattle.cs_syntax.specs.Matching.{Trees, empty, one_of, cat, alt, rep, line_start, line_end, word_edge, not_word_edge, none, more, member}
+use Rattle.cs_syntax.specs.Characters.{has_char, AreRuns, TakesChar}
+use Rattle.cs_syntax.specs.Lowering.{byte_range, lowered}
 use Rattle.cs_syntax.specs.ByteSet.{set_of, char_set, dot_set}
 use Rattle.cs_syntax.specs.ClassSets.{class_set, is_in_item}
 use Rattle.cs_syntax.specs.Classes.{class_by_name}
@@ -257,3 +259,47 @@ bars :
     × (names_end (codes "[[:a]") ≡ false)
 unfolding sign_of front char_front escaped_class escaped_tree is_flag is_cleared_flag digit_value class_by_name
 bars = (refl, refl, refl, refl, refl, refl, refl, refl, refl, refl, refl, refl)
+
+-- members of sets of characters: `[à-ü]`, and all characters as one run
+characters :
+    (has_char ((224, 252) ∷ []) 233 ≡ true)
+    × (has_char ((224, 252) ∷ []) 101 ≡ false)
+    -- d800 is no character, though it lies in the run
+    × (has_char ((0, 1114111) ∷ []) 55296 ≡ false)
+    × (has_char ((0, 1114111) ∷ []) 1114112 ≡ false)
+    × (has_char ((0, 1114111) ∷ []) 57344 ≡ true)
+characters = (refl, refl, refl, refl, refl)
+
+-- d7ff and e000 are one run
+one_run : AreRuns ((55295, 57344) ∷ [])
+one_run = (omega arith, (omega arith, refl, refl), tt)
+
+-- and not two, since no character is left out between them
+no_two_runs : AreRuns ((55295, 55295) ∷ (57344, 57344) ∷ []) → ⊥
+no_two_runs h = omega (arith, h.2.0)
+
+-- d7fe and e000 are two
+two_runs : AreRuns ((55294, 55294) ∷ (57344, 57344) ∷ [])
+two_runs = (omega arith, (omega arith, refl, refl), (omega arith, (omega arith, refl, refl), tt))
+
+-- in `aé` the `é` is taken from 1 to 3, and so is the character of four bytes in a line of its own
+taken_characters :
+    TakesChar (97 ∷ 195 ∷ 169 ∷ []) ((224, 252) ∷ []) 1 3
+    × TakesChar (240 ∷ 159 ∷ 152 ∷ 128 ∷ []) ((0, 1114111) ∷ []) 0 4
+unfolding encode_utf8
+taken_characters = ((233, refl, (refl, refl)), (128512, refl, (refl, refl)))
+
+-- `é` is its two bytes; from `À` to `ÿ` one byte and then any of 64; of three blocks of 64 numbers the first and the last
+-- are taken in part
+lowered_sets :
+    (lowered ((233, 233) ∷ []) ≡ cat (more (byte_range 195 195) (more (byte_range 169 169) none)))
+    × (lowered ((192, 255) ∷ []) ≡ cat (more (byte_range 195 195) (more (byte_range 128 191) none)))
+    × (lowered ((190, 256) ∷ []) ≡ alt (more (cat (more (byte_range 194 194) (more (byte_range 190 191) none))) (more (cat (more (byte_range 195 195) (more (byte_range 128 191) none))) (more (cat (more (byte_range 196 196) (more (byte_range 128 128) none))) none))))
+lowered_sets = (refl, refl, refl)
+
+-- the characters of three bytes before d800: `e0` and a byte from a0 on, `e1` to `ec` and any, or `ed` and one up to 9f;
+-- and then any byte for all of them
+lowered_before_surrogates :
+    lowered ((2048, 55295) ∷ [])
+    ≡ cat (more (alt (more (cat (more (byte_range 224 224) (more (byte_range 160 191) none))) (more (cat (more (byte_range 225 236) (more (byte_range 128 191) none))) (more (cat (more (byte_range 237 237) (more (byte_range 128 159) none))) none)))) (more (byte_range 128 191) none))
+lowered_before_surrogates = refl

@@ -1,15 +1,18 @@
 -- The equations of `tree_of`, one for each variant.
 use Rattle.std.proofs.Common.{◌≡◌, ℕ, Bool, List, Option, Vec, Box, Global, sym, ap, ◌∙◌}
-use Rattle.cs_syntax.specs.Matching.{Tree, empty, one_of, cat, alt, rep, line_start, line_end, word_edge, not_word_edge}
+use Rattle.cs_syntax.specs.Matching.{Tree, empty, one_of, one_char, cat, alt, rep, line_start, line_end, word_edge, not_word_edge}
 use Rattle.cs_syntax.specs.Node.{tree_of, tree_step, trees_of}
 use Rattle.cs_syntax.specs.declared.node.Node.{Node, Node-F, fold-roll-Node}
-use Rattle.cs_syntax.specs.declared.node.Node.TheVariants.{Empty, Set, Cat, Alt, Rep, LineStart, LineEnd, WordEdge, NotWordEdge, rolls-Empty, rolls-Set, rolls-Cat, rolls-Alt, rolls-Rep, rolls-LineStart, rolls-LineEnd, rolls-WordEdge, rolls-NotWordEdge}
+use Rattle.cs_syntax.specs.declared.node.Node.TheVariants.{Empty, Set, Chars, Cat, Alt, Rep, LineStart, LineEnd, WordEdge, NotWordEdge, rolls-Empty, rolls-Set, rolls-Chars, rolls-Cat, rolls-Alt, rolls-Rep, rolls-LineStart, rolls-LineEnd, rolls-WordEdge, rolls-NotWordEdge}
 
 pub tree_of-Empty : tree_of Empty ≡ empty
 tree_of-Empty = ap tree_of (sym rolls-Empty) ∙ fold-roll-Node Tree tree_step Node-F.Empty
 
 pub tree_of-Set : (set : List Bool) → tree_of (Set set) ≡ one_of set
 tree_of-Set set = ap tree_of (sym (rolls-Set set)) ∙ fold-roll-Node Tree tree_step (Node-F.Set set)
+
+pub tree_of-Chars : (runs : List (ℕ × ℕ)) → tree_of (Chars runs) ≡ one_char runs
+tree_of-Chars runs = ap tree_of (sym (rolls-Chars runs)) ∙ fold-roll-Node Tree tree_step (Node-F.Chars runs)
 
 pub tree_of-Cat : (parts : Vec Node Global) → tree_of (Cat parts) ≡ cat (trees_of parts.items)
 tree_of-Cat parts = ap tree_of (sym (rolls-Cat parts)) ∙ fold-roll-Node Tree tree_step (Node-F.Cat parts)
@@ -32,4 +35,4 @@ tree_of-WordEdge = ap tree_of (sym rolls-WordEdge) ∙ fold-roll-Node Tree tree_
 pub tree_of-NotWordEdge : tree_of NotWordEdge ≡ not_word_edge
 tree_of-NotWordEdge = ap tree_of (sym rolls-NotWordEdge) ∙ fold-roll-Node Tree tree_step Node-F.NotWordEdge
 
-pub ruleset tree_rules = (tree_of-Empty, tree_of-Set, tree_of-Cat, tree_of-Alt, tree_of-Rep, tree_of-LineStart, tree_of-LineEnd, tree_of-WordEdge, tree_of-NotWordEdge)
+pub ruleset tree_rules = (tree_of-Empty, tree_of-Set, tree_of-Chars, tree_of-Cat, tree_of-Alt, tree_of-Rep, tree_of-LineStart, tree_of-LineEnd, tree_of-WordEdge, tree_of-NotWordEdge)

@@ -1,10 +1,12 @@
 -- Lists of nodes as trees.
-use Rattle.std.proofs.Common.{◌≡◌, ℕ, suc, ◌+◌, ◌<◌, ◌≤◌, List, [], ◌∷◌, ◌++◌, drop, length, get_or, refl, sym, ◌∙◌, ap, arith, drop-cons}
-use Rattle.cs_syntax.specs.Matching.{cat, alt, more, none}
+use Rattle.std.proofs.Common.{Bool, true, false, true≢false, ◌≡◌, ℕ, suc, ◌+◌, ◌<◌, ◌≤◌, List, [], ◌∷◌, ◌++◌, drop, length, get_or, refl, sym, ◌∙◌, ap, arith, drop-cons}
+use Rattle.cs_syntax.specs.Matching.{Trees, cat, alt, more, none}
 use Rattle.cs_syntax.specs.Fronts.{sequence}
 use Rattle.cs_syntax.specs.Node.{tree_of, trees_of}
 use Rattle.cs_syntax.specs.PartialGroups.{choice_after}
-use Rattle.cs_syntax.specs.TreeList.{with_last}
+use Rattle.cs_syntax.specs.TreeList.{append, with_last, any_of}
+use Rattle.std.specs.Prelude.{if◌then◌else◌}
+use Rattle.cs_syntax.proofs.TreeListLemmas.{append_none}
 use Rattle.cs_syntax.specs.declared.node.Node.{Node}
 
 pub trees_last : (xs : List Node) (x : Node) → trees_of (xs ++ x ∷ []) ≡ with_last (trees_of xs) (tree_of x)
@@ -26,3 +28,17 @@ several (x ∷ y ∷ xs) h = refl
 pub branches_last : (xs : List Node) (x : Node) → 0 < length xs → choice_after (trees_of xs) (tree_of x) none ≡ alt (trees_of (xs ++ x ∷ []))
 branches_last [] x h = absurd (omega arith)
 branches_last (y ∷ xs) x h = ap alt (ap (more (tree_of y)) (sym (trees_last xs x)))
+
+pub not_one : (xs : List Node) → (length xs ≡ 1 → ⊥) → alt (trees_of xs) ≡ any_of (trees_of xs)
+not_one [] h = refl
+not_one (x ∷ []) h = absurd (h refl)
+not_one (x ∷ y ∷ xs) h = refl
+
+-- a list of trees behind others, by its last node
+pub pushed_tree : (old new : List Node) (x : Node) → new ≡ old ++ x ∷ [] → trees_of new ≡ append (trees_of old) (more (tree_of x) none)
+pushed_tree old new x e = ap trees_of e ∙ trees_last old x
+
+-- trees that are put behind others only where a test says so
+pub chosen_trees : (b : Bool) (old : List Node) (new : Trees) → b ≡ false → trees_of old ≡ append (trees_of old) (if b then new else none)
+chosen_trees true old new e = absurd (true≢false e)
+chosen_trees false old new e = sym (append_none (trees_of old))

@@ -1,11 +1,12 @@
 -- Weights are positive, and many rounds are heavy.
 use Rattle.std.proofs.Common.{ℕ, ◌+◌, ◌*◌, ◌<◌, ◌≤◌, arith}
-use Rattle.cs_syntax.specs.Matching.{Tree, empty, one_of, cat, alt, rep, line_start, line_end, word_edge, not_word_edge}
+use Rattle.cs_syntax.specs.Matching.{Tree, empty, one_of, one_char, cat, alt, rep, line_start, line_end, word_edge, not_word_edge}
 use Rattle.cs_syntax.specs.Weight.{most_weight, weight}
 
 pub weight_pos : (t : Tree) → 1 ≤ weight t
 weight_pos empty = omega arith
 weight_pos (one_of set) = omega arith
+weight_pos (one_char runs) = omega arith
 weight_pos (cat ts) = omega arith
 weight_pos (alt ts) = omega arith
 weight_pos (rep x n m) = omega arith

@@ -1,10 +1,11 @@
 -- Escapes: what a backslash makes of what follows it.
 -- docs/PATTERNS.md, "Escapes"; the RE2 syntax page, "Escape sequences".
-use Rattle.std.specs.Prelude.{ℕ, ◌+◌, Bool, true, false, ◌&&◌, ◌||◌, not, min, List, [], ◌∷◌, Option, Some, None, nat_lt, nat_le, nat_eq, take, drop, if◌then◌else◌}
+use Rattle.std.specs.Prelude.{ℕ, ◌+◌, Bool, true, false, ◌&&◌, ◌||◌, not, min, List, [], ◌∷◌, Option, Some, None, nat_lt, nat_eq, take, drop, if◌then◌else◌}
 use Rattle.std.specs.Option.{option_map}
 use Rattle.cs_syntax.specs.Matching.{Tree, one_of, word_edge, not_word_edge}
 use Rattle.cs_syntax.specs.ByteSet.{set_of, is_letter, dot_set}
 use Rattle.cs_syntax.specs.ClassSets.{is_in_item}
+use Rattle.cs_syntax.specs.Characters.{is_scalar}
 use Rattle.cs_syntax.specs.Numbers.{is_digit, count_digits, value_in}
 use Rattle.cs_syntax.specs.Fronts.{Front, item, fault, unit, is_front, char_tree}
 use Rattle.cs_syntax.specs.declared.class_item.NamedClass.TheVariants.{Digit, White, Word}
@@ -12,10 +13,6 @@ use Rattle.cs_syntax.specs.declared.class_item.ClassItem.{ClassItem}
 use Rattle.cs_syntax.specs.declared.class_item.ClassItem.TheVariants.{Named}
 use Rattle.cs_syntax.specs.declared.escapes.EscapedChar.{EscapedChar}
 use Rattle.cs_syntax.specs.declared.fault.PatternFault.TheVariants.{BadEscape, LoneBackslash, NotInProfile}
-
--- the number is that of a character: at most 10ffff, and not from d800 to dfff
-abbrev pub is_scalar : ℕ → Bool
-is_scalar c = nat_lt c 55296 || (nat_le 57344 c && nat_le c 1114111)
 
 -- a character by its number, in so many bytes behind the backslash
 abbrev pub char_by_number : ℕ → ℕ → Option EscapedChar

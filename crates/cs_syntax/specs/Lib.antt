@@ -1,10 +1,12 @@
 -- What public contracts rest on: what a tree takes, and what a text reads as.
 pub mod Ranges
+pub mod Characters
 pub mod Matching
 pub mod TreeList
 pub mod ByteSet
 pub mod Members
 pub mod ClassSets
+pub mod Lowering
 pub mod Node
 pub mod Weight
 pub mod Numbers
@@ -22,6 +24,8 @@ pub mod Levels
 pub mod Written
 pub mod Choices
 -- What functions inside promise each other.
+pub mod CharPlaces
+pub mod Widths
 pub mod TreeCode
 pub mod ItemViews
 pub mod ClassState

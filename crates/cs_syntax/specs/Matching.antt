@@ -2,11 +2,14 @@
 -- docs/PATTERNS.md, "Lines and matching"; the RE2 syntax page.
 use Rattle.std.specs.Prelude.{ℕ, zero, suc, ◌≡◌, ◌-◌, ◌<◌, ◌≤◌, ◌⊎◌, ◌&&◌, not, Bool, true, false, List, length, slice_index, slice_index_or, nat_le, nat_lt, Option, Some, None}
 use Rattle.cs_syntax.specs.Ranges.{is_in_ranges, word_ranges}
+use Rattle.cs_syntax.specs.Characters.{TakesChar}
 
 mutual
   pub data Tree : Type 0 where
     empty : Tree
     one_of : List Bool → Tree
+    -- a character of some runs
+    one_char : List (ℕ × ℕ) → Tree
     cat : Trees → Tree
     alt : Trees → Tree
     -- a chain of at least n parts, and at most m where it is given
@@ -60,6 +63,7 @@ abbrev mutual
   pub Takes : List ℕ → Tree → ℕ → ℕ → Type 0
   Takes s empty i j = i ≡ j
   Takes s (one_of set) i j = (i < length s) × (member set (slice_index s i) ≡ true) × (j ≡ suc i)
+  Takes s (one_char runs) i j = TakesChar s runs i j
   Takes s (cat ts) i j = TakesAll s ts i j
   Takes s (alt ts) i j = TakesSome s ts i j
   Takes s (rep x n m) i j = (k : ℕ) × (n ≤ k) × IsAtMost k m × Chain (Takes s x) k i j

@@ -1,6 +1,6 @@
 -- The tree that a node stands for: a `Vec` is the list of its items.
 use Rattle.std.specs.Prelude.{List, [], ◌∷◌, map}
-use Rattle.cs_syntax.specs.Matching.{Tree, Trees, empty, one_of, cat, alt, rep, line_start, line_end, word_edge, not_word_edge, none, more}
+use Rattle.cs_syntax.specs.Matching.{Tree, Trees, empty, one_of, one_char, cat, alt, rep, line_start, line_end, word_edge, not_word_edge, none, more}
 use Rattle.cs_syntax.specs.declared.node.Node.{Node}
 use Rattle.cs_syntax.specs.declared.node.Node.TheOpen.{Node-F}
 use Rattle.cs_syntax.specs.declared.node.Node.TheFolds.{fold-Node}
@@ -14,6 +14,7 @@ trees (t ∷ ts) = more t (trees ts)
 abbrev pub tree_step : Node-F Tree → Tree
 tree_step Node-F.Empty = empty
 tree_step (Node-F.Set set) = one_of set
+tree_step (Node-F.Chars runs) = one_char runs
 tree_step (Node-F.Cat parts) = cat (trees parts.items)
 tree_step (Node-F.Alt parts) = alt (trees parts.items)
 tree_step (Node-F.Rep x n m) = rep x.value n m

@@ -1,10 +1,10 @@
 -- Groups that are read in part, each with what it has so far.
 use Rattle.std.specs.Prelude.{ℕ, List, [], ◌∷◌, Option}
 use Rattle.cs_syntax.specs.Matching.{Tree, Trees, alt, rep, none, more}
-use Rattle.cs_syntax.specs.TreeList.{append, with_last}
+use Rattle.cs_syntax.specs.TreeList.{choice, append, with_last}
 use Rattle.cs_syntax.specs.declared.fault.PatternFault.TheVariants.{OpenGroup}
 use Rattle.cs_syntax.specs.Fronts.{sequence}
-use Rattle.cs_syntax.specs.Reading.{choice, Level, with_unit, Rest, levels, broken, Reading, tree, refused}
+use Rattle.cs_syntax.specs.Reading.{Level, with_unit, Rest, levels, broken, Reading, tree, refused}
 
 -- the branches of a group that are done, and the units of the one that is not
 pub record PartialGroup : Type 0 where

@@ -1,7 +1,8 @@
 -- What a pattern's text reads as: one tree, or the first fault.
 -- docs/PATTERNS.md, "Patterns" and "Faults".
 use Rattle.std.specs.Prelude.{ℕ, zero, suc, ◌+◌, ◌≡◌, Bool, false, List, [], ◌∷◌, length, Option, nat_eq, if◌then◌else◌}
-use Rattle.cs_syntax.specs.Matching.{Tree, Trees, alt, rep, none, more}
+use Rattle.cs_syntax.specs.Matching.{Tree, Trees, rep, none, more}
+use Rattle.cs_syntax.specs.TreeList.{choice}
 use Rattle.cs_syntax.specs.Fronts.{sequence, unit, repeat, bar, group_start, group_end, flags_from_here, item, fault}
 use Rattle.cs_syntax.specs.Items.{front}
 use Rattle.cs_syntax.specs.declared.flags.Flags.{Flags}
@@ -21,11 +22,6 @@ pub record Level : Type 0 where
 -- nothing stands up to the end
 abbrev pub empty_level : Level
 empty_level = record { units = none; branches = none; repeats = [] }
-
--- one branch is itself, more are a choice
-abbrev pub choice : Tree → Trees → Tree
-choice t none = t
-choice t (more u us) = alt (more t (more u us))
 
 -- the whole group
 abbrev pub whole_group : Level → Tree

@@ -2,23 +2,24 @@
 use Rattle.std.specs.Prelude.{ℕ, zero, suc, ◌≡◌, ◌⊎◌, Bool, List, [], ◌∷◌, Option, refl}
 use Rattle.std.proofs.Common.{ap, ◌∙◌, inl, inr}
 use Rattle.std.specs.Coded.{Coded, code_by, coded_ℕ, coded_bool, coded_list, coded_option, coded×, coded⊎}
-use Rattle.cs_syntax.specs.Matching.{Tree, Trees, empty, one_of, cat, alt, rep, line_start, line_end, word_edge, not_word_edge, none, more}
+use Rattle.cs_syntax.specs.Matching.{Tree, Trees, empty, one_of, one_char, cat, alt, rep, line_start, line_end, word_edge, not_word_edge, none, more}
 
--- a set; the counts of a repeat; or one of the eight other symbols, by its number
+-- a set of bytes; one of characters; the counts of a repeat; or one of the eight other symbols, by its number
 abbrev pub Symbol : Type 0
-Symbol = List Bool ⊎ ((ℕ × Option ℕ) ⊎ ℕ)
+Symbol = List Bool ⊎ (List (ℕ × ℕ) ⊎ ((ℕ × Option ℕ) ⊎ ℕ))
 
 abbrev pub symbol : ℕ → Symbol
-symbol k = inr (inr k)
+symbol k = inr (inr (inr k))
 
 -- the symbols of a tree, before those of what follows it
 abbrev mutual
   pub symbols : Tree → List Symbol → List Symbol
   symbols empty after = symbol 3 ∷ after
   symbols (one_of set) after = inl set ∷ after
+  symbols (one_char runs) after = inr (inl runs) ∷ after
   symbols (cat ts) after = symbol 1 ∷ all_symbols ts (symbol 0 ∷ after)
   symbols (alt ts) after = symbol 2 ∷ all_symbols ts (symbol 0 ∷ after)
-  symbols (rep x n m) after = inr (inl (n, m)) ∷ symbols x after
+  symbols (rep x n m) after = inr (inr (inl (n, m))) ∷ symbols x after
   symbols line_start after = symbol 4 ∷ after
   symbols line_end after = symbol 5 ∷ after
   symbols word_edge after = symbol 6 ∷ after
@@ -61,8 +62,9 @@ by_symbol (suc (suc (suc (suc (suc (suc (suc k))))))) lists = put not_word_edge 
 abbrev pub tree_lists : List Symbol → List Trees
 tree_lists [] = none ∷ []
 tree_lists (inl set ∷ after) = put (one_of set) (tree_lists after)
-tree_lists (inr (inl r) ∷ after) = repeat_first r.0 r.1 (tree_lists after)
-tree_lists (inr (inr k) ∷ after) = by_symbol k (tree_lists after)
+tree_lists (inr (inl runs) ∷ after) = put (one_char runs) (tree_lists after)
+tree_lists (inr (inr (inl r)) ∷ after) = repeat_first r.0 r.1 (tree_lists after)
+tree_lists (inr (inr (inr k)) ∷ after) = by_symbol k (tree_lists after)
 
 abbrev pub first_tree : List Trees → Tree
 first_tree [] = empty
@@ -85,6 +87,7 @@ mutual
   pub tree_lists-symbols : (t : Tree) (after : List Symbol) → tree_lists (symbols t after) ≡ put t (tree_lists after)
   tree_lists-symbols empty after = refl
   tree_lists-symbols (one_of set) after = refl
+  tree_lists-symbols (one_char runs) after = refl
   tree_lists-symbols (cat ts) after = ap (gather cat) (tree_lists-all_symbols ts (symbol 0 ∷ after)) ∙ gather-all cat ts (tree_lists after)
   tree_lists-symbols (alt ts) after = ap (gather alt) (tree_lists-all_symbols ts (symbol 0 ∷ after)) ∙ gather-all alt ts (tree_lists after)
   tree_lists-symbols (rep x n m) after = ap (repeat_first n m) (tree_lists-symbols x after) ∙ put-repeat x n m (tree_lists after)
@@ -99,5 +102,5 @@ mutual
 
 abbrev pub tree_code : Coded Tree
 tree_code =
-    code_by (List Symbol) (coded_list (coded⊎ (coded_list coded_bool) (coded⊎ (coded× coded_ℕ (coded_option coded_ℕ)) coded_ℕ)))
+    code_by (List Symbol) (coded_list (coded⊎ (coded_list coded_bool) (coded⊎ (coded_list (coded× coded_ℕ coded_ℕ)) (coded⊎ (coded× coded_ℕ (coded_option coded_ℕ)) coded_ℕ))))
     (λ t. symbols t []) (λ ms. first_tree (tree_lists ms)) (λ t. ap first_tree (tree_lists-symbols t []))

@@ -1,7 +1,7 @@
 -- The weight of a tree, which has a limit in a pattern.
 -- docs/PATTERNS.md, "Weight".
-use Rattle.std.specs.Prelude.{ℕ, ◌+◌, ◌*◌, max, Option, Some, None}
-use Rattle.cs_syntax.specs.Matching.{Tree, Trees, empty, one_of, cat, alt, rep, line_start, line_end, word_edge, not_word_edge, none, more}
+use Rattle.std.specs.Prelude.{ℕ, ◌+◌, ◌*◌, max, length, Option, Some, None}
+use Rattle.cs_syntax.specs.Matching.{Tree, Trees, empty, one_of, one_char, cat, alt, rep, line_start, line_end, word_edge, not_word_edge, none, more}
 
 -- the largest weight of a pattern
 abbrev pub most_weight : ℕ
@@ -12,11 +12,12 @@ abbrev pub times : ℕ → Option ℕ → ℕ
 times n None = max n 1
 times n (Some m) = max m 1
 
--- a repeat weighs as often as it may come
+-- a repeat weighs as often as it may come; a set of characters as much as it has runs, and 1 without any
 abbrev mutual
   pub weight : Tree → ℕ
   weight empty = 1
   weight (one_of set) = 1
+  weight (one_char runs) = max (length runs) 1
   weight (cat ts) = 1 + weights ts
   weight (alt ts) = 1 + weights ts
   weight (rep x n m) = 1 + times n m * weight x

@@ -1,11 +1,12 @@
 // Sets of bytes.
-ghost use Rattle.std.specs.Prelude.{⊤, ◌≡◌, ◌<◌, ◌||◌, ℕ, List, Bool, false, not, Option, IfSome, IfNone, length};
+ghost use Rattle.std.specs.Prelude.{⊤, ◌≡◌, ◌<◌, ◌||◌, ◌&&◌, ◌∷◌, [], nat_lt, ℕ, List, Bool, false, not, Option, IfSome, IfNone, length};
 ghost use Rattle.cs_syntax.specs.Members.{count, IsOnly};
 ghost use Rattle.cs_syntax.specs.Matching.{member};
 ghost use Rattle.cs_syntax.specs.ByteSet.{set_of, is_letter, other_case, is_in_folded, char_set, is_in_dot, dot_set};
 ghost use Rattle.cs_syntax.specs.Ranges.{is_in_ranges};
 ghost use Rattle.cs_syntax.specs.ClassSets.{ranges_of, is_in_item};
 
+use crate::char_set::is_in_runs;
 use crate::class_item::{ClassItem, NamedClass};
 use std::marker::Model;
 
@@ -116,6 +117,28 @@ impl ByteSet {
         let mut set = ByteSet::empty();
         set.add(fold, ClassItem::Range(char, char));
         set
+    }
+
+    /// The bytes from one to another.
+    pub(crate) fn of_range(low: u8, high: u8) -> ByteSet
+        ensures { result ≡ set_of (is_in_ranges ((low, high) ∷ [])) }
+    {
+        let mut members = [false; 256];
+        for (b, m) in members.iter_mut().enumerate() {
+            *m = is_in_ranges(&[(low, high)], b);
+        }
+        ByteSet { members }
+    }
+
+    /// The ASCII characters of some runs.
+    pub(crate) fn of_ascii(runs: &[(u32, u32)]) -> ByteSet
+        ensures { result ≡ set_of (λ b. nat_lt b 128 && is_in_ranges runs.now b) }
+    {
+        let mut members = [false; 256];
+        for (b, m) in members.iter_mut().enumerate() {
+            *m = b < 128 && is_in_runs(runs, b as u32);
+        }
+        ByteSet { members }
     }
 
     /// All bytes, or all but the newline.

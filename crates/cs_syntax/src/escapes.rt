@@ -4,7 +4,8 @@ ghost use Rattle.cs_syntax.specs.ByteSet.{is_letter};
 ghost use Rattle.std.specs.Option.{option_map};
 ghost use Rattle.cs_syntax.specs.Fronts.{char_tree};
 ghost use Rattle.cs_syntax.specs.ItemViews.{IsWithin, front_view, unit_tree};
-ghost use Rattle.cs_syntax.specs.Escapes.{is_scalar, char_by_number, octal_char, hex_char_in_braces, hex_char, control_char, escaped_char, escaped_class, is_left_out, escaped_tree, char_front, escape};
+ghost use Rattle.cs_syntax.specs.Characters.{is_scalar};
+ghost use Rattle.cs_syntax.specs.Escapes.{char_by_number, octal_char, hex_char_in_braces, hex_char, control_char, escaped_char, escaped_class, is_left_out, escaped_tree, char_front, escape};
 
 use crate::byte_set::{ByteSet, is_letter};
 use crate::class_item::{ClassItem, NamedClass};

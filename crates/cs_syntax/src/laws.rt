@@ -1,9 +1,11 @@
 // Laws of the definitions.
-ghost use Rattle.std.specs.Prelude.{◌≡◌, ◌≢◌, ◌<◌, ◌≤◌, ◌^◌, [], ◌∷◌, ◌++◌, ℕ, Bool, List, Some, IsUtf8};
+ghost use Rattle.std.specs.Prelude.{◌↔◌, ◌≡◌, ◌≢◌, ◌<◌, ◌≤◌, ◌^◌, [], ◌∷◌, ◌++◌, ℕ, Bool, List, Some, IsUtf8};
 ghost use Rattle.std.specs.Str.{chars};
+ghost use Rattle.cs_syntax.specs.Characters.{has_char, AreRuns, TakesChar};
 ghost use Rattle.cs_syntax.specs.Decided.{IsDecided};
 ghost use Rattle.cs_syntax.specs.Levels.{HasLevels};
-ghost use Rattle.cs_syntax.specs.Matching.{Tree, one_of, rep};
+ghost use Rattle.cs_syntax.specs.Lowering.{lowered};
+ghost use Rattle.cs_syntax.specs.Matching.{Tree, Takes, one_of, rep};
 ghost use Rattle.cs_syntax.specs.Choices.{StandsApart, TakesEither};
 ghost use Rattle.cs_syntax.specs.ByteSet.{char_set};
 ghost use Rattle.cs_syntax.specs.Signs.{sign_of};
@@ -63,4 +65,16 @@ pub fn bars_read_as_choices()
     ensures { (s t : List ℕ) (fold : Bool) (x y : Tree) → StandsApart fold s
         → Reads s fold x → Reads t fold y
         → (z : Tree) × Reads (s ++ 124 ∷ t) fold z × TakesEither z x y }
+{}
+
+/// Sets of characters with the same members have the same maximal runs.
+pub fn runs_are_told_by_their_characters()
+    ensures { (xs ys : List (ℕ × ℕ)) → AreRuns xs → AreRuns ys
+        → ((c : ℕ) → has_char xs c ≡ has_char ys c) → xs ≡ ys }
+{}
+
+/// A lowered set takes the UTF-8 forms of its members and nothing else.
+pub fn lowering_keeps_what_is_taken()
+    ensures { (line : List ℕ) (runs : List (ℕ × ℕ)) (i j : ℕ)
+        → Takes line (lowered runs) i j ↔ TakesChar line runs i j }
 {}

@@ -4,6 +4,7 @@
 
 mod before;
 mod byte_set;
+mod char_set;
 mod class_chars;
 mod class_fronts;
 mod class_item;
@@ -17,6 +18,7 @@ mod groups;
 mod item;
 mod items;
 pub mod laws;
+mod lowering;
 mod node;
 mod numbers;
 mod parser;
@@ -27,7 +29,9 @@ mod units;
 mod weight;
 
 pub use byte_set::ByteSet;
+pub use char_set::CharSet;
 pub use fault::{PatternError, PatternFault};
+pub use lowering::lower;
 pub use node::Node;
 pub use parser::parse;
 pub use pattern::Pattern;

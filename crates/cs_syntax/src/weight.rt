@@ -1,5 +1,5 @@
 // Weights of trees.
-ghost use Rattle.std.specs.Prelude.{◌≡◌, ◌+◌, ◌*◌, ◌<◌, ◌≤◌, MatchOption};
+ghost use Rattle.std.specs.Prelude.{◌≡◌, ◌+◌, ◌*◌, ◌<◌, ◌≤◌, max, length, MatchOption};
 ghost use Rattle.cs_syntax.specs.Node.{tree_of, trees_of};
 ghost use Rattle.cs_syntax.specs.Weight.{most_weight, weight, weights, times};
 
@@ -27,6 +27,7 @@ pub(crate) fn weigh(node: &Node) -> Option<u32>
             }
             one_more(count * once)
         }
+        Node::Chars(set) => weigh_runs(set.runs()),
         Node::Empty
         | Node::Set(_)
         | Node::LineStart
@@ -49,6 +50,18 @@ fn weigh_all(parts: &[Node]) -> Option<u32>
         }
     }
     Some(sum)
+}
+
+/// The weight of a set of characters.
+fn weigh_runs(runs: &[(u32, u32)]) -> Option<u32>
+    ensures { MatchOption result (most_weight < max (length runs.now) 1)
+        (λ w. (w ≡ max (length runs.now) 1) × (w ≤ most_weight)) }
+{
+    let count = runs.len().max(1);
+    if count > MOST_WEIGHT as usize {
+        return None;
+    }
+    Some(count as u32)
 }
 
 /// The weight of a tree whose parts weigh so much.

@@ -4,7 +4,7 @@ use Rattle.std.proofs.Math.Seq.{take-length}
 use Rattle.std.specs.Prelude.{Option}
 use Rattle.std.specs.List.{list_all}
 use Rattle.std.proofs.lemmas.List.{append-nil, take-append-drop}
-use Rattle.cs_syntax.specs.Matching.{Tree, Trees, empty, one_of, cat, alt, rep, line_start, line_end, word_edge, not_word_edge, none, more, Chain, Takes, TakesAll, TakesSome}
+use Rattle.cs_syntax.specs.Matching.{Tree, Trees, empty, one_of, one_char, cat, alt, rep, line_start, line_end, word_edge, not_word_edge, none, more, Chain, Takes, TakesAll, TakesSome}
 use Rattle.cs_trigram.specs.Affixes.{part, laid, near_part, Fits, FitsSome, AreAffixes, AreAffixesOfAll}
 use Rattle.cs_trigram.specs.ShortWord.{bytes_of}
 use Rattle.cs_trigram.specs.declared.affixes.Side.{Side}
@@ -119,6 +119,7 @@ module _ (s : List ℕ) where
     pub rises : (t : Tree) (i j : ℕ) → Takes s t i j → i ≤ j
     rises empty i j h = omega (arith, h)
     rises (one_of set) i j h = omega (arith, h.2)
+    rises (one_char runs) i j h = omega (arith, h.2.0)
     rises (cat ts) i j h = rises_all ts i j h
     rises (alt ts) i j h = rises_some ts i j h
     rises (rep x n m) i j h = chain_rises (Takes s x) (λ a b k. rises x a b k) h.0 i j h.3

@@ -16,6 +16,7 @@ pub mod LawLemmas
 mod MemberLemmas
 mod NodeLemmas
 mod SampleLemmas
+mod CharWordLemmas
 mod RoundLemmas
 mod PlainTreeLemmas
 mod FewLemmas

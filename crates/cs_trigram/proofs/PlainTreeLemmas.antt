@@ -1,7 +1,7 @@
 -- A plain tree is finite, and its words are those that it spells.
 use Rattle.std.proofs.Common.{◌≡◌, ℕ, inl, inr, true, List, refl, arith}
 use Rattle.std.proofs.lemmas.Bool.{and_parts, and_from}
-use Rattle.cs_syntax.specs.Matching.{Tree, Trees, empty, one_of, cat, alt, rep, line_start, line_end, word_edge, not_word_edge, none, more}
+use Rattle.cs_syntax.specs.Matching.{Tree, Trees, empty, one_of, one_char, cat, alt, rep, line_start, line_end, word_edge, not_word_edge, none, more}
 use Rattle.cs_trigram.specs.Windows.{is_plain, are_plain, Spells, Joins, SomeSpells, IsRun}
 use Rattle.cs_trigram.specs.FiniteWords.{is_finite, are_finite, HasWord, JoinWords, SomeHasWord, HaveFewWords}
 
@@ -9,6 +9,7 @@ mutual
   plain_finite : (t : Tree) → is_plain t ≡ true → is_finite t ≡ true
   plain_finite empty p = refl
   plain_finite (one_of set) p = refl
+  plain_finite (one_char runs) p = (cc)
   plain_finite (cat ts) p = all_finite ts p
   plain_finite (alt ts) p = all_finite ts p
   plain_finite (rep x n m) p = (cc)
@@ -27,6 +28,7 @@ mutual
   spells_has : (t : Tree) → is_plain t ≡ true → (w : List ℕ) → Spells t w → HasWord t w
   spells_has empty p w s = s
   spells_has (one_of set) p w s = s
+  spells_has (one_char runs) p w s = absurd s
   spells_has (cat ts) p w s = joins_has ts p w s
   spells_has (alt ts) p w s = some_has ts p w s
   spells_has (rep x n m) p w s = absurd s
@@ -51,6 +53,7 @@ mutual
   has_spells : (t : Tree) → is_plain t ≡ true → (w : List ℕ) → HasWord t w → Spells t w
   has_spells empty p w s = s
   has_spells (one_of set) p w s = s
+  has_spells (one_char runs) p w s = (cc)
   has_spells (cat ts) p w s = has_joins ts p w s
   has_spells (alt ts) p w s = has_some ts p w s
   has_spells (rep x n m) p w s = (cc)

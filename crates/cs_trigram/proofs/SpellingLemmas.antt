@@ -5,7 +5,7 @@ use Rattle.std.specs.Prelude.{slice_index, nat_le, Some, None}
 use Rattle.std.proofs.Math.Seq.{take-add}
 use Rattle.std.proofs.lemmas.Bool.{and_parts}
 use Rattle.std.proofs.lemmas.List.{drop-drop}
-use Rattle.cs_syntax.specs.Matching.{Tree, Trees, empty, one_of, cat, alt, rep, line_start, line_end, word_edge, not_word_edge, none, more, Chain, Takes, TakesAll, TakesSome}
+use Rattle.cs_syntax.specs.Matching.{Tree, Trees, empty, one_of, one_char, cat, alt, rep, line_start, line_end, word_edge, not_word_edge, none, more, Chain, Takes, TakesAll, TakesSome}
 use Rattle.cs_trigram.specs.Query.{HasTrigrams}
 use Rattle.cs_trigram.specs.Affixes.{part}
 use Rattle.cs_trigram.specs.Windows.{ShowsRuns, HasWindows, AllHaveWindows, SomeHasWindows}
@@ -54,6 +54,7 @@ module _ (s : List ℕ) where
     spelled (one_of set) i j p h =
         let long : i ≤ j = omega (arith, h.2) in
         (long, (slice_index s i, h.1, ap (part s i) h.2 ∙ part_one s i h.0))
+    spelled (one_char runs) i j p h = (omega (arith, h.2.0), (h.0, h.1, h.2.1))
     spelled (cat ts) i j p h = spelled_all ts i j p h
     spelled (alt ts) i j p h = spelled_some ts i j p h
     spelled (rep x n None) i j p h = (cc)
@@ -102,6 +103,7 @@ module _ (set : ℕ → Bool) where
     pub spelled_windows : (t : Tree) (w : List ℕ) → HasWord t w → HasTrigrams set w → HasWindows set t
     spelled_windows empty w s h = tt
     spelled_windows (one_of bytes) w s h = tt
+    spelled_windows (one_char runs) w s h = tt
     spelled_windows (cat ts) w s h = (runs_shown ts w s h, joined_windows ts w s h)
     spelled_windows (alt ts) w s h = some_windows ts w s h
     spelled_windows (rep x n None) w s h = absurd s

@@ -1,7 +1,7 @@
 -- The trigrams of a line in which a tree finds something have the windows of the tree.
 use Rattle.std.proofs.Common.{ℕ, zero, suc, ◌-◌, ◌≤◌, inl, inr, Bool, List, refl, subst, arith}
 use Rattle.cs_syntax.specs.TreeList.{append}
-use Rattle.cs_syntax.specs.Matching.{Tree, Trees, empty, one_of, cat, alt, rep, line_start, line_end, word_edge, not_word_edge, none, more, Chain, Takes, TakesAll, TakesSome}
+use Rattle.cs_syntax.specs.Matching.{Tree, Trees, empty, one_of, one_char, cat, alt, rep, line_start, line_end, word_edge, not_word_edge, none, more, Chain, Takes, TakesAll, TakesSome}
 use Rattle.cs_trigram.specs.Query.{HasTrigrams}
 use Rattle.cs_trigram.specs.Affixes.{part}
 use Rattle.cs_trigram.specs.Windows.{ShowsRuns, HasWindows, AllHaveWindows, SomeHasWindows}
@@ -32,6 +32,7 @@ module _ (s : List ℕ) (set : ℕ → Bool) (known : HasTrigrams set s) where
     pub taken_windows : (t : Tree) (i j : ℕ) → Takes s t i j → HasWindows set t
     taken_windows empty i j h = tt
     taken_windows (one_of bytes) i j h = tt
+    taken_windows (one_char runs) i j h = tt
     taken_windows (cat ts) i j h = (runs_taken ts i j h, all_windows ts i j h)
     taken_windows (alt ts) i j h = branch_windows ts i j h
     taken_windows (rep x zero m) i j h = tt

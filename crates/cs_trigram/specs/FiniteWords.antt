@@ -1,7 +1,8 @@
 -- The words of a finite tree, which are all texts that it takes, wherever they stand.
 -- docs/PATTERNS.md, "Queries".
-use Rattle.std.specs.Prelude.{ℕ, zero, suc, ◌≡◌, ◌≤◌, ◌⊎◌, ◌&&◌, ◌++◌, ◌∷◌, [], Bool, true, false, List, length, nat_le, Some, None}
-use Rattle.cs_syntax.specs.Matching.{Tree, Trees, empty, one_of, cat, alt, rep, line_start, line_end, word_edge, not_word_edge, none, more, member}
+use Rattle.std.specs.Prelude.{ℕ, zero, suc, ◌≡◌, ◌≤◌, ◌⊎◌, ◌&&◌, ◌++◌, ◌∷◌, [], Bool, true, false, List, length, nat_le, Some, None, encode_utf8}
+use Rattle.cs_syntax.specs.Characters.{has_char}
+use Rattle.cs_syntax.specs.Matching.{Tree, Trees, empty, one_of, one_char, cat, alt, rep, line_start, line_end, word_edge, not_word_edge, none, more, member}
 use Rattle.cs_trigram.specs.Windows.{IsMember}
 
 -- each repeat in it has a most
@@ -9,6 +10,7 @@ abbrev mutual
   pub is_finite : Tree → Bool
   is_finite empty = true
   is_finite (one_of set) = true
+  is_finite (one_char runs) = true
   is_finite (cat ts) = are_finite ts
   is_finite (alt ts) = are_finite ts
   is_finite (rep x n None) = false
@@ -36,6 +38,7 @@ abbrev mutual
   pub HasWord : Tree → List ℕ → Type 0
   HasWord empty word = word ≡ []
   HasWord (one_of set) word = (b : ℕ) × (member set b ≡ true) × (word ≡ b ∷ [])
+  HasWord (one_char runs) word = (c : ℕ) × (has_char runs c ≡ true) × (word ≡ encode_utf8 c)
   HasWord (cat ts) word = JoinWords ts word
   HasWord (alt ts) word = SomeHasWord ts word
   HasWord (rep x n None) word = ⊥

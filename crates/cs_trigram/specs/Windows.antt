@@ -2,15 +2,16 @@
 -- docs/PATTERNS.md, "Queries".
 use Rattle.std.specs.Prelude.{ℕ, zero, suc, ◌≡◌, ◌≤◌, ◌⊎◌, ◌&&◌, ◌++◌, ◌∷◌, [], Bool, true, false, List, length, IsTrue}
 use Rattle.cs_syntax.specs.TreeList.{append}
-use Rattle.cs_syntax.specs.Matching.{Tree, Trees, empty, one_of, cat, alt, rep, line_start, line_end, word_edge, not_word_edge, none, more, member}
+use Rattle.cs_syntax.specs.Matching.{Tree, Trees, empty, one_of, one_char, cat, alt, rep, line_start, line_end, word_edge, not_word_edge, none, more, member}
 use Rattle.cs_trigram.specs.Query.{holds, HasTrigrams}
 use Rattle.cs_trigram.specs.declared.queries.Query.{Query}
 
--- each part is empty, a set, a sequence or a choice
+-- each part is empty, a set of bytes, a sequence or a choice
 abbrev mutual
   pub is_plain : Tree → Bool
   is_plain empty = true
   is_plain (one_of set) = true
+  is_plain (one_char runs) = false
   is_plain (cat ts) = are_plain ts
   is_plain (alt ts) = are_plain ts
   is_plain (rep x n m) = false
@@ -28,6 +29,7 @@ abbrev mutual
   pub Spells : Tree → List ℕ → Type 0
   Spells empty word = word ≡ []
   Spells (one_of set) word = (b : ℕ) × (member set b ≡ true) × (word ≡ b ∷ [])
+  Spells (one_char runs) word = ⊥
   Spells (cat ts) word = Joins ts word
   Spells (alt ts) word = SomeSpells ts word
   Spells (rep x n m) word = ⊥
@@ -70,6 +72,7 @@ abbrev mutual
   pub HasWindows : (ℕ → Bool) → Tree → Type 0
   HasWindows set empty = Unit {0}
   HasWindows set (one_of bytes) = Unit {0}
+  HasWindows set (one_char runs) = Unit {0}
   HasWindows set (cat ts) = ShowsRuns set ts × AllHaveWindows set ts
   HasWindows set (alt ts) = SomeHasWindows set ts
   HasWindows set (rep x zero m) = Unit {0}

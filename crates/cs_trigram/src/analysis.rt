@@ -12,7 +12,7 @@ use crate::counted::Counted;
 use crate::known::{Known, asked, known_of_rounds, known_of_words};
 use crate::queries::Query;
 use crate::sequence::Sequence;
-use crate::spelling::{no_bytes, words_of_set};
+use crate::spelling::{no_bytes, words_of_chars, words_of_set};
 use cs_syntax::{Node, Pattern};
 use std::alloc::{AllocError, Global};
 
@@ -41,6 +41,7 @@ fn known_of(alloc: Global, node: &Node) -> Result<Known, AllocError>
         Node::Alt(parts) => known_of_choice(alloc, parts),
         Node::Rep(x, least, most) => known_of_rounds(alloc, known_of(alloc, x)?, *least, *most),
         Node::Set(set) => known_of_words(alloc, Counted::of(words_of_set(alloc, set)?)),
+        Node::Chars(set) => known_of_words(alloc, Counted::of(words_of_chars(alloc, set)?)),
         Node::Empty | Node::LineStart | Node::LineEnd | Node::WordEdge | Node::NotWordEdge => {
             known_of_words(alloc, Counted::Few(no_bytes(alloc)?))
         }

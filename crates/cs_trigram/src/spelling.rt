@@ -1,13 +1,15 @@
 // The words of finite trees.
 ghost use Rattle.std.specs.Prelude.{◌≡◌, ◌≤◌, ◌+◌, [], ◌∷◌, IfOk, OnOk, Some, ℕ, true};
-ghost use Rattle.cs_syntax.specs.Matching.{Tree, one_of, rep};
+ghost use Rattle.cs_syntax.specs.Matching.{Tree, one_of, one_char, rep};
 ghost use Rattle.cs_trigram.specs.FiniteWords.{is_finite, HasWord};
-ghost use Rattle.cs_trigram.specs.Sample.{with_byte, IsSample};
+ghost use Rattle.cs_trigram.specs.Sample.{with_byte, with_words, IsSample};
+ghost use Rattle.cs_trigram.specs.CharWords.{run_forms, with_char};
+ghost use Rattle.cs_syntax.specs.Characters.{IsRun};
 ghost use Rattle.cs_trigram.specs.Counted.{Counts};
 
 use crate::counted::Counted;
 use crate::words::{FEW, Word, add_word};
-use cs_syntax::ByteSet;
+use cs_syntax::{ByteSet, CharSet};
 use std::alloc::{AllocError, Global};
 
 /// The word without bytes, alone.
@@ -40,6 +42,45 @@ pub(crate) fn words_of_set(alloc: Global, set: &ByteSet) -> Result<Vec<Word>, Al
             return Ok(words);
         }
         add_byte(alloc, set, byte as u8, &mut words)?;
+    }
+    Ok(words)
+}
+
+/// Adds the word of a character, where the number is that of one.
+fn add_char(alloc: Global, n: u32, words: &mut Vec<Word>) -> Result<(), AllocError>
+    ensures { OnOk result (words.new.items ≡ with_char words.old.items n) }
+{
+    let Some(char) = char::from_u32(n) else {
+        return Ok(());
+    };
+    let mut buffer = [0; 4];
+    let text = char.encode_utf8(&mut buffer);
+    let word = Word::of(alloc, text.as_bytes())?;
+    add_word(words, word)?;
+    Ok(())
+}
+
+/// Adds the words of the characters of a run, as long as there are few.
+fn add_run(alloc: Global, run: (u32, u32), words: &mut Vec<Word>) -> Result<(), AllocError>
+    requires { IsRun run }
+    ensures { OnOk result (words.new.items ≡ with_words words.old.items (run_forms run)) }
+{
+    for n in run.0..run.1 + 1 {
+        if words.len() > FEW {
+            return Ok(());
+        }
+        add_char(alloc, n, words)?;
+    }
+    Ok(())
+}
+
+/// The members of the set as words, up to one more than are few.
+pub(crate) fn words_of_chars(alloc: Global, set: &CharSet) -> Result<Vec<Word>, AllocError>
+    ensures { IfOk result (λ words. IsSample words.items (HasWord (one_char set.now))) }
+{
+    let mut words = Vec::new(alloc);
+    for run in set.runs() {
+        add_run(alloc, *run, &mut words)?;
     }
     Ok(words)
 }

@@ -77,6 +77,13 @@ impl Word {
         })
     }
 
+    /// The word of a text.
+    pub(crate) fn of(alloc: Global, text: &[u8]) -> Result<Word, AllocError>
+        ensures { IfOk result (λ word. word ≡ text.now) }
+    {
+        Word::of_both(alloc, text, &[])
+    }
+
     /// The word once more.
     pub(crate) fn copy(&self, alloc: Global) -> Result<Word, AllocError>
         ensures { IfOk result (λ word. word ≡ self.now) }

@@ -1,7 +1,7 @@
 // What is made of patterns: trees, programs, matchers and queries.
 use crate::refusals::{Came, at_most_one_is_refused};
 use cs_match::{Matcher, Program};
-use cs_syntax::{Pattern, PatternError, PatternFault, parse};
+use cs_syntax::{CharSet, Pattern, PatternError, PatternFault, lower, parse};
 use cs_trigram::{Query, query};
 use std::alloc::{AllocError, Global};
 use std::test::Fail;
@@ -27,6 +27,16 @@ fn came(answer: Result<bool, AllocError>) -> Came {
         Ok(is_so) => Came::of(is_so),
         Err(AllocError) => Came::Refused,
     }
+}
+
+/// Whether sets of characters are put together and lowered as ever.
+fn lowers(alloc: Global) -> Result<bool, AllocError> {
+    let set = CharSet::from_ranges(alloc, &[(0xE000, 0xE010), (0x61, 0x7A)])?;
+    let others = set.complement(alloc)?;
+    let all = others.union(alloc, &set)?;
+    let tree = lower(alloc, &all)?;
+    drop(tree);
+    Ok(all.len() == 1_112_064)
 }
 
 fn read(alloc: Global, asked: bool) -> Came {
@@ -71,4 +81,10 @@ fn queries_are_asked(rt: HostRuntime) -> Result<(), Fail> {
 fn faults_are_told(rt: HostRuntime) -> Result<(), Fail> {
     let alloc = rt.alloc();
     at_most_one_is_refused(&rt, &[read_to_its_fault(alloc), read_to_its_fault(alloc)])
+}
+
+#[test]
+fn characters_are_lowered(rt: HostRuntime) -> Result<(), Fail> {
+    let alloc = rt.alloc();
+    at_most_one_is_refused(&rt, &[came(lowers(alloc)), came(lowers(alloc))])
 }

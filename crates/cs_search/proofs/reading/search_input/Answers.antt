@@ -1,8 +1,9 @@
-use Rattle.std.proofs.Common.{◌≡◌, ◌+◌, ◌-◌, ◌++◌, [], Bool, List, ℕ, length, drop, refl, sym, ap, subst, ◌∙◌, inl, inr, arith}
+use Rattle.std.proofs.Common.{◌≡◌, ◌+◌, ◌-◌, ◌++◌, [], Bool, List, ℕ, length, drop, refl, sym, ap, subst, ◌∙◌, inl, inr, arith, rules}
 use Rattle.cs_tree.specs.Transfers.{RefusedBy}
 use Rattle.std.proofs.lemmas.List.{nil_from_length}
 use Rattle.cs_match.specs.Finding.{Decides}
 use Rattle.cs_tree.specs.Told.{ends, fails}
+use Rattle.std.proofs.lemmas.Grind.{common_steps}
 use Rattle.cs_search.specs.declared.grep_fault.ReadFault.TheVariants.{Read}
 use Rattle.cs_search.specs.declared.stop.Stop.TheVariants.{End, Left}
 use Rattle.cs_tree.proofs.Losing.{Loses_few}
@@ -147,3 +148,9 @@ pub returns-in_err-stop-clause-loses : goal.returns-in_err-stop-clause-loses
 returns-in_err-stop-clause-loses g c =
     let i = c.pieces.invariant in
     LosesAtMost-more _ (g.R.Source.told c.pieces.input) _ (c.args.most - c.pieces.left) 1 _ (Loses-taken _ _ _ _ _ i.read) c.look_past.ensures.loses (omega arith)
+
+pub returns-in-Err-Failed-clause-stops : goal.returns-in-Err-Failed-clause-stops
+returns-in-Err-Failed-clause-stops g c = grind (arith, common_steps)
+
+pub returns-in-Err-Failed-clause-read_failed : goal.returns-in-Err-Failed-clause-read_failed
+returns-in-Err-Failed-clause-read_failed g c = search rules

@@ -1,4 +1,4 @@
-use Rattle.std.proofs.Common.{inl, inr, []}
+use Rattle.std.proofs.Common.{inl, inr, [], rules}
 use Rattle.std.proofs.lemmas.Result.{err_from_is_err_and}
 use Rattle.cs_tree.proofs.Fronts.{front_written, ends_quiet}
 use Rattle.cs_search.proofs.searching.finish.Goals as goal
@@ -26,3 +26,6 @@ pub returns-in_err-flush-2-clause-err : goal.returns-in_err-flush-2-clause-err
 returns-in_err-flush-2-clause-err g c =
     let p = err_from_is_err_and c.from_residual-in_err-flush-2.result c.from_residual-in_err-flush-2.ensures.1 in
     rw p.1 (front_written [] _ _ 0 c.in_err-flush-2.ensures.bytes)
+
+pub returns-clause-status : goal.returns-clause-status
+returns-clause-status g c = search rules

@@ -1,4 +1,4 @@
-use Rattle.std.proofs.Common.{ap}
+use Rattle.std.proofs.Common.{ap, rules}
 use Rattle.std.specs.Prelude.{false}
 use Rattle.cs_tree.specs.Snapshot.{folder}
 use Rattle.cs_tree.proofs.PlaceLemmas.{root_pushed, items_tell}
@@ -9,3 +9,6 @@ returns-clause-tree c = root_pushed c.push.new.self.items c.new-items.result.ite
 
 pub returns-clause-tells : goal.returns-clause-tells
 returns-clause-tells c = items_tell _
+
+pub returns-clause-step : goal.returns-clause-step
+returns-clause-step c = search rules

@@ -1,3 +1,4 @@
+use Rattle.std.proofs.Common.{rules}
 use Rattle.cs_tree.proofs.PlaceLemmas.{items_tell}
 use Rattle.cs_tree.proofs.stored.MemTree.put.Goals as goal
 
@@ -12,3 +13,6 @@ returns-then-not-folder_at-clause-tells c = items_tell _
 
 pub returns-clause-tells : goal.returns-clause-tells
 returns-clause-tells c = items_tell _
+
+pub returns-then-not-folder_at-clause-opened : goal.returns-then-not-folder_at-clause-opened
+returns-then-not-folder_at-clause-opened c = search rules

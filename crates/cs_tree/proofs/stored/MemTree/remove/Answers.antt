@@ -1,4 +1,4 @@
-use Rattle.std.proofs.Common.{ap, sym, subst, ◌∙◌}
+use Rattle.std.proofs.Common.{ap, sym, subst, ◌∙◌, rules}
 use Rattle.std.specs.Prelude.{IsSome, string_bytes}
 use Rattle.std.specs.List.{list_any}
 use Rattle.cs_tree.specs.declared.stored.Stored.{Stored}
@@ -20,3 +20,9 @@ returns-clause-answer c =
 
 pub returns-clause-tells : goal.returns-clause-tells
 returns-clause-tells c = items_tell _
+
+pub returns-clause-closed : goal.returns-clause-closed
+returns-clause-closed c = search rules
+
+pub returns-clause-step : goal.returns-clause-step
+returns-clause-step c = search rules

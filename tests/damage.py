@@ -226,8 +226,8 @@ def judge(index):
     refusal = None
     if not all(map(is_clean, paths)):
         refusal = "bad index: paths"
-    elif names != sorted(set(names)):
-        refusal = "index names are not in order"
+    elif len(set(names)) != len(names):
+        refusal = "index holds a name twice"
     elif damaged:
         refusal = "bad index: list"
     wanted = {

@@ -427,6 +427,17 @@ if [ -n "$go_csearch" ]; then
     CSEARCHINDEX=$home/results/go "$go_cindex" -reset "$home/trees/real" 2>/dev/null
     same "CSEARCHINDEX=\$home/results/go csearch requires | sort" "csearch requires | sort"
     same "CSEARCHINDEX=\$home/results/go cindex -list" "CSEARCHINDEX=\$home/results/go \$go_cindex -list"
+    # Ours goes on from an index that Go's wrote, at once or as a join of two: what comes is what ours makes anew.
+    cp results/go results/old
+    try 0 '' '' 'CSEARCHINDEX=$home/results/old cindex && cmp results/old index'
+    cp results/go results/old
+    cp index results/joined
+    try 0 '' '' 'CSEARCHINDEX=$home/results/old cindex trees/odd 2>/dev/null && CSEARCHINDEX=$home/results/joined cindex trees/odd 2>/dev/null && cmp results/old results/joined'
+    CSEARCHINDEX=$home/results/old "$go_cindex" -reset "$home/trees/odd" 2>/dev/null
+    CSEARCHINDEX=$home/results/old "$go_cindex" "$home/trees/real" 2>/dev/null
+    same "CSEARCHINDEX=\$home/results/old csearch requires | sort" "csearch requires | sort"
+    try 0 '' '' 'CSEARCHINDEX=$home/results/old cindex 2>/dev/null && CSEARCHINDEX=$home/results/joined cindex 2>/dev/null && cmp results/old results/joined'
+    same "CSEARCHINDEX=\$home/results/old \$go_csearch requires | sort" "csearch requires | sort"
     if command -v perl > /dev/null; then
         same "perl \$root/tests/lists.pl index" "perl \$root/tests/lists.pl results/go"
         rm trees/odd/nul # Go's cindex has it

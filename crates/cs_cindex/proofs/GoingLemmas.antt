@@ -1,7 +1,7 @@
 -- The paths that a job walks, and what a walk gives.
 use Rattle.std.proofs.Common.{◌≡◌, ◌≢◌, ℕ, ◌<◌, ◌^◌, Bool, true, false, cond, not, List, [], ◌∷◌, length, map, refl, sym, ap, subst, ◌∙◌, Some, None, Result, Ok, Err}
 use Rattle.cs_tree.specs.PathSet.{Paths}
-use Rattle.cs_tree.specs.NameOrder.{are_ascending}
+use Rattle.cs_tree.specs.Folders.{are_distinct}
 use Rattle.std.specs.Prelude.{String, string_bytes}
 use Rattle.std.specs.declared.alloc.Global.{Global}
 use Rattle.std.proofs.lemmas.Bool.{and_parts}
@@ -54,8 +54,8 @@ none_of true true e = (refl, refl)
 none_of true false e = cc
 none_of false b e = cc
 
-pub gone_on : (parts : Parts) → unfit_parts_fault parts ≡ None → (list_all is_settled parts.paths ≡ true) × (are_ascending parts.names ≡ true)
-gone_on parts e = none_of (list_all is_settled parts.paths) (are_ascending parts.names) e
+pub gone_on : (parts : Parts) → unfit_parts_fault parts ≡ None → (list_all is_settled parts.paths ≡ true) × (are_distinct parts.names ≡ true)
+gone_on parts e = none_of (list_all is_settled parts.paths) (are_distinct parts.names) e
 
 each_settled : (ps : List (List ℕ)) → list_all is_settled ps ≡ true → AllByRecursion (λ p. is_storable p ≡ true) ps
 each_settled [] h = tt

@@ -13,6 +13,8 @@ use Rattle.std.specs.FinMap as map'
 use Rattle.std.specs.Cmp.Lexicographic.{nat_list_cmp_total}
 use Rattle.cs_tree.specs.PathSet as set
 use Rattle.cs_tree.specs.Cover.{is_covered}
+use Rattle.cs_tree.specs.Folders.{are_distinct}
+use Rattle.cs_tree.proofs.Listed.{ascending_distinct}
 use Rattle.cs_tree.proofs.Sets.{tied_same, entries_in_order}
 use Rattle.cs_index.specs.Image.{Files, Entry, image, names_of}
 use Rattle.cs_index.specs.Spelling.{IsIndexable}
@@ -91,7 +93,7 @@ written_content paths files content under indexable =
     record {
       paths_are = ap set.from_list has.has_paths ∙ set_of_items paths;
       files_are = ap (λ (es : List Entry). map'.from_entries es) (has.has_files (ascending_sets files content.sets_are)) ∙ map_of_entries files;
-      sound = record { ascend = ap are_ascending has.has_names ∙ ascend_names (map'.entries files) (from_T _ (map'.entries_sorted files)); covered = covered_names (parts_written (set.items paths) (map'.entries files)) paths files (ap set.from_list has.has_paths ∙ set_of_items paths) has.has_names under; whole = has.whole };
+      sound = record { distinct = ascending_distinct (parts_written (set.items paths) (map'.entries files)).names (ap are_ascending has.has_names ∙ ascend_names (map'.entries files) (from_T _ (map'.entries_sorted files))); covered = covered_names (parts_written (set.items paths) (map'.entries files)) paths files (ap set.from_list has.has_paths ∙ set_of_items paths) has.has_names under; whole = has.whole };
     }
 
 pub image_content : (paths : Paths) (files : Files) → IsContent paths files → LieUnder paths files → length (image paths files) < 2 ^ 32 → OpensWith (opening (image paths files)) paths files
@@ -122,8 +124,8 @@ content_settled parts paths files clean h = all_pass is_settled parts.paths (eac
 content_fault : (opening : Result Parts IndexFault) (paths : Paths) (files : Files) → AreClean paths → OpensWith opening paths files → opening_fault unfit_parts_fault opening ≡ None
 content_fault (Err fault) paths files clean h = absurd h
 content_fault (Ok parts) paths files clean h =
-    ap (λ b. cond (not b) (Some (BadIndex BadPaths)) (cond (not (are_ascending parts.names)) (Some Unsorted) None)) (content_settled parts paths files clean h)
-    ∙ ap (λ b. cond (not b) (Some Unsorted) None) h.sound.ascend
+    ap (λ b. cond (not b) (Some (BadIndex BadPaths)) (cond (not (are_distinct parts.names)) (Some Unsorted) None)) (content_settled parts paths files clean h)
+    ∙ ap (λ b. cond (not b) (Some Unsorted) None) h.sound.distinct
 
 -- it is gone on from, and no list of it is damaged
 pub history_goes : (earlier : History) (bytes : List ℕ) → IsHistory earlier → index_of earlier ≡ Some bytes → length bytes < 2 ^ 32 → opening_fault unfit_parts_fault (opening bytes) ≡ None

@@ -1,6 +1,6 @@
 -- How an index is joined with that of a walk.
 use Rattle.std.specs.Prelude.{◌≡◌, ℕ, true, false, List, Some, Result}
-use Rattle.cs_tree.specs.NameOrder.{are_ascending}
+use Rattle.cs_tree.specs.Folders.{are_distinct}
 use Rattle.std.specs.Result.{IsOkAnd}
 use Rattle.cs_index.specs.Opening.{Parts, are_whole}
 use Rattle.cs_index.specs.declared.fault.IndexFault.{IndexFault}
@@ -13,9 +13,9 @@ use Rattle.cs_merge.specs.declared.fault.MergeFault.TheVariants as merge
 use Rattle.cs_merge.specs.Joinable.{are_covered, joined_index, AreJoinable}
 use Rattle.cs_history.specs.Replies.{IsLong}
 
--- an index that can be joined to another one: names ascend and lie under paths, and each list is whole
+-- an index that can be joined to another one: its names are distinct and lie under paths, and each list is whole
 pub record IsSound (parts : Parts) : Type 0 where
-  pub ascend : are_ascending parts.names ≡ true
+  pub distinct : are_distinct parts.names ≡ true
   pub covered : are_covered parts ≡ true
   pub whole : are_whole parts ≡ true
 

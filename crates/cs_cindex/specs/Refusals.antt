@@ -1,7 +1,7 @@
 -- Why a job is refused, whatever bytes the old index has.
 -- docs/PROMISES.md, "Refusals of cindex"; the comment of the command cindex.
 use Rattle.std.specs.Prelude.{◌≡◌, ◌⊎◌, ℕ, true, false, not, ◌&&◌, if◌then◌else◌, List, [], ◌∷◌, position, Option, Some, None, option_map, is_some, Result, Ok, Err, MatchResult, string_bytes}
-use Rattle.cs_tree.specs.NameOrder.{are_ascending}
+use Rattle.cs_tree.specs.Folders.{are_distinct}
 use Rattle.std.specs.List.{list_all}
 use Rattle.std.specs.Option.{option_or}
 use Rattle.std.specs.Result.{IsOkAnd}
@@ -52,12 +52,12 @@ abbrev pub opening_fault : (Parts → Option CindexFault) → Result Parts Index
 opening_fault test (Ok parts) = test parts
 opening_fault test (Err fault) = Some (index_refusal fault)
 
--- An index is not gone on from where cleaning would refuse or change one of its paths, or where its
--- names do not strictly ascend.
+-- An index is not gone on from where cleaning would refuse or change one of its paths, or where it
+-- holds a name twice.
 abbrev pub unfit_parts_fault : Parts → Option CindexFault
 unfit_parts_fault parts =
     if not (list_all is_settled parts.paths) then Some (BadIndex BadPaths)
-    else (if not (are_ascending parts.names) then Some Unsorted else None)
+    else (if not (are_distinct parts.names) then Some Unsorted else None)
 
 -- `-list` needs an index that opens.
 abbrev pub list_fault : Option (List ℕ) → Option CindexFault

@@ -1,6 +1,6 @@
 // Jobs that walk.
 ghost use Rattle.std.specs.Prelude.{◌≡◌, ◌<◌, ◌^◌, true, Some, None, map, string_bytes, length, IfOk, IfErr};
-ghost use Rattle.cs_tree.specs.NameOrder.{are_ascending};
+ghost use Rattle.cs_tree.specs.Folders.{are_distinct};
 ghost use Rattle.cs_tree.specs.Failures.{count_after};
 ghost use Rattle.cs_cindex.specs.Bytes.{lent_bytes};
 ghost use Rattle.cs_tree.specs.PathSet as set;
@@ -103,7 +103,7 @@ fn index_onto<T: Tree, E: Sink>(
     ensures writes { E.failed err.new ≡ count_after is_failed_write result (E.failed err.old) }
     ensures tree_keeps { T.snapshot tree.new ≡ T.snapshot tree.old }
 {
-    let index = open_old(old)?;
+    let index = open_old(alloc, old)?;
     let paths = paths_to_walk(alloc, &index, given)?;
     let newer = index_paths(alloc, tree, &paths, job.log_skip, err)?;
     let joined = join(alloc, &index, &newer)?;
@@ -128,9 +128,9 @@ fn paths_to_walk(
     Ok(paths)
 }
 
-/// The index of the old one and of the bytes of a newer one, whose names ascend and lie under its paths.
+/// The index of the old one and of the bytes of a newer one, whose names are distinct and lie under its paths.
 fn join(alloc: Global, old: &Index<'_>, newer: &[u8]) -> Result<Vec<u8>, CindexFault>
-    requires { are_ascending old.now.names ≡ true }
+    requires { are_distinct old.now.names ≡ true }
     ensures joined { IfOk result (λ index. JoinsTo old.now (opening newer.now) index.items) }
     ensures short { IfOk result (λ index. length index.items < 2 ^ 32) }
     ensures fault { IfErr result (IsJoinRefusal old.now (opening newer.now)) }
@@ -142,8 +142,8 @@ fn join(alloc: Global, old: &Index<'_>, newer: &[u8]) -> Result<Vec<u8>, CindexF
     }
 }
 
-/// A fault of joining as that of a job. The newer index is one of a walk, so that the names of both are
-/// in order, and the newer ones lie under their paths.
+/// A fault of joining as that of a job. The newer index is one of a walk, so that neither holds a name
+/// twice, and the newer names lie under their paths.
 fn merge_refusal(fault: MergeFault) -> CindexFault
     ensures { result ≡ refusal_of fault }
 {

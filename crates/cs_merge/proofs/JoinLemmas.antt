@@ -6,10 +6,11 @@ use Rattle.std.proofs.lemmas.Bool.{true≢false, or_cases, or_left, or_right}
 use Rattle.std.specs.Cmp.Lexicographic.{nat_list_cmp_total}
 use Rattle.std.specs.FinMap as map
 use Rattle.cs_tree.specs.PathSet as set
-use Rattle.cs_tree.specs.Cover.{is_covered}
+use Rattle.cs_tree.specs.Cover.{is_covered, least}
 use Rattle.cs_tree.proofs.Sets.{alike, or_else, find-append, contains-union}
-use Rattle.cs_tree.proofs.Least.{least_says, covered-least, covered-union}
+use Rattle.cs_tree.proofs.Least.{least_says, least_settled, covered-least, covered-union}
 use Rattle.cs_merge.specs.Join.{join_files, join_paths}
+use Rattle.cs_merge.specs.Replacing.{IsCoveredBy}
 
 module _ {X : Type 0} where
   pub get-join_files : (paths : Paths) (old newer : map.FinMap bytes_cmp X) (name : List ℕ) → map.get (join_files paths old newer) name ≡ or_else (map.get newer name) (cond (not (is_covered paths name)) (map.get old name) None)
@@ -70,3 +71,28 @@ covered_left p q name h = covered-join_paths p q name ∙ or_left (is_covered p 
 
 pub covered_right : (p q : Paths) (name : List ℕ) → is_covered q name ≡ true → is_covered (join_paths p q) name ≡ true
 covered_right p q name h = covered-join_paths p q name ∙ or_right (is_covered p name) (is_covered q name) h
+
+-- ---- what is covered is replaced
+
+pub paths_replaced : (p q : Paths) → IsCoveredBy p q → join_paths p q ≡ least q
+paths_replaced p q by = least_settled (set.union p q) q (λ name. covered-union p q name ∙ by_old name (is_covered p name) refl)
+  where
+    by_old : (name : List ℕ) (b : Bool) → is_covered p name ≡ b → (is_covered p name || is_covered q name) ≡ is_covered q name
+    by_old name true e = ap (λ b. b || is_covered q name) e ∙ sym (by name e)
+    by_old name false e = ap (λ b. b || is_covered q name) e
+
+pub files_replaced : {X : Type 0} (p q : Paths) (old newer : map.FinMap bytes_cmp X) → IsCoveredBy p q → ((name : List ℕ) (x : X) → map.get old name ≡ Some x → is_covered p name ≡ true) → join_files q old newer ≡ newer
+files_replaced {X} p q old newer by under =
+    map.same_map nat_list_cmp_total alike (join_files q old newer) newer (λ name. by_cover name (is_covered q name) refl)
+  where
+    nothing_old : (name : List ℕ) (o : Option X) → map.get old name ≡ o → is_covered q name ≡ false → map.get old name ≡ None
+    nothing_old name None e h = e
+    nothing_old name (Some x) e h = absurd (true≢false (sym (by name (under name x e)) ∙ h))
+
+    by_cover : (name : List ℕ) (b : Bool) → is_covered q name ≡ b → map.get (join_files q old newer) name ≡ map.get newer name
+    by_cover name true h = newer_at q old newer name h
+    by_cover name false h =
+        get-join_files q old newer name
+        ∙ ap (λ b. or_else (map.get newer name) (cond (not b) (map.get old name) None)) h
+        ∙ ap (or_else (map.get newer name)) (nothing_old name (map.get old name) refl h)
+        ∙ or_none (map.get newer name)

@@ -1,13 +1,13 @@
 -- What the joining of two indexes answers.
-use Rattle.std.proofs.Common.{◌≡◌, ℕ, ◌+◌, ◌<◌, ◌≤◌, ◌^◌, true, false, List, length, Result, Ok, Err, sym, ap, subst, ◌∙◌, Vec, Global, arith}
-use Rattle.std.proofs.lemmas.Bool.{true≢false, and_from}
-use Rattle.std.specs.Prelude.{IfOk, IfErr, MatchResult, ◌↔◌}
+use Rattle.std.proofs.Common.{◌≡◌, ℕ, ◌+◌, ◌<◌, ◌≤◌, ◌^◌, true, false, List, length, Result, Ok, Err, subst, ◌∙◌, Vec, Global, arith}
+use Rattle.std.proofs.lemmas.Bool.{and_from}
+use Rattle.std.specs.Prelude.{IfOk, IfErr, MatchResult}
 use Rattle.cs_index.specs.Opening.{Parts, are_whole}
 use Rattle.cs_index.specs.declared.fault.IndexFault.{IndexFault}
 use Rattle.cs_index.specs.declared.fault.IndexFault.TheVariants.{BadList}
 use Rattle.cs_merge.specs.declared.fault.MergeFault.{MergeFault}
-use Rattle.cs_merge.specs.declared.fault.MergeFault.TheVariants.{Unsorted, Uncovered, Index, TooLarge}
-use Rattle.cs_merge.specs.Joinable.{are_covered, both_ascend, both_whole, joined_index, AreJoinable, AreTested}
+use Rattle.cs_merge.specs.declared.fault.MergeFault.TheVariants.{Unsorted, Uncovered, Index, TooLarge, Memory}
+use Rattle.cs_merge.specs.Joinable.{are_covered, both_ascend, both_distinct, both_whole, joined_index, AreJoinable, AreTested}
 use Rattle.cs_merge.specs.JoinOutcome.{IsWithin, IsBuildFault, long as too_long, memory}
 use Rattle.cs_merge.specs.Joining.{IsJoined, IsJoinFault, unsorted, uncovered as outside, damaged, long, refused}
 
@@ -23,7 +23,7 @@ module _ (old newer : Parts) (most : ℕ) where
     where
       by_fault : IsBuildFault most index fault → IsJoinFault old newer most fault
       by_fault (too_long e more) = long e (record { tested = tested; whole = and_from (are_whole old) (are_whole newer) a b }) (subst (λ (bytes : List ℕ). most < length bytes) is more)
-      by_fault (memory e) = refused e tested
+      by_fault (memory e) = refused e (λ up. tested)
 
   pub says_joined : (answer : Result (Vec ℕ Global) MergeFault) → Says answer → IfOk answer (λ index. index.items ≡ joined_index old newer)
   says_joined (Ok index) h = h.are
@@ -37,41 +37,38 @@ module _ (old newer : Parts) (most : ℕ) where
   says_sound (Ok index) h = h.joinable
   says_sound (Err fault) h = tt
 
-  fault_unsorted : (fault : MergeFault) → IsJoinFault old newer most fault → fault ≡ Unsorted → both_ascend old newer ≡ false
+  fault_unsorted : (fault : MergeFault) → IsJoinFault old newer most fault → fault ≡ Unsorted → both_distinct old newer ≡ false
   fault_unsorted fault (unsorted is fails) e = fails
   fault_unsorted fault (outside is holds fails) e = cc
   fault_unsorted fault (damaged is tested fails) e = cc
   fault_unsorted fault (long is joinable more) e = cc
   fault_unsorted fault (refused is tested) e = cc
 
-  unsorted_fault : (fault : MergeFault) → IsJoinFault old newer most fault → both_ascend old newer ≡ false → fault ≡ Unsorted
-  unsorted_fault fault (unsorted is fails) e = is
-  unsorted_fault fault (outside is holds fails) e = absurd (true≢false (sym holds ∙ e))
-  unsorted_fault fault (damaged is tested fails) e = absurd (true≢false (sym tested.ascend ∙ e))
-  unsorted_fault fault (long is joinable more) e = absurd (true≢false (sym joinable.tested.ascend ∙ e))
-  unsorted_fault fault (refused is tested) e = absurd (true≢false (sym tested.ascend ∙ e))
+  pub says_unsorted : (answer : Result (Vec ℕ Global) MergeFault) → Says answer → answer ≡ Err Unsorted → both_distinct old newer ≡ false
+  says_unsorted (Ok index) h e = cc
+  says_unsorted (Err fault) h e = fault_unsorted fault h (let is : fault ≡ Unsorted = cc in is)
 
-  pub says_unsorted : (answer : Result (Vec ℕ Global) MergeFault) → Says answer → (answer ≡ Err Unsorted) ↔ (both_ascend old newer ≡ false)
-  says_unsorted (Ok index) h = ((λ e. cc), (λ e. absurd (true≢false (sym h.joinable.tested.ascend ∙ e))))
-  says_unsorted (Err fault) h = ((λ e. fault_unsorted fault h (let is : fault ≡ Unsorted = cc in is)), (λ e. ap Err (unsorted_fault fault h e)))
-
-  fault_outside : (fault : MergeFault) → IsJoinFault old newer most fault → fault ≡ Uncovered → (both_ascend old newer ≡ true) × (are_covered newer ≡ false)
+  fault_outside : (fault : MergeFault) → IsJoinFault old newer most fault → fault ≡ Uncovered → (both_distinct old newer ≡ true) × (are_covered newer ≡ false)
   fault_outside fault (unsorted is fails) e = cc
   fault_outside fault (outside is holds fails) e = (holds, fails)
   fault_outside fault (damaged is tested fails) e = cc
   fault_outside fault (long is joinable more) e = cc
   fault_outside fault (refused is tested) e = cc
 
-  outside_fault : (fault : MergeFault) → IsJoinFault old newer most fault → both_ascend old newer ≡ true → are_covered newer ≡ false → fault ≡ Uncovered
-  outside_fault fault (unsorted is fails) holds e = absurd (true≢false (sym holds ∙ fails))
-  outside_fault fault (outside is holds fails) y e = is
-  outside_fault fault (damaged is tested fails) holds e = absurd (true≢false (sym tested.covered ∙ e))
-  outside_fault fault (long is joinable more) holds e = absurd (true≢false (sym joinable.tested.covered ∙ e))
-  outside_fault fault (refused is tested) holds e = absurd (true≢false (sym tested.covered ∙ e))
+  pub says_uncovered : (answer : Result (Vec ℕ Global) MergeFault) → Says answer → answer ≡ Err Uncovered → (both_distinct old newer ≡ true) × (are_covered newer ≡ false)
+  says_uncovered (Ok index) h e = cc
+  says_uncovered (Err fault) h e = fault_outside fault h (let is : fault ≡ Uncovered = cc in is)
 
-  pub says_uncovered : (answer : Result (Vec ℕ Global) MergeFault) → Says answer → (answer ≡ Err Uncovered) ↔ ((both_ascend old newer ≡ true) × (are_covered newer ≡ false))
-  says_uncovered (Ok index) h = ((λ e. cc), (λ e. absurd (true≢false (sym h.joinable.tested.covered ∙ e.1))))
-  says_uncovered (Err fault) h = ((λ e. fault_outside fault h (let is : fault ≡ Uncovered = cc in is)), (λ e. ap Err (outside_fault fault h e.0 e.1)))
+  fault_refused : (fault : MergeFault) → IsJoinFault old newer most fault → fault ≡ Memory → both_ascend old newer ≡ true → AreTested old newer
+  fault_refused fault (unsorted is fails) e = cc
+  fault_refused fault (outside is holds fails) e = cc
+  fault_refused fault (damaged is tested fails) e = cc
+  fault_refused fault (long is joinable more) e = cc
+  fault_refused fault (refused is tested) e = tested
+
+  pub says_memory : (answer : Result (Vec ℕ Global) MergeFault) → Says answer → answer ≡ Err Memory → both_ascend old newer ≡ true → AreTested old newer
+  says_memory (Ok index) h e = cc
+  says_memory (Err fault) h e = fault_refused fault h (let is : fault ≡ Memory = cc in is)
 
   fault_damaged : (fault : MergeFault) (of : IndexFault) → IsJoinFault old newer most fault → fault ≡ Index of → (of ≡ BadList) × AreTested old newer × (both_whole old newer ≡ false)
   fault_damaged fault of (unsorted is fails) e = cc

@@ -1,21 +1,20 @@
 -- What is laid of the names of both, step by step.
 use Rattle.std.proofs.Common.{◌≡◌, ℕ, zero, suc, ◌≤◌, true, false, List, [], ◌∷◌, ◌++◌, length, refl, sym, ap, subst, ◌∙◌, Some, None, arith, slice_get}
-use Rattle.std.proofs.lemmas.Bool.{and_parts}
 use Rattle.std.proofs.lemmas.Option.{same_Some}
 use Rattle.std.specs.List.{AllByRecursion}
 use Rattle.std.specs.Ordering.{is_lt}
 use Rattle.cs_tree.specs.Cover.{is_covered}
-use Rattle.cs_tree.specs.NameOrder.{bytes_cmp, are_ascending}
+use Rattle.cs_tree.specs.NameOrder.{bytes_cmp}
 use Rattle.cs_index.specs.Built.{is_storable}
 use Rattle.cs_index.specs.Image.{IsString}
 use Rattle.cs_index.specs.Laid.{Laid, with_laid_name}
-use Rattle.cs_index.specs.Opening.{Parts}
-use Rattle.cs_index.specs.Parts.{AreParts}
 use Rattle.cs_merge.specs.Content.{paths_in}
 use Rattle.cs_merge.specs.Joinable.{AreTested}
+use Rattle.cs_merge.specs.Ranked.{Ranked, names_by, IsRanked}
 use Rattle.cs_merge.specs.Renumbering.{NewIds, AreNamed, IsNaming}
 use Rattle.cs_merge.proofs.NamingLemmas.{named_dropped, named_older, named_newer}
 use Rattle.cs_merge.proofs.NewNamesLemmas.{all_covered}
+use Rattle.cs_merge.proofs.RankedLemmas.{own_name}
 use Rattle.cs_merge.proofs.ReadyLemmas.{storable}
 
 -- where nothing stands at a place, the place is past the end
@@ -29,36 +28,38 @@ all_at P [] place x all there = cc
 all_at P (y ∷ xs) zero x all there = subst P (same_Some y x there) all.0
 all_at P (y ∷ xs) (suc place) x all there = all_at P xs place x all.1 there
 
-pub name_storable : (parts : Parts) (place : ℕ) (name : List ℕ) → AreParts parts → slice_get parts.names place ≡ Some name → is_storable name ≡ true
-name_storable parts place name are there = storable name (all_at IsString parts.names place name are.each_name there)
+pub name_storable : (ranked : Ranked) (rank : ℕ) (name : List ℕ) → IsRanked ranked → slice_get (names_by ranked) rank ≡ Some name → is_storable name ≡ true
+name_storable ranked rank name is there =
+    let at = own_name ranked is rank name there in
+    storable name (all_at IsString ranked.parts.names at.0 name is.are.each_name at.1)
 
-module _ (older newer : Parts) (tested : AreTested older newer) where
-  ups : (are_ascending older.names ≡ true) × (are_ascending newer.names ≡ true)
-  ups = and_parts (are_ascending older.names) (are_ascending newer.names) tested.ascend
+module _ (older newer : Ranked) (older_is : IsRanked older) (newer_is : IsRanked newer) (tested : AreTested older.parts newer.parts) where
+  covered : (rank : ℕ) (name : List ℕ) → slice_get (names_by newer) rank ≡ Some name → is_covered (paths_in newer.parts) name ≡ true
+  covered rank name there = let at = own_name newer newer_is rank name there in all_covered newer.parts tested.covered at.0 name at.1
 
   module _ (before : Laid) (older_ids newer_ids : NewIds) (so_far : IsNaming older newer before before older_ids newer_ids) (name : List ℕ) where
-    pub naming_dropped : (more : NewIds) → slice_get older.names (length older_ids) ≡ Some name → is_covered (paths_in newer) name ≡ true → more ≡ older_ids ++ None ∷ [] → IsNaming older newer before before more newer_ids
+    pub naming_dropped : (more : NewIds) → slice_get (names_by older) (length older_ids) ≡ Some name → is_covered (paths_in newer.parts) name ≡ true → more ≡ older_ids ++ None ∷ [] → IsNaming older newer before before more newer_ids
     naming_dropped more here drops e = record {
-      named = subst (λ ids. AreNamed (is_covered (paths_in newer)) older.names newer.names before.names ids newer_ids) (sym e) (named_dropped (is_covered (paths_in newer)) older.names newer.names before.names older_ids newer_ids so_far.named name here drops);
+      named = subst (λ ids. AreNamed (is_covered (paths_in newer.parts)) (names_by older) (names_by newer) before.names ids newer_ids) (sym e) (named_dropped (is_covered (paths_in newer.parts)) (names_by older) (names_by newer) before.names older_ids newer_ids so_far.named name here drops);
       paths = refl;
       unlisted = so_far.unlisted;
     }
 
-    named_now : (now : Laid) (first second : NewIds) → now ≡ with_laid_name before name → AreNamed (is_covered (paths_in newer)) older.names newer.names (before.names ++ name ∷ []) first second → IsNaming older newer before now first second
+    named_now : (now : Laid) (first second : NewIds) → now ≡ with_laid_name before name → AreNamed (is_covered (paths_in newer.parts)) (names_by older) (names_by newer) (before.names ++ name ∷ []) first second → IsNaming older newer before now first second
     named_now now first second e named = record {
-      named = subst (λ (names : List (List ℕ)). AreNamed (is_covered (paths_in newer)) older.names newer.names names first second) (sym (ap (λ (l : Laid). l.names) e)) named;
+      named = subst (λ (names : List (List ℕ)). AreNamed (is_covered (paths_in newer.parts)) (names_by older) (names_by newer) names first second) (sym (ap (λ (l : Laid). l.names) e)) named;
       paths = ap (λ (l : Laid). l.paths) e;
       unlisted = ap (λ (l : Laid). l.lists) e ∙ so_far.unlisted;
     }
 
-    pub naming_older : (now : Laid) (id : ℕ) (more : NewIds) → slice_get older.names (length older_ids) ≡ Some name → is_covered (paths_in newer) name ≡ false → ((next : List ℕ) → slice_get newer.names (length newer_ids) ≡ Some next → is_lt (bytes_cmp name next) ≡ true) → now ≡ with_laid_name before name → id ≡ length before.names → more ≡ older_ids ++ Some id ∷ [] → IsNaming older newer before now more newer_ids
+    pub naming_older : (now : Laid) (id : ℕ) (more : NewIds) → slice_get (names_by older) (length older_ids) ≡ Some name → is_covered (paths_in newer.parts) name ≡ false → ((next : List ℕ) → slice_get (names_by newer) (length newer_ids) ≡ Some next → is_lt (bytes_cmp name next) ≡ true) → now ≡ with_laid_name before name → id ≡ length before.names → more ≡ older_ids ++ Some id ∷ [] → IsNaming older newer before now more newer_ids
     naming_older now id more here stays below e at is =
         named_now now more newer_ids e
-        (subst (λ ids. AreNamed (is_covered (paths_in newer)) older.names newer.names (before.names ++ name ∷ []) ids newer_ids) (sym (is ∙ ap (λ n. older_ids ++ Some n ∷ []) at))
-        (named_older (is_covered (paths_in newer)) older.names newer.names before.names older_ids newer_ids so_far.named name ups.0 ups.1 here stays below))
+        (subst (λ ids. AreNamed (is_covered (paths_in newer.parts)) (names_by older) (names_by newer) (before.names ++ name ∷ []) ids newer_ids) (sym (is ∙ ap (λ n. older_ids ++ Some n ∷ []) at))
+        (named_older (is_covered (paths_in newer.parts)) (names_by older) (names_by newer) before.names older_ids newer_ids so_far.named name older_is.ascend newer_is.ascend here stays below))
 
-    pub naming_newer : (now : Laid) (id : ℕ) (more : NewIds) → slice_get newer.names (length newer_ids) ≡ Some name → ((next : List ℕ) → slice_get older.names (length older_ids) ≡ Some next → is_lt (bytes_cmp next name) ≡ false) → now ≡ with_laid_name before name → id ≡ length before.names → more ≡ newer_ids ++ Some id ∷ [] → IsNaming older newer before now older_ids more
+    pub naming_newer : (now : Laid) (id : ℕ) (more : NewIds) → slice_get (names_by newer) (length newer_ids) ≡ Some name → ((next : List ℕ) → slice_get (names_by older) (length older_ids) ≡ Some next → is_lt (bytes_cmp next name) ≡ false) → now ≡ with_laid_name before name → id ≡ length before.names → more ≡ newer_ids ++ Some id ∷ [] → IsNaming older newer before now older_ids more
     naming_newer now id more here above e at is =
         named_now now older_ids more e
-        (subst (λ ids. AreNamed (is_covered (paths_in newer)) older.names newer.names (before.names ++ name ∷ []) older_ids ids) (sym (is ∙ ap (λ n. newer_ids ++ Some n ∷ []) at))
-        (named_newer (is_covered (paths_in newer)) older.names newer.names before.names older_ids newer_ids so_far.named name ups.0 ups.1 here (all_covered newer tested.covered (length newer_ids) name here) above))
+        (subst (λ ids. AreNamed (is_covered (paths_in newer.parts)) (names_by older) (names_by newer) (before.names ++ name ∷ []) older_ids ids) (sym (is ∙ ap (λ n. newer_ids ++ Some n ∷ []) at))
+        (named_newer (is_covered (paths_in newer.parts)) (names_by older) (names_by newer) before.names older_ids newer_ids so_far.named name older_is.ascend newer_is.ascend here (covered (length newer_ids) name here) above))

@@ -1,9 +1,12 @@
+mod Examples
 pub mod JoinLemmas
 pub mod ContentLemmas
 pub mod HoldingLemmas
 pub mod ReadLemmas
 pub mod RenumberingLemmas
+pub mod RankedLemmas
 pub mod RunLemmas
+pub mod SortedLemmas
 pub mod CarryingLemmas
 pub mod NamingLemmas
 pub mod NewNamesLemmas

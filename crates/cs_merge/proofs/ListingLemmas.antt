@@ -13,7 +13,7 @@ use Rattle.cs_index.specs.IdStream.{next_after}
 use Rattle.cs_index.specs.Laid.{Laid, AllBelow, last_ids, with_laid_id, with_last_id, with_last_ids}
 use Rattle.cs_index.specs.Rising.{RiseWithin, moved}
 use Rattle.cs_merge.specs.Renumbering.{list_of}
-use Rattle.cs_merge.specs.SideBySide.{lower_of, without_first, AreRun, of_older, of_newer, IsGiven, IsRun}
+use Rattle.cs_merge.specs.SideBySide.{lower_of, without_first, AreRun, of_older, of_newer, IsGiven}
 use Rattle.cs_merge.proofs.CarryingLemmas.{with_one_more, ids_of_more}
 
 -- ---- the lower one of two first ids
@@ -176,7 +176,7 @@ module _ (trigram : ℕ) (before now : Laid) (older newer older_left newer_left 
 
 -- ---- ids of a run
 
-has_both : (ids more : List ℕ) (n : ℕ) → has (ids ++ more) n ≡ (has ids n || has more n)
+pub has_both : (ids more : List ℕ) (n : ℕ) → has (ids ++ more) n ≡ (has ids n || has more n)
 has_both [] more n = refl
 has_both (one ∷ ids) more n = ap (λ b. eqb one n || b) (has_both ids more n) ∙ sym (or_assoc (eqb one n) (has ids n) (has more n))
   where

@@ -4,12 +4,14 @@ use Rattle.std.proofs.lemmas.Bool.{true≢false, and_parts, and_from, cases_Bool
 use Rattle.std.proofs.lemmas.Option.{slice_get_within, slice_get-get_or, same_Some}
 use Rattle.std.specs.Option.{option_map_or}
 use Rattle.std.specs.Ordering.{is_lt}
+use Rattle.cs_tree.specs.Folders.{are_distinct}
 use Rattle.cs_tree.specs.NameOrder.{bytes_cmp, are_ascending}
 use Rattle.cs_index.specs.Built.{is_above}
 use Rattle.cs_index.proofs.StringLemmas.{last_of, last_is}
-use Rattle.cs_merge.specs.Renumbering.{NewIds, AreApart, AreRenumberings, IsOfOne, new, kept, AreNamed}
+use Rattle.cs_merge.specs.Renumbering.{NewIds, AreApart, AreRenumbered, AreRenumberings, IsOfOne, new, kept, AreNamed}
 use Rattle.cs_merge.proofs.OrderLemmas.{chain, turned}
-use Rattle.cs_merge.proofs.RenumberingLemmas.{get_behind, get_push, are_placed_more, placed_push, kept_at, ascends_at, keeps_order, stay_below}
+use Rattle.cs_merge.proofs.RankedLemmas.{distinct_once}
+use Rattle.cs_merge.proofs.RenumberingLemmas.{get_behind, get_push, are_placed_more, placed_push, kept_at, ascends_at, one_to_one, stay_below}
 
 length-push : {X : Type 0} (xs : List X) (x : X) → length (xs ++ x ∷ []) ≡ length xs + 1
 length-push xs x = length-append xs (x ∷ [])
@@ -136,20 +138,26 @@ module _ (is_dropped : List ℕ → Bool) (older newer : List (List ℕ)) where
               | inr from ↦ turned other name from (λ same. true≢false (sym drops ∙ ap is_dropped (sym same) ∙ stays))
             ]
 
-    -- ---- what the new ids are
+-- ---- what the new ids are
 
-    pub renumberings : are_ascending older ≡ true → are_ascending newer ≡ true → ((id : ℕ) (name : List ℕ) → slice_get newer id ≡ Some name → is_dropped name ≡ true) → AreRenumberings (length names) older_ids newer_ids
-    renumberings up newer_up all_drop = record {
-      older_order = keeps_order is_dropped older names older_ids up so_far.ascend so_far.older_within so_far.older_placed;
-      newer_order = keeps_order (λ name. false) newer names newer_ids newer_up so_far.ascend so_far.newer_within so_far.newer_placed;
-      apart = never;
-      older_below = stay_below is_dropped older names older_ids so_far.older_within so_far.older_placed;
-      newer_below = stay_below (λ name. false) newer names newer_ids so_far.newer_within so_far.newer_placed;
-    }
-      where
-        never : AreApart older_ids newer_ids
-        never id other found h g =
-            let one = kept_at is_dropped older names older_ids id found so_far.older_within so_far.older_placed h in
-            let two = kept_at (λ name. false) newer names newer_ids other found so_far.newer_within so_far.newer_placed g in
-            let same : two.name ≡ one.name = same_Some two.name one.name (sym two.there ∙ one.there) in
-            true≢false (sym (all_drop other two.name two.own_is) ∙ ap is_dropped same ∙ one.stays)
+pub renumberings : (is_dropped : List ℕ → Bool) (older newer names : List (List ℕ)) (older_ids newer_ids : NewIds) → AreRenumbered is_dropped older newer names older_ids newer_ids → are_distinct older ≡ true → are_distinct newer ≡ true → ((id : ℕ) (name : List ℕ) → slice_get newer id ≡ Some name → is_dropped name ≡ true) → AreRenumberings (length names) older_ids newer_ids
+renumberings is_dropped older newer names older_ids newer_ids are distinct newer_distinct all_drop = record {
+  older_once = one_to_one is_dropped older names older_ids (distinct_once older distinct) older_within are.older_placed;
+  newer_once = one_to_one (λ name. false) newer names newer_ids (distinct_once newer newer_distinct) newer_within are.newer_placed;
+  apart = never;
+  older_below = stay_below is_dropped older names older_ids older_within are.older_placed;
+  newer_below = stay_below (λ name. false) newer names newer_ids newer_within are.newer_placed;
+}
+  where
+    older_within : length older_ids ≤ length older
+    older_within = let l = are.older_long in omega (arith, l)
+
+    newer_within : length newer_ids ≤ length newer
+    newer_within = let l = are.newer_long in omega (arith, l)
+
+    never : AreApart older_ids newer_ids
+    never id other found h g =
+        let one = kept_at is_dropped older names older_ids id found older_within are.older_placed h in
+        let two = kept_at (λ name. false) newer names newer_ids other found newer_within are.newer_placed g in
+        let same : two.name ≡ one.name = same_Some two.name one.name (sym two.there ∙ one.there) in
+        true≢false (sym (all_drop other two.name two.own_is) ∙ ap is_dropped same ∙ one.stays)

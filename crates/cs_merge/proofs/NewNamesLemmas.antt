@@ -1,5 +1,5 @@
 -- Once the names of both are laid, and each has its trigrams, both are joined.
-use Rattle.std.proofs.Common.{◌≡◌, ℕ, zero, suc, ◌+◌, ◌≤◌, Bool, true, false, not, cond, List, [], ◌∷◌, length, get_or, refl, sym, ap, subst, ◌∙◌, ◌⊎◌, inl, inr, Option, Some, None, arith, slice_get}
+use Rattle.std.proofs.Common.{◌≡◌, ℕ, zero, suc, ◌+◌, Bool, true, false, not, cond, List, [], ◌∷◌, get_or, refl, sym, ap, subst, ◌∙◌, ◌⊎◌, inl, inr, Option, Some, None, arith, slice_get}
 use Rattle.std.proofs.lemmas.Bool.{true≢false, and_parts, cases_Bool}
 use Rattle.std.proofs.lemmas.Option.{slice_get_within, slice_get-get_or, same_Some}
 use Rattle.std.specs.Prelude.{T, option_and_then}
@@ -7,11 +7,10 @@ use Rattle.std.specs.FinMap as map'
 use Rattle.std.specs.FinMap.Entries.{find, is_sorted}
 use Rattle.std.specs.Cmp.Lexicographic.{nat_list_cmp_total}
 use Rattle.std.specs.List.{list_all}
-use Rattle.std.specs.Ordering.{eq_by_cmp, is_lt, is_eq}
-use Rattle.std.specs.declared.cmp.Ordering.{Ordering}
-use Rattle.std.specs.declared.cmp.Ordering.TheVariants.{Less, Equal, Greater}
+use Rattle.std.specs.Ordering.{eq_by_cmp}
 use Rattle.cs_tree.specs.Cover.{is_covered}
-use Rattle.cs_tree.specs.NameOrder.{bytes_cmp, are_ascending}
+use Rattle.cs_tree.specs.Folders.{are_distinct}
+use Rattle.cs_tree.specs.NameOrder.{bytes_cmp}
 use Rattle.cs_tree.specs.PathSet.{Paths}
 use Rattle.cs_tree.specs.PathSet as set
 use Rattle.cs_tree.proofs.Sets.{alike, tied_is, tied_same, entries_in_order, or_else}
@@ -21,43 +20,40 @@ use Rattle.cs_index.specs.PostingLists.{set_at, entries_of}
 use Rattle.cs_merge.specs.Content.{files_in, paths_in}
 use Rattle.cs_merge.specs.Join.{join_files, join_paths}
 use Rattle.cs_merge.specs.Joinable.{are_covered, joined_index, AreTested}
-use Rattle.cs_merge.specs.Renumbering.{NewIds, AreCarried, IsOfOne, new, kept, AreNamed}
+use Rattle.cs_merge.specs.Renumbering.{NewIds, AreCarried, IsOfOne, new, kept, AreRenumbered}
 use Rattle.cs_merge.proofs.OrderLemmas.{sorted_up, up_named}
 use Rattle.cs_merge.proofs.JoinLemmas.{get-join_files}
-use Rattle.cs_merge.proofs.RenumberingLemmas.{tail_ascends, first_below}
+use Rattle.cs_merge.proofs.RankedLemmas.{AreOnce, ascending_once, distinct_once, once_rest}
 
 -- ---- what stands at a name
 
-tests_apart : (o : Ordering) → is_lt o ≡ true → is_eq o ≡ false
-tests_apart Less h = refl
-tests_apart Equal h = absurd (true≢false (sym h))
-tests_apart Greater h = refl
-
-swap_apart : (a b : List ℕ) → eq_by_cmp bytes_cmp a b ≡ false → eq_by_cmp bytes_cmp b a ≡ false
-swap_apart a b h =
-    elim (cases_Bool (eq_by_cmp bytes_cmp b a)) [
-      | inl same ↦ absurd (true≢false (sym (subst (λ n. eq_by_cmp bytes_cmp n b ≡ true) (tied_is b a same) (tied_same b)) ∙ h))
-      | inr apart ↦ apart
-    ]
-
-find_at : (names : List (List ℕ)) (first place : ℕ) (name : List ℕ) (lists : List Posting) → are_ascending names ≡ true → slice_get names place ≡ Some name → find bytes_cmp name (entries_of first names lists) ≡ Some (set_at (first + place) lists)
-find_at [] first place name lists up there = cc
-find_at (one ∷ names) first zero name lists up there =
+find_at : (names : List (List ℕ)) (first place : ℕ) (name : List ℕ) (lists : List Posting) → AreOnce names → slice_get names place ≡ Some name → find bytes_cmp name (entries_of first names lists) ≡ Some (set_at (first + place) lists)
+find_at [] first place name lists once there = cc
+find_at (one ∷ names) first zero name lists once there =
     let same : one ≡ name = same_Some one name there in
     let at : first ≡ first + 0 = omega arith in
     ap (λ b. cond b (Some (set_at first lists)) (find bytes_cmp name (entries_of (first + 1) names lists))) (subst (λ n. eq_by_cmp bytes_cmp name n ≡ true) (sym same) (tied_same name))
     ∙ ap (λ n. Some (set_at n lists)) at
-find_at (one ∷ names) first (suc place) name lists up there =
+find_at (one ∷ names) first (suc place) name lists once there =
     let at : first + 1 + place ≡ first + suc place = omega arith in
-    let apart : eq_by_cmp bytes_cmp name one ≡ false = swap_apart one name (tests_apart (bytes_cmp one name) (first_below one names place name up there)) in
     ap (λ b. cond b (Some (set_at first lists)) (find bytes_cmp name (entries_of (first + 1) names lists))) apart
-    ∙ find_at names (first + 1) place name lists (tail_ascends one names up) there
+    ∙ find_at names (first + 1) place name lists (once_rest one names once) there
     ∙ ap (λ n. Some (set_at n lists)) at
+  where
+    zero_suc : (n : ℕ) → 0 ≡ suc n → ⊥
+    zero_suc n e = omega (arith, e)
 
-pub found_at : (names : List (List ℕ)) (place : ℕ) (name : List ℕ) (lists : List Posting) → are_ascending names ≡ true → slice_get names place ≡ Some name → find bytes_cmp name (entries_of 0 names lists) ≡ Some (set_at place lists)
-found_at names place name lists up there =
+    apart : eq_by_cmp bytes_cmp name one ≡ false
+    apart =
+        elim (cases_Bool (eq_by_cmp bytes_cmp name one)) [
+          | inl here ↦ absurd (zero_suc place (once 0 (suc place) name (ap Some (sym (tied_is name one here))) there))
+          | inr differs ↦ differs
+        ]
+
+pub found_at : (names : List (List ℕ)) (place : ℕ) (name : List ℕ) (lists : List Posting) → AreOnce names → slice_get names place ≡ Some name → find bytes_cmp name (entries_of 0 names lists) ≡ Some (set_at place lists)
+found_at names place name lists once there =
     let at : 0 + place ≡ place = omega arith in
-    find_at names 0 place name lists up there ∙ ap (λ n. Some (set_at n lists)) at
+    find_at names 0 place name lists once there ∙ ap (λ n. Some (set_at n lists)) at
 
 pub find_nowhere : (names : List (List ℕ)) (first : ℕ) (name : List ℕ) (lists : List Posting) → ((place : ℕ) → slice_get names place ≡ Some name → ⊥) → find bytes_cmp name (entries_of first names lists) ≡ None
 find_nowhere [] first name lists none = refl
@@ -90,9 +86,7 @@ some_place (one ∷ names) name =
 
 -- Names, new ids and lists once all of both is laid.
 pub record AreLaid (older newer : Parts) (names : List (List ℕ)) (older_ids newer_ids : NewIds) (given : List Posting) : Type 0 where
-  pub named : AreNamed (is_covered (paths_in newer)) older.names newer.names names older_ids newer_ids
-  pub all_older : length older.names ≤ length older_ids
-  pub all_newer : length newer.names ≤ length newer_ids
+  pub named : AreRenumbered (is_covered (paths_in newer)) older.names newer.names names older_ids newer_ids
   pub older_sets : AreCarried older_ids (lists_in older) given
   pub newer_sets : AreCarried newer_ids (lists_in newer) given
 
@@ -107,8 +101,13 @@ all_covered parts h id name there = each parts.names id h there
     each (one ∷ names) (suc place) all there = each names place (and_parts (is_covered (paths_in parts) one) (list_all (λ name. is_covered (paths_in parts) name) names) all).1 there
 
 module _ (older newer : Parts) (names : List (List ℕ)) (older_ids newer_ids : NewIds) (given : List Posting) (laid : AreLaid older newer names older_ids newer_ids given) (tested : AreTested older newer) where
-  ups : (are_ascending older.names ≡ true) × (are_ascending newer.names ≡ true)
-  ups = and_parts (are_ascending older.names) (are_ascending newer.names) tested.ascend
+  onces : AreOnce older.names × AreOnce newer.names
+  onces =
+      let both = and_parts (are_distinct older.names) (are_distinct newer.names) tested.distinct in
+      (distinct_once older.names both.0, distinct_once newer.names both.1)
+
+  named_once : AreOnce names
+  named_once = ascending_once names laid.named.ascend
 
   -- what both have at a name
   abbrev both_have : List ℕ → Option (List ℕ)
@@ -119,26 +118,26 @@ module _ (older newer : Parts) (names : List (List ℕ)) (older_ids newer_ids : 
   old_has name is_dropped none e = λ i. or_else (find_nowhere newer.names 0 name (lists_in newer) none i) (cond (not (e i)) (find bytes_cmp name (files_read older)) None)
 
   found_newer : (id : ℕ) (name : List ℕ) → slice_get newer.names id ≡ Some name → find bytes_cmp name (entries_of 0 names given) ≡ both_have name
-  found_newer id name there = by_new (get_or newer_ids id None) (slice_get-get_or newer_ids id None (let within = slice_get_within newer.names id name there in let all = laid.all_newer in omega (arith, within, all)))
+  found_newer id name there = by_new (get_or newer_ids id None) (slice_get-get_or newer_ids id None (let within = slice_get_within newer.names id name there in let all = laid.named.newer_long in omega (arith, within, all)))
     where
       by_new : (o : Option ℕ) → slice_get newer_ids id ≡ Some o → find bytes_cmp name (entries_of 0 names given) ≡ both_have name
       by_new None is = absurd (true≢false (sym (laid.named.newer_placed id name None there is)))
       by_new (Some found) is =
           let placed = laid.named.newer_placed id name (Some found) there is in
-          found_at names found name given laid.named.ascend placed.1
+          found_at names found name given named_once placed.1
           ∙ ap Some (laid.newer_sets id found (ap (option_and_then (λ (o : Option ℕ). o)) is))
-          ∙ sym (ap (λ o. or_else o (cond (not (is_covered (paths_in newer) name)) (find bytes_cmp name (files_read older)) None)) (found_at newer.names id name (lists_in newer) ups.1 there))
+          ∙ sym (ap (λ o. or_else o (cond (not (is_covered (paths_in newer) name)) (find bytes_cmp name (files_read older)) None)) (found_at newer.names id name (lists_in newer) onces.1 there))
 
   found_older : (id : ℕ) (name : List ℕ) → ((place : ℕ) → slice_get newer.names place ≡ Some name → ⊥) → is_covered (paths_in newer) name ≡ false → slice_get older.names id ≡ Some name → find bytes_cmp name (entries_of 0 names given) ≡ both_have name
-  found_older id name none stays there = by_new (get_or older_ids id None) (slice_get-get_or older_ids id None (let within = slice_get_within older.names id name there in let all = laid.all_older in omega (arith, within, all)))
+  found_older id name none stays there = by_new (get_or older_ids id None) (slice_get-get_or older_ids id None (let within = slice_get_within older.names id name there in let all = laid.named.older_long in omega (arith, within, all)))
     where
       by_new : (o : Option ℕ) → slice_get older_ids id ≡ Some o → find bytes_cmp name (entries_of 0 names given) ≡ both_have name
       by_new None is = absurd (true≢false (sym (laid.named.older_placed id name None there is) ∙ stays))
       by_new (Some found) is =
           let placed = laid.named.older_placed id name (Some found) there is in
-          found_at names found name given laid.named.ascend placed.1
+          found_at names found name given named_once placed.1
           ∙ ap Some (laid.older_sets id found (ap (option_and_then (λ (o : Option ℕ). o)) is))
-          ∙ sym (old_has name false none stays ∙ found_at older.names id name (lists_in older) ups.0 there)
+          ∙ sym (old_has name false none stays ∙ found_at older.names id name (lists_in older) onces.0 there)
 
   -- a name of neither is not laid
   found_none : (name : List ℕ) → ((place : ℕ) → slice_get newer.names place ≡ Some name → ⊥) → ((id : ℕ) → slice_get older.names id ≡ Some name → is_covered (paths_in newer) name ≡ false → ⊥) → find bytes_cmp name (entries_of 0 names given) ≡ None

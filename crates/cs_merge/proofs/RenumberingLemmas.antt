@@ -1,6 +1,6 @@
 -- What renumbered ids are, and where names stand by their new ids.
 use Rattle.std.proofs.Common.{◌≡◌, ℕ, zero, suc, ◌+◌, ◌<◌, ◌≤◌, Bool, true, false, ◌||◌, eqb, List, [], ◌∷◌, ◌++◌, length, get_or, refl, sym, ap, subst, ◌∙◌, ◌⊎◌, inl, inr, Option, Some, None, arith, slice_get}
-use Rattle.std.proofs.lemmas.Bool.{true≢false, and_parts, cases_eq, cases_lt, eq-eqb, ne_eqb}
+use Rattle.std.proofs.lemmas.Bool.{true≢false, and_parts, cases_Bool, cases_eq, eq-eqb, eqb-true, ne_eqb}
 use Rattle.std.proofs.lemmas.Option.{slice_get_within, slice_get-get_or, same_Some}
 use Rattle.std.specs.List.{cons_option}
 use Rattle.std.specs.Ordering.{is_lt, is_eq}
@@ -10,7 +10,7 @@ use Rattle.cs_tree.specs.NameOrder.{bytes_cmp, are_ascending}
 use Rattle.cs_tree.proofs.Sets.{tied_same}
 use Rattle.cs_trigram.specs.Trigram.{has}
 use Rattle.cs_index.specs.Rising.{RiseWithin}
-use Rattle.cs_merge.specs.Renumbering.{NewIds, new_id, renumbered, KeepsOrder, StayBelow, IsPlaced, ArePlaced}
+use Rattle.cs_merge.specs.Renumbering.{NewIds, new_id, renumbered, IsOneToOne, KeepsOrder, StayBelow, IsPlaced, ArePlaced}
 use Rattle.cs_merge.proofs.OrderLemmas.{chain}
 
 -- ---- items of lists
@@ -103,7 +103,7 @@ ascends_at (name ∷ names) zero (suc high) a b up h left right =
     subst (λ n. is_lt (bytes_cmp n b) ≡ true) same (first_below name names high b up right)
 ascends_at (name ∷ names) (suc low) (suc high) a b up h left right = ascends_at names low high a b (tail_ascends name names up) (omega (arith, h)) left right
 
-never_below : (name : List ℕ) → is_lt (bytes_cmp name name) ≡ true → ⊥
+pub never_below : (name : List ℕ) → is_lt (bytes_cmp name name) ≡ true → ⊥
 never_below name h = apart (bytes_cmp name name) h (tied_same name)
   where
     apart : (o : Ordering) → is_lt o ≡ true → is_eq o ≡ true → ⊥
@@ -111,29 +111,13 @@ never_below name h = apart (bytes_cmp name name) h (tied_same name)
     apart Equal h g = true≢false (sym h)
     apart Greater h g = true≢false (sym g)
 
--- a lower name stands at a lower place
-pub place_below : (names : List (List ℕ)) (low high : ℕ) (a b : List ℕ) → are_ascending names ≡ true → slice_get names low ≡ Some a → slice_get names high ≡ Some b → is_lt (bytes_cmp a b) ≡ true → low < high
-place_below names low high a b up left right h =
-    elim (nat_cases low high) [
-      | inl below ↦ below
-      | inr (inl same) ↦
-          let e : a ≡ b = same_Some a b (sym left ∙ ap (slice_get names) same ∙ right) in
-          absurd (never_below a (subst (λ n. is_lt (bytes_cmp a n) ≡ true) (sym e) h))
-      | inr (inr above) ↦ absurd (never_below a (chain a b a h (ascends_at names high low b a up above right left)))
-    ]
-  where
-    nat_cases : (m n : ℕ) → (m < n) ⊎ ((m ≡ n) ⊎ (n < m))
-    nat_cases zero zero = inr (inl refl)
-    nat_cases zero (suc n) = inl (omega arith)
-    nat_cases (suc m) zero = inr (inr (omega arith))
-    nat_cases (suc m) (suc n) =
-        elim (nat_cases m n) [ inl h ↦ inl (omega (arith, h)) | inr (inl e) ↦ inr (inl (ap suc e)) | inr (inr h) ↦ inr (inr (omega (arith, h))) ]
-
-pub keeps_order : (is_dropped : List ℕ → Bool) (own names : List (List ℕ)) (new_ids : NewIds) → are_ascending own ≡ true → are_ascending names ≡ true → length new_ids ≤ length own → ArePlaced is_dropped own names new_ids → KeepsOrder new_ids
-keeps_order is_dropped own names new_ids own_up up few placed low high a b h left right =
-    let first = kept_at is_dropped own names new_ids low a few placed left in
-    let second = kept_at is_dropped own names new_ids high b few placed right in
-    place_below names a b first.name second.name up first.there second.there (ascends_at own low high first.name second.name own_up h first.own_is second.own_is)
+-- where each own name stands once, no new id comes of two ids
+pub one_to_one : (is_dropped : List ℕ → Bool) (own names : List (List ℕ)) (new_ids : NewIds) → ((place other : ℕ) (name : List ℕ) → slice_get own place ≡ Some name → slice_get own other ≡ Some name → place ≡ other) → length new_ids ≤ length own → ArePlaced is_dropped own names new_ids → IsOneToOne new_ids
+one_to_one is_dropped own names new_ids once few placed id other new left right =
+    let first = kept_at is_dropped own names new_ids id new few placed left in
+    let second = kept_at is_dropped own names new_ids other new few placed right in
+    let same : second.name ≡ first.name = same_Some second.name first.name (sym second.there ∙ first.there) in
+    once id other first.name first.own_is (second.own_is ∙ ap Some same)
 
 pub stay_below : (is_dropped : List ℕ → Bool) (own names : List (List ℕ)) (new_ids : NewIds) → length new_ids ≤ length own → ArePlaced is_dropped own names new_ids → StayBelow (length names) new_ids
 stay_below is_dropped own names new_ids few placed id new h =
@@ -144,38 +128,27 @@ stay_below is_dropped own names new_ids few placed id new h =
 
 module _ (new_ids : NewIds) where
   -- what an id that is kept is among the new ids
-  same_id : (id other new found : ℕ) → KeepsOrder new_ids → new_id new_ids id ≡ Some new → new_id new_ids other ≡ Some found → eqb found new ≡ eqb other id
-  same_id id other new found order h e =
+  same_id : (id other new found : ℕ) → IsOneToOne new_ids → new_id new_ids id ≡ Some new → new_id new_ids other ≡ Some found → eqb found new ≡ eqb other id
+  same_id id other new found once h e =
       elim (cases_eq other id) [
         | inl is ↦
             let same : found ≡ new = same_Some found new (sym e ∙ ap (new_id new_ids) is ∙ h) in
             eq-eqb found new same ∙ sym (eq-eqb other id is)
-        | inr differs ↦ ne_eqb found new (λ same. apart differs same) ∙ sym (ne_eqb other id differs)
+        | inr differs ↦ ne_eqb found new (λ same. differs (once other id found e (h ∙ ap Some (sym same)))) ∙ sym (ne_eqb other id differs)
       ]
-    where
-      apart : (other ≡ id → ⊥) → found ≡ new → ⊥
-      apart differs same =
-          elim (cases_lt other id) [
-            | inl below ↦ let less : found < new = order other id found new below e h in omega (arith, less, same)
-            | inr from ↦
-                elim (cases_lt id other) [
-                  | inl above ↦ let less : new < found = order id other new found above h e in omega (arith, less, same)
-                  | inr to ↦ differs (omega (arith, from, to))
-                ]
-          ]
 
   none_some : {new : ℕ} → None ≡ Some new → ⊥
   none_some f = cc
 
-  pub has_renumbered : (ids : List ℕ) (id new : ℕ) → KeepsOrder new_ids → new_id new_ids id ≡ Some new → has (renumbered new_ids ids) new ≡ has ids id
-  has_renumbered [] id new order h = refl
-  has_renumbered (other ∷ ids) id new order h = by_new (new_id new_ids other) refl (has_renumbered ids id new order h)
+  pub has_renumbered : (ids : List ℕ) (id new : ℕ) → IsOneToOne new_ids → new_id new_ids id ≡ Some new → has (renumbered new_ids ids) new ≡ has ids id
+  has_renumbered [] id new once h = refl
+  has_renumbered (other ∷ ids) id new once h = by_new (new_id new_ids other) refl (has_renumbered ids id new once h)
     where
       by_new : (o : Option ℕ) → new_id new_ids other ≡ o → has (renumbered new_ids ids) new ≡ has ids id → has (cons_option o (renumbered new_ids ids)) new ≡ (eqb other id || has ids id)
       by_new None e rest =
           let differs : eqb other id ≡ false = ne_eqb other id (λ is. none_some (sym e ∙ ap (new_id new_ids) is ∙ h)) in
           rest ∙ sym (ap (λ b. b || has ids id) differs)
-      by_new (Some found) e rest = (λ i. same_id id other new found order h e i || rest i)
+      by_new (Some found) e rest = (λ i. same_id id other new found once h e i || rest i)
 
   -- what comes of no id is not among the new ids
   pub has_no_renumbered : (ids : List ℕ) (new : ℕ) → ((other : ℕ) → new_id new_ids other ≡ Some new → ⊥) → has (renumbered new_ids ids) new ≡ false
@@ -187,6 +160,19 @@ module _ (new_ids : NewIds) where
       by_new (Some found) e rest =
           let differs : eqb found new ≡ false = ne_eqb found new (λ is. none other (e ∙ ap Some is)) in
           ap (λ b. b || has (renumbered new_ids ids) new) differs ∙ rest
+
+  -- what is among the new ids comes of an id
+  pub renumbered_from : (ids : List ℕ) (new : ℕ) → has (renumbered new_ids ids) new ≡ true → (id : ℕ) × (new_id new_ids id ≡ Some new)
+  renumbered_from [] new h = absurd (true≢false (sym h))
+  renumbered_from (other ∷ ids) new h = by_new (new_id new_ids other) refl (renumbered_from ids new) h
+    where
+      by_new : (o : Option ℕ) → new_id new_ids other ≡ o → (has (renumbered new_ids ids) new ≡ true → (id : ℕ) × (new_id new_ids id ≡ Some new)) → has (cons_option o (renumbered new_ids ids)) new ≡ true → (id : ℕ) × (new_id new_ids id ≡ Some new)
+      by_new None e rest g = rest g
+      by_new (Some found) e rest g =
+          elim (cases_Bool (eqb found new)) [
+            | inl is ↦ (other, e ∙ ap Some (eqb-true found new is))
+            | inr differs ↦ rest (sym (ap (λ b. b || has (renumbered new_ids ids) new) differs) ∙ g)
+          ]
 
   pub rise_renumbered : (count names next least : ℕ) (ids : List ℕ) → KeepsOrder new_ids → StayBelow count new_ids → RiseWithin names next ids → ((id new : ℕ) → next ≤ id → new_id new_ids id ≡ Some new → least ≤ new) → RiseWithin count least (renumbered new_ids ids)
   rise_renumbered count names next least [] order below up low = tt

@@ -1,6 +1,7 @@
 -- Which indexes are joined, and what the index of both is.
 -- docs/PROMISES.md, "Joining".
 use Rattle.std.specs.Prelude.{◌≡◌, ℕ, Bool, true, ◌&&◌, List}
+use Rattle.cs_tree.specs.Folders.{are_distinct}
 use Rattle.cs_tree.specs.NameOrder.{are_ascending}
 use Rattle.std.specs.List.{list_all}
 use Rattle.cs_tree.specs.Cover.{is_covered}
@@ -13,6 +14,10 @@ use Rattle.cs_merge.specs.Join.{join_files, join_paths}
 abbrev pub both_ascend : Parts → Parts → Bool
 both_ascend old newer = are_ascending old.names && are_ascending newer.names
 
+-- neither holds a name twice, in whatever order its names stand
+abbrev pub both_distinct : Parts → Parts → Bool
+both_distinct old newer = are_distinct old.names && are_distinct newer.names
+
 -- each name lies under some path
 unfoldable pub are_covered : Parts → Bool
 are_covered parts = list_all (λ name. is_covered (paths_in parts) name) parts.names
@@ -23,7 +28,7 @@ both_whole old newer = are_whole old && are_whole newer
 
 -- The tests that come before any list is read.
 pub record AreTested (old newer : Parts) : Type 0 where
-  pub ascend : both_ascend old newer ≡ true
+  pub distinct : both_distinct old newer ≡ true
   pub covered : are_covered newer ≡ true
 
 -- What can be joined.

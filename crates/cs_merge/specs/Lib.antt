@@ -10,9 +10,11 @@ pub mod Join
 pub mod Content
 pub mod Joinable
 pub mod Joining
+pub mod Replacing
 -- What functions inside promise each other.
 pub mod ListFault
 pub mod SomePaths
+pub mod Ranked
 pub mod Renumbering
 pub mod SideBySide
 pub mod JoinOutcome

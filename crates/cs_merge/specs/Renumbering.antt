@@ -1,13 +1,13 @@
 -- How the ids of an index become ids of the index of both.
 -- docs/PROMISES.md, "Joining".
-use Rattle.std.specs.Prelude.{◌≡◌, ℕ, ◌+◌, ◌-◌, ◌<◌, ◌≤◌, Bool, true, false, List, [], ◌∷◌, Option, Some, None, slice_get, length, option_and_then, option_map}
+use Rattle.std.specs.Prelude.{◌≡◌, ℕ, ◌+◌, ◌-◌, ◌<◌, ◌≤◌, Bool, true, false, List, [], ◌∷◌, Option, Some, None, slice_get, slice_index, length, option_and_then, option_map}
 use Rattle.std.specs.List.{filter_map}
 use Rattle.cs_tree.specs.NameOrder.{are_ascending}
 use Rattle.cs_tree.specs.Cover.{is_covered}
 use Rattle.cs_index.specs.Built.{is_above}
 use Rattle.cs_index.specs.Laid.{Laid}
-use Rattle.cs_index.specs.Opening.{Parts}
 use Rattle.cs_merge.specs.Content.{paths_in}
+use Rattle.cs_merge.specs.Ranked.{Ranked, id_at, names_by}
 use Rattle.cs_index.specs.Image.{Posting}
 use Rattle.cs_index.specs.PostingLists.{Ids, set_at}
 
@@ -32,6 +32,10 @@ abbrev pub KeepsOrder : NewIds → Type 0
 KeepsOrder new_ids = (low high a b : ℕ) → low < high → new_id new_ids low ≡ Some a → new_id new_ids high ≡ Some b →
     a < b
 
+-- no new id comes of two ids
+abbrev pub IsOneToOne : NewIds → Type 0
+IsOneToOne new_ids = (id other new : ℕ) → new_id new_ids id ≡ Some new → new_id new_ids other ≡ Some new → id ≡ other
+
 -- no new id comes of both
 abbrev pub AreApart : NewIds → NewIds → Type 0
 AreApart older newer = (id other new : ℕ) → new_id older id ≡ Some new → new_id newer other ≡ Some new → ⊥
@@ -49,10 +53,15 @@ MoveTogether new_ids id end = (other : ℕ) → id ≤ other → other < end →
 abbrev pub AreEnds : NewIds → List ℕ → Type 0
 AreEnds new_ids ends = (id end : ℕ) → slice_get ends id ≡ Some end → MoveTogether new_ids id end
 
+-- Where ids end that move together, and that ids keep their order, if they are said to.
+pub record AreRuns (new_ids : NewIds) (ends : List ℕ) (keep_order : Bool) : Type 0 where
+  pub ends_are : AreEnds new_ids ends
+  pub order : keep_order ≡ true → KeepsOrder new_ids
+
 -- What lists of ids are renumbered by.
 pub record AreRenumberings (count : ℕ) (older newer : NewIds) : Type 0 where
-  pub older_order : KeepsOrder older
-  pub newer_order : KeepsOrder newer
+  pub older_once : IsOneToOne older
+  pub newer_once : IsOneToOne newer
   pub apart : AreApart older newer
   pub older_below : StayBelow count older
   pub newer_below : StayBelow count newer
@@ -104,8 +113,33 @@ pub record AreNamed (is_dropped : List ℕ →
   pub newer_left : (place : ℕ) (name : List ℕ) → length newer_ids ≤ place → slice_get newer place ≡ Some name →
       is_above names name ≡ true
 
--- The names of both are laid so far, and no list.
-pub record IsNaming (older newer : Parts) (before now : Laid) (older_ids newer_ids : NewIds) : Type 0 where
-  pub named : AreNamed (is_covered (paths_in newer)) older.names newer.names now.names older_ids newer_ids
+-- Numbers below their count, of which each stands once.
+pub record IsOrdering (ids : List ℕ) : Type 0 where
+  pub below : (place : ℕ) → place < length ids → slice_index ids place < length ids
+  pub once : (low high : ℕ) → low < high → high < length ids → slice_index ids low ≡ slice_index ids high → ⊥
+
+-- the first places have put what they have at their ids
+abbrev pub ArePut : List ℕ → NewIds → ℕ → NewIds → Type 0
+ArePut ids ranks count new_ids = (place : ℕ) → place < count → slice_get new_ids (slice_index ids place) ≡ slice_get ranks place
+
+-- New ids of ranks are those of the ids that have these ranks.
+pub record AreByRank (ranked : Ranked) (ranks new_ids : NewIds) : Type 0 where
+  pub long : length new_ids ≡ length ranks
+  pub at : (place id : ℕ) → id_at ranked place ≡ Some id → place < length ranks →
+      slice_get new_ids id ≡ slice_get ranks place
+
+-- All names of both are named in order, and each id of both has its new one, or none.
+pub record AreRenumbered (is_dropped : List ℕ →
+    Bool) (older newer names : List (List ℕ)) (older_ids newer_ids : NewIds) : Type 0 where
+  pub older_long : length older_ids ≡ length older
+  pub newer_long : length newer_ids ≡ length newer
+  pub ascend : are_ascending names ≡ true
+  pub older_placed : ArePlaced is_dropped older names older_ids
+  pub newer_placed : ArePlaced (λ name. false) newer names newer_ids
+  pub each_from : (place : ℕ) (name : List ℕ) → slice_get names place ≡ Some name → IsOfOne is_dropped older newer name
+
+-- The names of both are laid so far, by their ranks, and no list.
+pub record IsNaming (older newer : Ranked) (before now : Laid) (older_ranks newer_ranks : NewIds) : Type 0 where
+  pub named : AreNamed (is_covered (paths_in newer.parts)) (names_by older) (names_by newer) now.names older_ranks newer_ranks
   pub paths : now.paths ≡ before.paths
   pub unlisted : now.lists ≡ []

@@ -1,5 +1,5 @@
 -- The lists of both, side by side in the order of their trigrams.
-use Rattle.std.specs.Prelude.{◌≡◌, ℕ, ◌+◌, ◌<◌, ◌≤◌, true, nat_eq, nat_lt, if◌then◌else◌, ◌||◌, List, [], ◌∷◌, ◌++◌, length, take, Option, Some, None, slice_get, option_map}
+use Rattle.std.specs.Prelude.{◌≡◌, ℕ, ◌+◌, ◌<◌, ◌≤◌, true, false, nat_eq, nat_lt, if◌then◌else◌, ◌||◌, List, [], ◌∷◌, ◌++◌, length, take, Option, Some, None, slice_get, option_map}
 use Rattle.std.specs.List.{list_all, AllByRecursion}
 use Rattle.std.specs.Option.{option_map_or}
 use Rattle.cs_trigram.specs.Trigram.{has}
@@ -72,6 +72,16 @@ pub record IsGiven (trigram : ℕ) (before now : Laid) (older newer older_left n
   pub each : (id : ℕ) → (has given id || (has older_left id || has newer_left id)) ≡ (has older id || has newer id)
   pub older_rise : RiseWithin (length before.names) (next_after 0 given) older_left
   pub newer_rise : RiseWithin (length before.names) (next_after 0 given) newer_left
+
+-- each number stands once
+abbrev pub StandOnce : List ℕ → Type 0
+StandOnce [] = Unit {0}
+StandOnce (n ∷ ns) = (has ns n ≡ false) × StandOnce ns
+
+-- Ids of an index with so many names, in any order.
+pub record AreIds (count : ℕ) (ids : List ℕ) : Type 0 where
+  pub below : (id : ℕ) → has ids id ≡ true → id < count
+  pub once : StandOnce ids
 
 -- The lists of both that stand before these places are laid.
 pub record AreListed (older newer : Parts) (older_ids newer_ids : NewIds) (before now : Laid) (older_place newer_place : ℕ) : Type 0 where

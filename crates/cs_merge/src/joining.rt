@@ -1,37 +1,41 @@
 // The joining of an index with a newer one.
-ghost use Rattle.std.specs.Prelude.{◌≡◌, ◌↔◌, ◌<◌, ◌≤◌, ◌^◌, ◌++◌, true, false, Err, length, map, string_bytes, IfOk, OnOk, MatchResult};
+ghost use Rattle.std.specs.Prelude.{◌≡◌, ◌<◌, ◌≤◌, ◌^◌, ◌++◌, true, false, Err, length, map, string_bytes, IfOk, OnOk, MatchResult};
 ghost use Rattle.cs_tree.specs.PathSet as set;
-ghost use Rattle.cs_index.specs.Parts.{AreParts};
 ghost use Rattle.cs_merge.specs.Content.{paths_in};
 ghost use Rattle.cs_merge.specs.Join.{join_paths};
-ghost use Rattle.cs_merge.specs.Joinable.{are_covered, both_ascend, both_whole, joined_index, AreJoinable, AreTested};
+ghost use Rattle.cs_merge.specs.Joinable.{are_covered, both_ascend, both_distinct, both_whole, joined_index, AreJoinable, AreTested};
 ghost use Rattle.cs_merge.specs.Joining.{IsJoined, IsJoinFault};
+ghost use Rattle.cs_merge.specs.Ranked.{IsRanked};
 
 use crate::building::{begun, finished};
 use crate::covering::is_under;
 use crate::fault::MergeFault;
 use crate::listing::lay_lists;
 use crate::naming::lay_names;
+use crate::ranked::Ranked;
 use cs_index::{Index, IndexFault, Texts};
 use cs_tree::reduce;
 use std::alloc::{AllocError, Global};
 
 /// The index of what both have: the newer one has the last word on all that its paths cover. Its
-/// paths are those of both that no other one covers. Refused are, in this order: names out of
-/// order, a newer name under no newer path, a damaged list of one of both, too many bytes. Only the
-/// last two tests take memory, and they read every list of both to its end.
+/// paths are those of both that no other one covers. Names may stand in any order. Refused are, in
+/// this order: a name that is held twice, a newer name under no newer path, a damaged list of one of
+/// both, too many bytes. The last two tests take memory, and they read every list of both to its end;
+/// the first does where names do not ascend.
 pub fn merge(alloc: Global, old: &Index<'_>, newer: &Index<'_>) -> Result<Vec<u8>, MergeFault>
     ensures joined { IfOk result (λ index. index.items ≡ joined_index old.now newer.now) }
     ensures short { IfOk result (λ index. length index.items < 2 ^ 32) }
     ensures sound { IfOk result (λ _. AreJoinable old.now newer.now) }
-    ensures unsorted { (result ≡ Err MergeFault.Unsorted) ↔
-        (both_ascend old.now newer.now ≡ false) }
-    ensures uncovered { (result ≡ Err MergeFault.Uncovered) ↔
-        ((both_ascend old.now newer.now ≡ true) × (are_covered newer.now ≡ false)) }
+    ensures unsorted { result ≡ Err MergeFault.Unsorted →
+        both_distinct old.now newer.now ≡ false }
+    ensures uncovered { result ≡ Err MergeFault.Uncovered →
+        (both_distinct old.now newer.now ≡ true) × (are_covered newer.now ≡ false) }
     ensures bad_list { result ≡ Err (MergeFault.Index IndexFault.BadList) →
         AreTested old.now newer.now × (both_whole old.now newer.now ≡ false) }
     ensures too_large { result ≡ Err MergeFault.TooLarge →
         AreJoinable old.now newer.now × (2 ^ 32 ≤ length (joined_index old.now newer.now)) }
+    ensures memory { result ≡ Err MergeFault.Memory → both_ascend old.now newer.now ≡ true →
+        AreTested old.now newer.now }
     ensures other { (fault : IndexFault) → result ≡ Err (MergeFault.Index fault) →
         fault ≡ IndexFault.BadList }
 {
@@ -48,30 +52,37 @@ pub fn merge_within(
     ensures { MatchResult result (λ index. IsJoined old.now newer.now most index.items)
         (λ fault. IsJoinFault old.now newer.now most fault) }
 {
-    if !old.in_order() {
+    let Some(old) = Ranked::of(alloc, old)? else {
         return Err(MergeFault::Unsorted);
-    }
-    if !newer.in_order() {
+    };
+    let Some(newer) = Ranked::of(alloc, newer)? else {
         return Err(MergeFault::Unsorted);
-    }
-    if !is_under(newer) {
+    };
+    if !is_under(newer.index()) {
         return Err(MergeFault::Uncovered);
     }
-    join(alloc, most, old, newer)
+    join(alloc, most, &old, &newer)
 }
 
-/// Joins indexes whose names ascend, where each newer one lies under a newer path.
-fn join(alloc: Global, most: u32, old: &Index<'_>, newer: &Index<'_>) -> Result<Vec<u8>, MergeFault>
-    requires old_parts { AreParts old.now }
-    requires newer_parts { AreParts newer.now }
-    requires tested { AreTested old.now newer.now }
-    ensures { MatchResult result (λ index. IsJoined old.now newer.now most index.items)
-        (λ fault. IsJoinFault old.now newer.now most fault) }
+/// Joins indexes in the order of their names, where each newer one lies under a newer path.
+fn join(
+    alloc: Global,
+    most: u32,
+    old: &Ranked<'_, '_>,
+    newer: &Ranked<'_, '_>,
+) -> Result<Vec<u8>, MergeFault>
+    requires old_ranked { IsRanked old.now }
+    requires newer_ranked { IsRanked newer.now }
+    requires tested { AreTested old.now.parts newer.now.parts }
+    ensures { MatchResult result (λ index. IsJoined old.now.parts newer.now.parts most index.items)
+        (λ fault. IsJoinFault old.now.parts newer.now.parts most fault) }
 {
-    let paths = joined_paths(alloc, old, newer)?;
+    let older = old.index();
+    let later = newer.index();
+    let paths = joined_paths(alloc, older, later)?;
     let mut sections = begun(alloc, &paths)?;
     let ids = lay_names(alloc, &mut sections, old, newer)?;
-    lay_lists(alloc, &mut sections, old, newer, &ids)?;
+    lay_lists(alloc, &mut sections, older, later, &ids)?;
     finished(sections, most)
 }
 

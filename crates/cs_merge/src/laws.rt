@@ -6,11 +6,12 @@ ghost use Rattle.cs_index.specs.Roundtrip.{AreBytes};
 ghost use Rattle.cs_index.specs.PostingLists.{set_at};
 ghost use Rattle.std.specs.FinMap as map;
 ghost use Rattle.cs_tree.specs.PathSet as set;
-ghost use Rattle.cs_tree.specs.Cover.{is_covered};
+ghost use Rattle.cs_tree.specs.Cover.{is_covered, least};
 ghost use Rattle.cs_index.specs.Image.{Files, image, list_entries, postings_of};
 ghost use Rattle.cs_index.specs.Opening.{Parts, opening};
 ghost use Rattle.cs_index.specs.Spelling.{Spells};
 ghost use Rattle.cs_merge.specs.Join.{join_files, join_paths};
+ghost use Rattle.cs_merge.specs.Replacing.{IsCoveredBy};
 ghost use Rattle.cs_merge.specs.Content.{IsContent, LieUnder, Holds, HasContent, Opens};
 
 /// At a name that the newer paths cover the join has what the newer index has.
@@ -31,6 +32,15 @@ pub fn others_stay()
 pub fn joined_paths_cover()
     ensures { (old newer : Paths) (name : List ℕ) → is_covered (join_paths old newer) name ≡
         (is_covered old name || is_covered newer name) }
+{}
+
+/// An index whose names and paths the newer paths cover is replaced as a whole: what is left of both is
+/// the newer one.
+pub fn what_is_covered_is_replaced()
+    ensures paths { (old newer : Paths) → IsCoveredBy old newer →
+        join_paths old newer ≡ least newer }
+    ensures files { (p q : Paths) (old newer : Files) → IsCoveredBy p q → LieUnder p old →
+        join_files q old newer ≡ newer }
 {}
 
 /// What can be held stays so when it is joined.

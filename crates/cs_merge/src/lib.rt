@@ -11,6 +11,7 @@ mod joining;
 pub mod laws;
 mod listing;
 mod naming;
+mod ranked;
 mod renumbering;
 mod runs;
 

@@ -1,5 +1,5 @@
 // The lists of both, side by side in the order of their trigrams.
-ghost use Rattle.std.specs.Prelude.{◌≡◌, ◌⊎◌, ◌<◌, ◌^◌, ◌&&◌, [], true, false, Some, length, slice_get, MatchResult, OnOk};
+ghost use Rattle.std.specs.Prelude.{◌≡◌, ◌⊎◌, ◌<◌, ◌^◌, ◌&&◌, ◌++◌, [], true, false, Some, length, slice_get, MatchResult, OnOk};
 ghost use Rattle.cs_trigram.specs.Trigram.{closing_trigram};
 ghost use Rattle.cs_index.specs.Laid.{AllBelow};
 ghost use Rattle.cs_index.specs.Postings.{IsListFault};
@@ -7,14 +7,14 @@ ghost use Rattle.cs_index.specs.Rising.{RiseWithin};
 ghost use Rattle.cs_index.specs.Opening.{lists_in};
 ghost use Rattle.cs_index.specs.Parts.{AreParts};
 ghost use Rattle.cs_merge.specs.Joinable.{both_whole};
-ghost use Rattle.cs_merge.specs.Renumbering.{renumbered_ids, AreCarried, AreRenumberings};
-ghost use Rattle.cs_merge.specs.SideBySide.{list_ids, lower_of, place_after, trigram_of, AreRun, IsGiven};
+ghost use Rattle.cs_merge.specs.Renumbering.{renumbered_ids, AreCarried, AreRenumberings, KeepsOrder};
+ghost use Rattle.cs_merge.specs.SideBySide.{list_ids, lower_of, place_after, trigram_of, AreIds, AreRun, IsGiven};
 
 use crate::carrying::Carried;
 use crate::renumbering::Renumberings;
 use crate::runs::Runs;
 use cs_index::{Index, IndexFault, Sections, Stretch};
-use std::alloc::Global;
+use std::alloc::{AllocError, Global};
 
 /// Lays the lists of both in ascending order of trigrams. Each is read once to its end, also where all
 /// of its files are dropped.
@@ -40,11 +40,12 @@ pub(crate) fn lay_lists(
 {
     let older_runs = Runs::new(alloc, &ids.older)?;
     let newer_runs = Runs::new(alloc, &ids.newer)?;
-    lay_all(sections, old, newer, &older_runs, &newer_runs)
+    lay_all(alloc, sections, old, newer, &older_runs, &newer_runs)
 }
 
 /// Lays the lists of both, whose ids have new ones.
 fn lay_all(
+    alloc: Global,
     sections: &mut Sections,
     old: &Index<'_>,
     newer: &Index<'_>,
@@ -63,6 +64,7 @@ fn lay_all(
     ensures fault { MatchResult result (λ _. both_whole old.now newer.now ≡ true)
         (IsListFault (both_whole old.now newer.now)) }
 {
+    let in_order = keep_order(older_runs, newer_runs);
     let mut older_place = 0;
     let mut newer_place = 0;
     'lists: while let Some(trigram) = lower(
@@ -71,9 +73,17 @@ fn lay_all(
     ) {
         let older = take_list(old, &mut older_place, trigram, &*older_runs)?;
         let later = take_list(newer, &mut newer_place, trigram, &*newer_runs)?;
-        lay_list(sections, trigram, older, later)?;
+        lay_ids(alloc, sections, trigram, older, later, in_order)?;
     }
     Ok(())
+}
+
+/// Whether the ids of both ascend under their new ids as they did.
+fn keep_order(older_runs: &Runs<'_>, newer_runs: &Runs<'_>) -> bool
+    ensures older { result ≡ true → KeepsOrder older_runs.now }
+    ensures newer { result ≡ true → KeepsOrder newer_runs.now }
+{
+    older_runs.keep_order() && newer_runs.keep_order()
 }
 
 /// The trigram of the list at a place.
@@ -108,6 +118,89 @@ fn take_list<'a, 'b>(
         }
     }
     Ok(Carried::none(runs))
+}
+
+/// Lays the list of a trigram: the new ids of both, which may ascend already.
+fn lay_ids<'a>(
+    alloc: Global,
+    sections: &mut Sections,
+    trigram: u32,
+    older: Carried<'a, '_>,
+    newer: Carried<'a, '_>,
+    in_order: bool,
+) -> Result<(), IndexFault>
+    requires above { AllBelow sections.old.lists trigram }
+    requires older_rise { in_order ≡ true →
+        RiseWithin (length sections.old.names) 0 older.ids }
+    requires newer_rise { in_order ≡ true →
+        RiseWithin (length sections.old.names) 0 newer.ids }
+    requires ids { AreIds (length sections.old.names) (older.ids ++ newer.ids) }
+    requires below { (trigram < closing_trigram) ⊎ ((older.ids ≡ []) × (newer.ids ≡ [])) }
+    ensures ok { OnOk result
+        (IsGiven trigram sections.old sections.new older.entry.ids newer.entry.ids [] []) }
+    ensures fault { MatchResult result (λ _. (older.entry.whole && newer.entry.whole) ≡ true)
+        (IsListFault (older.entry.whole && newer.entry.whole)) }
+{
+    if in_order {
+        lay_list(sections, trigram, older, newer)
+    } else {
+        lay_sorted(alloc, sections, trigram, older, newer)
+    }
+}
+
+/// Lays the list of a trigram: the new ids of both, put in order.
+fn lay_sorted<'a>(
+    alloc: Global,
+    sections: &mut Sections,
+    trigram: u32,
+    older: Carried<'a, '_>,
+    newer: Carried<'a, '_>,
+) -> Result<(), IndexFault>
+    requires above { AllBelow sections.old.lists trigram }
+    requires ids { AreIds (length sections.old.names) (older.ids ++ newer.ids) }
+    requires below { (trigram < closing_trigram) ⊎ ((older.ids ≡ []) × (newer.ids ≡ [])) }
+    ensures ok { OnOk result
+        (IsGiven trigram sections.old sections.new older.entry.ids newer.entry.ids [] []) }
+    ensures fault { MatchResult result (λ _. (older.entry.whole && newer.entry.whole) ≡ true)
+        (IsListFault (older.entry.whole && newer.entry.whole)) }
+{
+    let mut ids = Vec::new(alloc);
+    gather(&mut ids, older)?;
+    gather(&mut ids, newer)?;
+    ids.sort()?;
+    lay_each(sections, trigram, &ids)?;
+    Ok(())
+}
+
+/// Puts the ids of a list behind others.
+fn gather(ids: &mut Vec<u32>, list: Carried<'_, '_>) -> Result<(), IndexFault>
+    ensures ok { OnOk result (ids.new.items ≡ ids.old.items ++ list.entry.ids) }
+    ensures fault { MatchResult result (λ _. list.entry.whole ≡ true)
+        (IsListFault list.entry.whole) }
+{
+    let mut rest = list;
+    'ids: while let Some(id) = rest.first() {
+        ids.push(id)?;
+        rest.pass(id)?;
+    }
+    Ok(())
+}
+
+/// Lays the list of a trigram: ids that ascend.
+fn lay_each(sections: &mut Sections, trigram: u32, ids: &[u32]) -> Result<(), AllocError>
+    requires above { AllBelow sections.old.lists trigram }
+    requires rise { RiseWithin (length sections.old.names) 0 ids.now }
+    requires below { (trigram < closing_trigram) ⊎ (ids.now ≡ []) }
+    ensures { OnOk result (IsGiven trigram sections.old sections.new ids.now [] [] []) }
+{
+    if ids.is_empty() {
+        return Ok(());
+    }
+    sections.list(trigram);
+    'ids: for id in ids {
+        sections.id(*id)?;
+    }
+    Ok(())
 }
 
 /// Lays the list of a trigram: the new ids of both, ascending. A list is begun with its first id.

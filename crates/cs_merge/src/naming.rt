@@ -6,14 +6,16 @@ ghost use Rattle.cs_tree.specs.NameOrder.{bytes_cmp};
 ghost use Rattle.cs_tree.specs.PathSet as set;
 ghost use Rattle.cs_index.specs.Built.{is_above, is_storable};
 ghost use Rattle.cs_index.specs.Laid.{with_laid_name};
-ghost use Rattle.cs_index.specs.Parts.{AreParts};
+ghost use Rattle.cs_tree.specs.Cover.{is_covered};
 ghost use Rattle.cs_merge.specs.Content.{paths_in};
 ghost use Rattle.cs_merge.specs.Joinable.{AreTested};
-ghost use Rattle.cs_merge.specs.Renumbering.{IsNaming};
+ghost use Rattle.cs_merge.specs.Ranked.{names_by, IsRanked};
+ghost use Rattle.cs_merge.specs.Renumbering.{AreRenumbered, IsNaming};
 
 use crate::covering::Cover;
+use crate::ranked::Ranked;
 use crate::renumbering::{Renumbering, Renumberings};
-use cs_index::{Index, Sections};
+use cs_index::Sections;
 use std::alloc::{AllocError, Global};
 
 /// Lays the names of both in order, and answers what becomes of their ids. An old name that the newer
@@ -21,56 +23,61 @@ use std::alloc::{AllocError, Global};
 pub(crate) fn lay_names(
     alloc: Global,
     sections: &mut Sections,
-    old: &Index<'_>,
-    newer: &Index<'_>,
+    old: &Ranked<'_, '_>,
+    newer: &Ranked<'_, '_>,
 ) -> Result<Renumberings, AllocError>
-    requires old_parts { AreParts old.now }
-    requires newer_parts { AreParts newer.now }
-    requires tested { AreTested old.now newer.now }
+    requires old_ranked { IsRanked old.now }
+    requires newer_ranked { IsRanked newer.now }
+    requires tested { AreTested old.now.parts newer.now.parts }
     requires unnamed { sections.old.names ≡ [] }
     requires unlisted { sections.old.lists ≡ [] }
-    ensures named { IfOk result
-        (λ ids. IsNaming old.now newer.now sections.old sections.new ids.older ids.newer) }
-    ensures all { IfOk result (λ ids. (length old.now.names ≤ length ids.older)
-        × (length newer.now.names ≤ length ids.newer)) }
+    ensures paths { OnOk result (sections.new.paths ≡ sections.old.paths) }
+    ensures unlisted { OnOk result (sections.new.lists ≡ []) }
+    ensures ids { IfOk result (λ ids. AreRenumbered (is_covered (paths_in newer.now.parts))
+        old.now.parts.names newer.now.parts.names sections.new.names ids.older ids.newer) }
 {
-    let cover = Cover::new(alloc, newer)?;
-    let mut ids = Renumberings {
+    let cover = Cover::new(alloc, newer.index())?;
+    let mut ranks = Renumberings {
         older: Renumbering::new(alloc),
         newer: Renumbering::new(alloc),
     };
-    'names: while lay_next(sections, old, newer, &cover, &mut ids)? {}
-    Ok(ids)
+    'names: while lay_next(sections, old, newer, &cover, &mut ranks)? {}
+    Ok(Renumberings {
+        older: old.by_id(alloc, ranks.older)?,
+        newer: newer.by_id(alloc, ranks.newer)?,
+    })
 }
 
 /// Lays or drops the lowest name that is left, and answers whether there was one.
 fn lay_next(
     sections: &mut Sections,
-    old: &Index<'_>,
-    newer: &Index<'_>,
+    old: &Ranked<'_, '_>,
+    newer: &Ranked<'_, '_>,
     cover: &Cover<'_>,
-    ids: &mut Renumberings,
+    ranks: &mut Renumberings,
 ) -> Result<bool, AllocError>
-    requires old_parts { AreParts old.now }
-    requires newer_parts { AreParts newer.now }
-    requires tested { AreTested old.now newer.now }
-    requires cover { set.from_list cover.now ≡ paths_in newer.now }
+    requires old_ranked { IsRanked old.now }
+    requires newer_ranked { IsRanked newer.now }
+    requires tested { AreTested old.now.parts newer.now.parts }
+    requires cover { set.from_list cover.now ≡ paths_in newer.now.parts }
     requires so_far { IsNaming old.now newer.now sections.old sections.old
-        ids.old.older ids.old.newer }
-    ensures so_far { OnOk result
-        (IsNaming old.now newer.now sections.old sections.new ids.new.older ids.new.newer) }
-    ensures more { IfOk result (λ more. more ≡ true → length ids.new.older + length ids.new.newer
-        ≡ length ids.old.older + length ids.old.newer + 1) }
-    ensures all { IfOk result (λ more. more ≡ false → (length old.now.names ≤ length ids.new.older)
-        × (length newer.now.names ≤ length ids.new.newer)) }
+        ranks.old.older ranks.old.newer }
+    ensures so_far { OnOk result (IsNaming old.now newer.now sections.old sections.new
+        ranks.new.older ranks.new.newer) }
+    ensures more { IfOk result (λ more. more ≡ true →
+        length ranks.new.older + length ranks.new.newer
+        ≡ length ranks.old.older + length ranks.old.newer + 1) }
+    ensures all { IfOk result (λ more. more ≡ false →
+        (length (names_by old.now) ≤ length ranks.new.older)
+        × (length (names_by newer.now) ≤ length ranks.new.newer)) }
 {
-    let next = newer.name(ids.newer.len());
-    if let Some(name) = old.name(ids.older.len()) {
+    let next = newer.name(ranks.newer.len());
+    if let Some(name) = old.name(ranks.older.len()) {
         if is_below(name, next) {
             if cover.covers(name) {
-                ids.older.leave_out()?;
+                ranks.older.leave_out()?;
             } else {
-                lay_name(sections, &mut ids.older, name)?;
+                lay_name(sections, &mut ranks.older, name)?;
             }
             return Ok(true);
         }
@@ -78,7 +85,7 @@ fn lay_next(
     let Some(name) = next else {
         return Ok(false);
     };
-    lay_name(sections, &mut ids.newer, name)?;
+    lay_name(sections, &mut ranks.newer, name)?;
     Ok(true)
 }
 
@@ -93,7 +100,7 @@ fn is_below(name: &str, next: Option<&str>) -> bool
     }
 }
 
-/// Lays the name that the next id has.
+/// Lays the name that the next rank has.
 fn lay_name(
     sections: &mut Sections,
     new_ids: &mut Renumbering,

@@ -1,6 +1,6 @@
 // How the ids of an index become ids of the index of both.
-ghost use Rattle.std.specs.Prelude.{◌≡◌, ◌<◌, ◌^◌, ◌∷◌, ◌++◌, [], Some, None, length, OnOk};
-ghost use Rattle.cs_merge.specs.Renumbering.{new_id as new_id'};
+ghost use Rattle.std.specs.Prelude.{◌≡◌, ◌<◌, ◌^◌, ◌∷◌, ◌++◌, [], Some, None, length, IfOk, OnOk};
+ghost use Rattle.cs_merge.specs.Renumbering.{new_id as new_id', ArePut, IsOrdering};
 
 use std::alloc::{AllocError, Global};
 use std::marker::Model;
@@ -51,6 +51,20 @@ impl Renumbering {
     {
         self.new_ids.push(None)?;
         Ok(())
+    }
+
+    /// The new ids of these ids, from those of their places.
+    pub(crate) fn placed(&self, alloc: Global, ids: &[u32]) -> Result<Renumbering, AllocError>
+        requires all { length self.now ≡ length ids.now }
+        requires order { IsOrdering ids.now }
+        ensures long { IfOk result (λ new_ids. length new_ids ≡ length self.now) }
+        ensures each { IfOk result (λ new_ids. ArePut ids.now self.now (length ids.now) new_ids) }
+    {
+        let mut new_ids = Vec::from_elem(alloc, None, self.new_ids.len())?;
+        for place in 0..ids.len() {
+            new_ids[ids[place] as usize] = self.new_ids[place];
+        }
+        Ok(Renumbering { new_ids })
     }
 
     /// The new id of an id.

@@ -1,6 +1,6 @@
 // Which ids of an index move together.
-ghost use Rattle.std.specs.Prelude.{◌≡◌, ◌+◌, ◌<◌, ◌^◌, true, length, IfOk, option_map};
-ghost use Rattle.cs_merge.specs.Renumbering.{new_id as new_id', MoveTogether};
+ghost use Rattle.std.specs.Prelude.{◌≡◌, ◌+◌, ◌<◌, ◌^◌, true, length, IfOk, IfSome, option_map};
+ghost use Rattle.cs_merge.specs.Renumbering.{new_id as new_id', KeepsOrder, MoveTogether};
 
 use crate::renumbering::Renumbering;
 use std::alloc::{AllocError, Global};
@@ -11,16 +11,17 @@ use std::marker::Model;
 pub(crate) struct Runs<'a> {
     new_ids: &'a Renumbering,
     ends: Vec<u32>,
+    keep_order: bool,
 }
 
 impl<'a> Model for Runs<'a> {
-    ghost use Rattle.cs_merge.specs.Renumbering.{NewIds, AreEnds};
+    ghost use Rattle.cs_merge.specs.Renumbering.{NewIds, AreRuns};
 
     ghost Value = { NewIds };
 
     ghost view = { λ s. s.new_ids.now };
 
-    ghost invariant = { λ s. AreEnds s.new_ids.now s.ends.items };
+    ghost invariant = { λ s. AreRuns s.new_ids.now s.ends.items s.keep_order };
 }
 
 impl<'a> Runs<'a> {
@@ -37,7 +38,19 @@ impl<'a> Runs<'a> {
             }
             ends.push(end)?;
         }
-        Ok(Runs { new_ids, ends })
+        let keep_order = keeps_order(new_ids);
+        Ok(Runs {
+            new_ids,
+            ends,
+            keep_order,
+        })
+    }
+
+    /// Whether ids that ascend do so under their new ids.
+    pub(crate) fn keep_order(&self) -> bool
+        ensures { result ≡ true → KeepsOrder self.now }
+    {
+        self.keep_order
     }
 
     /// The new id of an id.
@@ -69,6 +82,34 @@ fn end_from(new_ids: &Renumbering, id: u32) -> u32
         end += 1;
     }
     end
+}
+
+/// Whether ids that ascend do so under their new ids.
+fn keeps_order(new_ids: &Renumbering) -> bool
+    requires { length new_ids.now < 2 ^ 32 }
+    ensures { result ≡ true → KeepsOrder new_ids.now }
+{
+    let mut last = None;
+    'ids: for id in 0..new_ids.len() {
+        let Some(new) = new_ids.new_id(id) else {
+            continue;
+        };
+        if !is_above(new, last) {
+            return false;
+        }
+        last = Some(new);
+    }
+    true
+}
+
+/// Whether an id is above the last one, if there is one.
+fn is_above(id: u32, last: Option<u32>) -> bool
+    ensures { result ≡ true → IfSome last (λ last. last < id) }
+{
+    match last {
+        None => true,
+        Some(last) => last < id,
+    }
 }
 
 /// Whether an id whose new id is the second moves with the one before it, whose new id is the first.

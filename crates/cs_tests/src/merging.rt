@@ -67,6 +67,21 @@ fn files_become_folders_and_files_again(rt: HostRuntime) -> Result<(), Fail> {
     Ok(())
 }
 
+#[test]
+fn names_stand_in_any_order(rt: HostRuntime) -> Result<(), Fail> {
+    let file = index_of(rt.alloc(), &["/a/b-x"], &[("/a/b-x", b"six\n")])?;
+    let joined = join(rt.alloc(), UNSORTED, &file)?;
+    let want =
+        b"csearch index 1\n/a\0\0/a/b-x\0/a/b/z\0\0abc\x02\0ix\n\x01\0six\x01\0\xff\xff\xff\0\0\0\0\0\0\0\0\x07\0\0\0\x0eabc\0\0\0\x01\0\0\0\0ix\n\0\0\0\x01\0\0\0\x05six\0\0\0\x01\0\0\0\x0a\0\0\0\x10\0\0\0\x14\0\0\0\x23\0\0\0\x36\0\0\0\x42\ncsearch trailr\n";
+    assert_eq!(rt; joined.as_slice(), want.as_slice());
+    let folder = index_of(rt.alloc(), &["/c"], &[])?;
+    let joined = join(rt.alloc(), UNSORTED, &folder)?;
+    let want =
+        b"csearch index 1\n/a\0/c\0\0/a/b-x\0/a/b/z\0\0abc\x01\x01\0\xff\xff\xff\0\0\0\0\0\0\0\0\x07\0\0\0\x0eabc\0\0\0\x02\0\0\0\0\0\0\0\x10\0\0\0\x17\0\0\0\x26\0\0\0\x30\0\0\0\x3c\ncsearch trailr\n";
+    assert_eq!(rt; joined.as_slice(), want.as_slice());
+    Ok(())
+}
+
 /// The joining of two indexes in so many bytes.
 fn join_within(
     alloc: Global,
@@ -105,12 +120,14 @@ fn refusals_are_told(rt: HostRuntime) -> Result<(), Fail> {
     let outside = index_of(rt.alloc(), &["/a"], &[("/b", b""), ("/c", b"")])?;
     let uncovered = refusal(rt.alloc(), &empty, &outside)?;
     assert_eq!(rt; uncovered, Some(MergeFault::Uncovered));
-    // names out of order, also where they lie under no path
-    let unsorted = refusal(rt.alloc(), UNSORTED, &empty)?;
+    // a name that is held twice, also where it lies under no path
+    let mut twice = *UNSORTED;
+    twice[24] = b'-';
+    twice[25] = b'x';
+    let unsorted = refusal(rt.alloc(), &twice, &empty)?;
     assert_eq!(rt; unsorted, Some(MergeFault::Unsorted));
-    let mut apart = *UNSORTED;
-    apart[17] = b'c';
-    let unsorted = refusal(rt.alloc(), &empty, &apart)?;
+    twice[17] = b'c';
+    let unsorted = refusal(rt.alloc(), &empty, &twice)?;
     assert_eq!(rt; unsorted, Some(MergeFault::Unsorted));
     // a damaged list, all of whose ids are dropped
     let mut damaged = *ROW;

@@ -75,7 +75,7 @@ tool_fault_words ToolMemory = out_of_memory
 abbrev pub cindex_fault_words : CindexFault → List ℕ → List ℕ
 cindex_fault_words NoIndex word = codes "no index"
 cindex_fault_words (BadIndex fault) word = index_fault_words fault
-cindex_fault_words Unsorted word = codes "index names are not in order"
+cindex_fault_words Unsorted word = codes "index holds a name twice"
 cindex_fault_words TooLarge word = codes "index too large"
 cindex_fault_words (BadPath place) word = codes "bad path " ++ word
 cindex_fault_words Write word = codes "output failed"

@@ -140,8 +140,8 @@ pub enum CindexFault {
     /// The old index is damaged, or has a path that is not clean.
     #[error("bad index: {0}")]
     BadIndex(IndexFault),
-    /// The names of the old index are not in order.
-    #[error("index names are not in order")]
+    /// The old index holds a name twice.
+    #[error("index holds a name twice")]
     Unsorted,
     /// The new index would pass its limit.
     #[error("index too large")]

@@ -118,7 +118,7 @@ fn push_cindex_fault(line: &mut String, fault: CindexFault, word: &str) -> Resul
     match fault {
         CindexFault::NoIndex => line.push_str("no index"),
         CindexFault::BadIndex(fault) => line.push_str(index_fault_words(fault)),
-        CindexFault::Unsorted => line.push_str("index names are not in order"),
+        CindexFault::Unsorted => line.push_str("index holds a name twice"),
         CindexFault::TooLarge => line.push_str("index too large"),
         CindexFault::BadPath(_) => push_both(line, "bad path ", word),
         CindexFault::Write => line.push_str("output failed"),

@@ -25,7 +25,15 @@ const NO_TRIGRAMS: &[u8; 92] =
 pub const OUT_OF_ORDER: &[u8; 115] =
     b"csearch index 1\n/a\0\0/a/b/z\0/a/b-x\0\0abc\x01\x01\0\xff\xff\xff\0\0\0\0\0\0\0\0\x07\0\0\0\x0eabc\0\0\0\x02\0\0\0\0\xff\xff\xff\0\0\0\0\0\0\0\x06\0\0\0\x10\0\0\0\x14\0\0\0\x23\0\0\0\x2d\0\0\0\x39\ncsearch trailr\n";
 
-/// Without its last byte.
+/// The same with one of its names twice.
+const HELD_TWICE: &[u8; 115] =
+    b"csearch index 1\n/a\0\0/a/b-x\0/a/b-x\0\0abc\x01\x01\0\xff\xff\xff\0\0\0\0\0\0\0\0\x07\0\0\0\x0eabc\0\0\0\x02\0\0\0\0\xff\xff\xff\0\0\0\0\0\0\0\x06\0\0\0\x10\0\0\0\x14\0\0\0\x23\0\0\0\x2d\0\0\0\x39\ncsearch trailr\n";
+
+/// `OUT_OF_ORDER` after a job on `/a/b-x`, which has then `six`.
+const RENUMBERED: &[u8; 135] =
+    b"csearch index 1\n/a\0\0/a/b-x\0/a/b/z\0\0abc\x02\0ix\n\x01\0six\x01\0\xff\xff\xff\0\0\0\0\0\0\0\0\x07\0\0\0\x0eabc\0\0\0\x01\0\0\0\0ix\n\0\0\0\x01\0\0\0\x05six\0\0\0\x01\0\0\0\x0a\0\0\0\x10\0\0\0\x14\0\0\0\x23\0\0\0\x36\0\0\0\x42\ncsearch trailr\n";
+
+/// `OUT_OF_ORDER` without its last byte.
 const CUT: &[u8; 114] =
     b"csearch index 1\n/a\0\0/a/b/z\0/a/b-x\0\0abc\x01\x01\0\xff\xff\xff\0\0\0\0\0\0\0\0\x07\0\0\0\x0eabc\0\0\0\x02\0\0\0\0\xff\xff\xff\0\0\0\0\0\0\0\x06\0\0\0\x10\0\0\0\x14\0\0\0\x23\0\0\0\x2d\0\0\0\x39\ncsearch trailr";
 
@@ -172,13 +180,19 @@ const FOREIGN_INDEXES: &[Step<'static>] = &[
     Index(Some(OUT_OF_ORDER)),
     Call(&["cindex", "-list"], 0, "/a\n", ""),
     Call(&["csearch", "abc"], 0, "/a/b/z:abc\n/a/b-x:abc\n", ""),
+    File("/a/b-x", b"six\n"),
+    Call(&["cindex", "/a/b-x"], 0, "", ""),
+    Left(Some(RENUMBERED)),
+    Call(&["csearch", "abc"], 0, "/a/b/z:abc\n", ""),
+    Index(Some(HELD_TWICE)),
     Call(
         &["cindex", "/a"],
         2,
         "",
-        "cindex: index names are not in order\n",
+        "cindex: index holds a name twice\n",
     ),
-    Left(Some(OUT_OF_ORDER)),
+    Left(Some(HELD_TWICE)),
+    Call(&["cindex", "-reset", "/a"], 0, "", ""),
     Index(Some(CUT)),
     Call(&["csearch", "abc"], 2, "", "csearch: bad index: trailer\n"),
     Call(&["cindex", "/a"], 2, "", BAD),

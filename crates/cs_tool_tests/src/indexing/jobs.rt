@@ -202,9 +202,14 @@ fn run_on(alloc: Global, old: &[u8], words: &[&str]) -> Result<Done, Fail> {
 
 #[test]
 fn an_index_that_no_job_left(rt: HostRuntime) -> Result<(), Fail> {
-    let unsorted = run_on(rt.alloc(), UNSORTED, &[])?;
+    let mut twice = *UNSORTED;
+    twice[24] = b'-';
+    twice[25] = b'x';
+    let unsorted = run_on(rt.alloc(), &twice, &["/a"])?;
     assert_eq!(rt; unsorted.reply, Reply::Refused(CindexFault::Unsorted));
-    assert_eq!(rt; unsorted.index.as_deref(), Some(UNSORTED.as_slice()));
+    assert_eq!(rt; unsorted.index.as_deref(), Some(twice.as_slice()));
+    let reset = run_on(rt.alloc(), &twice, &["-reset", "/a"])?;
+    assert_eq!(rt; reset.reply, Reply::Done);
     let listed = run_on(rt.alloc(), UNSORTED, &["-list"])?;
     assert_eq!(rt; listed.out.bytes(), b"/a\n".as_slice());
     let cut = &UNSORTED[..114];
@@ -213,6 +218,35 @@ fn an_index_that_no_job_left(rt: HostRuntime) -> Result<(), Fail> {
     assert_eq!(rt; bad.reply, Reply::Refused(fault));
     assert_eq!(rt; bad.index.as_deref(), Some(cut));
     Ok(())
+}
+
+const ABC: u32 = 0x616263;
+
+/// Files whose names an index has in the order of a walk.
+const ABCS: &[Placed<'static>] = &[
+    ("/a", None),
+    ("/a/b", None),
+    ("/a/b/z", Some("abc")),
+    ("/a/b-x", Some("abc")),
+    ("/c", None),
+];
+
+/// What a job makes of the index whose names stand so.
+fn after(alloc: Global, words: &[&str]) -> Result<Option<Vec<u8>>, Fail> {
+    let old = Vec::from_slice(alloc, UNSORTED)?;
+    Ok(run(alloc, Some(old), words, ABCS)?.index)
+}
+
+const IN_ORDER: &[&str] = &["/a/b-x", "/a/b/z"];
+
+const BOTH: &[(u32, &[u32])] = &[(ABC, &[0, 1])];
+
+#[test]
+fn names_in_the_order_of_a_walk(rt: HostRuntime) -> Result<(), Fail> {
+    let again = after(rt.alloc(), &[])?;
+    check(&rt, &again, 104, &["/a"], IN_ORDER, BOTH)?;
+    let other = after(rt.alloc(), &["/c"])?;
+    check(&rt, &other, 107, &["/a", "/c"], IN_ORDER, BOTH)
 }
 
 #[test]

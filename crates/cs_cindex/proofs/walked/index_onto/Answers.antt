@@ -1,6 +1,7 @@
 use Rattle.std.proofs.Common.{◌≡◌, ◌∙◌, map, ap, sym, subst, Some, None, Err}
 use Rattle.std.specs.Prelude.{string_bytes}
 use Rattle.std.proofs.lemmas.Result.{err_from_is_err_and}
+use Rattle.cs_tree.specs.Failures.{count_if}
 use Rattle.cs_tree.specs.PathSet as set
 use Rattle.cs_index.specs.Opening.{opening}
 use Rattle.cs_cindex.specs.Refusals.{IsWalkFault, EarlyOr, base_fault, opening_fault, unfit_parts_fault}
@@ -12,15 +13,20 @@ use Rattle.cs_cindex.proofs.walked.index_onto.Goals as goal
 
 pub index_paths-requires : goal.index_paths-requires
 index_paths-requires g c =
-    start_paths c.args.job.now c.in_ok-index.index (map string_bytes c.args.given.now) (map string_bytes c.deref.result.now) c.requires c.in_ok-index.ensures.1 (ap (λ ps. map string_bytes ps) c.deref.ensures.value ∙ c.in_ok-paths.ensures)
+    start_paths c.args.job.now c.in_ok-index.index (map string_bytes c.args.given.now) (map string_bytes c.deref.result.now) c.requires c.in_ok-index.ensures.opened.1 (ap (λ ps. map string_bytes ps) c.deref.ensures.value ∙ c.in_ok-paths.ensures)
+
+pub returns-in_err-index-clause-writes : goal.returns-in_err-index-clause-writes
+returns-in_err-index-clause-writes g c =
+    let p = err_from_is_err_and c.from_residual.result c.from_residual.ensures.1 in
+    rw (p.1, p.2) (sym (ap (λ b. count_if b (g.E.Sink.failed c.args.err.now)) c.in_err-index.ensures.writes))
 
 pub returns-in_err-newer-clause-refusal : goal.returns-in_err-newer-clause-refusal
 returns-in_err-newer-clause-refusal g c =
     let p = err_from_is_err_and c.from_residual-in_err-newer.result c.from_residual-in_err-newer.ensures.1 in
     let snapshot = g.T.Tree.snapshot c.args.tree.now in
-    let walked = start_walk c.args.job.now c.args.old.now c.in_ok-index.index (map string_bytes c.args.given.now) (map string_bytes c.deref.result.now) c.requires c.in_ok-index.ensures.0 (ap (λ ps. map string_bytes ps) c.deref.ensures.value ∙ c.in_ok-paths.ensures) in
+    let walked = start_walk c.args.job.now c.args.old.now c.in_ok-index.index (map string_bytes c.args.given.now) (map string_bytes c.deref.result.now) c.requires c.in_ok-index.ensures.opened.0 (ap (λ ps. map string_bytes ps) c.deref.ensures.value ∙ c.in_ok-paths.ensures) in
     let late : IsWalkFault c.args.job.now snapshot (Some c.args.old.now) c.in_err-newer.field-0.0 = index_refusal c.args.job.now snapshot (Some c.args.old.now) (set.from_list (map string_bytes c.deref.result.now)) c.in_err-newer.field-0.0 walked c.in_err-newer.ensures.only (λ e. c.in_err-newer.ensures.too_large (ap Err e)) in
-    let good : base_fault c.args.job.now (Some c.args.old.now) ≡ None = ap (opening_fault unfit_parts_fault) c.in_ok-index.ensures.0 ∙ c.in_ok-index.ensures.1 in
+    let good : base_fault c.args.job.now (Some c.args.old.now) ≡ None = ap (opening_fault unfit_parts_fault) c.in_ok-index.ensures.opened.0 ∙ c.in_ok-index.ensures.opened.1 in
     rw (p.1, p.2) (subst (λ o. EarlyOr o (IsWalkFault c.args.job.now snapshot (Some c.args.old.now) c.in_err-newer.field-0.0) c.in_err-newer.field-0.0) (sym good) late)
 
 pub returns-in_err-joined-clause-refusal : goal.returns-in_err-joined-clause-refusal
@@ -28,42 +34,42 @@ returns-in_err-joined-clause-refusal g c =
     let p = err_from_is_err_and c.from_residual-in_err-joined.result c.from_residual-in_err-joined.ensures.1 in
     let snapshot = g.T.Tree.snapshot c.args.tree.now in
     let reduced = ap (λ ps. map string_bytes ps) c.deref.ensures.value ∙ c.in_ok-paths.ensures in
-    let walked = start_walk c.args.job.now c.args.old.now c.in_ok-index.index (map string_bytes c.args.given.now) (map string_bytes c.deref.result.now) c.requires c.in_ok-index.ensures.0 reduced in
+    let walked = start_walk c.args.job.now c.args.old.now c.in_ok-index.index (map string_bytes c.args.given.now) (map string_bytes c.deref.result.now) c.requires c.in_ok-index.ensures.opened.0 reduced in
     let newer = c.in_ok-newer.newer.items in
     let told = c.in_ok-newer.ensures in
     let own = own_index c.args.job.now snapshot (Some c.args.old.now) (set.from_list (map string_bytes c.deref.result.now)) newer walked told.well_formed told.image told.short in
-    let late : IsWalkFault c.args.job.now snapshot (Some c.args.old.now) c.in_err-joined.field-0.0 = join_refusal c.args.job.now snapshot c.args.old.now c.in_ok-index.index newer c.in_ok-index.ensures.0 own
+    let late : IsWalkFault c.args.job.now snapshot (Some c.args.old.now) c.in_err-joined.field-0.0 = join_refusal c.args.job.now snapshot c.args.old.now c.in_ok-index.index newer c.in_ok-index.ensures.opened.0 own
     (sound_own (set.from_list (map string_bytes c.deref.result.now)) newer told.well_formed told.short)
     c.in_err-joined.field-0.0
     (subst (λ bytes. IsJoinRefusal c.in_ok-index.index (opening bytes) c.in_err-joined.field-0.0) c.deref-2.ensures.value c.in_err-joined.ensures.fault) in
-    let good : base_fault c.args.job.now (Some c.args.old.now) ≡ None = ap (opening_fault unfit_parts_fault) c.in_ok-index.ensures.0 ∙ c.in_ok-index.ensures.1 in
+    let good : base_fault c.args.job.now (Some c.args.old.now) ≡ None = ap (opening_fault unfit_parts_fault) c.in_ok-index.ensures.opened.0 ∙ c.in_ok-index.ensures.opened.1 in
     rw (p.1, p.2) (subst (λ o. EarlyOr o (IsWalkFault c.args.job.now snapshot (Some c.args.old.now) c.in_err-joined.field-0.0) c.in_err-joined.field-0.0) (sym good) late)
 
 pub returns-clause-next : goal.returns-clause-next
 returns-clause-next g c =
-    let walked = start_walk c.args.job.now c.args.old.now c.in_ok-index.index (map string_bytes c.args.given.now) (map string_bytes c.deref.result.now) c.requires c.in_ok-index.ensures.0 (ap (λ ps. map string_bytes ps) c.deref.ensures.value ∙ c.in_ok-paths.ensures) in
+    let walked = start_walk c.args.job.now c.args.old.now c.in_ok-index.index (map string_bytes c.args.given.now) (map string_bytes c.deref.result.now) c.requires c.in_ok-index.ensures.opened.0 (ap (λ ps. map string_bytes ps) c.deref.ensures.value ∙ c.in_ok-paths.ensures) in
     let snapshot = g.T.Tree.snapshot c.args.tree.now in
     let told = c.in_ok-newer.ensures in
     let own = own_index c.args.job.now snapshot (Some c.args.old.now) (set.from_list (map string_bytes c.deref.result.now)) c.in_ok-newer.newer.items walked told.well_formed told.image told.short in
-    next_onto c.args.job.now snapshot c.args.old.now c.in_ok-index.index c.in_ok-newer.newer.items c.in_ok-joined.joined.items c.in_ok-index.ensures.0 own
+    next_onto c.args.job.now snapshot c.args.old.now c.in_ok-index.index c.in_ok-newer.newer.items c.in_ok-joined.joined.items c.in_ok-index.ensures.opened.0 own
     (subst (λ bytes. JoinsTo c.in_ok-index.index (opening bytes) c.in_ok-joined.joined.items) c.deref-2.ensures.value c.in_ok-joined.ensures.joined) c.in_ok-joined.ensures.short
 
 pub returns-in_err-newer-clause-prints : goal.returns-in_err-newer-clause-prints
 returns-in_err-newer-clause-prints g c =
     let p = err_from_is_err_and c.from_residual-in_err-newer.result c.from_residual-in_err-newer.ensures.1 in
     let told = c.in_err-newer.ensures in
-    let walked = start_walk c.args.job.now c.args.old.now c.in_ok-index.index (map string_bytes c.args.given.now) (map string_bytes c.deref.result.now) c.requires c.in_ok-index.ensures.0 (ap (λ ps. map string_bytes ps) c.deref.ensures.value ∙ c.in_ok-paths.ensures) in
-    let good : base_fault c.args.job.now (Some c.args.old.now) ≡ None = ap (opening_fault unfit_parts_fault) c.in_ok-index.ensures.0 ∙ c.in_ok-index.ensures.1 in
+    let walked = start_walk c.args.job.now c.args.old.now c.in_ok-index.index (map string_bytes c.args.given.now) (map string_bytes c.deref.result.now) c.requires c.in_ok-index.ensures.opened.0 (ap (λ ps. map string_bytes ps) c.deref.ensures.value ∙ c.in_ok-paths.ensures) in
+    let good : base_fault c.args.job.now (Some c.args.old.now) ≡ None = ap (opening_fault unfit_parts_fault) c.in_ok-index.ensures.opened.0 ∙ c.in_ok-index.ensures.opened.1 in
     rw (p.1, p.2) (front_over c.args.job.now (g.T.Tree.snapshot c.args.tree.now) (set.from_list (map string_bytes c.deref.result.now)) (Some c.args.old.now) (base_fault c.args.job.now (Some c.args.old.now)) _ _ _ _ c.in_err-newer.field-0.0 walked good
     told.only (λ e. told.whole (ap Err e)) told.front)
 
 pub returns-in_err-joined-clause-prints : goal.returns-in_err-joined-clause-prints
 returns-in_err-joined-clause-prints g c =
     let p = err_from_is_err_and c.from_residual-in_err-joined.result c.from_residual-in_err-joined.ensures.1 in
-    let walked = start_walk c.args.job.now c.args.old.now c.in_ok-index.index (map string_bytes c.args.given.now) (map string_bytes c.deref.result.now) c.requires c.in_ok-index.ensures.0 (ap (λ ps. map string_bytes ps) c.deref.ensures.value ∙ c.in_ok-paths.ensures) in
-    let good : base_fault c.args.job.now (Some c.args.old.now) ≡ None = ap (opening_fault unfit_parts_fault) c.in_ok-index.ensures.0 ∙ c.in_ok-index.ensures.1 in
+    let walked = start_walk c.args.job.now c.args.old.now c.in_ok-index.index (map string_bytes c.args.given.now) (map string_bytes c.deref.result.now) c.requires c.in_ok-index.ensures.opened.0 (ap (λ ps. map string_bytes ps) c.deref.ensures.value ∙ c.in_ok-paths.ensures) in
+    let good : base_fault c.args.job.now (Some c.args.old.now) ≡ None = ap (opening_fault unfit_parts_fault) c.in_ok-index.ensures.opened.0 ∙ c.in_ok-index.ensures.opened.1 in
     rw (p.1, p.2) (whole_over c.args.job.now (g.T.Tree.snapshot c.args.tree.now) (set.from_list (map string_bytes c.deref.result.now)) (Some c.args.old.now) (base_fault c.args.job.now (Some c.args.old.now)) _ _ _ _ c.in_err-joined.field-0.0 walked good c.in_ok-newer.ensures.prints)
 
 pub returns-clause-prints : goal.returns-clause-prints
 returns-clause-prints g c =
-    prints_over c.args.job.now (g.T.Tree.snapshot c.args.tree.now) (set.from_list (map string_bytes c.deref.result.now)) (Some c.args.old.now) _ _ _ _ (start_walk c.args.job.now c.args.old.now c.in_ok-index.index (map string_bytes c.args.given.now) (map string_bytes c.deref.result.now) c.requires c.in_ok-index.ensures.0 (ap (λ ps. map string_bytes ps) c.deref.ensures.value ∙ c.in_ok-paths.ensures)) c.in_ok-newer.ensures.prints
+    prints_over c.args.job.now (g.T.Tree.snapshot c.args.tree.now) (set.from_list (map string_bytes c.deref.result.now)) (Some c.args.old.now) _ _ _ _ (start_walk c.args.job.now c.args.old.now c.in_ok-index.index (map string_bytes c.args.given.now) (map string_bytes c.deref.result.now) c.requires c.in_ok-index.ensures.opened.0 (ap (λ ps. map string_bytes ps) c.deref.ensures.value ∙ c.in_ok-paths.ensures)) c.in_ok-newer.ensures.prints

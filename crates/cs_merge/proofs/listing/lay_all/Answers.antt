@@ -1,12 +1,13 @@
-use Rattle.std.proofs.Common.{◌≡◌, ℕ, List, length, sym, ap, subst, ◌∙◌, inl, inr, Some, arith}
+use Rattle.std.proofs.Common.{◌≡◌, ℕ, ◌++◌, List, length, sym, ap, subst, ◌∙◌, inl, inr, Some, arith}
 use Rattle.std.proofs.lemmas.Bool.{and_parts}
 use Rattle.std.proofs.lemmas.Result.{err_from_is_err_and}
 use Rattle.cs_index.specs.PostingLists.{Ids}
 use Rattle.cs_index.specs.Rising.{RiseWithin}
-use Rattle.cs_merge.specs.Renumbering.{AreRenumberings}
-use Rattle.cs_merge.specs.SideBySide.{lower_of, place_after, trigram_of, AreListed}
+use Rattle.cs_merge.specs.Renumbering.{renumbered, AreRenumberings}
+use Rattle.cs_merge.specs.SideBySide.{list_ids, lower_of, place_after, trigram_of, AreIds, AreListed}
 use Rattle.cs_merge.proofs.ListingLemmas.{no_more}
-use Rattle.cs_merge.proofs.PlaceLemmas.{damage_found}
+use Rattle.cs_merge.proofs.PlaceLemmas.{damage_found, ids_rise}
+use Rattle.cs_merge.proofs.SortedLemmas.{new_ids_of_both}
 use Rattle.cs_merge.proofs.SideBySideLemmas.{older_damaged, newer_damaged, fault_of_list, carried_rise, list_fits, places_move, listed_more, all_older, all_newer, all_whole}
 use Rattle.cs_merge.proofs.listing.lay_all.Goals as goal
 
@@ -20,18 +21,27 @@ returns-in_err-later-clause-fault c =
     let p = err_from_is_err_and c.from_residual-in_err-later.result c.from_residual-in_err-later.ensures.1 in
     rw (p.1, p.2) (inl (c.in_err-later.ensures.ids.0, newer_damaged c.args.old.now c.args.newer.now (damage_found c.args.newer.now c.lists.newer_place c.in-Some.trigram c.in_err-later.ensures.ids.1)))
 
-pub lay_list-requires-clause-older_rise : goal.lay_list-requires-clause-older_rise
-lay_list-requires-clause-older_rise c =
+pub lay_ids-requires-clause-older_rise : goal.lay_ids-requires-clause-older_rise
+lay_ids-requires-clause-older_rise c =
     let are = subst (λ (names : List (List ℕ)). AreRenumberings (length names) c.args.older_runs.now c.args.newer_runs.now) (sym c.lists.invariant.names) c.requires.ids in
-    subst (λ (r : Ids). RiseWithin (length c.lists.sections.names) 0 r.ids) (sym c.in_ok-older.ensures.ids) (carried_rise c.args.old.now c.lists.older_place c.in-Some.trigram (length c.lists.sections.names) c.args.older_runs.now are.older_order are.older_below)
+    λ in_order. subst (λ (r : Ids). RiseWithin (length c.lists.sections.names) 0 r.ids) (sym c.in_ok-older.ensures.ids) (carried_rise c.args.old.now c.lists.older_place c.in-Some.trigram (length c.lists.sections.names) c.args.older_runs.now (c.keep_order-in_order.ensures.older in_order) are.older_below)
 
-pub lay_list-requires-clause-newer_rise : goal.lay_list-requires-clause-newer_rise
-lay_list-requires-clause-newer_rise c =
+pub lay_ids-requires-clause-newer_rise : goal.lay_ids-requires-clause-newer_rise
+lay_ids-requires-clause-newer_rise c =
     let are = subst (λ (names : List (List ℕ)). AreRenumberings (length names) c.args.older_runs.now c.args.newer_runs.now) (sym c.lists.invariant.names) c.requires.ids in
-    subst (λ (r : Ids). RiseWithin (length c.lists.sections.names) 0 r.ids) (sym c.in_ok-later.ensures.ids) (carried_rise c.args.newer.now c.lists.newer_place c.in-Some.trigram (length c.lists.sections.names) c.args.newer_runs.now are.newer_order are.newer_below)
+    λ in_order. subst (λ (r : Ids). RiseWithin (length c.lists.sections.names) 0 r.ids) (sym c.in_ok-later.ensures.ids) (carried_rise c.args.newer.now c.lists.newer_place c.in-Some.trigram (length c.lists.sections.names) c.args.newer_runs.now (c.keep_order-in_order.ensures.newer in_order) are.newer_below)
 
-pub lay_list-requires-clause-below : goal.lay_list-requires-clause-below
-lay_list-requires-clause-below c =
+pub lay_ids-requires-clause-ids : goal.lay_ids-requires-clause-ids
+lay_ids-requires-clause-ids c =
+    let are = subst (λ (names : List (List ℕ)). AreRenumberings (length names) c.args.older_runs.now c.args.newer_runs.now) (sym c.lists.invariant.names) c.requires.ids in
+    let older = list_ids c.args.old.now c.lists.older_place c.in-Some.trigram in
+    let newer = list_ids c.args.newer.now c.lists.newer_place c.in-Some.trigram in
+    let new_ids = new_ids_of_both (length c.lists.sections.names) (length c.args.old.now.names) (length c.args.newer.now.names) c.args.older_runs.now c.args.newer_runs.now older.ids newer.ids are.older_once are.newer_once are.apart are.older_below are.newer_below (ids_rise c.args.old.now c.lists.older_place c.in-Some.trigram) (ids_rise c.args.newer.now c.lists.newer_place c.in-Some.trigram) in
+    subst (λ (r : Ids). AreIds (length c.lists.sections.names) (r.ids ++ c.in_ok-later.later.ids)) (sym c.in_ok-older.ensures.ids)
+    (subst (λ (r : Ids). AreIds (length c.lists.sections.names) (renumbered c.args.older_runs.now older.ids ++ r.ids)) (sym c.in_ok-later.ensures.ids) new_ids)
+
+pub lay_ids-requires-clause-below : goal.lay_ids-requires-clause-below
+lay_ids-requires-clause-below c =
     let next : lower_of (trigram_of c.args.old.now c.lists.older_place) (trigram_of c.args.newer.now c.lists.newer_place) ≡ Some c.in-Some.trigram = (λ i. lower_of (sym c.trigram_at.ensures i) (sym c.trigram_at-in-lists.ensures i)) ∙ sym c.lower.ensures ∙ c.in-Some.is in
     elim (list_fits c.args.old.now c.args.newer.now c.args.older_runs.now c.args.newer_runs.now c.args.sections.now c.lists.sections c.lists.older_place c.lists.newer_place c.lists.invariant c.requires.old_parts c.requires.newer_parts c.in-Some.trigram next) [
       | inl below ↦ inl below
@@ -52,15 +62,15 @@ lists-smaller c =
 pub lists-preserved : goal.lists-preserved
 lists-preserved c =
     let next : lower_of (trigram_of c.args.old.now c.lists.older_place) (trigram_of c.args.newer.now c.lists.newer_place) ≡ Some c.in-Some.trigram = (λ i. lower_of (sym c.trigram_at.ensures i) (sym c.trigram_at-in-lists.ensures i)) ∙ sym c.lower.ensures ∙ c.in-Some.is in
-    let whole = and_parts c.in_ok-older.older.whole c.in_ok-later.later.whole c.in_ok-lay_list.ensures.fault in
-    let more = listed_more c.args.old.now c.args.newer.now c.args.older_runs.now c.args.newer_runs.now c.args.sections.now c.lists.sections c.lists.older_place c.lists.newer_place c.lists.invariant c.requires.old_parts c.requires.newer_parts c.in-Some.trigram next (length c.args.sections.now.names) c.lay_list.new.sections c.in_ok-older.older.ids c.in_ok-later.later.ids c.requires.ids (ap (λ (r : Ids). r.ids) c.in_ok-older.ensures.ids) (ap (λ (r : Ids). r.ids) c.in_ok-later.ensures.ids) (sym (ap (λ (r : Ids). r.whole) c.in_ok-older.ensures.ids) ∙ whole.0) (sym (ap (λ (r : Ids). r.whole) c.in_ok-later.ensures.ids) ∙ whole.1) c.in_ok-lay_list.ensures.ok in
-    subst (λ n. AreListed c.args.old.now c.args.newer.now c.args.older_runs.now c.args.newer_runs.now c.args.sections.now c.lay_list.new.sections n c.take_list-in-Some.new.place) (sym c.in_ok-older.ensures.place)
-    (subst (λ n. AreListed c.args.old.now c.args.newer.now c.args.older_runs.now c.args.newer_runs.now c.args.sections.now c.lay_list.new.sections (place_after c.args.old.now c.lists.older_place c.in-Some.trigram) n) (sym c.in_ok-later.ensures.place) more)
+    let whole = and_parts c.in_ok-older.older.whole c.in_ok-later.later.whole c.in_ok-lay_ids.ensures.fault in
+    let more = listed_more c.args.old.now c.args.newer.now c.args.older_runs.now c.args.newer_runs.now c.args.sections.now c.lists.sections c.lists.older_place c.lists.newer_place c.lists.invariant c.requires.old_parts c.requires.newer_parts c.in-Some.trigram next (length c.args.sections.now.names) c.lay_ids.new.sections c.in_ok-older.older.ids c.in_ok-later.later.ids c.requires.ids (ap (λ (r : Ids). r.ids) c.in_ok-older.ensures.ids) (ap (λ (r : Ids). r.ids) c.in_ok-later.ensures.ids) (sym (ap (λ (r : Ids). r.whole) c.in_ok-older.ensures.ids) ∙ whole.0) (sym (ap (λ (r : Ids). r.whole) c.in_ok-later.ensures.ids) ∙ whole.1) c.in_ok-lay_ids.ensures.ok in
+    subst (λ n. AreListed c.args.old.now c.args.newer.now c.args.older_runs.now c.args.newer_runs.now c.args.sections.now c.lay_ids.new.sections n c.take_list-in-Some.new.place) (sym c.in_ok-older.ensures.place)
+    (subst (λ n. AreListed c.args.old.now c.args.newer.now c.args.older_runs.now c.args.newer_runs.now c.args.sections.now c.lay_ids.new.sections (place_after c.args.old.now c.lists.older_place c.in-Some.trigram) n) (sym c.in_ok-later.ensures.place) more)
 
-pub returns-in_err-lay_list-clause-fault : goal.returns-in_err-lay_list-clause-fault
-returns-in_err-lay_list-clause-fault c =
-    let p = err_from_is_err_and c.from_residual-in_err-lay_list.result c.from_residual-in_err-lay_list.ensures.1 in
-    rw (p.1, p.2) (fault_of_list c.args.old.now c.args.newer.now c.lists.older_place c.lists.newer_place c.in-Some.trigram c.in_ok-older.older.whole c.in_ok-later.later.whole c.in_err-lay_list.field-0.0 (ap (λ (r : Ids). r.whole) c.in_ok-older.ensures.ids) (ap (λ (r : Ids). r.whole) c.in_ok-later.ensures.ids) c.in_err-lay_list.ensures.fault)
+pub returns-in_err-lay_ids-clause-fault : goal.returns-in_err-lay_ids-clause-fault
+returns-in_err-lay_ids-clause-fault c =
+    let p = err_from_is_err_and c.from_residual-in_err-lay_ids.result c.from_residual-in_err-lay_ids.ensures.1 in
+    rw (p.1, p.2) (fault_of_list c.args.old.now c.args.newer.now c.lists.older_place c.lists.newer_place c.in-Some.trigram c.in_ok-older.older.whole c.in_ok-later.later.whole c.in_err-lay_ids.field-0.0 (ap (λ (r : Ids). r.whole) c.in_ok-older.ensures.ids) (ap (λ (r : Ids). r.whole) c.in_ok-later.ensures.ids) c.in_err-lay_ids.ensures.fault)
 
 pub returns-clause-older : goal.returns-clause-older
 returns-clause-older c =

@@ -6,6 +6,7 @@ use Rattle.std.specs.Ordering.{is_lt}
 use Rattle.cs_tree.specs.Cover.{is_covered}
 use Rattle.cs_tree.specs.NameOrder.{bytes_cmp}
 use Rattle.cs_tree.specs.PathSet.{Paths}
+use Rattle.cs_merge.specs.Ranked.{names_by}
 use Rattle.cs_merge.proofs.LayingLemmas.{name_storable, naming_dropped, naming_newer, naming_older, none_past}
 use Rattle.cs_merge.proofs.ListingLemmas.{no_more}
 use Rattle.cs_merge.proofs.naming.lay_next.Goals as goal
@@ -13,54 +14,54 @@ use Rattle.cs_merge.proofs.naming.lay_next.Goals.{in-Some+else-is_below, in_defa
 
 pub lay_name-requires-clause-storable : goal.lay_name-requires-clause-storable
 lay_name-requires-clause-storable c =
-    name_storable c.args.old.now c.len-2.result c.in-Some.name.now c.requires.old_parts (sym c.name.ensures ∙ ap option_copied c.in-Some.is)
+    name_storable c.args.old.now c.len-2.result c.in-Some.name.now c.requires.old_ranked (sym c.name.ensures ∙ ap option_copied c.in-Some.is)
 
 pub returns-in_ok-leave_out-clause-so_far : goal.returns-in_ok-leave_out-clause-so_far
 returns-in_ok-leave_out-clause-so_far c =
-    naming_dropped c.args.old.now c.args.newer.now c.requires.tested c.args.sections.now c.args.ids.now.older c.args.ids.now.newer c.requires.so_far c.in-Some.name.now c.leave_out.new.self
-    (ap (slice_get c.args.old.now.names) (sym c.len-2.ensures) ∙ sym c.name.ensures ∙ ap option_copied c.in-Some.is)
+    naming_dropped c.args.old.now c.args.newer.now c.requires.old_ranked c.requires.newer_ranked c.requires.tested c.args.sections.now c.args.ranks.now.older c.args.ranks.now.newer c.requires.so_far c.in-Some.name.now c.leave_out.new.self
+    (ap (slice_get (names_by c.args.old.now)) (sym c.len-2.ensures) ∙ sym c.name.ensures ∙ ap option_copied c.in-Some.is)
     (ap (λ (paths : Paths). is_covered paths c.in-Some.name.now) (sym c.requires.cover) ∙ sym c.covers.ensures ∙ c.if-covers.true)
     c.in_ok-leave_out.ensures
 
 pub returns-in_ok-lay_name-clause-so_far : goal.returns-in_ok-lay_name-clause-so_far
 returns-in_ok-lay_name-clause-so_far c =
-    let below : (text : List ℕ) → slice_get c.args.newer.now.names (length c.args.ids.now.newer) ≡ Some text → is_lt (bytes_cmp c.in-Some.name.now text) ≡ true = λ text e.
-    sym (ap (λ (o : Option (List ℕ)). option_map_or (λ next. is_lt (bytes_cmp c.in-Some.name.now next)) o true) (c.name-next.ensures ∙ ap (slice_get c.args.newer.now.names) c.len.ensures ∙ e)) ∙ sym c.is_below.ensures ∙ c.if-is_below.true in
-    naming_older c.args.old.now c.args.newer.now c.requires.tested c.args.sections.now c.args.ids.now.older c.args.ids.now.newer c.requires.so_far c.in-Some.name.now c.lay_name.new.sections (length c.args.sections.now.names) c.lay_name.new.new_ids
-    (ap (slice_get c.args.old.now.names) (sym c.len-2.ensures) ∙ sym c.name.ensures ∙ ap option_copied c.in-Some.is)
+    let below : (text : List ℕ) → slice_get (names_by c.args.newer.now) (length c.args.ranks.now.newer) ≡ Some text → is_lt (bytes_cmp c.in-Some.name.now text) ≡ true = λ text e.
+    sym (ap (λ (o : Option (List ℕ)). option_map_or (λ next. is_lt (bytes_cmp c.in-Some.name.now next)) o true) (c.name-next.ensures ∙ ap (slice_get (names_by c.args.newer.now)) c.len.ensures ∙ e)) ∙ sym c.is_below.ensures ∙ c.if-is_below.true in
+    naming_older c.args.old.now c.args.newer.now c.requires.old_ranked c.requires.newer_ranked c.requires.tested c.args.sections.now c.args.ranks.now.older c.args.ranks.now.newer c.requires.so_far c.in-Some.name.now c.lay_name.new.sections (length c.args.sections.now.names) c.lay_name.new.new_ids
+    (ap (slice_get (names_by c.args.old.now)) (sym c.len-2.ensures) ∙ sym c.name.ensures ∙ ap option_copied c.in-Some.is)
     (ap (λ (paths : Paths). is_covered paths c.in-Some.name.now) (sym c.requires.cover) ∙ sym c.covers.ensures ∙ c.if-covers.false)
     below c.in_ok-lay_name.ensures.sections refl c.in_ok-lay_name.ensures.ids
 
 pub returns-in_default-next-clause-all : goal.returns-in_default-next-clause-all
 returns-in_default-next-clause-all c =
     let none = no_more c.name-next.result c.in_default-next.not-Some in
-    let newer_past = none_past c.args.newer.now.names (length c.args.ids.now.newer) (ap (slice_get c.args.newer.now.names) (sym c.len.ensures) ∙ sym c.name-next.ensures ∙ ap option_copied none) in
+    let newer_past = none_past (names_by c.args.newer.now) (length c.args.ranks.now.newer) (ap (slice_get (names_by c.args.newer.now)) (sym c.len.ensures) ∙ sym c.name-next.ensures ∙ ap option_copied none) in
     λ same. elim c.match-name.branch [
       | in-Some+else-is_below w ↦ absurd (true≢false (sym (w.is_below.ensures ∙ ap (λ (o : Option (List ℕ)). option_map_or (λ next. is_lt (bytes_cmp w.in-Some.name.now next)) o true) (ap option_copied none)) ∙ w.if-is_below.false))
       | in_default w ↦ (
-        none_past c.args.old.now.names (length c.args.ids.now.older) (ap (slice_get c.args.old.now.names) (sym c.len-2.ensures) ∙ sym c.name.ensures ∙ ap option_copied (no_more c.name.result w.in_default.not-Some)),
+        none_past (names_by c.args.old.now) (length c.args.ranks.now.older) (ap (slice_get (names_by c.args.old.now)) (sym c.len-2.ensures) ∙ sym c.name.ensures ∙ ap option_copied (no_more c.name.result w.in_default.not-Some)),
         newer_past,
       )
     ]
 
 pub lay_name-requires-2-clause-storable : goal.lay_name-requires-2-clause-storable
 lay_name-requires-2-clause-storable c =
-    name_storable c.args.newer.now c.len.result c.in-Some-next.name.now c.requires.newer_parts (sym c.name-next.ensures ∙ ap option_copied c.in-Some-next.is)
+    name_storable c.args.newer.now c.len.result c.in-Some-next.name.now c.requires.newer_ranked (sym c.name-next.ensures ∙ ap option_copied c.in-Some-next.is)
 
 pub returns-clause-so_far : goal.returns-clause-so_far
 returns-clause-so_far c =
-    let above : (text : List ℕ) → slice_get c.args.old.now.names (length c.args.ids.now.older) ≡ Some text → is_lt (bytes_cmp text c.in-Some-next.name.now) ≡ false = λ text e.
+    let above : (text : List ℕ) → slice_get (names_by c.args.old.now) (length c.args.ranks.now.older) ≡ Some text → is_lt (bytes_cmp text c.in-Some-next.name.now) ≡ false = λ text e.
     elim c.match-name.branch [
       | in-Some+else-is_below w ↦
-          let same : text ≡ w.in-Some.name.now = same_Some text w.in-Some.name.now (sym e ∙ ap (slice_get c.args.old.now.names) (sym c.len-2.ensures) ∙ sym c.name.ensures ∙ ap option_copied w.in-Some.is) in
+          let same : text ≡ w.in-Some.name.now = same_Some text w.in-Some.name.now (sym e ∙ ap (slice_get (names_by c.args.old.now)) (sym c.len-2.ensures) ∙ sym c.name.ensures ∙ ap option_copied w.in-Some.is) in
           ap (λ (t : List ℕ). is_lt (bytes_cmp t c.in-Some-next.name.now)) same
           ∙ sym (ap (λ (o : Option (List ℕ)). option_map_or (λ next. is_lt (bytes_cmp w.in-Some.name.now next)) o true) (ap option_copied c.in-Some-next.is))
           ∙ sym w.is_below.ensures
           ∙ w.if-is_below.false
-      | in_default w ↦ absurd (none_some text (sym (ap option_copied (no_more c.name.result w.in_default.not-Some)) ∙ c.name.ensures ∙ ap (slice_get c.args.old.now.names) c.len-2.ensures ∙ e))
+      | in_default w ↦ absurd (none_some text (sym (ap option_copied (no_more c.name.result w.in_default.not-Some)) ∙ c.name.ensures ∙ ap (slice_get (names_by c.args.old.now)) c.len-2.ensures ∙ e))
     ] in
-    naming_newer c.args.old.now c.args.newer.now c.requires.tested c.args.sections.now c.args.ids.now.older c.args.ids.now.newer c.requires.so_far c.in-Some-next.name.now c.lay_name-2.new.sections (length c.args.sections.now.names) c.lay_name-2.new.new_ids
-    (ap (slice_get c.args.newer.now.names) (sym c.len.ensures) ∙ sym c.name-next.ensures ∙ ap option_copied c.in-Some-next.is)
+    naming_newer c.args.old.now c.args.newer.now c.requires.old_ranked c.requires.newer_ranked c.requires.tested c.args.sections.now c.args.ranks.now.older c.args.ranks.now.newer c.requires.so_far c.in-Some-next.name.now c.lay_name-2.new.sections (length c.args.sections.now.names) c.lay_name-2.new.new_ids
+    (ap (slice_get (names_by c.args.newer.now)) (sym c.len.ensures) ∙ sym c.name-next.ensures ∙ ap option_copied c.in-Some-next.is)
     above c.in_ok-lay_name-2.ensures.sections refl c.in_ok-lay_name-2.ensures.ids
   where
     none_some : (text : List ℕ) → None ≡ Some text → ⊥

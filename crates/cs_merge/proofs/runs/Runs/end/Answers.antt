@@ -11,5 +11,5 @@ returns-in-Some c =
     slice_get-get_or ends c.args.id c.in-Some.end.now (ltb-true c.args.id (length ends) (sym c.in-Some.ensures.lookup.0))
     ∙ ap Some (sym c.in-Some.ensures.lookup.1) in
     let together : MoveTogether c.self.inside.new_ids.now c.args.id c.in-Some.end.now =
-    c.self.invariant c.args.id c.in-Some.end.now (ap (λ (es : List ℕ). slice_get es c.args.id) (sym c.deref.ensures.value) ∙ there) in
+    c.self.invariant.ends_are c.args.id c.in-Some.end.now (ap (λ (es : List ℕ). slice_get es c.args.id) (sym c.deref.ensures.value) ∙ there) in
     subst (λ (ids : NewIds). MoveTogether ids c.args.id c.in-Some.end.now) c.self.view_is together

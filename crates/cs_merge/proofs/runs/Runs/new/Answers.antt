@@ -1,4 +1,4 @@
-use Rattle.std.proofs.Common.{◌≡◌, ◌+◌, length, sym, ap, subst, ◌∙◌, arith}
+use Rattle.std.proofs.Common.{length, sym, ap, subst, arith}
 use Rattle.std.proofs.lemmas.List.{length_push}
 use Rattle.cs_merge.specs.Renumbering.{AreEnds, MoveTogether}
 use Rattle.cs_merge.proofs.RunLemmas.{ends_push, together_rest}

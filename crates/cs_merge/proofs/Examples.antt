@@ -1,0 +1,30 @@
+-- Worked rows of joining.
+use Rattle.std.proofs.Common.{◌≡◌, ℕ, true, false, List, [], ◌∷◌, Some, None, refl}
+use Rattle.std.specs.Prelude.{codes}
+use Rattle.cs_tree.specs.Folders.{are_distinct}
+use Rattle.cs_tree.specs.NameOrder.{are_ascending}
+use Rattle.cs_merge.specs.Ranked.{names_in}
+use Rattle.cs_merge.specs.Renumbering.{NewIds, renumbered}
+
+-- the names of an index in the order of a walk
+abbrev walk_order : List (List ℕ)
+walk_order = codes "/a/b/z" ∷ codes "/a/b-x" ∷ []
+
+a_slash_stands_above_a_dash : are_ascending walk_order ≡ false
+a_slash_stands_above_a_dash = refl
+
+names_of_a_walk_are_distinct : are_distinct walk_order ≡ true
+names_of_a_walk_are_distinct = refl
+
+a_name_may_be_held_twice : are_distinct (codes "/a/x" ∷ codes "/a/y" ∷ codes "/a/x" ∷ []) ≡ false
+a_name_may_be_held_twice = refl
+
+ids_put_names_in_order : names_in (Some (1 ∷ 0 ∷ [])) walk_order ≡ codes "/a/b-x" ∷ codes "/a/b/z" ∷ []
+ids_put_names_in_order = refl
+
+-- the first id becomes 1, the second is dropped, and the third becomes 0
+abbrev three : NewIds
+three = Some 1 ∷ None ∷ Some 0 ∷ []
+
+new_ids_come_in_the_order_of_the_list : renumbered three (0 ∷ 1 ∷ 2 ∷ []) ≡ 1 ∷ 0 ∷ []
+new_ids_come_in_the_order_of_the_list = refl

@@ -1,0 +1,192 @@
+-- New ids of a list, put in order.
+use Rattle.std.proofs.Common.{◌≡◌, ℕ, suc, ◌+◌, ◌<◌, ◌≤◌, Bool, true, false, cond, ◌||◌, eqb, ltb, List, [], ◌∷◌, ◌++◌, length, drop, get_or, refl, sym, ap, ◌∙◌, inl, inr, Option, Some, None, arith, slice_get}
+use Rattle.std.proofs.lemmas.Bool.{true≢false, cases_Bool, cases_eq, eqb-true, eq-eqb, ne_eqb, lt-ltb, or_cases}
+use Rattle.std.proofs.lemmas.List.{append-nil, drop_more}
+use Rattle.std.proofs.lemmas.List.Sorted.{sum_by-IsPermutation}
+use Rattle.std.proofs.lemmas.List.Sums.{sum_by-cons}
+use Rattle.std.specs.List.{cons_option, sum_by}
+use Rattle.std.specs.List.Sorted.{IsNonDecreasing, IsPermutation}
+use Rattle.cs_trigram.specs.Trigram.{has}
+use Rattle.cs_index.specs.Laid.{Laid, with_list}
+use Rattle.cs_index.specs.Rising.{RiseWithin}
+use Rattle.cs_merge.specs.Renumbering.{NewIds, new_id, renumbered, AreApart, IsOneToOne, StayBelow}
+use Rattle.cs_merge.specs.SideBySide.{lower_of, without_first, AreIds, IsGiven, StandOnce}
+use Rattle.cs_merge.proofs.ListingLemmas.{has_both}
+use Rattle.cs_merge.proofs.RenumberingLemmas.{has_no_renumbered, has_renumbered, renumbered_from}
+
+-- ---- how often a number stands
+
+abbrev one : ℕ → ℕ → ℕ
+one n m = cond (eqb m n) 1 0
+
+abbrev many : ℕ → List ℕ → ℕ
+many n ns = sum_by (one n) ns
+
+many-more : (n m : ℕ) (ns : List ℕ) → many n (m ∷ ns) ≡ one n m + many n ns
+many-more n m ns = sum_by-cons (one n) m ns
+
+has_many : (ns : List ℕ) (n : ℕ) → has ns n ≡ ltb 0 (many n ns)
+has_many [] n = refl
+has_many (m ∷ ns) n =
+    elim (cases_Bool (eqb m n)) [
+      | inl is ↦
+          let here : one n m ≡ 1 = ap (λ b. cond b 1 0) is in
+          ap (λ b. b || has ns n) is ∙ sym (lt-ltb 0 (many n (m ∷ ns)) (omega (arith, many-more n m ns, here)))
+      | inr differs ↦
+          let away : one n m ≡ 0 = ap (λ b. cond b 1 0) differs in
+          let rest : many n (m ∷ ns) ≡ many n ns = omega (arith, many-more n m ns, away) in
+          ap (λ b. b || has ns n) differs ∙ has_many ns n ∙ ap (ltb 0) (sym rest)
+    ]
+
+none_many : (ns : List ℕ) (n : ℕ) → has ns n ≡ false → many n ns ≡ 0
+none_many [] n h = refl
+none_many (m ∷ ns) n h =
+    elim (cases_Bool (eqb m n)) [
+      | inl is ↦ absurd (true≢false (sym (ap (λ b. b || has ns n) is) ∙ h))
+      | inr differs ↦
+          let away : one n m ≡ 0 = ap (λ b. cond b 1 0) differs in
+          let rest = none_many ns n (sym (ap (λ b. b || has ns n) differs) ∙ h) in
+          omega (arith, many-more n m ns, away, rest)
+    ]
+
+once_few : (ns : List ℕ) (n : ℕ) → StandOnce ns → many n ns ≤ 1
+once_few [] n once = omega arith
+once_few (m ∷ ns) n once =
+    elim (cases_Bool (eqb m n)) [
+      | inl is ↦
+          let here : one n m ≡ 1 = ap (λ b. cond b 1 0) is in
+          let rest = none_many ns n (ap (has ns) (sym (eqb-true m n is)) ∙ once.0) in
+          omega (arith, many-more n m ns, here, rest)
+      | inr differs ↦
+          let away : one n m ≡ 0 = ap (λ b. cond b 1 0) differs in
+          let rest = once_few ns n once.1 in
+          omega (arith, many-more n m ns, away, rest)
+    ]
+
+-- ---- numbers in order
+
+rises_from : (count next : ℕ) (ns : List ℕ) → IsNonDecreasing ns → ((n : ℕ) → many n ns ≤ 1) → ((n : ℕ) → has ns n ≡ true → n < count) → ((n : ℕ) → slice_get ns 0 ≡ Some n → next ≤ n) → RiseWithin count next ns
+rises_from count next [] up few below from = tt
+rises_from count next (m ∷ ns) up few below from = (
+  from m refl,
+  below m (ap (λ b. b || has ns m) (eq-eqb m m refl)),
+  rises_from count (m + 1) ns (λ i j d h k. up (suc i) (suc j) d (omega (arith, h)) (omega (arith, k)))
+      (λ n. let f = few n in omega (arith, f, many-more n m ns))
+      (λ n h. below n (ap (λ b. eqb m n || b) h ∙ or_true (eqb m n)))
+      (λ n h. above ns n h few up),
+)
+  where
+    or_true : (b : Bool) → (b || true) ≡ true
+    or_true true = refl
+    or_true false = refl
+
+    above : (rest : List ℕ) (n : ℕ) → slice_get rest 0 ≡ Some n → ((k : ℕ) → many k (m ∷ rest) ≤ 1) → IsNonDecreasing (m ∷ rest) → m + 1 ≤ n
+    above [] n h few up = cc
+    above (x ∷ rest) n h few up =
+        let is : n ≡ x = let P : Some x ≡ Some n = h in let e : x ≡ n = cc in sym e in
+        let from : m ≤ x = up 0 1 0 (omega arith) (omega arith) in
+        elim (cases_eq m x) [
+          | inl same ↦
+              let here : one m m ≡ 1 = ap (λ b. cond b 1 0) (eq-eqb m m refl) in
+              let there : one m x ≡ 1 = ap (λ b. cond b 1 0) (eq-eqb x m (sym same)) in
+              let f = few m in
+              absurd (omega (arith, f, many-more m m (x ∷ rest), many-more m x rest, here, there))
+          | inr differs ↦ omega (arith, is, from, differs)
+        ]
+
+module _ (ids sorted : List ℕ) (moved : IsPermutation ids sorted) where
+  pub has_sorted : (n : ℕ) → has sorted n ≡ has ids n
+  has_sorted n = has_many sorted n ∙ ap (ltb 0) (sum_by-IsPermutation (one n) ids sorted moved) ∙ sym (has_many ids n)
+
+  pub sorted_rise : (count : ℕ) → IsNonDecreasing sorted → AreIds count ids → RiseWithin count 0 sorted
+  sorted_rise count up are =
+      rises_from count 0 sorted up
+      (λ n. let few = once_few ids n are.once in let same = sum_by-IsPermutation (one n) ids sorted moved in omega (arith, few, same))
+      (λ n h. are.below n (sym (has_sorted n) ∙ h))
+      (λ n h. omega arith)
+
+-- ---- the new ids of both
+
+none_before : (count next id : ℕ) (ids : List ℕ) → RiseWithin count next ids → id < next → has ids id ≡ false
+none_before count next id [] up h = refl
+none_before count next id (other ∷ ids) up h =
+    let from : next ≤ other = up.0 in
+    ap (λ b. b || has ids id) (ne_eqb other id (λ e. absurd (omega (arith, e, from, h))))
+    ∙ none_before count (other + 1) id ids up.2 (omega (arith, from, h))
+
+once_renumbered : (new_ids : NewIds) (count next : ℕ) (ids : List ℕ) → IsOneToOne new_ids → RiseWithin count next ids → StandOnce (renumbered new_ids ids)
+once_renumbered new_ids count next [] once up = tt
+once_renumbered new_ids count next (id ∷ ids) once up = by_new (new_id new_ids id) refl (once_renumbered new_ids count (id + 1) ids once up.2)
+  where
+    by_new : (o : Option ℕ) → new_id new_ids id ≡ o → StandOnce (renumbered new_ids ids) → StandOnce (cons_option o (renumbered new_ids ids))
+    by_new None e rest = rest
+    by_new (Some new) e rest = (has_renumbered new_ids ids id new once e ∙ none_before count (id + 1) id ids up.2 (omega arith), rest)
+
+once_both : (ns more : List ℕ) → StandOnce ns → StandOnce more → ((n : ℕ) → has ns n ≡ true → has more n ≡ false) → StandOnce (ns ++ more)
+once_both [] more once again apart = again
+once_both (m ∷ ns) more once again apart = (
+  has_both ns more m ∙ ap (λ b. b || has more m) once.0 ∙ apart m (ap (λ b. b || has ns m) (eq-eqb m m refl)),
+  once_both ns more once.1 again (λ n h. apart n (ap (λ b. eqb m n || b) h ∙ or_true (eqb m n))),
+)
+  where
+    or_true : (b : Bool) → (b || true) ≡ true
+    or_true true = refl
+    or_true false = refl
+
+pub new_ids_of_both : (count some others : ℕ) (older newer : NewIds) (ids more : List ℕ) → IsOneToOne older → IsOneToOne newer → AreApart older newer → StayBelow count older → StayBelow count newer → RiseWithin some 0 ids → RiseWithin others 0 more → AreIds count (renumbered older ids ++ renumbered newer more)
+new_ids_of_both count some others older newer ids more once newer_once apart below newer_below up newer_up = record {
+  below = λ id h. elim (or_cases (has (renumbered older ids) id) (has (renumbered newer more) id) (sym (has_both (renumbered older ids) (renumbered newer more) id) ∙ h)) [
+    | inl here ↦ let from = renumbered_from older ids id here in below from.0 id from.1
+    | inr there ↦ let from = renumbered_from newer more id there in newer_below from.0 id from.1
+  ];
+  once = once_both (renumbered older ids) (renumbered newer more) (once_renumbered older some 0 ids once up) (once_renumbered newer others 0 more newer_once newer_up)
+      (λ n h. let from = renumbered_from older ids n h in has_no_renumbered newer more n (λ other e. apart from.0 other n from.1 e));
+}
+
+-- ---- ids that are laid one by one
+
+pub given_none : (trigram : ℕ) (before now : Laid) (ids : List ℕ) → RiseWithin (length before.names) 0 ids → now ≡ with_list before trigram → IsGiven trigram before now ids [] ids []
+given_none trigram before now ids up e = record {
+  given = [];
+  paths = ap (λ (l : Laid). l.paths) e;
+  names = ap (λ (l : Laid). l.names) e;
+  lists = ap (λ (l : Laid). l.lists) e ∙ sym (append-nil before.lists);
+  each = λ id. refl;
+  older_rise = up;
+  newer_rise = tt;
+}
+
+pub nothing_given : (trigram : ℕ) (laid : Laid) (ids : List ℕ) → ids ≡ [] → IsGiven trigram laid laid ids [] [] []
+nothing_given trigram laid ids e = record {
+  given = [];
+  paths = refl;
+  names = refl;
+  lists = sym (append-nil laid.lists);
+  each = λ id. sym (ap (λ ns. has ns id || false) e);
+  older_rise = tt;
+  newer_rise = tt;
+}
+
+pub first_left : (ids : List ℕ) (place : ℕ) → place < length ids → lower_of (slice_get (drop place ids) 0) None ≡ Some (get_or ids place 0)
+first_left ids place h = ap (λ ns. lower_of (slice_get ns 0) None) (drop_more ids place 0 h)
+
+pub rest_left : (ids : List ℕ) (place : ℕ) → place < length ids → without_first (get_or ids place 0) (drop place ids) ≡ drop (place + 1) ids
+rest_left ids place h =
+    ap (without_first (get_or ids place 0)) (drop_more ids place 0 h)
+    ∙ ap (λ b. cond b (drop (place + 1) ids) (get_or ids place 0 ∷ drop (place + 1) ids)) (eq-eqb (get_or ids place 0) (get_or ids place 0) refl)
+
+-- ids that were put in order are those of both
+pub given_sorted : (trigram : ℕ) (before now : Laid) (sorted older newer : List ℕ) → ((n : ℕ) → has sorted n ≡ has (older ++ newer) n) → IsGiven trigram before now sorted [] [] [] → IsGiven trigram before now older newer [] []
+given_sorted trigram before now sorted older newer same given = record {
+  given = given.given;
+  paths = given.paths;
+  names = given.names;
+  lists = given.lists;
+  each = λ id. given.each id ∙ or_none (has sorted id) ∙ same id ∙ has_both older newer id;
+  older_rise = tt;
+  newer_rise = tt;
+}
+  where
+    or_none : (b : Bool) → (b || false) ≡ b
+    or_none true = refl
+    or_none false = refl

@@ -1,0 +1,28 @@
+use Rattle.std.proofs.Common.{◌≡◌, ℕ, List, length, sym, ap, subst, ◌∙◌, Some, Result, Ok, Err}
+use Rattle.std.specs.Prelude.{option_map, IfOk}
+use Rattle.cs_index.specs.Opening.{Parts}
+use Rattle.cs_merge.specs.Ranked.{Ranked, IsRanked}
+use Rattle.cs_merge.specs.Renumbering.{NewIds, AreByRank, ArePut, IsOrdering}
+use Rattle.cs_merge.proofs.RankedLemmas.{are_ordering, put_by_rank}
+use Rattle.cs_merge.proofs.ranked.Ranked.by_id.Goals as goal
+
+abbrev in_order : Parts → List ℕ → Ranked
+in_order parts ids = record { parts = parts; order = Some ids }
+
+put : {E : Type 0} (parts : Parts) (ids : List ℕ) (ranks : NewIds) (result : Result NewIds E) → IsRanked (in_order parts ids) → length ranks ≡ length parts.names → IfOk result (λ new_ids. length new_ids ≡ length ranks) → IfOk result (λ new_ids. ArePut ids ranks (length ids) new_ids) → IfOk result (λ new_ids. AreByRank (in_order parts ids) ranks new_ids)
+put parts ids ranks (Ok new_ids) is all long each = put_by_rank parts ids is ranks new_ids all long each
+put parts ids ranks (Err fault) is all long each = tt
+
+pub placed-requires-clause-order : goal.placed-requires-clause-order
+placed-requires-clause-order c =
+    let parts = c.self.inside.index.now in
+    let e : c.args.self.now ≡ in_order parts c.in-Some.ids.items = sym c.self.view_is ∙ ap (λ o. let r : Ranked = record { parts = parts; order = option_map (λ ids. ids.items) o } in r) c.in-Some.is in
+    subst IsOrdering (sym c.deref.ensures.value) (are_ordering parts c.in-Some.ids.items (subst IsRanked e c.requires.ranked))
+
+pub returns-in-Some : goal.returns-in-Some
+returns-in-Some c =
+    let parts = c.self.inside.index.now in
+    let ids : List ℕ = c.deref.result.now in
+    let e : c.args.self.now ≡ in_order parts ids = sym c.self.view_is ∙ ap (λ o. let r : Ranked = record { parts = parts; order = option_map (λ ids. ids.items) o } in r) c.in-Some.is ∙ ap (in_order parts) (sym c.deref.ensures.value) in
+    subst (λ (r : Ranked). IfOk c.placed.result (λ new_ids. AreByRank r c.args.ranks new_ids)) (sym e)
+    (put parts ids c.args.ranks c.placed.result (subst IsRanked e c.requires.ranked) (c.requires.all ∙ ap (λ (r : Ranked). length r.parts.names) e) c.placed.ensures.long c.placed.ensures.each)

@@ -5,8 +5,8 @@ usage: tests/allocations.py PROGRAM
 For each job the Nth allocation is refused, N = 1, 2, .., until a run ends with none refused: first the Nth alone, and then
 the Nth and all behind it, as on a machine that stays short of memory. A run answers as with ample memory; or it is refused: it
 has printed a front of the output and of the lines on standard error, then one line that memory is out, ends with status 2, and
-leaves the index file byte for byte, with nothing beside it. Last, five jobs in a row are run so: the index that comes out is
-that of the jobs that were done."""
+leaves the index file byte for byte, with nothing beside it. Last, five jobs in a row are run so, from no index and from one whose
+names do not ascend: the index that comes out is that of the jobs that were done."""
 import os
 import sys
 from itertools import groupby
@@ -119,11 +119,10 @@ def answers(first, skipped=None):
     return came, read("index")
 
 
-def five_jobs():
-    """Each allocation of five jobs in a row: the others answer as if a refused one had not been asked."""
+def five_jobs(before):
+    """Each allocation of five jobs in a row, from these bytes of the index file on: the others answer as if a refused one had
+    not been asked."""
     global allocations
-    leave(None)
-    before = None
     for job, words in enumerate(JOBS):
         leave(before)
         whole = answers(job)
@@ -146,6 +145,22 @@ def five_jobs():
         snapshot(job)
         run(words)
         before = read("index")
+
+
+def unsorted_index():
+    """An index of the files in another order than that of their names, as other programs write one: both have `abc`."""
+    path = f"{running.home}/a".encode()
+    names = [path + b"/g", path + b"/b/f"]
+    sections = [
+        path + b"\0\0",
+        b"".join(name + b"\0" for name in names) + b"\0",
+        b"abc\1\1\0\xff\xff\xff\0",
+        b"".join(number.to_bytes(4, "big") for number in (0, len(names[0]) + 1, len(b"".join(names)) + 2)),
+        b"abc\0\0\0\2\0\0\0\0" + b"\xff\xff\xff\0\0\0\0\0\0\0\6",
+    ]
+    begin = b"csearch index 1\n"
+    places = [len(begin + b"".join(sections[:at])) for at in range(5)]
+    return begin + b"".join(sections) + b"".join(place.to_bytes(4, "big") for place in places) + b"\ncsearch trailr\n"
 
 
 def main():
@@ -195,7 +210,12 @@ def main():
         each_refused(["cindex", "-reset", "t/d"], damaged, bare=True)
     for words in (["t/d"], [], ["-list"], ["-reset"]):
         each_refused(["cindex"] + words, bare=True)
-    five_jobs()
+    five_jobs(None)
+    snapshot(0)
+    unsorted = unsorted_index()
+    for words in (["a/g"], [], ["-list"]):
+        each_refused(["cindex"] + words, unsorted, bare=True)
+    five_jobs(unsorted)
     print(f"allocations refused in turn: {allocations} allocations, {runs} runs, {running.wrong} wrong")
     return running.wrong != 0
 

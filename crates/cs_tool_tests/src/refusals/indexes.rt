@@ -1,5 +1,5 @@
 // Indexes that are written, read and joined.
-use crate::fixtures::strings;
+use crate::fixtures::{UNSORTED, strings};
 use crate::refusals::{Came, at_most_one_is_refused};
 use cs_index::{BuildFault, Builder, Index, IndexFault, StoredIndex};
 use cs_merge::{MergeFault, merge};
@@ -147,5 +147,22 @@ fn joins(rt: HostRuntime) -> Result<(), Fail> {
     let (old, part) = (Index::open(&old)?, Index::open(&part)?);
     let first = joined(rt.alloc(), &old, &part, &want);
     let second = joined(rt.alloc(), &old, &part, &want);
+    at_most_one_is_refused(&rt, &[first, second])
+}
+
+/// The ids of names that do not ascend, in the order of the names.
+fn ordered(alloc: Global, index: &Index<'_>) -> Came {
+    match index.order(alloc) {
+        Ok(Some(ids)) => Came::of(ids.as_slice() == [1, 0].as_slice()),
+        Ok(None) => Came::Otherwise,
+        Err(_) => Came::Refused,
+    }
+}
+
+#[test]
+fn orders(rt: HostRuntime) -> Result<(), Fail> {
+    let index = Index::open(UNSORTED)?;
+    let first = ordered(rt.alloc(), &index);
+    let second = ordered(rt.alloc(), &index);
     at_most_one_is_refused(&rt, &[first, second])
 }

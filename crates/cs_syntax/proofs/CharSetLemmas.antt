@@ -34,7 +34,7 @@ or-false : (x : Bool) → (x || false) ≡ x
 or-false true = refl
 or-false false = refl
 
-and_or : (a x y : Bool) → (a && (x || y)) ≡ ((a && x) || (a && y))
+pub and_or : (a x y : Bool) → (a && (x || y)) ≡ ((a && x) || (a && y))
 and_or true x y = refl
 and_or false x y = refl
 

@@ -1,16 +1,16 @@
 -- A pattern, a bar and another pattern: the branches of both.
 use Rattle.std.proofs.Common.{◌≡◌, ℕ, zero, suc, ◌+◌, ◌<◌, ◌≤◌, Bool, true, false, cond, ◌&&◌, ◌||◌, List, [], ◌∷◌, ◌++◌, length, take, drop, refl, sym, ap, subst, ◌∙◌, inl, inr, arith, Option, Some, None}
-use Rattle.std.specs.Prelude.{nat_eq, nat_lt, nat_le, not, min, if◌then◌else◌, is_some, option_map, codes, map}
+use Rattle.std.specs.Prelude.{nat_eq, nat_lt, nat_le, not, min, if◌then◌else◌, is_some, option_map, codes, map, chars, slice_index}
 use Rattle.std.specs.List.{prefix_len, starts_with}
 use Rattle.std.proofs.lemmas.Bool.{true≢false, cases_Bool, ltb-true, eqb-true}
 use Rattle.std.proofs.lemmas.List.Sums.{prefix_len-le-length}
 use Rattle.std.proofs.Common.{length-drop}
 use Rattle.cs_syntax.specs.Matching.{Tree, Trees, one_of, more, is_word}
 use Rattle.cs_syntax.specs.Ranges.{has}
-use Rattle.cs_syntax.specs.Fronts.{Front, Item, unit, repeat, bar, group_start, group_end, flags_from_here, item, fault, sequence, is_front, bytes_tree, char_tree}
+use Rattle.cs_syntax.specs.Fronts.{Front, Item, unit, repeat, bar, group_start, group_end, flags_from_here, item, fault, sequence, is_front, is_continuation, bytes_tree, char_tree}
 use Rattle.cs_syntax.specs.ByteSet.{is_letter, char_set}
 use Rattle.cs_syntax.specs.Numbers.{digit_value, is_digit, count_digits, value_in}
-use Rattle.cs_syntax.specs.Classes.{ClassFront, piece, misread, ClassChar, one, wrong, class_escape, class_char, range_to, range_from, span, name_length, posix_class, after_colon, after_backslash, class_front, ClassRest, closed, failed, with_item, items_from, class_of, class}
+use Rattle.cs_syntax.specs.Classes.{ClassFront, piece, misread, ClassChar, one, wrong, class_escape, wide_class_char, class_char, range_to, range_from, span, name_length, posix_class, after_colon, after_backslash, class_front, ClassRest, closed, failed, with_item, items_from, class_of, class}
 use Rattle.cs_syntax.specs.declared.class_item.ClassItem.{ClassItem}
 use Rattle.cs_syntax.specs.declared.class_item.ClassItem.TheVariants.{Range}
 use Rattle.cs_syntax.specs.Repeats.{lazy, number, counts_to, counts_from, counts, is_bad, brace}
@@ -19,7 +19,7 @@ use Rattle.cs_syntax.specs.declared.repeats.Counts.{Counts}
 use Rattle.cs_syntax.specs.Characters.{is_scalar}
 use Rattle.cs_syntax.specs.Escapes.{char_by_number, octal_char, hex_char_in_braces, hex_char, control_char, escaped_char, is_left_out, escaped_class, escaped_tree, char_front, escape}
 use Rattle.cs_syntax.specs.declared.escapes.EscapedChar.{EscapedChar}
-use Rattle.cs_syntax.specs.Items.{front, item_by, is_continuation}
+use Rattle.cs_syntax.specs.Items.{front, item_by}
 use Rattle.cs_syntax.specs.Signs.{sign_of}
 use Rattle.cs_syntax.proofs.TreeListLemmas.{takes_choice, takes_append}
 use Rattle.cs_syntax.specs.TreeList.{append}
@@ -364,6 +364,11 @@ module _ (t : List ℕ) where
 
   -- ---- classes
 
+  -- the bytes behind the first one of a character past ASCII
+  taken_after : (text : List ℕ) → take (prefix_len is_continuation (after text)) (after text) ≡ take (prefix_len is_continuation text) text
+  taken_after text =
+      ap (λ k. take k (after text)) (prefix_after is_continuation text refl) ∙ take_after (prefix_len is_continuation text) text (prefix_len-le-length is_continuation text)
+
   abbrev IsOne : ClassChar → Type 0
   IsOne (one c len) = Unit {0}
   IsOne (wrong k) = ⊥
@@ -374,32 +379,44 @@ module _ (t : List ℕ) where
 
   abbrev class_escape_by : ℕ → Option EscapedChar → ClassChar
   class_escape_by e o =
-      cond (is_left_out e) (wrong NotInProfile) (elim o [ None ↦ wrong BadEscape | Some c ↦ cond (nat_lt c.char 128) (one c.char c.len) (wrong NotInProfile) ])
+      cond (is_left_out e) (wrong NotInProfile) (elim o [ None ↦ wrong BadEscape | Some c ↦ one c.char c.len ])
 
   class_escape_within : (text : List ℕ) → CharWithin (length text) (class_escape text)
   class_escape_within [] = tt
   class_escape_within (e ∷ text) = by (is_left_out e) (escaped_char (e ∷ text)) (escaped_within e text)
     where
-      by_char : (c : EscapedChar) → c.len ≤ suc (length text) → (b : Bool) → CharWithin (suc (length text)) (cond b (one c.char c.len) (wrong NotInProfile))
-      by_char c h true = h
-      by_char c h false = tt
-
-      by : (b : Bool) (o : Option EscapedChar) → Within (suc (length text)) o → CharWithin (suc (length text)) (cond b (wrong NotInProfile) (elim o [ None ↦ wrong BadEscape | Some c ↦ cond (nat_lt c.char 128) (one c.char c.len) (wrong NotInProfile) ]))
+      by : (b : Bool) (o : Option EscapedChar) → Within (suc (length text)) o → CharWithin (suc (length text)) (cond b (wrong NotInProfile) (elim o [ None ↦ wrong BadEscape | Some c ↦ one c.char c.len ]))
       by true o h = tt
       by false None h = tt
-      by false (Some c) h = by_char c h (nat_lt c.char 128)
+      by false (Some c) h = h
 
   class_escape_after : (text : List ℕ) → IsOne (class_escape text) → class_escape (after text) ≡ class_escape text
   class_escape_after [] is = absurd is
   class_escape_after (e ∷ text) is = ap (class_escape_by e) (escaped_after e text)
 
+  -- a character as it is written
+  abbrev written_char : ℕ → List ℕ → ClassChar
+  written_char b text = cond (nat_lt b 128) (one b 0) (wide_class_char b text)
+
+  written_after : (b : ℕ) (text : List ℕ) → written_char b (after text) ≡ written_char b text
+  written_after b text =
+      let n = prefix_after is_continuation text refl in
+      let taken = taken_after text in
+      λ i. cond (nat_lt b 128) (one b 0) (one (slice_index (chars (b ∷ taken i)) 0) (n i))
+
+  written_within : (b : ℕ) (text : List ℕ) → CharWithin (length text) (written_char b text)
+  written_within b text = by (nat_lt b 128)
+    where
+      by : (low : Bool) → CharWithin (length text) (cond low (one b 0) (wide_class_char b text))
+      by true = omega arith
+      by false = prefix_len-le-length is_continuation text
+
   class_char_after : (c : ℕ) (text : List ℕ) → IsOne (class_char c text) → class_char c (after text) ≡ class_char c text
   class_char_after c text = by (nat_eq c 92)
     where
-      by : (b : Bool) → IsOne (cond b (class_escape text) (cond (nat_lt c 128) (one c 0) (wrong NotInProfile))) →
-          cond b (class_escape (after text)) (cond (nat_lt c 128) (one c 0) (wrong NotInProfile)) ≡ cond b (class_escape text) (cond (nat_lt c 128) (one c 0) (wrong NotInProfile))
+      by : (b : Bool) → IsOne (cond b (class_escape text) (written_char c text)) → cond b (class_escape (after text)) (written_char c (after text)) ≡ cond b (class_escape text) (written_char c text)
       by true is = class_escape_after text is
-      by false is = refl
+      by false is = written_after c text
 
   -- behind this item the class goes on, and is closed
   abbrev GoesOn : ℕ → List ℕ → ClassFront → Type 0
@@ -454,15 +471,12 @@ module _ (t : List ℕ) where
 
   -- an item that begins with no `[:`
   abbrev class_front_by : Bool → ℕ → List ℕ → ClassFront
-  class_front_by d b text = cond d (after_backslash text) (span (cond d (class_escape text) (cond (nat_lt b 128) (one b 0) (wrong NotInProfile))) text)
+  class_front_by d b text = cond d (after_backslash text) (span (cond d (class_escape text) (written_char b text)) text)
 
   front_by_after : (d : Bool) (b behind : ℕ) (text : List ℕ) → GoesOn behind text (class_front_by d b text) → class_front_by d b (after text) ≡ class_front_by d b text
   front_by_after true b behind text h = backslash_after behind text h
-  front_by_after false b behind text h = span_after (cond (nat_lt b 128) (one b 0) (wrong NotInProfile)) behind text (within (nat_lt b 128)) h
-    where
-      within : (low : Bool) → CharWithin (length text) (cond low (one b 0) (wrong NotInProfile))
-      within true = omega arith
-      within false = tt
+  front_by_after false b behind text h =
+      ap (λ c. span c (after text)) (written_after b text) ∙ span_after (written_char b text) behind text (written_within b text) h
 
   -- ---- names between `[:` and `:]`
 
@@ -850,8 +864,7 @@ module _ (t : List ℕ) where
     by_wide : (b : ℕ) (text : List ℕ) (wide : Bool) → EndsBy (cond wide Wide Plain) flags b text
     by_wide b text true =
         let n = prefix_after is_continuation text refl in
-        let taken : take (prefix_len is_continuation (after text)) (after text) ≡ take (prefix_len is_continuation text) text =
-        ap (λ k. take k (after text)) n ∙ take_after (prefix_len is_continuation text) text (prefix_len-le-length is_continuation text) in
+        let taken = taken_after text in
         record { same = λ is i. item (unit (bytes_tree (b ∷ taken i))) (n i); fits = prefix_len-le-length is_continuation text }
     by_wide b text false = record { same = λ is. refl; fits = omega arith }
 

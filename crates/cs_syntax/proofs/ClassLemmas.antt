@@ -1,18 +1,20 @@
 -- Classes, byte by byte and item by item.
-use Rattle.std.proofs.Common.{◌≡◌, ℕ, zero, suc, ◌+◌, Bool, true, false, ◌&&◌, ◌||◌, not, List, [], ◌∷◌, ◌++◌, drop, refl, sym, ◌∙◌, ap, arith}
+use Rattle.std.proofs.Common.{◌≡◌, ℕ, zero, suc, ◌+◌, ◌-◌, ◌*◌, ◌<◌, ◌≤◌, Bool, true, false, ◌&&◌, ◌||◌, not, List, [], ◌∷◌, ◌++◌, drop, get_or, length, refl, sym, ◌∙◌, ap, ap₂, arith}
 use Rattle.std.proofs.Math.Bool.{or_assoc, or-false}
-use Rattle.std.specs.Prelude.{Option, Some, None, codes, nat_eq}
+use Rattle.std.specs.Prelude.{Option, Some, None, codes, nat_eq, slice_index, if◌then◌else◌}
+use Rattle.std.specs.Str.{chars, chars_after, continuation_len, lead_bits}
+use Rattle.std.proofs.lemmas.Bool.Decides.{nat_tests}
 use Rattle.std.specs.Option.{option_map}
 use Rattle.std.specs.List.{starts_with}
-use Rattle.cs_syntax.specs.ByteSet.{set_of}
-use Rattle.cs_syntax.specs.Matching.{one_of}
-use Rattle.cs_syntax.specs.Fronts.{item, unit, is_front}
-use Rattle.cs_syntax.specs.ClassSets.{is_in_item, is_in_items, class_set}
-use Rattle.cs_syntax.specs.Classes.{name_length, ClassRest, closed, failed, with_item, items_from, class_front, piece, misread, class}
-use Rattle.cs_syntax.specs.ClassState.{with_items}
+use Rattle.cs_syntax.specs.Matching.{differ}
+use Rattle.cs_syntax.specs.Characters.{is_scalar, has_char, runs_of}
+use Rattle.cs_syntax.specs.CharTrees.{runs_tree, chars_tree}
+use Rattle.cs_syntax.specs.Fronts.{item, fault, unit, is_front}
+use Rattle.cs_syntax.specs.ClassSets.{is_in_item, is_in_items, class_tree}
+use Rattle.cs_syntax.specs.Classes.{name_length, ClassRest, closed, failed, with_item, items_from, class_front, piece, misread, class, class_of}
+use Rattle.cs_syntax.specs.ClassState.{with_items, HaveItems}
 use Rattle.cs_syntax.specs.declared.class_item.ClassItem.{ClassItem}
 use Rattle.cs_syntax.specs.declared.fault.PatternFault.{PatternFault}
-use Rattle.cs_syntax.proofs.SetLemmas.{set_of-same}
 
 pub name_length-next : (text rest : List ℕ) (b : ℕ) → text ≡ b ∷ rest → starts_with nat_eq text (codes ":]") ≡ false → name_length text ≡ option_map suc (name_length rest)
 name_length-next text rest b s other = let e : starts_with nat_eq (b ∷ rest) (codes ":]") ≡ false = rw s at other in rw (s, e) refl
@@ -58,16 +60,101 @@ any-last : (fold : Bool) (is : List ClassItem) (i : ClassItem) (b : ℕ) → (is
 any-last fold [] i b = sym (or-false (is_in_item fold i b))
 any-last fold (j ∷ is) i b = or_assoc (is_in_item fold j b) (is_in_items fold is b) (is_in_item fold i b) ∙ ap (λ x. is_in_item fold j b || x) (any-last fold is i b)
 
--- one more item in the set
-pub set_of-last : (fold : Bool) (is : List ClassItem) (i : ClassItem) → set_of (λ b. is_in_items fold is b || is_in_item fold i b) ≡ set_of (is_in_items fold (is ++ i ∷ []))
-set_of-last fold is i = set_of-same (λ b. is_in_items fold is b || is_in_item fold i b) (is_in_items fold (is ++ i ∷ [])) (any-last fold is i)
+and_or : (s x y : Bool) → ((s && x) || (s && y)) ≡ (s && (x || y))
+and_or true x y = refl
+and_or false x y = refl
 
-pub plain_class : (fold : Bool) (rest : List ℕ) (is : List ClassItem) (len : ℕ) (set : List Bool) → is_front 94 rest ≡ false → items_from 0 1 true rest ≡ closed is len →
-    set ≡ set_of (is_in_items fold is) → item (unit (one_of set)) len ≡ class fold rest
-unfolding class_set
-plain_class fold rest is len set f e s = rw (f, e, s) refl
+-- one more item in the ranges
+pub have-last : (fold : Bool) (is : List ClassItem) (i : ClassItem) (old new : List (ℕ × ℕ)) → HaveItems fold is old →
+    ((c : ℕ) → has_char new c ≡ (has_char old c || (is_scalar c && is_in_item fold i c))) → HaveItems fold (is ++ i ∷ []) new
+have-last fold is i old new have more c =
+    more c ∙ ap (λ b. b || (is_scalar c && is_in_item fold i c)) (have c) ∙ and_or (is_scalar c) (is_in_items fold is c) (is_in_item fold i c)
+    ∙ ap (λ b. is_scalar c && b) (any-last fold is i c)
 
-pub negated_class : (fold : Bool) (rest : List ℕ) (is : List ClassItem) (len : ℕ) (set : List Bool) → is_front 94 rest ≡ true → items_from 0 2 true (drop 1 rest) ≡ closed is len →
-    set ≡ set_of (λ b. not (is_in_items fold is b)) → item (unit (one_of set)) len ≡ class fold rest
-unfolding class_set
-negated_class fold rest is len set f e s = rw (f, e, s) refl
+pub have-read : (fold : Bool) (is : List ClassItem) (ranges read : List (ℕ × ℕ)) → read ≡ ranges → HaveItems fold is ranges → HaveItems fold is read
+have-read fold is ranges read same have c = ap (λ l. has_char l c) same ∙ have c
+
+-- the set of the items is the tree of the class
+class_runs : (fold negated : Bool) (is : List ClassItem) (set : List (ℕ × ℕ)) → set ≡ runs_of (λ c. differ negated (is_in_items fold is c)) → class_tree fold negated is ≡ runs_tree set
+unfolding chars_tree
+class_runs fold negated is set s = sym (ap runs_tree s)
+
+abbrev opening : Bool → ℕ
+opening negated = if negated then 2 else 1
+
+-- behind the `[` and the `^`
+abbrev inside : Bool → List ℕ → List ℕ
+inside negated rest = if negated then drop 1 rest else rest
+
+class_is : (fold negated : Bool) (rest : List ℕ) → is_front 94 rest ≡ negated → class fold rest ≡ class_of fold negated (items_from 0 (opening negated) true (inside negated rest))
+class_is fold true rest f = rw f refl
+class_is fold false rest f = rw f refl
+
+pub class_read : (fold negated : Bool) (rest : List ℕ) (is : List ClassItem) (len : ℕ) (set : List (ℕ × ℕ)) → is_front 94 rest ≡ negated →
+    items_from 0 (opening negated) true (inside negated rest) ≡ closed is len → set ≡ runs_of (λ c. differ negated (is_in_items fold is c)) →
+    class fold rest ≡ item (unit (runs_tree set)) len
+class_read fold negated rest is len set f e s =
+    class_is fold negated rest f ∙ ap (class_of fold negated) e ∙ ap (λ t. item (unit t) len) (class_runs fold negated is set s)
+
+pub class_failed : (fold negated : Bool) (rest : List ℕ) (k : PatternFault) (behind : ℕ) → is_front 94 rest ≡ negated →
+    items_from 0 (opening negated) true (inside negated rest) ≡ failed k behind → class fold rest ≡ fault k behind
+class_failed fold negated rest k behind f e = class_is fold negated rest f ∙ ap (class_of fold negated) e
+
+-- ---- characters past ASCII, from their bytes
+
+first_char : (c : ℕ) (bs : List ℕ) → slice_index (chars_after 0 c bs) 0 ≡ c
+first_char c [] = refl
+first_char c (b ∷ bs) = refl
+
+too_few : (n c : ℕ) (bs : List ℕ) → length bs < n → chars_after n c bs ≡ []
+too_few zero c bs h = absurd (omega arith)
+too_few (suc n) c [] h = refl
+too_few (suc n) c (b ∷ bs) h = too_few n (c * 64 + (b - 128)) bs (omega arith)
+
+-- the first of the characters, from how many bytes follow the first byte and the bits that this holds
+number_of : (first n bits : ℕ) (others : List ℕ) → continuation_len first ≡ n → lead_bits first ≡ bits →
+    slice_index (chars (first ∷ others)) 0 ≡ slice_index (chars_after n bits others) 0
+unfolding chars
+number_of first n bits others len lead = ap₂ (λ (m c : ℕ). slice_index (chars_after m c others) 0) len lead
+
+module _ (first : ℕ) (past : 128 ≤ first) where
+  is_two : first < 224 → (continuation_len first ≡ 1) × (lead_bits first ≡ first - 192)
+  is_two low = (grind (arith, nat_tests), grind (arith, nat_tests))
+
+  is_three : 224 ≤ first → first < 240 → (continuation_len first ≡ 2) × (lead_bits first ≡ first - 224)
+  is_three high low = (grind (arith, nat_tests), grind (arith, nat_tests))
+
+  is_four : 240 ≤ first → (continuation_len first ≡ 3) × (lead_bits first ≡ first - 240)
+  is_four high = (grind (arith, nat_tests), grind (arith, nat_tests))
+
+  pub of_two : (others : List ℕ) → first < 224 → 1 ≤ length others → (first - 192) * 64 + (get_or others 0 0 - 128) ≡ slice_index (chars (first ∷ others)) 0
+  of_two [] low h = absurd (omega arith)
+  of_two (a ∷ others) low h =
+      let is = is_two low in sym (number_of first 1 (first - 192) (a ∷ others) is.0 is.1 ∙ first_char _ others)
+
+  pub of_three : (others : List ℕ) → 224 ≤ first → first < 240 → 2 ≤ length others →
+      ((first - 224) * 64 + (get_or others 0 0 - 128)) * 64 + (get_or others 1 0 - 128) ≡ slice_index (chars (first ∷ others)) 0
+  of_three [] high low h = absurd (omega arith)
+  of_three (a ∷ []) high low h = absurd (omega arith)
+  of_three (a ∷ b ∷ others) high low h =
+      let is = is_three high low in sym (number_of first 2 (first - 224) (a ∷ b ∷ others) is.0 is.1 ∙ first_char _ others)
+
+  pub of_four : (others : List ℕ) → 240 ≤ first → 3 ≤ length others →
+      (((first - 240) * 64 + (get_or others 0 0 - 128)) * 64 + (get_or others 1 0 - 128)) * 64 + (get_or others 2 0 - 128) ≡ slice_index (chars (first ∷ others)) 0
+  of_four [] high h = absurd (omega arith)
+  of_four (a ∷ []) high h = absurd (omega arith)
+  of_four (a ∷ b ∷ []) high h = absurd (omega arith)
+  of_four (a ∷ b ∷ c ∷ others) high h =
+      let is = is_four high in sym (number_of first 3 (first - 240) (a ∷ b ∷ c ∷ others) is.0 is.1 ∙ first_char _ others)
+
+  none_of : (n bits : ℕ) (others : List ℕ) → (continuation_len first ≡ n) × (lead_bits first ≡ bits) → length others < n → 0 ≡ slice_index (chars (first ∷ others)) 0
+  none_of n bits others is few = sym (number_of first n bits others is.0 is.1 ∙ ap (λ cs. slice_index cs 0) (too_few n bits others few))
+
+  pub not_two : (others : List ℕ) → first < 224 → length others < 1 → 0 ≡ slice_index (chars (first ∷ others)) 0
+  not_two others low few = none_of 1 (first - 192) others (is_two low) few
+
+  pub not_three : (others : List ℕ) → 224 ≤ first → first < 240 → length others < 2 → 0 ≡ slice_index (chars (first ∷ others)) 0
+  not_three others high low few = none_of 2 (first - 224) others (is_three high low) few
+
+  pub not_four : (others : List ℕ) → 240 ≤ first → length others < 3 → 0 ≡ slice_index (chars (first ∷ others)) 0
+  not_four others high few = none_of 3 (first - 240) others (is_four high) few

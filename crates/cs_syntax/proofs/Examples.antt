@@ -1,13 +1,16 @@
 -- Worked rows, computed.
 use Rattle.std.proofs.Common.{◌≡◌, ℕ, zero, suc, ◌+◌, ap, arith, true, false, refl, [], ◌∷◌, ◌++◌, replicate}
 use Rattle.std.specs.Prelude.{codes, Some, None}
+use Rattle.std.specs.Str.{chars}
+use Rattle.std.proofs.lemmas.Bool.Decides.{nat_tests}
 use Rattle.std.specs.Char.{encode_utf8}
 use Rattle.std.proofs.lemmas.Fmt.{decimal_digit}
-use Rattle.cs_syntax.specs.Matching.{Trees, empty, one_of, cat, alt, rep, line_start, line_end, word_edge, not_word_edge, none, more, member}
-use Rattle.cs_syntax.specs.Characters.{has_char, AreRuns, TakesChar}
+use Rattle.cs_syntax.specs.Matching.{Trees, empty, one_of, one_char, cat, alt, rep, line_start, line_end, word_edge, not_word_edge, none, more, member}
+use Rattle.cs_syntax.specs.Characters.{has_char, AreRuns, runs_through, TakesChar}
 use Rattle.cs_syntax.specs.Lowering.{byte_range, lowered}
-use Rattle.cs_syntax.specs.ByteSet.{set_of, char_set, dot_set}
-use Rattle.cs_syntax.specs.ClassSets.{class_set, is_in_item}
+use Rattle.cs_syntax.specs.ByteSet.{set_of, char_set, all_bytes}
+use Rattle.cs_syntax.specs.CharTrees.{ascii_set}
+use Rattle.cs_syntax.specs.ClassSets.{is_in_item, is_in_class, is_in_dot, item_tree, class_tree, dot_tree}
 use Rattle.cs_syntax.specs.Classes.{class_by_name}
 use Rattle.cs_syntax.specs.Escapes.{char_front, escaped_class, escaped_tree}
 use Rattle.cs_syntax.specs.Groups.{is_flag, is_cleared_flag}
@@ -17,8 +20,10 @@ use Rattle.cs_syntax.specs.Choices.{flags_behind, names_end}
 use Rattle.cs_syntax.specs.Reading.{reading, tree, refused, flags_at_start}
 use Rattle.cs_syntax.specs.Signs.{sign_of}
 use Rattle.cs_syntax.specs.Written.{counted, quoted}
+use Rattle.cs_syntax.proofs.CharSetLemmas.{scalar_tells}
+use Rattle.cs_syntax.proofs.RunLemmas.{tree_is}
 use Rattle.cs_syntax.specs.Weight.{most_weight, weight, weights}
-use Rattle.cs_syntax.specs.declared.class_item.NamedClass.TheVariants.{Digit, Lower, Word}
+use Rattle.cs_syntax.specs.declared.class_item.NamedClass.TheVariants.{Ascii, Digit, Lower, Word}
 use Rattle.cs_syntax.specs.declared.class_item.ClassItem.TheVariants.{Range, Named}
 use Rattle.cs_syntax.specs.declared.fault.PatternFault.TheVariants.{NoOperand, StackedRepeat, BadRepeat, OpenGroup, StrayClose, BadGroup, OpenClass, BadRange, BadEscape, LoneBackslash, NotInProfile, TooDeep}
 
@@ -48,8 +53,8 @@ faults :
     × (reading (codes "a\\") false ≡ refused LoneBackslash 1)
     -- start of text
     × (reading (codes "\\A") false ≡ refused NotInProfile 0)
-    -- past ascii in class
-    × (reading (91 ∷ 195 ∷ 169 ∷ 93 ∷ []) false ≡ refused NotInProfile 1)
+    -- range swapped, past ascii: the numbers of `é` and `a`
+    × (reading (91 ∷ 195 ∷ 169 ∷ codes "-a]") false ≡ refused BadRange 1)
     -- lazy then repeat
     × (reading (codes "a*??") false ≡ refused StackedRepeat 3)
     -- bad count before stacked
@@ -90,8 +95,10 @@ faults :
     × (reading (codes "[a\\") false ≡ refused LoneBackslash 2)
     -- left out in class
     × (reading (codes "[a-\\pN]") false ≡ refused NotInProfile 3)
-    -- numbered past ascii in class
-    × (reading (codes "[\\xe9]") false ≡ refused NotInProfile 1)
+    -- numbered range swapped
+    × (reading (codes "[\\xea-\\xe9]") false ≡ refused BadRange 1)
+    -- a surrogate in class
+    × (reading (codes "[a-\\x{d800}]") false ≡ refused BadEscape 3)
     -- name past ascii
     × (reading (91 ∷ 91 ∷ 58 ∷ 195 ∷ 169 ∷ 58 ∷ 93 ∷ 93 ∷ []) false ≡ refused BadRange 1)
     -- only a bracket
@@ -108,8 +115,8 @@ faults :
     × (reading (replicate 201 40) false ≡ refused TooDeep 200)
     -- flags where 200 are open
     × (reading (replicate 200 40 ++ codes "(?i)") false ≡ refused OpenGroup 199)
-unfolding sign_of front char_front escaped_class escaped_tree is_flag is_cleared_flag digit_value class_by_name
-faults = (refl, refl, refl, refl, refl, refl, refl, refl, refl, refl, refl, refl, refl, refl, refl, refl, refl, refl, refl, refl, refl, refl, refl, refl, refl, refl, refl, refl, refl, refl, refl, refl, refl, refl, refl, refl, refl, refl, refl, refl, refl, refl)
+unfolding sign_of front char_front escaped_class escaped_tree is_flag is_cleared_flag digit_value class_by_name chars
+faults = (refl, refl, refl, refl, refl, refl, refl, refl, refl, refl, refl, refl, refl, refl, refl, refl, refl, refl, refl, refl, refl, refl, refl, refl, refl, refl, refl, refl, refl, refl, refl, refl, refl, refl, refl, refl, refl, refl, refl, refl, refl, refl, refl)
 
 -- texts that read as a tree
 trees_of_texts :
@@ -122,7 +129,7 @@ trees_of_texts :
     -- empty branch
     × (reading (codes "a||b") false ≡ tree (alt (more (one_of (char_set false 97)) (more (empty) (more (one_of (char_set false 98)) none)))))
     -- row of units
-    × (reading (codes "^(a|b)*.$") false ≡ tree (cat (more (line_start) (more (rep (alt (more (one_of (char_set false 97)) (more (one_of (char_set false 98)) none))) 0 None) (more (one_of (dot_set false)) (more (line_end) none))))))
+    × (reading (codes "^(a|b)*.$") false ≡ tree (cat (more (line_start) (more (rep (alt (more (one_of (char_set false 97)) (more (one_of (char_set false 98)) none))) 0 None) (more (dot_tree false) (more (line_end) none))))))
     -- counted
     × (reading (codes "^a{2,3}$") false ≡ tree (cat (more (line_start) (more (rep (one_of (char_set false 97)) 2 (Some 3)) (more (line_end) none)))))
     -- exactly
@@ -140,29 +147,39 @@ trees_of_texts :
     -- flag set and cleared
     × (reading (codes "(?i-i)a") false ≡ tree (one_of (char_set false 97)))
     -- dot all
-    × (reading (codes "(?s).") false ≡ tree (one_of (dot_set true)))
+    × (reading (codes "(?s).") false ≡ tree (dot_tree true))
     -- no flags
     × (reading (codes "(?)a(?mU)") false ≡ tree (one_of (char_set false 97)))
     -- word edges
     × (reading (codes "\\bfoo\\B") false ≡ tree (cat (more (word_edge) (more (one_of (char_set false 102)) (more (one_of (char_set false 111)) (more (one_of (char_set false 111)) (more (not_word_edge) none)))))))
     -- class of others
-    × (reading (codes "^[[:^digit:]]$") false ≡ tree (cat (more (line_start) (more (one_of (class_set false false (Named Digit true ∷ []))) (more (line_end) none)))))
+    × (reading (codes "^[[:^digit:]]$") false ≡ tree (cat (more (line_start) (more (class_tree false false (Named Digit true ∷ [])) (more (line_end) none)))))
     -- bracket and colon
-    × (reading (codes "^[[:a]$") false ≡ tree (cat (more (line_start) (more (one_of (class_set false false (Range 91 91 ∷ Range 58 58 ∷ Range 97 97 ∷ []))) (more (line_end) none)))))
+    × (reading (codes "^[[:a]$") false ≡ tree (cat (more (line_start) (more (class_tree false false (Range 91 91 ∷ Range 58 58 ∷ Range 97 97 ∷ [])) (more (line_end) none)))))
     -- first bracket is text
-    × (reading (codes "[]a-c]") false ≡ tree (one_of (class_set false false (Range 93 93 ∷ Range 97 99 ∷ []))))
+    × (reading (codes "[]a-c]") false ≡ tree (class_tree false false (Range 93 93 ∷ Range 97 99 ∷ [])))
     -- bracket begins range
-    × (reading (codes "[^]-a]") false ≡ tree (one_of (class_set false true (Range 93 97 ∷ []))))
+    × (reading (codes "[^]-a]") false ≡ tree (class_tree false true (Range 93 97 ∷ [])))
     -- last minus is text
-    × (reading (codes "[a-]") false ≡ tree (one_of (class_set false false (Range 97 97 ∷ Range 45 45 ∷ []))))
+    × (reading (codes "[a-]") false ≡ tree (class_tree false false (Range 97 97 ∷ Range 45 45 ∷ [])))
     -- minus after range is text
-    × (reading (codes "[a-c-e]") false ≡ tree (one_of (class_set false false (Range 97 99 ∷ Range 45 45 ∷ Range 101 101 ∷ []))))
+    × (reading (codes "[a-c-e]") false ≡ tree (class_tree false false (Range 97 99 ∷ Range 45 45 ∷ Range 101 101 ∷ [])))
     -- minus after class is text
-    × (reading (codes "[\\d-z]") false ≡ tree (one_of (class_set false false (Named Digit false ∷ Range 45 45 ∷ Range 122 122 ∷ []))))
+    × (reading (codes "[\\d-z]") false ≡ tree (class_tree false false (Named Digit false ∷ Range 45 45 ∷ Range 122 122 ∷ [])))
     -- escapes in class
-    × (reading (codes "[\\n-\\x20\\]]") false ≡ tree (one_of (class_set false false (Range 10 32 ∷ Range 93 93 ∷ []))))
+    × (reading (codes "[\\n-\\x20\\]]") false ≡ tree (class_tree false false (Range 10 32 ∷ Range 93 93 ∷ [])))
     -- digits class
-    × (reading (codes "\\d") false ≡ tree (one_of (set_of (is_in_item false (Named Digit false)))))
+    × (reading (codes "\\d") false ≡ tree (item_tree (Named Digit false)))
+    -- any byte
+    × (reading (codes "\\C") false ≡ tree (one_of all_bytes))
+    -- `[é]`, `[à-ü]` and `[^é]`
+    × (reading (91 ∷ 195 ∷ 169 ∷ 93 ∷ []) false ≡ tree (class_tree false false (Range 233 233 ∷ [])))
+    × (reading (91 ∷ 195 ∷ 160 ∷ 45 ∷ 195 ∷ 188 ∷ 93 ∷ []) false ≡ tree (class_tree false false (Range 224 252 ∷ [])))
+    × (reading (91 ∷ 94 ∷ 195 ∷ 169 ∷ 93 ∷ []) false ≡ tree (class_tree false true (Range 233 233 ∷ [])))
+    -- characters of three and of four bytes
+    × (reading (91 ∷ 226 ∷ 130 ∷ 172 ∷ 240 ∷ 159 ∷ 152 ∷ 128 ∷ 93 ∷ []) false ≡ tree (class_tree false false (Range 8364 8364 ∷ Range 128512 128512 ∷ [])))
+    -- ends of a range by their numbers
+    × (reading (codes "[\\x{d7ff}-\\x{e000}]") false ≡ tree (class_tree false false (Range 55295 57344 ∷ [])))
     -- two bytes
     × (reading (codes "^\\xe9$") false ≡ tree (cat (more (line_start) (more (cat (more (one_of (char_set false 195)) (more (one_of (char_set false 169)) none))) (more (line_end) none)))))
     -- octal then digit
@@ -181,8 +198,8 @@ trees_of_texts :
     × (reading (codes "a") true ≡ tree (one_of (char_set true 97)))
     -- only ASCII letters are folded: in `éa` the `a` is, and the bytes of `é` are not
     × (reading (195 ∷ 169 ∷ 97 ∷ []) true ≡ tree (cat (more (cat (more (one_of (char_set false 195)) (more (one_of (char_set false 169)) none))) (more (one_of (char_set true 97)) none))))
-unfolding sign_of front char_front escaped_class escaped_tree is_flag is_cleared_flag digit_value class_by_name encode_utf8
-trees_of_texts = (refl, refl, refl, refl, refl, refl, refl, refl, refl, refl, refl, refl, refl, refl, refl, refl, refl, refl, refl, refl, refl, refl, refl, refl, refl, refl, refl, refl, refl, refl, refl, refl, refl, refl)
+unfolding sign_of front char_front escaped_class escaped_tree is_flag is_cleared_flag digit_value class_by_name encode_utf8 chars
+trees_of_texts = (refl, refl, refl, refl, refl, refl, refl, refl, refl, refl, refl, refl, refl, refl, refl, refl, refl, refl, refl, refl, refl, refl, refl, refl, refl, refl, refl, refl, refl, refl, refl, refl, refl, refl, refl, refl, refl, refl, refl, refl)
 
 -- `(a{1000}){20}` passes the weight
 heavy : weight (rep (rep (one_of (char_set false 97)) 1000 (Some 1000)) 20 (Some 20)) ≡ 20021
@@ -212,23 +229,25 @@ members :
     -- folded has no other
     × (member (char_set true 97) 66 ≡ false)
     -- dot has no newline
-    × (member (dot_set false) 10 ≡ false)
+    × (is_in_dot false 10 ≡ false)
     -- dot all has newline
-    × (member (dot_set true) 10 ≡ true)
+    × (is_in_dot true 10 ≡ true)
     -- others have newline
-    × (member (class_set false true (Range 97 97 ∷ [])) 10 ≡ true)
+    × (is_in_class false true (Range 97 97 ∷ []) 10 ≡ true)
     -- others have past ascii
-    × (member (class_set false true (Range 97 97 ∷ [])) 255 ≡ true)
+    × (is_in_class false true (Range 97 97 ∷ []) 233 ≡ true)
     -- item is folded before it is negated
-    × (member (class_set true false (Named Lower true ∷ [])) 65 ≡ false)
+    × (is_in_class true false (Named Lower true ∷ []) 65 ≡ false)
     -- range is folded
-    × (member (class_set true false (Range 97 122 ∷ [])) 90 ≡ true)
+    × (is_in_class true false (Range 97 122 ∷ []) 90 ≡ true)
+    -- only ASCII letters are: `(?i)[É]` has no `é`
+    × (is_in_class true false (Range 201 201 ∷ []) 233 ≡ false)
     -- item then class negated
-    × (member (class_set false true (Named Digit true ∷ [])) 53 ≡ true)
+    × (is_in_class false true (Named Digit true ∷ []) 53 ≡ true)
     -- word has underscore
-    × (member (class_set false false (Named Word false ∷ [])) 95 ≡ true)
-unfolding class_set set_of is_in_item char_set dot_set
-members = (refl, refl, refl, refl, refl, refl, refl, refl, refl, refl)
+    × (is_in_class false false (Named Word false ∷ []) 95 ≡ true)
+unfolding set_of is_in_item char_set
+members = (refl, refl, refl, refl, refl, refl, refl, refl, refl, refl, refl)
 
 -- how a text is quoted, and how a repeat is written
 written :
@@ -248,7 +267,7 @@ bars :
     × (reading (codes "(?i)a|b") false ≡ tree (alt (more (one_of (char_set true 97)) (more (one_of (char_set true 98)) none))))
     × (reading (codes "b") false ≡ tree (one_of (char_set false 98)))
     -- a `[:` finds its `:]` behind the bar
-    × (reading (codes "[[:a]") false ≡ tree (one_of (class_set false false (Range 91 91 ∷ Range 58 58 ∷ Range 97 97 ∷ []))))
+    × (reading (codes "[[:a]") false ≡ tree (class_tree false false (Range 91 91 ∷ Range 58 58 ∷ Range 97 97 ∷ [])))
     × (reading (codes ":]") false ≡ tree (cat (more (one_of (char_set false 58)) (more (one_of (char_set false 93)) none))))
     × (reading (codes "[[:a]|:]") false ≡ refused BadRange 1)
     -- flags of a group end with it, and others do not
@@ -269,6 +288,47 @@ characters :
     × (has_char ((0, 1114111) ∷ []) 1114112 ≡ false)
     × (has_char ((0, 1114111) ∷ []) 57344 ≡ true)
 characters = (refl, refl, refl, refl, refl)
+
+-- the maximal runs of some characters
+runs_of_characters :
+    (runs_through (224 ∷ 225 ∷ 226 ∷ 233 ∷ []) ≡ (224, 226) ∷ (233, 233) ∷ [])
+    × (runs_through (55294 ∷ 55295 ∷ 57344 ∷ []) ≡ (55294, 57344) ∷ [])
+    × (runs_through (55294 ∷ 57344 ∷ []) ≡ (55294, 55294) ∷ (57344, 57344) ∷ [])
+runs_of_characters = (refl, refl, refl)
+
+-- what `.` and `(?s).` are, and `\D`
+dots :
+    (dot_tree false ≡ one_char ((0, 9) ∷ (11, 1114111) ∷ []))
+    × (dot_tree true ≡ one_char ((0, 1114111) ∷ []))
+    × (item_tree (Named Digit true) ≡ one_char ((0, 47) ∷ (58, 1114111) ∷ []))
+unfolding is_in_item
+dots = (
+  tree_is _ ((0, 9) ∷ (11, 1114111) ∷ []) (omega arith, (omega arith, refl, refl), (omega arith, (omega arith, refl, refl), tt)) (λ c. grind (arith, nat_tests, scalar_tells c)),
+  tree_is _ ((0, 1114111) ∷ []) (omega arith, (omega arith, refl, refl), tt) (λ c. grind (arith, nat_tests, scalar_tells c)),
+  tree_is _ ((0, 47) ∷ (58, 1114111) ∷ []) (omega arith, (omega arith, refl, refl), (omega arith, (omega arith, refl, refl), tt)) (λ c. grind (arith, nat_tests, scalar_tells c)),
+)
+
+-- what classes are: `[a-c]` a set of bytes, `[é]`, `[^é]`, `[[:^ascii:]]`, and d7ff to e000 as one run
+classes :
+    (class_tree false false (Range 97 99 ∷ []) ≡ one_of (ascii_set ((97, 99) ∷ [])))
+    × (class_tree false false (Range 233 233 ∷ []) ≡ one_char ((233, 233) ∷ []))
+    × (class_tree false true (Range 233 233 ∷ []) ≡ one_char ((0, 232) ∷ (234, 1114111) ∷ []))
+    × (class_tree false false (Named Ascii true ∷ []) ≡ one_char ((128, 1114111) ∷ []))
+    × (class_tree false false (Range 55295 57344 ∷ []) ≡ one_char ((55295, 57344) ∷ []))
+unfolding is_in_item
+classes = (
+  tree_is _ ((97, 99) ∷ []) (omega arith, (omega arith, refl, refl), tt) (λ c. grind (arith, nat_tests, scalar_tells c)),
+  tree_is _ ((233, 233) ∷ []) (omega arith, (omega arith, refl, refl), tt) (λ c. grind (arith, nat_tests, scalar_tells c)),
+  tree_is _ ((0, 232) ∷ (234, 1114111) ∷ []) (omega arith, (omega arith, refl, refl), (omega arith, (omega arith, refl, refl), tt)) (λ c. grind (arith, nat_tests, scalar_tells c)),
+  tree_is _ ((128, 1114111) ∷ []) (omega arith, (omega arith, refl, refl), tt) (λ c. grind (arith, nat_tests, scalar_tells c)),
+  tree_is _ ((55295, 57344) ∷ []) (omega arith, (omega arith, refl, refl), tt) (λ c. grind (arith, nat_tests, scalar_tells c)),
+)
+
+-- `(.{1000}){9}` passes the weight, and `(?s)(.{1000}){9}` does not
+weights_of_dots :
+    (weight (rep (rep (dot_tree false) 1000 (Some 1000)) 9 (Some 9)) ≡ 18010)
+    × (weight (rep (rep (dot_tree true) 1000 (Some 1000)) 9 (Some 9)) ≡ 9010)
+weights_of_dots = (ap (λ t. weight (rep (rep t 1000 (Some 1000)) 9 (Some 9))) dots.0, ap (λ t. weight (rep (rep t 1000 (Some 1000)) 9 (Some 9))) dots.1)
 
 -- d7ff and e000 are one run
 one_run : AreRuns ((55295, 57344) ∷ [])

@@ -95,9 +95,9 @@ abbrev OfChar : ClassChar → Type 0
 OfChar (one c len) = Unit {0}
 OfChar (wrong k) = IsTextFault k
 
-escaped_in_class : (o : Option EscapedChar) → OfChar (elim o [ None ↦ wrong BadEscape | Some c ↦ if nat_lt c.char 128 then one c.char c.len else wrong NotInProfile ])
+escaped_in_class : (o : Option EscapedChar) → OfChar (elim o [ None ↦ wrong BadEscape | Some c ↦ one c.char c.len ])
 escaped_in_class None = tt
-escaped_in_class (Some c) = either OfChar (nat_lt c.char 128) (one c.char c.len) (wrong NotInProfile) tt tt
+escaped_in_class (Some c) = tt
 
 class_escape-of : (text : List ℕ) → OfChar (class_escape text)
 class_escape-of [] = tt

@@ -1,10 +1,13 @@
 -- What an item does to the state is what it does to the reading.
 use Rattle.std.proofs.Common.{◌≡◌, ℕ, zero, suc, ◌+◌, List, [], ◌∷◌, Bool, true, false, map, length, drop, refl, sym, ◌∙◌, ap, subst, arith, inl, inr}
-use Rattle.std.specs.Prelude.{Option, nat_eq}
+use Rattle.std.specs.Prelude.{Option, Result, Ok, Err, nat_eq}
 use Rattle.std.proofs.lemmas.List.{length-map}
 use Rattle.cs_syntax.specs.Matching.{Tree, Trees, rep, none, more}
 use Rattle.cs_syntax.specs.TreeList.{with_last}
-use Rattle.cs_syntax.specs.Fronts.{Item, unit, repeat, bar, group_start, group_end, flags_from_here, item, fault}
+use Rattle.cs_syntax.specs.ItemViews.{front_view, IsFrontOf}
+use Rattle.cs_syntax.specs.declared.item.Item as items
+use Rattle.cs_syntax.specs.declared.item.Misread.{Misread}
+use Rattle.cs_syntax.specs.Fronts.{Front, Item, unit, repeat, bar, group_start, group_end, flags_from_here, item, fault}
 use Rattle.cs_syntax.specs.Items.{front}
 use Rattle.cs_syntax.specs.Reading.{Reading, refused, Group, Rest, most_open, rest, inside, with_repeat}
 use Rattle.cs_syntax.specs.PartialGroups.{PartialGroup, whole_reading, with_last_unit, with_last_repeated, with_last_unit_repeated, with_last_branch, tree_so_far, empty_group}
@@ -182,3 +185,8 @@ pub stop_is_refusal : (x : Item) (s : State) (at b len : ℕ) (text tail : List 
     IsRefusal (reading_on s 0 at (drop at text)) e
 stop_is_refusal x s at b len text tail e here f (inl m) = inl m
 stop_is_refusal x s at b len text tail e here f (inr k) = inr (ap (reading_on s 0 at) here ∙ stops-reads len at b tail x s e.fault f k.0 ∙ ap (refused e.fault) (sym k.1))
+
+-- what is found at the front, where no memory is grown
+pub front_is : (text : List ℕ) (r : Result (items.Item × ℕ) Misread) (f : Front) → front_view text r ≡ f → IsFrontOf text r f
+front_is text (Ok x) f is = sym is
+front_is text (Err m) f is = inr (sym is)

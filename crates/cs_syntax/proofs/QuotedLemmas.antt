@@ -11,9 +11,9 @@ use Rattle.cs_syntax.specs.Matching.{Tree, one_of, none}
 use Rattle.cs_syntax.specs.Ranges.{has}
 use Rattle.cs_syntax.specs.ByteSet.{char_set}
 use Rattle.cs_syntax.specs.Numbers.{digit_value}
-use Rattle.cs_syntax.specs.Fronts.{sequence, item, unit, bytes_tree, char_tree}
+use Rattle.cs_syntax.specs.Fronts.{sequence, item, unit, is_continuation, bytes_tree, char_tree}
 use Rattle.cs_syntax.specs.Escapes.{escape, escaped_tree, escaped_class, char_front}
-use Rattle.cs_syntax.specs.Items.{front, item_by, is_continuation}
+use Rattle.cs_syntax.specs.Items.{front, item_by}
 use Rattle.cs_syntax.specs.Signs.{sign_of}
 use Rattle.cs_syntax.specs.Reading.{Rest, levels, inside, with_unit, rest, answer, flags_at_start, Reads}
 use Rattle.cs_syntax.specs.Written.{signs, quoted, units_of}

@@ -1,5 +1,8 @@
 -- Lists of answers.
-use Rattle.std.proofs.Common.{◌≡◌, ℕ, zero, suc, ◌+◌, ◌<◌, Bool, true, false, List, [], ◌∷◌, length, get_or, refl, ◌∙◌, ap, arith}
+use Rattle.std.proofs.Common.{◌≡◌, ℕ, zero, suc, ◌+◌, ◌<◌, Bool, true, false, List, [], ◌∷◌, length, get_or, set, refl, sym, inl, inr, ◌∙◌, ap, arith}
+use Rattle.std.proofs.lemmas.Bool.{cases_lt}
+use Rattle.std.proofs.lemmas.List.{get_or-set_other}
+use Rattle.std.proofs.lemmas.Grind.{get_or-set_at}
 use Rattle.cs_syntax.specs.Matching.{member}
 use Rattle.cs_syntax.specs.ByteSet.{answers, set_of}
 
@@ -32,14 +35,14 @@ pub set_of_at : (f : ℕ → Bool) (k : ℕ) → k < 256 → get_or (set_of f) k
 unfolding set_of
 set_of_at f k lt = let s : 0 + k ≡ k = omega arith in answers_at f 0 256 k lt ∙ ap f s
 
-answers-same : (f g : ℕ → Bool) (from n : ℕ) → ((k : ℕ) → f k ≡ g k) → answers f from n ≡ answers g from n
-answers-same f g from zero h = refl
-answers-same f g from (suc n) h = let e = h from in let r = answers-same f g (suc from) n h in cc
-
--- tests that agree have one set
-pub set_of-same : (f g : ℕ → Bool) → ((k : ℕ) → f k ≡ g k) → set_of f ≡ set_of g
-unfolding set_of
-set_of-same f g h = answers-same f g 0 256 h
+-- one more answer is written
+pub one_more : (f : ℕ → Bool) (xs : List Bool) (at : ℕ) (x : Bool) → at < length xs → ((k : ℕ) → k < at → get_or xs k false ≡ f k) → x ≡ f at →
+    (k : ℕ) → k < at + 1 → get_or (set xs at x) k false ≡ f k
+one_more f xs at x inside done here k lt =
+    elim (cases_lt k at) [
+      | inl before ↦ get_or-set_other xs at k x false (λ e. omega (arith, before, e)) ∙ done k before
+      | inr behind ↦ let same : k ≡ at = omega (arith, behind, lt) in get_or-set_at xs at k x false same inside ∙ here ∙ ap f (sym same)
+    ]
 
 -- b is the one member below n
 abbrev pub IsOnlyBelow : List Bool → ℕ → ℕ → Type 0

@@ -1,9 +1,9 @@
 -- Sets of characters, as runs of numbers, and where a character stands in a line.
 -- A run is a pair of characters, and has each character from the one to the other. The Unicode standard, "Unicode
 -- scalar value" and table 3-6.
-use Rattle.std.specs.Prelude.{ℕ, ◌≡◌, ◌+◌, ◌≤◌, Bool, true, ◌||◌, ◌&&◌, nat_lt, nat_le, List, [], ◌∷◌, length, slice_range, count_by, encode_utf8}
+use Rattle.std.specs.Prelude.{ℕ, ◌≡◌, ◌+◌, ◌≤◌, Bool, true, ◌||◌, ◌&&◌, nat_eq, nat_lt, nat_le, List, [], ◌∷◌, length, slice_range, count_by, encode_utf8, if◌then◌else◌}
 use Rattle.std.specs.Char.{scalar_index}
-use Rattle.std.specs.List.{range_with_len}
+use Rattle.std.specs.List.{filter, range_with_len}
 use Rattle.cs_syntax.specs.Ranges.{is_in_ranges}
 
 -- the number is that of a character: at most 10ffff, and not from d800 to dfff
@@ -27,6 +27,22 @@ AreRunsFrom least (run ∷ runs) = (least ≤ scalar_index run.0) × IsRun run �
 -- the runs are maximal, and ascend
 abbrev pub AreRuns : List (ℕ × ℕ) → Type 0
 AreRuns runs = AreRunsFrom 0 runs
+
+-- The runs with one more character, which stands before all of theirs: it joins the first run where that begins right
+-- behind it.
+abbrev pub with_char : ℕ → List (ℕ × ℕ) → List (ℕ × ℕ)
+with_char c [] = (c, c) ∷ []
+with_char c (run ∷ runs) =
+    if nat_eq (scalar_index c + 1) (scalar_index run.0) then (c, run.1) ∷ runs else (c, c) ∷ run ∷ runs
+
+-- the maximal runs of ascending characters
+abbrev pub runs_through : List ℕ → List (ℕ × ℕ)
+runs_through [] = []
+runs_through (c ∷ cs) = with_char c (runs_through cs)
+
+-- the maximal runs of the characters that pass the test
+unfoldable pub runs_of : (ℕ → Bool) → List (ℕ × ℕ)
+runs_of test = runs_through (filter (λ c. is_scalar c && test c) (range_with_len 0 1114112))
 
 -- how many characters below n are in the runs
 unfoldable pub char_count_below : ℕ → List (ℕ × ℕ) → ℕ

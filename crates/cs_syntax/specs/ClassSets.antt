@@ -1,10 +1,11 @@
--- The sets of bytes that classes stand for.
+-- The sets of characters that a dot and classes stand for.
 -- docs/PATTERNS.md, "Classes"; the RE2 syntax page, "Character classes".
-use Rattle.std.specs.Prelude.{ℕ, Bool, List, [], ◌∷◌}
+use Rattle.std.specs.Prelude.{ℕ, Bool, false, ◌||◌, not, nat_eq, List, [], ◌∷◌}
 use Rattle.std.specs.List.{list_any}
-use Rattle.cs_syntax.specs.Matching.{differ}
+use Rattle.cs_syntax.specs.Matching.{Tree, differ}
 use Rattle.cs_syntax.specs.Ranges.{word_ranges}
-use Rattle.cs_syntax.specs.ByteSet.{set_of, is_in_folded}
+use Rattle.cs_syntax.specs.ByteSet.{is_in_folded}
+use Rattle.cs_syntax.specs.CharTrees.{chars_tree}
 use Rattle.cs_syntax.specs.declared.class_item.NamedClass.{NamedClass}
 use Rattle.cs_syntax.specs.declared.class_item.NamedClass.TheVariants.{Alnum, Alpha, Ascii, Blank, Cntrl, Digit, Graph, Lower, Print, Punct, Space, Upper, Word, Xdigit, White}
 use Rattle.cs_syntax.specs.declared.class_item.ClassItem.{ClassItem}
@@ -28,15 +29,29 @@ ranges_of Word = word_ranges
 ranges_of Xdigit = (48, 57) ∷ (65, 70) ∷ (97, 102) ∷ []
 ranges_of White = (9, 10) ∷ (12, 13) ∷ (32, 32) ∷ []
 
--- the byte is in the item: the item is folded first, and then complemented where it is negated
+-- the character is in the item: the item is folded first, and then complemented where it is negated
 unfoldable pub is_in_item : Bool → ClassItem → ℕ → Bool
-is_in_item fold (Range low high) b = is_in_folded fold ((low, high) ∷ []) b
-is_in_item fold (Named class negated) b = differ negated (is_in_folded fold (ranges_of class) b)
+is_in_item fold (Range low high) c = is_in_folded fold ((low, high) ∷ []) c
+is_in_item fold (Named class negated) c = differ negated (is_in_folded fold (ranges_of class) c)
 
--- the byte is in one of the items
+-- the character is in one of the items
 abbrev pub is_in_items : Bool → List ClassItem → ℕ → Bool
-is_in_items fold items b = list_any (λ i. is_in_item fold i b) items
+is_in_items fold items c = list_any (λ i. is_in_item fold i c) items
 
 -- the items are united, and the whole is complemented where the class is negated
-unfoldable pub class_set : Bool → Bool → List ClassItem → List Bool
-class_set fold negated items = set_of (λ b. differ negated (is_in_items fold items b))
+abbrev pub is_in_class : Bool → Bool → List ClassItem → ℕ → Bool
+is_in_class fold negated items c = differ negated (is_in_items fold items c)
+
+abbrev pub class_tree : Bool → Bool → List ClassItem → Tree
+class_tree fold negated items = chars_tree (is_in_class fold negated items)
+
+-- one item by itself, as `\d`, with no letter folded
+abbrev pub item_tree : ClassItem → Tree
+item_tree i = chars_tree (is_in_item false i)
+
+-- all characters but a newline, or all
+abbrev pub is_in_dot : Bool → ℕ → Bool
+is_in_dot dot_all c = dot_all || not (nat_eq c 10)
+
+abbrev pub dot_tree : Bool → Tree
+dot_tree dot_all = chars_tree (is_in_dot dot_all)

@@ -1,9 +1,12 @@
 -- A class that is read in part.
-use Rattle.std.specs.Prelude.{ℕ, ◌≡◌, Bool, List, [], ◌∷◌, Result, MatchResult}
-use Rattle.cs_syntax.specs.ByteSet.{set_of}
+use Rattle.std.specs.Prelude.{ℕ, ◌≡◌, ◌⊎◌, Bool, ◌+◌, ◌-◌, ◌&&◌, nat_le, List, [], ◌∷◌, Result, MatchResult, Vec}
+use Rattle.std.specs.Global.{Global}
+use Rattle.cs_syntax.specs.Ranges.{is_in_ranges}
+use Rattle.cs_syntax.specs.Characters.{is_scalar, has_char}
 use Rattle.cs_syntax.specs.ClassSets.{is_in_items}
 use Rattle.cs_syntax.specs.Classes.{ClassRest, closed, failed, with_item}
 use Rattle.cs_syntax.specs.declared.class_item.ClassItem.{ClassItem}
+use Rattle.cs_syntax.specs.declared.fault.PatternFault.TheVariants.{Memory}
 use Rattle.cs_syntax.specs.declared.item.Misread.{Misread}
 
 -- the items so far, before what the rest of the class reads as
@@ -11,9 +14,18 @@ abbrev pub with_items : List ClassItem → ClassRest → ClassRest
 with_items [] rest = rest
 with_items (i ∷ is) rest = with_item i (with_items is rest)
 
--- the answer is the set of the items, and where the `]` stands; or it is the fault
-abbrev pub IsReadAs : Bool → ClassRest → Result (List Bool × ℕ) Misread → Type 0
+-- the letter is in the case that begins at `to`, and in the other one, from `first` on, it is in the range
+abbrev pub is_other_case : ℕ × ℕ → ℕ → ℕ → ℕ → Bool
+is_other_case range first to c =
+    (nat_le to c && nat_le c (to + 25)) && is_in_ranges (range ∷ []) (c + first - to)
+
+-- the ranges have the characters of the items and no other
+abbrev pub HaveItems : Bool → List ClassItem → List (ℕ × ℕ) → Type 0
+HaveItems fold items ranges = (c : ℕ) → has_char ranges c ≡ (is_scalar c && is_in_items fold items c)
+
+-- the answer is ranges of the items, and where the `]` stands; or it is the fault, or a growth was refused
+abbrev pub IsReadAs : Bool → ClassRest → Result (Vec (ℕ × ℕ) Global × ℕ) Misread → Type 0
 IsReadAs fold rest r =
     MatchResult r
-    (λ x. (items : List ClassItem) × (rest ≡ closed items x.1) × (x.0 ≡ set_of (is_in_items fold items)))
-    (λ m. rest ≡ failed m.fault m.behind)
+    (λ x. (items : List ClassItem) × (rest ≡ closed items x.1) × HaveItems fold items x.0.items)
+    (λ m. (m.fault ≡ Memory) ⊎ (rest ≡ failed m.fault m.behind))

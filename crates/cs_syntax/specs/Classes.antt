@@ -1,13 +1,12 @@
 -- Classes: what stands between `[` and `]`.
 -- docs/PATTERNS.md, "Classes"; the RE2 syntax page, "Character classes".
-use Rattle.std.specs.Prelude.{ℕ, zero, suc, ◌+◌, Bool, true, false, ◌&&◌, not, List, [], ◌∷◌, Option, Some, None, codes, length, take, nat_lt, nat_eq, drop, if◌then◌else◌}
+use Rattle.std.specs.Prelude.{ℕ, zero, suc, ◌+◌, Bool, true, false, ◌&&◌, not, List, [], ◌∷◌, Option, Some, None, codes, chars, length, slice_index, take, nat_lt, nat_eq, drop, if◌then◌else◌}
 use Rattle.std.specs.Option.{option_map}
-use Rattle.std.specs.List.{starts_with}
+use Rattle.std.specs.List.{prefix_len, starts_with}
 use Rattle.std.specs.Cmp.Lexicographic.{pointwise}
-use Rattle.cs_syntax.specs.Matching.{one_of}
-use Rattle.cs_syntax.specs.ClassSets.{class_set}
+use Rattle.cs_syntax.specs.ClassSets.{class_tree}
 use Rattle.cs_syntax.specs.Escapes.{escaped_char, escaped_class, is_left_out}
-use Rattle.cs_syntax.specs.Fronts.{Front, item, fault, unit, is_front}
+use Rattle.cs_syntax.specs.Fronts.{Front, item, fault, unit, is_front, is_continuation}
 use Rattle.cs_syntax.specs.declared.class_item.NamedClass.{NamedClass}
 use Rattle.cs_syntax.specs.declared.class_item.NamedClass.TheVariants.{Alnum, Alpha, Ascii, Blank, Cntrl, Digit, Graph, Lower, Print, Punct, Space, Upper, Word, Xdigit}
 use Rattle.cs_syntax.specs.declared.class_item.ClassItem.{ClassItem}
@@ -32,13 +31,19 @@ abbrev pub class_escape : List ℕ → ClassChar
 class_escape [] = wrong LoneBackslash
 class_escape (e ∷ rest) =
     if is_left_out e then wrong NotInProfile
-    else elim (escaped_char (e ∷ rest)) [ None ↦ wrong BadEscape | Some c ↦ if nat_lt c.char 128 then one c.char c.len else wrong NotInProfile ]
+    else elim (escaped_char (e ∷ rest)) [ None ↦ wrong BadEscape | Some c ↦ one c.char c.len ]
+
+-- a character past ASCII, as it is written: its number is what its bytes spell in UTF-8
+abbrev pub wide_class_char : ℕ → List ℕ → ClassChar
+wide_class_char b rest =
+    let n = prefix_len is_continuation rest in
+    one (slice_index (chars (b ∷ take n rest)) 0) n
 
 -- one character, also at the end of a range
 abbrev pub class_char : ℕ → List ℕ → ClassChar
 class_char b rest =
     if nat_eq b 92 then class_escape rest
-    else if nat_lt b 128 then one b 0 else wrong NotInProfile
+    else if nat_lt b 128 then one b 0 else wide_class_char b rest
 
 -- behind the `-` of a range that begins with `low` and has `len` bytes between its first and the
 -- character here
@@ -129,7 +134,7 @@ items_from zero behind start (b ∷ text) =
     else elim (class_front b text) [ misread k by ↦ failed k (behind + by) | piece i len ↦ with_item i (items_from len (behind + 1) false text) ]
 
 abbrev pub class_of : Bool → Bool → ClassRest → Front
-class_of fold negated (closed items len) = item (unit (one_of (class_set fold negated items))) len
+class_of fold negated (closed items len) = item (unit (class_tree fold negated items)) len
 class_of fold negated (failed k behind) = fault k behind
 
 -- behind `[`: a `^` negates the class

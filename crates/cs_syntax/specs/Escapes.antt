@@ -3,8 +3,8 @@
 use Rattle.std.specs.Prelude.{ℕ, ◌+◌, Bool, true, false, ◌&&◌, ◌||◌, not, min, List, [], ◌∷◌, Option, Some, None, nat_lt, nat_eq, take, drop, if◌then◌else◌}
 use Rattle.std.specs.Option.{option_map}
 use Rattle.cs_syntax.specs.Matching.{Tree, one_of, word_edge, not_word_edge}
-use Rattle.cs_syntax.specs.ByteSet.{set_of, is_letter, dot_set}
-use Rattle.cs_syntax.specs.ClassSets.{is_in_item}
+use Rattle.cs_syntax.specs.ByteSet.{is_letter, all_bytes}
+use Rattle.cs_syntax.specs.ClassSets.{item_tree}
 use Rattle.cs_syntax.specs.Characters.{is_scalar}
 use Rattle.cs_syntax.specs.Numbers.{is_digit, count_digits, value_in}
 use Rattle.cs_syntax.specs.Fronts.{Front, item, fault, unit, is_front, char_tree}
@@ -87,8 +87,8 @@ unfoldable pub escaped_tree : ℕ → Option Tree
 escaped_tree e =
     if nat_eq e 98 then Some word_edge
     else if nat_eq e 66 then Some not_word_edge
-    else if nat_eq e 67 then Some (one_of (dot_set true))
-    else option_map (λ i. one_of (set_of (is_in_item false i))) (escaped_class e)
+    else if nat_eq e 67 then Some (one_of all_bytes)
+    else option_map item_tree (escaped_class e)
 
 -- behind a backslash outside a class
 abbrev pub escape : Bool → List ℕ → Front

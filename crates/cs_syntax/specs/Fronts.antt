@@ -1,6 +1,6 @@
 -- What can stand at the front of a pattern's text.
 -- docs/PATTERNS.md, "Items".
-use Rattle.std.specs.Prelude.{ℕ, Bool, false, List, [], ◌∷◌, Option, nat_eq, nat_lt, if◌then◌else◌, encode_utf8}
+use Rattle.std.specs.Prelude.{ℕ, Bool, false, ◌&&◌, List, [], ◌∷◌, Option, nat_eq, nat_le, nat_lt, if◌then◌else◌, encode_utf8}
 use Rattle.cs_syntax.specs.Matching.{Tree, Trees, empty, one_of, cat, none, more}
 use Rattle.cs_syntax.specs.ByteSet.{char_set}
 use Rattle.cs_syntax.specs.declared.flags.Flags.{Flags}
@@ -28,6 +28,10 @@ pub data Front : Type 0 where
 abbrev pub is_front : ℕ → List ℕ → Bool
 is_front b [] = false
 is_front b (c ∷ rest) = nat_eq c b
+
+-- the byte stands behind the first one of a character past ASCII
+abbrev pub is_continuation : ℕ → Bool
+is_continuation b = nat_le 128 b && nat_lt b 192
 
 -- units in order: none is the empty tree, one is itself, more are a sequence
 abbrev pub sequence : Trees → Tree

@@ -1,11 +1,12 @@
 -- The items of a pattern's text: what each first byte begins.
 -- docs/PATTERNS.md, "Items"; the RE2 syntax page.
-use Rattle.std.specs.Prelude.{ℕ, Bool, ◌&&◌, List, ◌∷◌, Some, None, nat_le, nat_lt, take}
+use Rattle.std.specs.Prelude.{ℕ, List, ◌∷◌, Some, None, take}
 use Rattle.std.specs.List.{prefix_len}
 use Rattle.cs_syntax.specs.Matching.{one_of, line_start, line_end}
-use Rattle.cs_syntax.specs.ByteSet.{char_set, dot_set}
+use Rattle.cs_syntax.specs.ByteSet.{char_set}
+use Rattle.cs_syntax.specs.ClassSets.{dot_tree}
 use Rattle.cs_syntax.specs.Signs.{sign_of}
-use Rattle.cs_syntax.specs.Fronts.{Front, item, unit, bar, group_end, bytes_tree}
+use Rattle.cs_syntax.specs.Fronts.{Front, item, unit, bar, group_end, bytes_tree, is_continuation}
 use Rattle.cs_syntax.specs.Repeats.{lazy, brace}
 use Rattle.cs_syntax.specs.Groups.{group}
 use Rattle.cs_syntax.specs.Escapes.{escape}
@@ -13,10 +14,6 @@ use Rattle.cs_syntax.specs.Classes.{class}
 use Rattle.cs_syntax.specs.declared.flags.Flags.{Flags}
 use Rattle.cs_syntax.specs.declared.sign.Sign.{Sign}
 use Rattle.cs_syntax.specs.declared.sign.Sign.TheVariants.{Star, Plus, Question, Brace, Dot, Caret, Dollar, Bar, Open, Close, Class, Backslash, Wide, Plain}
-
--- the byte stands behind the first one of a character past ASCII
-abbrev pub is_continuation : ℕ → Bool
-is_continuation b = nat_le 128 b && nat_lt b 192
 
 -- a character past ASCII, as it is written, is one unit, the bytes of its UTF-8 form in order
 abbrev pub wide_char : ℕ → List ℕ → Front
@@ -30,7 +27,7 @@ item_by Star flags b rest = lazy 0 None 0 rest
 item_by Plus flags b rest = lazy 1 None 0 rest
 item_by Question flags b rest = lazy 0 (Some 1) 0 rest
 item_by Brace flags b rest = brace rest
-item_by Dot flags b rest = item (unit (one_of (dot_set flags.dot_all))) 0
+item_by Dot flags b rest = item (unit (dot_tree flags.dot_all)) 0
 item_by Caret flags b rest = item (unit line_start) 0
 item_by Dollar flags b rest = item (unit line_end) 0
 item_by Bar flags b rest = item bar 0

@@ -5,6 +5,7 @@ pub mod Matching
 pub mod TreeList
 pub mod ByteSet
 pub mod Members
+pub mod CharTrees
 pub mod ClassSets
 pub mod Lowering
 pub mod Node

@@ -1,10 +1,11 @@
 -- The lowering of a set of characters: a tree of sets of bytes that takes the UTF-8 forms of its members.
 -- Characters are cut by the number of their bytes, and before and behind d800 to dfff. Of a form, the bytes behind the
 -- first are told apart from the last on, so that forms which differ in no byte but the first ones share the rest.
-use Rattle.std.specs.Prelude.{ℕ, zero, suc, ◌+◌, ◌-◌, ◌*◌, ◌/◌, ◌%◌, ◌&&◌, min, max, List, [], ◌∷◌, ◌++◌, nat_le, nat_lt, if◌then◌else◌}
+use Rattle.std.specs.Prelude.{ℕ, zero, suc, ◌+◌, ◌-◌, ◌*◌, ◌/◌, ◌%◌, min, max, List, [], ◌∷◌, ◌++◌, nat_le, nat_lt, if◌then◌else◌}
 use Rattle.std.specs.List.{list_any}
 use Rattle.cs_syntax.specs.Ranges.{is_in_ranges}
 use Rattle.cs_syntax.specs.ByteSet.{set_of}
+use Rattle.cs_syntax.specs.CharTrees.{ascii_set}
 use Rattle.cs_syntax.specs.Matching.{Tree, Trees, one_of, cat, none, more}
 use Rattle.cs_syntax.specs.TreeList.{append, any_of}
 
@@ -58,7 +59,7 @@ all_wide_forms (run ∷ runs) = append (wide_forms run) (all_wide_forms runs)
 -- the ASCII characters of the runs, as one set
 abbrev pub ascii_forms : List (ℕ × ℕ) → Trees
 ascii_forms runs =
-    if list_any (λ run. nat_lt run.0 128) runs then more (one_of (set_of (λ b. nat_lt b 128 && is_in_ranges runs b))) none
+    if list_any (λ run. nat_lt run.0 128) runs then more (one_of (ascii_set runs)) none
     else none
 
 abbrev pub lowered : List (ℕ × ℕ) → Tree

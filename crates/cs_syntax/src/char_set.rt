@@ -1,9 +1,10 @@
 // Sets of characters.
-ghost use Rattle.std.specs.Prelude.{◌≡◌, ◌+◌, ◌<◌, ◌≤◌, ◌&&◌, ◌||◌, ℕ, not, List, All, IfOk};
+ghost use Rattle.std.specs.Prelude.{◌≡◌, ◌+◌, ◌<◌, ◌≤◌, ◌&&◌, ◌||◌, ℕ, Bool, not, List, All, IfOk};
 ghost use Rattle.std.specs.Char.{scalar_index};
 ghost use Rattle.std.specs.List.Sorted.{IsNonDecreasingBy};
 ghost use Rattle.cs_syntax.specs.Ranges.{is_in_ranges};
-ghost use Rattle.cs_syntax.specs.Characters.{is_scalar, has_char, IsRun, AreRuns, char_count};
+ghost use Rattle.cs_syntax.specs.Matching.{differ};
+ghost use Rattle.cs_syntax.specs.Characters.{is_scalar, has_char, IsRun, AreRuns, runs_of, char_count};
 ghost use Rattle.cs_syntax.specs.CharPlaces.{char_at, char_from, char_to};
 
 use std::alloc::{AllocError, Global};
@@ -37,7 +38,9 @@ impl CharSet {
     /// The characters of ranges, which may stand in any order and meet. Both ends of a range are
     /// in it, and numbers that are no characters are left out.
     pub fn from_ranges(alloc: Global, ranges: &[(u32, u32)]) -> Result<CharSet, AllocError>
-        ensures { IfOk result (λ set. (c : ℕ) → has_char set c ≡ has_char ranges.now c) }
+        ensures members { IfOk result
+            (λ set. (c : ℕ) → has_char set c ≡ has_char ranges.now c) }
+        ensures maximal { IfOk result AreRuns }
     {
         let mut runs = cut(alloc, ranges)?;
         runs.sort_unstable_by_key(|run| run.0);
@@ -74,21 +77,11 @@ impl CharSet {
 
     /// All other characters.
     pub fn complement(&self, alloc: Global) -> Result<CharSet, AllocError>
-        ensures { IfOk result
+        ensures members { IfOk result
             (λ set. (c : ℕ) → has_char set c ≡ (is_scalar c && not (has_char self.now c))) }
+        ensures maximal { IfOk result AreRuns }
     {
-        let mut runs = Vec::new(alloc);
-        let mut next = 0;
-        for run in &self.runs {
-            let start = place(run.0);
-            if next < start {
-                runs.push((char_at(next), char_at(start - 1)))?;
-            }
-            next = place(run.1) + 1;
-        }
-        if next < ALL {
-            runs.push((char_at(next), LAST))?;
-        }
+        let runs = gaps(alloc, &self.runs)?;
         Ok(CharSet { runs })
     }
 
@@ -100,6 +93,24 @@ impl CharSet {
         let mut both = Vec::from_slice(alloc, &self.runs)?;
         both.extend_from_slice(&other.runs)?;
         CharSet::from_ranges(alloc, &both)
+    }
+
+    /// The characters of ranges, or all others.
+    pub(crate) fn of_ranges(
+        alloc: Global,
+        negated: bool,
+        ranges: &[(u32, u32)],
+    ) -> Result<CharSet, AllocError>
+        ensures { IfOk result (λ set. (test : ℕ → Bool)
+            → ((c : ℕ) → has_char ranges.now c ≡ (is_scalar c && test c))
+            → set ≡ runs_of (λ c. differ negated (test c))) }
+    {
+        let set = CharSet::from_ranges(alloc, ranges)?;
+        if negated {
+            set.complement(alloc)
+        } else {
+            Ok(set)
+        }
     }
 }
 
@@ -189,4 +200,26 @@ fn joined(alloc: Global, runs: &[(u32, u32)]) -> Result<Vec<(u32, u32)>, AllocEr
     }
     maximal.push(last)?;
     Ok(maximal)
+}
+
+/// The runs of all characters that are in none of the runs.
+fn gaps(alloc: Global, runs: &[(u32, u32)]) -> Result<Vec<(u32, u32)>, AllocError>
+    requires { AreRuns runs.now }
+    ensures runs { IfOk result (λ gaps. AreRuns gaps.items) }
+    ensures members { IfOk result
+        (λ gaps. (c : ℕ) → has_char gaps.items c ≡ (is_scalar c && not (has_char runs.now c))) }
+{
+    let mut gaps = Vec::new(alloc);
+    let mut next = 0;
+    for run in runs {
+        let start = place(run.0);
+        if next < start {
+            gaps.push((char_at(next), char_at(start - 1)))?;
+        }
+        next = place(run.1) + 1;
+    }
+    if next < ALL {
+        gaps.push((char_at(next), LAST))?;
+    }
+    Ok(gaps)
 }

@@ -87,7 +87,7 @@ fn after_colon(text: &[u8]) -> Result<(ClassItem, usize), Misread>
 {
     match name_length(text) {
         Some(n) => posix_class(&text[..n]),
-        None => Ok((ClassItem::Range(b'[', b'['), 0)),
+        None => Ok((ClassItem::Range('[' as u32, '[' as u32), 0)),
     }
 }
 

@@ -2,13 +2,15 @@
 ghost use Rattle.std.specs.Prelude.{◌≡◌, ◌+◌, ◌<◌, ◌≤◌, ◌^◌, ◌&&◌, not, nat_eq, ℕ, List, true, length, MatchResult};
 ghost use Rattle.cs_syntax.specs.Classes.{items_from, class};
 ghost use Rattle.cs_syntax.specs.ClassState.{IsReadAs};
-ghost use Rattle.cs_syntax.specs.ItemViews.{IsWithin, front_view};
+ghost use Rattle.cs_syntax.specs.ItemViews.{IsWithin, IsFrontOf};
 
-use crate::byte_set::ByteSet;
+use crate::char_set::CharSet;
 use crate::class_fronts::class_front;
+use crate::class_sets::add_item;
 use crate::fault::PatternFault;
 use crate::front::is_front;
 use crate::item::{Item, Misread, Unit};
+use std::alloc::Global;
 
 /// Whether the byte closes the class; at its start it does not.
 fn closes(byte: u8, start: bool) -> bool
@@ -17,23 +19,28 @@ fn closes(byte: u8, start: bool) -> bool
     byte == b']' && !start
 }
 
-/// The items up to the `]`, and how many bytes behind the `[` that stands; the text begins
-/// `behind` bytes behind the `[`.
-fn items(fold: bool, behind: usize, text: &[u8]) -> Result<(ByteSet, usize), Misread>
+/// The ranges of the items up to the `]`, and how many bytes behind the `[` that stands; the text
+/// begins `behind` bytes behind the `[`.
+fn items(
+    alloc: Global,
+    fold: bool,
+    behind: usize,
+    text: &[u8],
+) -> Result<(Vec<(u32, u32)>, usize), Misread>
     requires { behind + length text.now < 2 ^ 64 }
     ensures value { IsReadAs fold (items_from 0 behind true text.now) result }
     ensures within { MatchResult result (λ r. r.1 < behind + length text.now)
         (λ m. m.behind ≤ behind + length text.now) }
 {
-    let mut set = ByteSet::empty();
+    let mut ranges = Vec::new(alloc);
     let mut at = 0;
     'items: while at < text.len() {
         if closes(text[at], at == 0) {
-            return Ok((set, behind + at));
+            return Ok((ranges, behind + at));
         }
         match class_front(text[at], &text[at + 1..]) {
             Ok((item, len)) => {
-                set.add(fold, item);
+                add_item(alloc, fold, item, &mut ranges)?;
                 at += 1 + len;
             }
             Err(m) => {
@@ -51,15 +58,16 @@ fn items(fold: bool, behind: usize, text: &[u8]) -> Result<(ByteSet, usize), Mis
 }
 
 /// Behind `[`.
-pub(crate) fn class(fold: bool, rest: &[u8]) -> Result<(Item, usize), Misread>
-    ensures value { (front : List ℕ) → front_view front result ≡ class fold rest.now }
+pub(crate) fn class(alloc: Global, fold: bool, rest: &[u8]) -> Result<(Item, usize), Misread>
+    ensures value { (front : List ℕ) → IsFrontOf front result (class fold rest.now) }
     ensures within { IsWithin (length rest.now) (length rest.now + 1) result }
 {
     if is_front(b'^', rest) {
-        let (mut set, len) = items(fold, 2, &rest[1..])?;
-        set.complement();
-        return Ok((Item::Unit(Unit::Set(set)), len));
+        let (ranges, len) = items(alloc, fold, 2, &rest[1..])?;
+        let set = CharSet::of_ranges(alloc, true, &ranges)?;
+        return Ok((Item::Unit(Unit::Chars(set)), len));
     }
-    let (set, len) = items(fold, 1, rest)?;
-    Ok((Item::Unit(Unit::Set(set)), len))
+    let (ranges, len) = items(alloc, fold, 1, rest)?;
+    let set = CharSet::of_ranges(alloc, false, &ranges)?;
+    Ok((Item::Unit(Unit::Chars(set)), len))
 }

@@ -161,10 +161,10 @@ fn escaped_unit(letter: u8) -> Option<Unit>
     match letter {
         b'b' => Some(Unit::WordEdge),
         b'B' => Some(Unit::NotWordEdge),
-        b'C' => Some(Unit::Set(ByteSet::of_dot(true))),
+        b'C' => Some(Unit::Set(ByteSet::all())),
         _ => {
             let item = escaped_class(letter)?;
-            Some(Unit::Set(ByteSet::of_item(item)))
+            Some(Unit::Class(item))
         }
     }
 }

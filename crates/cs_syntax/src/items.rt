@@ -1,37 +1,28 @@
 // Items: what stands at the front of a text.
 ghost use Rattle.std.specs.Prelude.{◌≡◌, ◌+◌, ◌≤◌, ℕ, List, ◌∷◌, length};
-ghost use Rattle.std.specs.List.{prefix_len};
-ghost use Rattle.cs_syntax.specs.Items.{front, is_continuation};
-ghost use Rattle.cs_syntax.specs.ItemViews.{IsWithin, front_view};
+ghost use Rattle.cs_syntax.specs.Items.{front};
+ghost use Rattle.cs_syntax.specs.ItemViews.{IsWithin, IsFrontOf};
 
 use crate::byte_set::ByteSet;
 use crate::classes::class;
 use crate::escapes::escape;
 use crate::flags::Flags;
+use crate::front::written_len;
 use crate::groups::group;
 use crate::item::{Item, Misread, Unit};
 use crate::repeats::{brace, lazy};
 use crate::sign::Sign;
-
-/// Whether the byte stands behind the first one of a character past ASCII.
-fn is_continuation(byte: u8) -> bool
-    ensures { result ≡ is_continuation byte }
-{
-    128 <= byte && byte < 192
-}
-
-/// How many bytes of a character past ASCII stand behind its first one.
-fn written_len(rest: &[u8]) -> usize
-    ensures count { result ≡ prefix_len is_continuation rest.now }
-    ensures within { result ≤ length rest.now }
-{
-    rest.iter().take_while(|b| is_continuation(**b)).count()
-}
+use std::alloc::Global;
 
 /// The item that begins with the byte, and how many bytes stand behind that.
-#[tactic(auto, unfolding(crate::specs::Items::front))]
-pub(crate) fn front_item(flags: Flags, byte: u8, rest: &[u8]) -> Result<(Item, usize), Misread>
-    ensures value { front_view (byte ∷ rest.now) result ≡ front flags byte rest.now }
+#[tactic(auto, using(crate::proofs::ItemLemmas::front_is), unfolding(crate::specs::Items::front))]
+pub(crate) fn front_item(
+    alloc: Global,
+    flags: Flags,
+    byte: u8,
+    rest: &[u8],
+) -> Result<(Item, usize), Misread>
+    ensures value { IsFrontOf (byte ∷ rest.now) result (front flags byte rest.now) }
     ensures within { IsWithin (length rest.now) (length rest.now + 1) result }
 {
     match Sign::of(byte) {
@@ -39,13 +30,13 @@ pub(crate) fn front_item(flags: Flags, byte: u8, rest: &[u8]) -> Result<(Item, u
         Sign::Plus => Ok(lazy(1, None, 0, rest)),
         Sign::Question => Ok(lazy(0, Some(1), 0, rest)),
         Sign::Brace => brace(rest),
-        Sign::Dot => Ok((Item::Unit(Unit::Set(ByteSet::of_dot(flags.dot_all))), 0)),
+        Sign::Dot => Ok((Item::Unit(Unit::Dot(flags.dot_all)), 0)),
         Sign::Caret => Ok((Item::Unit(Unit::LineStart), 0)),
         Sign::Dollar => Ok((Item::Unit(Unit::LineEnd), 0)),
         Sign::Bar => Ok((Item::Bar, 0)),
         Sign::Open => group(flags, rest),
         Sign::Close => Ok((Item::GroupEnd, 0)),
-        Sign::Class => class(flags.fold, rest),
+        Sign::Class => class(alloc, flags.fold, rest),
         Sign::Backslash => escape(flags.fold, rest),
         Sign::Wide => Ok((Item::Unit(Unit::Written), written_len(rest))),
         Sign::Plain => Ok((Item::Unit(Unit::Set(ByteSet::of_char(flags.fold, byte))), 0)),

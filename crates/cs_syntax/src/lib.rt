@@ -8,6 +8,7 @@ mod char_set;
 mod class_chars;
 mod class_fronts;
 mod class_item;
+mod class_sets;
 mod classes;
 mod draft;
 mod escapes;

@@ -193,7 +193,7 @@ impl Parser {
         ensures still { OnOk result (HasOperand (state_of self.new)) }
         ensures refused { IfErr result (IsRefusal (reading_from self.old text.now at)) }
     {
-        match front_item(self.flags, text[at], &text[at + 1..]) {
+        match front_item(alloc, self.flags, text[at], &text[at + 1..]) {
             Ok((item, len)) => {
                 let next = at + 1 + len;
                 self.take(alloc, item, &text[at..next], at)?;
@@ -201,7 +201,11 @@ impl Parser {
             }
             Err(m) => Err(PatternError {
                 fault: m.fault,
-                at: at + m.behind,
+                at: if m.fault == PatternFault::Memory {
+                    0
+                } else {
+                    at + m.behind
+                },
             }),
         }
     }

@@ -1,13 +1,12 @@
-use Rattle.std.proofs.Common.{◌≡◌, ◌+◌, ◌&&◌, ◌∷◌, ◌++◌, [], drop, get_or, true, false, not, sym, ◌∙◌, ap, arith, drop_of_length-le}
+use Rattle.std.proofs.Common.{◌≡◌, ◌+◌, ◌&&◌, ◌∷◌, ◌++◌, [], drop, get_or, true, false, not, inr, sym, ◌∙◌, ap, arith, drop_of_length-le}
 use Rattle.std.specs.Prelude.{nat_eq}
 use Rattle.std.proofs.lemmas.Bool.{ne_eqb}
 use Rattle.std.proofs.lemmas.List.{drop-drop}
-use Rattle.cs_syntax.specs.ClassSets.{is_in_items}
 use Rattle.cs_syntax.specs.Classes.{items_from, class_front, piece, misread}
 use Rattle.cs_syntax.specs.ClassState.{with_items}
 use Rattle.cs_syntax.specs.declared.fault.PatternFault.TheVariants.{OpenClass}
 use Rattle.cs_syntax.proofs.ListLemmas.{here_is, tail_is, length-tail}
-use Rattle.cs_syntax.proofs.ClassLemmas.{with_items-last, with_items-closed, with_items-failed, items_from-item, items_from-fault, items_from-close, set_of-last}
+use Rattle.cs_syntax.proofs.ClassLemmas.{with_items-last, with_items-closed, with_items-failed, items_from-item, items_from-fault, items_from-close, have-last}
 use Rattle.cs_syntax.proofs.classes.items.Goals as goal
 
 pub returns-then-closes-clause-value : goal.returns-then-closes-clause-value
@@ -38,7 +37,7 @@ items-preserved c =
     record {
       so_far = (
         i.0 ++ item ∷ [],
-        c.add.ensures (is_in_items c.args.fold i.0) i.1 ∙ set_of-last c.args.fold i.0 item,
+        have-last c.args.fold i.0 item _ _ i.1 c.in_ok-add_item-in-Ok.ensures,
         with_items-last i.0 item _
             ∙ ap (λ r. with_items i.0 r) (rw (← place, later, ← tail) (sym now))
             ∙ i.2,
@@ -56,10 +55,10 @@ returns-in-Err-clause-value c =
     let open_still : (nat_eq b 93 && not (nat_eq at 0)) ≡ false = sym c.closes.ensures ∙ c.if-closes.false in
     let found : class_front b rest ≡ misread c.in-Err.m.fault c.in-Err.m.behind = ap (class_front b) (sym (tail_is text (at + 1))) ∙ sym c.in-Err.ensures.value in
     let now = items_from-fault (drop at text) rest b (c.args.behind + at) c.in-Err.m.behind (nat_eq at 0) c.in-Err.m.fault (here_is text at c.items-test.true) open_still found in
-    sym i.2 ∙ ap (with_items i.0) now ∙ with_items-failed i.0 c.in-Err.m.fault (c.args.behind + at + c.in-Err.m.behind)
+    inr (sym i.2 ∙ ap (with_items i.0) now ∙ with_items-failed i.0 c.in-Err.m.fault (c.args.behind + at + c.in-Err.m.behind))
 
 pub returns-clause-value : goal.returns-clause-value
 returns-clause-value c =
     let i = c.items.invariant.so_far in
     let none = drop_of_length-le c.args.text.now {i = c.items.at} c.items-test.false in
-    sym i.2 ∙ ap (λ t. with_items i.0 (items_from 0 (c.args.behind + c.items.at) (nat_eq c.items.at 0) t)) none ∙ with_items-failed i.0 OpenClass 0
+    inr (sym i.2 ∙ ap (λ t. with_items i.0 (items_from 0 (c.args.behind + c.items.at) (nat_eq c.items.at 0) t)) none ∙ with_items-failed i.0 OpenClass 0)

@@ -1,16 +1,14 @@
 use Rattle.std.proofs.Common.{◌≡◌, ◌≤◌, ◌+◌, ◌-◌, List, drop, length}
 use Rattle.std.specs.Prelude.{nat_eq, true}
-use Rattle.cs_syntax.specs.ByteSet.{set_of}
-use Rattle.cs_syntax.specs.ClassSets.{is_in_items}
 use Rattle.cs_syntax.specs.Classes.{items_from}
-use Rattle.cs_syntax.specs.ClassState.{with_items}
+use Rattle.cs_syntax.specs.ClassState.{with_items, HaveItems}
 use Rattle.cs_syntax.specs.declared.class_item.ClassItem.{ClassItem}
 use Rattle.cs_syntax.proofs.classes.items.Given as goal
 
 abbrev pub invariant-items : goal.invariant-items
 invariant-items l =
     record {
-      so_far : (is : List ClassItem) × (l.set ≡ set_of (is_in_items l.fold is)) × (with_items is (items_from 0 (l.behind + l.at) (nat_eq l.at 0) (drop l.at l.text)) ≡ items_from 0 l.behind true l.text);
+      so_far : (is : List ClassItem) × HaveItems l.fold is l.ranges.items × (with_items is (items_from 0 (l.behind + l.at) (nat_eq l.at 0) (drop l.at l.text)) ≡ items_from 0 l.behind true l.text);
       within : l.at ≤ length l.text;
     }
 

@@ -14,8 +14,8 @@ joined-requires-clause-ascending c =
     rw c.deref.ensures.value
     (IsNonDecreasingBy-from_sort_by_key (λ (run : ℕ × ℕ). run.0) _ c.sort_unstable_by_key.ensures.sorted (λ a r q k. search rules))
 
-pub returns : goal.returns
-returns c x =
+pub returns-clause-members : goal.returns-clause-members
+returns-clause-members c x =
     c.in_ok-runs-2.ensures.members x
     ∙ ap (λ xs. has_char xs x) c.deref.ensures.value
     ∙ has_char-IsPermutation _ _ x c.sort_unstable_by_key.ensures.permutation

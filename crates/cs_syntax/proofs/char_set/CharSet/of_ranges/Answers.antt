@@ -1,0 +1,11 @@
+use Rattle.std.proofs.Common.{◌∙◌}
+use Rattle.cs_syntax.proofs.RunLemmas.{runs_of_is, others_of}
+use Rattle.cs_syntax.proofs.char_set.CharSet.of_ranges.Goals as goal
+
+pub returns-then-negated : goal.returns-then-negated
+returns-then-negated c =
+    rw c.if-negated.true (others_of c.args.ranges.now _ c.complement.result c.in_ok-set.ensures.members c.complement.ensures.members c.complement.ensures.maximal)
+
+pub returns-else-negated : goal.returns-else-negated
+returns-else-negated c = λ test have.
+    rw c.if-negated.false (runs_of_is test c.in_ok-set.set c.in_ok-set.ensures.maximal (λ x. c.in_ok-set.ensures.members x ∙ have x))

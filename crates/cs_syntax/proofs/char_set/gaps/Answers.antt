@@ -1,0 +1,30 @@
+use Rattle.std.proofs.Common.{◌≡◌, ◌+◌, ap, subst, sym, ◌∙◌}
+use Rattle.cs_syntax.specs.Characters.{has_char, AreRuns}
+use Rattle.cs_syntax.proofs.CharSetLemmas.{gaps_from, all_gaps, LeavesGaps-at, LeavesGaps-gap, LeavesGaps-none, LeavesGaps-end, LeavesGaps-last}
+use Rattle.cs_syntax.proofs.char_set.gaps.Goals.{then-next-start+in_ok-push, else-next-start, then-next-lt-ALL+in_ok-push-2, else-next-lt-ALL}
+use Rattle.cs_syntax.proofs.char_set.gaps.Goals as goal
+
+pub loop-run-preserved : goal.loop-run-preserved
+loop-run-preserved c =
+    let at = LeavesGaps-at _ _ _ _ _ c.loop-run.invariant c.loop-run-test.true in
+    elim c.if-next-start.branch [
+      | then-next-start+in_ok-push w ↦
+          rw w.gaps-is (LeavesGaps-gap _ _ _ _ _ _ _ _ _ _ at.2 c.place-start.ensures w.if-next-start.true w.char_at.ensures
+          w.char_at-then-next-start.ensures w.in_ok-push.ensures.items (ap (λ n. n + 1) c.place-next.ensures))
+      | else-next-start w ↦
+          rw w.gaps-is (LeavesGaps-none _ _ _ _ _ _ _ at.2 c.place-start.ensures w.if-next-start.false (ap (λ n. n + 1) c.place-next.ensures))
+    ]
+
+pub returns : goal.returns
+returns c =
+    let runs = c.args.runs.now in
+    let whole : c.if-next-lt-ALL.gaps.items ≡ gaps_from 0 runs =
+    elim c.if-next-lt-ALL.branch [
+      | then-next-lt-ALL+in_ok-push-2 w ↦
+          rw w.gaps-is (LeavesGaps-end _ _ _ _ _ _ _ c.loop-run.invariant c.loop-run-test.false w.if-next-lt-ALL.true
+          w.char_at-then-next-lt-ALL.ensures w.in_ok-push-2.ensures.items)
+      | else-next-lt-ALL w ↦
+          rw w.gaps-is (LeavesGaps-last _ _ _ _ _ c.loop-run.invariant c.loop-run-test.false w.if-next-lt-ALL.false)
+    ] in
+    let all = all_gaps runs c.requires in
+    record { runs = subst AreRuns (sym whole) all.0; members = λ x. ap (λ xs. has_char xs x) whole ∙ all.1 x }

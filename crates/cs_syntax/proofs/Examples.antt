@@ -1,5 +1,5 @@
 -- Worked rows, computed.
-use Rattle.std.proofs.Common.{◌≡◌, ℕ, zero, suc, ◌+◌, ap, arith, true, false, refl, [], ◌∷◌, ◌++◌, replicate}
+use Rattle.std.proofs.Common.{◌≡◌, ℕ, zero, suc, ◌+◌, ◌^◌, ap, arith, true, false, refl, [], ◌∷◌, ◌++◌, replicate}
 use Rattle.std.specs.Prelude.{codes, Some, None}
 use Rattle.std.specs.Char.{encode_utf8}
 use Rattle.std.proofs.lemmas.Fmt.{decimal_digit}
@@ -7,6 +7,8 @@ use Rattle.cs_syntax.specs.Matching.{Trees, empty, one_of, cat, alt, rep, line_s
 use Rattle.cs_syntax.specs.Characters.{has_char, AreRuns, TakesChar}
 use Rattle.cs_syntax.specs.Lowering.{byte_range, lowered}
 use Rattle.cs_syntax.specs.ByteSet.{set_of, char_set, dot_set}
+use Rattle.cs_syntax.specs.Bits.{has_bit}
+use Rattle.cs_syntax.specs.SetWords.{set_of_bits, words_of}
 use Rattle.cs_syntax.specs.ClassSets.{class_set, is_in_item}
 use Rattle.cs_syntax.specs.Classes.{class_by_name}
 use Rattle.cs_syntax.specs.Escapes.{char_front, escaped_class, escaped_tree}
@@ -229,6 +231,14 @@ members :
     × (member (class_set false false (Named Word false ∷ [])) 95 ≡ true)
 unfolding class_set set_of is_in_item char_set dot_set
 members = (refl, refl, refl, refl, refl, refl, refl, refl, refl, refl)
+
+-- a set of bytes as bits: place 64 is in the second word, and so is `a`, whose number is 97
+bits :
+    (has_bit (0 ∷ 1 ∷ []) 64 ≡ true)
+    × (words_of (char_set false 97) ≡ 0 ∷ 2 ^ 33 ∷ 0 ∷ 0 ∷ [])
+    × (set_of_bits (0 ∷ 2 ^ 33 ∷ 0 ∷ 0 ∷ []) ≡ char_set false 97)
+unfolding words_of set_of_bits char_set set_of
+bits = (refl, refl, refl)
 
 -- how a text is quoted, and how a repeat is written
 written :

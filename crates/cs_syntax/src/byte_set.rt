@@ -3,6 +3,7 @@ ghost use Rattle.std.specs.Prelude.{⊤, ◌≡◌, ◌<◌, ◌||◌, ◌&&◌,
 ghost use Rattle.cs_syntax.specs.Members.{count, IsOnly};
 ghost use Rattle.cs_syntax.specs.Matching.{member};
 ghost use Rattle.cs_syntax.specs.ByteSet.{set_of, is_letter, other_case, is_in_folded, char_set, is_in_dot, dot_set};
+ghost use Rattle.cs_syntax.specs.SetWords.{AnswersAs};
 ghost use Rattle.cs_syntax.specs.Ranges.{is_in_ranges};
 ghost use Rattle.cs_syntax.specs.ClassSets.{ranges_of, is_in_item};
 
@@ -10,20 +11,25 @@ use crate::char_set::is_in_runs;
 use crate::class_item::{ClassItem, NamedClass};
 use std::marker::Model;
 
-/// A set of bytes.
+/// A set of bytes, kept as a bit for each of the 256. Contracts see the list of the answers.
 #[derive(Drop)]
 pub struct ByteSet {
-    members: [bool; 256],
+    words: [u64; 4],
 }
 
 impl Model for ByteSet {
-    ghost use Rattle.std.specs.Prelude.{List, Bool};
+    ghost use Rattle.std.specs.Prelude.{◌≡◌, List, Bool};
+    ghost use Rattle.cs_syntax.specs.SetWords.{set_of_bits, words_of};
 
     ghost Value = { List Bool };
 
-    ghost view = { λ s. s.members };
+    ghost view = { λ s. set_of_bits s.words };
 
-    ghost inverse = { λ v. record { members = v } };
+    ghost invariant = { λ s. words_of (set_of_bits s.words) ≡ s.words };
+
+    ghost inverse = { λ v. record { words = words_of v } };
+
+    ghost inverse_ok = { λ s h i. record { words = h i } };
 }
 
 impl Clone for ByteSet {
@@ -43,7 +49,7 @@ impl ByteSet {
     pub fn contains(&self, byte: u8) -> bool
         ensures { result ≡ member self.now byte }
     {
-        self.members[byte as usize]
+        self.words[(byte / 64) as usize] >> (byte % 64) & 1 == 1
     }
 
     /// How many members there are.
@@ -51,7 +57,10 @@ impl ByteSet {
         ensures members { result ≡ count self.now }
         ensures bytes { length self.now ≡ 256 }
     {
-        self.members.iter().filter(|m| **m).count() as u32
+        self.words[0].count_ones()
+            + self.words[1].count_ones()
+            + self.words[2].count_ones()
+            + self.words[3].count_ones()
     }
 
     /// The member, where there is exactly one.
@@ -59,25 +68,36 @@ impl ByteSet {
         ensures some { IfSome result (IsOnly self.now) }
         ensures none { IfNone result ((b : ℕ) → IsOnly self.now b → ⊥) }
     {
-        let mut found = None;
-        for (b, m) in self.members.iter().enumerate() {
-            if *m {
-                if found.is_some() {
-                    return None;
-                }
-                found = Some(b as u8);
+        if self.len() != 1 {
+            return None;
+        }
+        for (k, word) in self.words.iter().enumerate() {
+            if *word != 0 {
+                return Some((64 * k) as u8 + word.trailing_zeros() as u8);
             }
         }
-        found
+        None
+    }
+
+    /// The bytes that pass the test.
+    fn of<F: Fn(usize) -> bool>(test: F) -> ByteSet
+        requires { (b : ℕ) → b < 256 → F.pre test b }
+        ensures { (f : ℕ → Bool) → AnswersAs (F.post test) f → result ≡ set_of f }
+    {
+        let mut words = [0u64; 4];
+        for b in 0..256 {
+            if test(b) {
+                words[b / 64] |= 1 << (b % 64);
+            }
+        }
+        ByteSet { words }
     }
 
     /// No byte.
     pub(crate) fn empty() -> ByteSet
         ensures { result ≡ set_of (λ b. false) }
     {
-        ByteSet {
-            members: [false; 256],
-        }
+        ByteSet { words: [0; 4] }
     }
 
     /// The bytes of the item too.
@@ -85,18 +105,14 @@ impl ByteSet {
         ensures { (test : ℕ → Bool) → self.old ≡ set_of test
             → self.new ≡ set_of (λ b. test b || is_in_item fold item b) }
     {
-        for (b, m) in self.members.iter_mut().enumerate() {
-            *m = *m || is_in_item(fold, item, b);
-        }
+        *self = ByteSet::of(|b| self.contains(b as u8) || is_in_item(fold, item, b));
     }
 
     /// The bytes of the item, no letter folded.
     pub(crate) fn of_item(item: ClassItem) -> ByteSet
         ensures { result ≡ set_of (is_in_item false item) }
     {
-        let mut set = ByteSet::empty();
-        set.add(false, item);
-        set
+        ByteSet::of(|b| is_in_item(false, item, b))
     }
 
     /// All other bytes.
@@ -104,9 +120,7 @@ impl ByteSet {
         ensures { (test : ℕ → Bool) → self.old ≡ set_of test
             → self.new ≡ set_of (λ b. not (test b)) }
     {
-        for m in self.members.iter_mut() {
-            *m = !*m;
-        }
+        *self = ByteSet::of(|b| !self.contains(b as u8));
     }
 
     /// An ASCII character, and its other case where letters are folded.
@@ -114,42 +128,29 @@ impl ByteSet {
     pub(crate) fn of_char(fold: bool, char: u8) -> ByteSet
         ensures { result ≡ char_set fold char }
     {
-        let mut set = ByteSet::empty();
-        set.add(fold, ClassItem::Range(char, char));
-        set
+        ByteSet::of(|b| is_in_folded(fold, &[(char, char)], b))
     }
 
     /// The bytes from one to another.
     pub(crate) fn of_range(low: u8, high: u8) -> ByteSet
         ensures { result ≡ set_of (is_in_ranges ((low, high) ∷ [])) }
     {
-        let mut members = [false; 256];
-        for (b, m) in members.iter_mut().enumerate() {
-            *m = is_in_ranges(&[(low, high)], b);
-        }
-        ByteSet { members }
+        ByteSet::of(|b| is_in_ranges(&[(low, high)], b))
     }
 
     /// The ASCII characters of some runs.
     pub(crate) fn of_ascii(runs: &[(u32, u32)]) -> ByteSet
         ensures { result ≡ set_of (λ b. nat_lt b 128 && is_in_ranges runs.now b) }
     {
-        let mut members = [false; 256];
-        for (b, m) in members.iter_mut().enumerate() {
-            *m = b < 128 && is_in_runs(runs, b as u32);
-        }
-        ByteSet { members }
+        ByteSet::of(|b| b < 128 && is_in_runs(runs, b as u32))
     }
 
     /// All bytes, or all but the newline.
+    #[tactic(auto, unfolding(crate::specs::ByteSet::dot_set))]
     pub(crate) fn of_dot(dot_all: bool) -> ByteSet
         ensures { result ≡ dot_set dot_all }
     {
-        let mut members = [false; 256];
-        for (b, m) in members.iter_mut().enumerate() {
-            *m = is_dot(dot_all, b);
-        }
-        ByteSet { members }
+        ByteSet::of(|b| is_dot(dot_all, b))
     }
 }
 

@@ -1,41 +1,34 @@
 -- Marks kept as the bits of words.
 use Rattle.std.proofs.Common.{◌≡◌, ℕ, ◌+◌, ◌*◌, ◌/◌, ◌%◌, ◌^◌, ◌<◌, Bool, false, eqb, List, ◌∷◌, ◌++◌, length, replicate, get_or, set, take, drop, sym, ◌∙◌, ap, subst, inl, inr, arith, ext_get_or, length-set, get_or-set_same, get_or-set_other, lit<, eq-eqb, add-one}
-use Rattle.std.proofs.lemmas.List.{length-replicate, get_or-replicate, get_or_past, set_split}
+use Rattle.std.proofs.lemmas.List.{length-replicate, get_or-replicate, set_split}
 use Rattle.std.proofs.lemmas.List.FromFn.{length-map-range_with_len, get_or-map-range_with_len}
 use Rattle.std.proofs.lemmas.List.Elements.{All-replicate, All-set}
 use Rattle.std.proofs.lemmas.Bool.{cases_eq, cases_lt, eqb-true}
-use Rattle.std.proofs.lemmas.Nat.Bits.{bit_at-zero, bit_at-lt, same_from_bits_below}
+use Rattle.std.proofs.lemmas.Nat.Bits.{bit_at-lt, same_from_bits_below}
 use Rattle.std.specs.Int.{bit_at}
-use Rattle.cs_match.specs.Marks.{is_marked, marks_of, AreMarks}
+use Rattle.cs_syntax.specs.Bits.{has_bit}
+use Rattle.cs_syntax.proofs.BitLemmas.{IsWithBit, has_bit-zeros, has_bit-set_same, has_bit-set_other}
+use Rattle.cs_match.specs.Marks.{marks_of, AreMarks}
 
 pub length-marks_of : (words : List ℕ) (count : ℕ) → length (marks_of words count) ≡ count
 unfolding marks_of
-length-marks_of words count = length-map-range_with_len (is_marked words) 0 count
+length-marks_of words count = length-map-range_with_len (has_bit words) 0 count
 
-pub get_or-marks_of : (words : List ℕ) (count at : ℕ) → at < count → get_or (marks_of words count) at false ≡ is_marked words at
+pub get_or-marks_of : (words : List ℕ) (count at : ℕ) → at < count → get_or (marks_of words count) at false ≡ has_bit words at
 unfolding marks_of
-get_or-marks_of words count at h = get_or-map-range_with_len (is_marked words) 0 count at at false h (omega arith)
+get_or-marks_of words count at h = get_or-map-range_with_len (has_bit words) 0 count at at false h (omega arith)
 
 -- words of zeros have no mark
-pub is_marked-zeros : (n at : ℕ) → is_marked (replicate n 0) at ≡ false
-is_marked-zeros n at = ap (λ x. eqb (bit_at x (at % 64)) 1) word ∙ ap (λ x. eqb x 1) (bit_at-zero (at % 64))
-  where
-    word : get_or (replicate {A = ℕ} n 0) (at / 64) 0 ≡ 0
-    word = elim (cases_lt (at / 64) n) [
-      | inl within ↦ get_or-replicate n (at / 64) 0 0 within
-      | inr past ↦ get_or_past (replicate n 0) (at / 64) 0 (omega (arith, length-replicate {A = ℕ} n 0))
-    ]
-
 pub marks_of-zeros : (n count : ℕ) → marks_of (replicate n 0) count ≡ replicate count false
 marks_of-zeros n count = ext_get_or false _ _ (length-marks_of (replicate n 0) count ∙ sym (length-replicate count false)) (λ at h.
     let within : at < count = omega (arith, h, length-marks_of (replicate n 0) count) in
-    get_or-marks_of (replicate n 0) count at within ∙ is_marked-zeros n at ∙ sym (get_or-replicate count at false false within))
+    get_or-marks_of (replicate n 0) count at within ∙ has_bit-zeros n at ∙ sym (get_or-replicate count at false false within))
 
 pub AreMarks-zeros : (n count : ℕ) → n ≡ (count + 63) / 64 → AreMarks (replicate n 0) count
 AreMarks-zeros n count e = record {
   enough = length-replicate n 0 ∙ e;
   fit = All-replicate (λ word. word < 2 ^ 64) n 0 (lit< tt);
-  no_other = λ at _. is_marked-zeros n at;
+  no_other = λ at _. has_bit-zeros n at;
 }
 
 -- a place among the marks, and its word among the words
@@ -45,26 +38,7 @@ place_within words count at marks e h = omega (arith, h, length-marks_of words c
 pub word_within : (words : List ℕ) (count at : ℕ) → AreMarks words count → at < count → at / 64 < length words
 word_within words count at marks h = omega (arith, marks.enough)
 
--- a word with a bit that is set or cleared
-pub record IsWithBit (old new at : ℕ) (on : Bool) : Type 0 where
-  pub there : eqb (bit_at new at) 1 ≡ on
-  pub elsewhere : (i : ℕ) → i < 64 → (i ≡ at → ⊥) → bit_at new i ≡ bit_at old i
-
 module _ (words : List ℕ) (at new : ℕ) (on : Bool) (bit : IsWithBit (get_or words (at / 64) 0) new (at % 64) on) (within : at / 64 < length words) where
-  is_marked-set_same : is_marked (set words (at / 64) new) at ≡ on
-  is_marked-set_same = ap (λ x. eqb (bit_at x (at % 64)) 1) (get_or-set_same words (at / 64) new 0 within) ∙ bit.there
-
-  is_marked-set_other : (k : ℕ) → (k ≡ at → ⊥) → is_marked (set words (at / 64) new) k ≡ is_marked words k
-  is_marked-set_other k other =
-      elim (cases_eq (k / 64) (at / 64)) [
-        | inl row ↦
-            ap (λ x. eqb (bit_at (get_or (set words (at / 64) new) x 0) (k % 64)) 1) row
-            ∙ ap (λ x. eqb (bit_at x (k % 64)) 1) (get_or-set_same words (at / 64) new 0 within)
-            ∙ ap (λ x. eqb x 1) (bit.elsewhere (k % 64) (omega arith) (λ same. other (omega arith)))
-            ∙ ap (λ x. eqb (bit_at (get_or words x 0) (k % 64)) 1) (sym row)
-        | inr apart ↦ ap (λ x. eqb (bit_at x (k % 64)) 1) (get_or-set_other words (at / 64) (k / 64) new 0 apart)
-      ]
-
   -- the marks of words in which one bit is set or cleared
   pub marks_of-set : (count : ℕ) → at < count → marks_of (set words (at / 64) new) count ≡ take at (marks_of words count) ++ on ∷ drop (at + 1) (marks_of words count)
   marks_of-set count h = ext_get_or false _ _ size each ∙ set_split (marks_of words count) at on low ∙ ap (λ i. take at (marks_of words count) ++ on ∷ drop i (marks_of words count)) (sym (add-one at))
@@ -80,10 +54,10 @@ module _ (words : List ℕ) (at new : ℕ) (on : Bool) (bit : IsWithBit (get_or 
           let k-in : k < count = omega (arith, inside, length-marks_of (set words (at / 64) new) count) in
           get_or-marks_of _ count k k-in ∙ (elim (cases_eq k at) [
             | inl same ↦
-                ap (is_marked (set words (at / 64) new)) same ∙ is_marked-set_same
+                ap (has_bit (set words (at / 64) new)) same ∙ has_bit-set_same words at new on bit within
                 ∙ sym (ap (λ i. get_or (set (marks_of words count) at on) i false) same ∙ get_or-set_same (marks_of words count) at on false low)
             | inr other ↦
-                is_marked-set_other k other ∙ sym (get_or-marks_of words count k k-in)
+                has_bit-set_other words at new on bit within k other ∙ sym (get_or-marks_of words count k k-in)
                 ∙ sym (get_or-set_other (marks_of words count) at k on false other)
           ])
 
@@ -91,7 +65,7 @@ module _ (words : List ℕ) (at new : ℕ) (on : Bool) (bit : IsWithBit (get_or 
   AreMarks-set count h fits marks = record {
     enough = length-set words (at / 64) new ∙ marks.enough;
     fit = All-set (λ word. word < 2 ^ 64) words (at / 64) new fits marks.fit;
-    no_other = λ k past. is_marked-set_other k (λ same. omega arith) ∙ marks.no_other k past;
+    no_other = λ k past. has_bit-set_other words at new on bit within k (λ same. omega arith) ∙ marks.no_other k past;
   }
 
 -- as many marks are of as many places
@@ -121,7 +95,7 @@ same_words a b count of-a of-b same = ext_get_or 0 a b (of-a.enough ∙ sym of-b
     (subst (λ (n : ℕ). eqb (bit_at (get_or a k 0) n) 1 ≡ eqb (bit_at (get_or b k 0) n) 1) rest
     (subst (λ (n : ℕ). eqb (bit_at (get_or a n 0) ((k * 64 + i) % 64)) 1 ≡ eqb (bit_at (get_or b n 0) ((k * 64 + i) % 64)) 1) row (each (k * 64 + i))))))
   where
-    each : (at : ℕ) → is_marked a at ≡ is_marked b at
+    each : (at : ℕ) → has_bit a at ≡ has_bit b at
     each at = elim (cases_lt at count) [
       | inl within ↦ sym (get_or-marks_of a count at within) ∙ ap (λ ms. get_or ms at false) same ∙ get_or-marks_of b count at within
       | inr past ↦ of-a.no_other at past ∙ sym (of-b.no_other at past)

@@ -6,7 +6,7 @@ use Rattle.cs_syntax.specs.Matching.{Tree, one_of, cat, rep, none, more, word_ed
 use Rattle.cs_syntax.specs.Lowering.{lowered}
 use Rattle.cs_match.specs.declared.around.Around.{Around}
 use Rattle.cs_match.specs.Lines.{lines, ended_lines}
-use Rattle.cs_match.specs.Marks.{marks_of, is_marked}
+use Rattle.cs_match.specs.Marks.{marks_of}
 use Rattle.cs_match.specs.Places.{places, repeats, round_ends}
 use Rattle.cs_match.specs.Skipping.{AreWhole}
 use Rattle.cs_match.specs.Standings.{standing, is_left_before}
@@ -37,9 +37,6 @@ unfinished_is_no_ended_line = refl
 five_marks_the_first_and_the_third : marks_of (5 ∷ []) 3 ≡ true ∷ false ∷ true ∷ []
 unfolding marks_of
 five_marks_the_first_and_the_third = refl
-
-place_64_is_in_the_second_word : is_marked (0 ∷ 1 ∷ []) 64 ≡ true
-place_64_is_in_the_second_word = refl
 
 -- `(a*b)+`
 abbrev nested : Tree

@@ -1,5 +1,5 @@
 -- Worked rows, computed.
-use Rattle.std.proofs.Common.{◌≡◌, ℕ, zero, suc, ◌+◌, ap, arith, true, false, refl, [], ◌∷◌, ◌++◌, replicate}
+use Rattle.std.proofs.Common.{◌≡◌, ℕ, zero, suc, ◌+◌, ◌^◌, ap, arith, true, false, refl, [], ◌∷◌, ◌++◌, replicate}
 use Rattle.std.specs.Prelude.{codes, Some, None}
 use Rattle.std.specs.Str.{chars}
 use Rattle.std.proofs.lemmas.Bool.Decides.{nat_tests}
@@ -9,6 +9,8 @@ use Rattle.cs_syntax.specs.Matching.{Trees, empty, one_of, one_char, cat, alt, r
 use Rattle.cs_syntax.specs.Characters.{has_char, AreRuns, runs_through, TakesChar}
 use Rattle.cs_syntax.specs.Lowering.{byte_range, lowered}
 use Rattle.cs_syntax.specs.ByteSet.{set_of, char_set, all_bytes}
+use Rattle.cs_syntax.specs.Bits.{has_bit}
+use Rattle.cs_syntax.specs.SetWords.{set_of_bits, words_of}
 use Rattle.cs_syntax.specs.CharTrees.{ascii_set}
 use Rattle.cs_syntax.specs.ClassSets.{is_in_item, is_in_class, is_in_dot, item_tree, class_tree, dot_tree}
 use Rattle.cs_syntax.specs.Classes.{class_by_name}
@@ -248,6 +250,14 @@ members :
     × (is_in_class false false (Named Word false ∷ []) 95 ≡ true)
 unfolding set_of is_in_item char_set
 members = (refl, refl, refl, refl, refl, refl, refl, refl, refl, refl, refl)
+
+-- a set of bytes as bits: place 64 is in the second word, and so is `a`, whose number is 97
+bits :
+    (has_bit (0 ∷ 1 ∷ []) 64 ≡ true)
+    × (words_of (char_set false 97) ≡ 0 ∷ 2 ^ 33 ∷ 0 ∷ 0 ∷ [])
+    × (set_of_bits (0 ∷ 2 ^ 33 ∷ 0 ∷ 0 ∷ []) ≡ char_set false 97)
+unfolding words_of set_of_bits char_set set_of
+bits = (refl, refl, refl)
 
 -- how a text is quoted, and how a repeat is written
 written :

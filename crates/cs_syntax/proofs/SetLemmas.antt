@@ -1,8 +1,8 @@
 -- Lists of answers.
-use Rattle.std.proofs.Common.{◌≡◌, ℕ, zero, suc, ◌+◌, ◌<◌, Bool, true, false, List, [], ◌∷◌, length, get_or, set, refl, sym, inl, inr, ◌∙◌, ap, arith}
-use Rattle.std.proofs.lemmas.Bool.{cases_lt}
-use Rattle.std.proofs.lemmas.List.{get_or-set_other}
-use Rattle.std.proofs.lemmas.Grind.{get_or-set_at}
+use Rattle.std.proofs.Common.{◌≡◌, ℕ, zero, suc, ◌+◌, ◌<◌, Bool, true, false, true≢false, cond, List, [], ◌∷◌, length, get_or, refl, sym, ◌∙◌, ap, arith, zero-add}
+use Rattle.std.proofs.lemmas.Bool.{false_from_ne_true}
+use Rattle.std.proofs.lemmas.List.Sums.{sum_by-cons}
+use Rattle.cs_syntax.specs.Members.{count, IsOnly}
 use Rattle.cs_syntax.specs.Matching.{member}
 use Rattle.cs_syntax.specs.ByteSet.{answers, set_of}
 
@@ -35,16 +35,63 @@ pub set_of_at : (f : ℕ → Bool) (k : ℕ) → k < 256 → get_or (set_of f) k
 unfolding set_of
 set_of_at f k lt = let s : 0 + k ≡ k = omega arith in answers_at f 0 256 k lt ∙ ap f s
 
--- one more answer is written
-pub one_more : (f : ℕ → Bool) (xs : List Bool) (at : ℕ) (x : Bool) → at < length xs → ((k : ℕ) → k < at → get_or xs k false ≡ f k) → x ≡ f at →
-    (k : ℕ) → k < at + 1 → get_or (set xs at x) k false ≡ f k
-one_more f xs at x inside done here k lt =
-    elim (cases_lt k at) [
-      | inl before ↦ get_or-set_other xs at k x false (λ e. omega (arith, before, e)) ∙ done k before
-      | inr behind ↦ let same : k ≡ at = omega (arith, behind, lt) in get_or-set_at xs at k x false same inside ∙ here ∙ ap f (sym same)
-    ]
+pub length-set_of : (f : ℕ → Bool) → length (set_of f) ≡ 256
+unfolding set_of
+length-set_of f = length-answers f 0 256
 
--- b is the one member below n
-abbrev pub IsOnlyBelow : List Bool → ℕ → ℕ → Type 0
-IsOnlyBelow set n b =
-    (b < n) × (member set b ≡ true) × ((x : ℕ) → x < n → member set x ≡ true → x ≡ b)
+-- tests that agree at each byte have one set
+pub set_of-agree : (f g : ℕ → Bool) → ((b : ℕ) → b < 256 → f b ≡ g b) → set_of f ≡ set_of g
+set_of-agree f g h = set_from g (set_of f) (length-set_of f) (λ b lt. set_of_at f b lt ∙ h b lt)
+
+answers-same : (f g : ℕ → Bool) (from n : ℕ) → ((k : ℕ) → f k ≡ g k) → answers f from n ≡ answers g from n
+answers-same f g from zero h = refl
+answers-same f g from (suc n) h = let e = h from in let r = answers-same f g (suc from) n h in cc
+
+-- tests that agree have one set
+pub set_of-same : (f g : ℕ → Bool) → ((k : ℕ) → f k ≡ g k) → set_of f ≡ set_of g
+unfolding set_of
+set_of-same f g h = answers-same f g 0 256 h
+
+-- ---- how many members, and the one
+
+counts_in : (set : List Bool) → count (true ∷ set) ≡ 1 + count set
+counts_in set = sum_by-cons (λ (x : Bool). cond x 1 0) true set
+
+counts_out : (set : List Bool) → count (false ∷ set) ≡ count set
+counts_out set = sum_by-cons (λ (x : Bool). cond x 1 0) false set ∙ zero-add (count set)
+
+none_counts : (set : List Bool) → ((b : ℕ) → member set b ≡ false) → count set ≡ 0
+none_counts [] h = refl
+none_counts (true ∷ set) h = absurd (true≢false (h 0))
+none_counts (false ∷ set) h = counts_out set ∙ none_counts set (λ b. h (suc b))
+
+member_counts : (set : List Bool) (b : ℕ) → member set b ≡ true → 0 < count set
+member_counts [] b m = absurd (true≢false (sym m))
+member_counts (true ∷ set) b m = omega (arith, counts_in set)
+member_counts (false ∷ set) zero m = absurd (true≢false (sym m))
+member_counts (false ∷ set) (suc b) m = omega (arith, counts_out set, member_counts set b m)
+
+pub only_counts : (set : List Bool) (b : ℕ) → IsOnly set b → count set ≡ 1
+only_counts [] b o = absurd (true≢false (sym o.0))
+only_counts (true ∷ set) b o =
+    counts_in set ∙ ap (λ n. 1 + n) (none_counts set (λ k. false_from_ne_true (member set k) (λ m.
+    let first : 0 ≡ b = o.1 0 refl in
+    let later : suc k ≡ b = o.1 (suc k) m in
+    omega (arith, first, later))))
+only_counts (false ∷ set) zero o = absurd (true≢false (sym o.0))
+only_counts (false ∷ set) (suc b) o =
+    let rest : IsOnly set b = (o.0, λ k m. let e : suc k ≡ suc b = o.1 (suc k) m in omega (arith, e)) in
+    counts_out set ∙ only_counts set b rest
+
+-- where there is one member, each is the only one
+pub one_is_only : (set : List Bool) → count set ≡ 1 → (b : ℕ) → member set b ≡ true → IsOnly set b
+one_is_only set e b m = (m, λ k n. same set e k b n m)
+  where
+    same : (set : List Bool) → count set ≡ 1 → (a b : ℕ) → member set a ≡ true → member set b ≡ true → a ≡ b
+    same [] e a b m n = absurd (true≢false (sym m))
+    same (true ∷ set) e zero zero m n = refl
+    same (true ∷ set) e zero (suc b) m n = absurd (omega (arith, e, counts_in set, member_counts set b n))
+    same (true ∷ set) e (suc a) b m n = absurd (omega (arith, e, counts_in set, member_counts set a m))
+    same (false ∷ set) e zero b m n = absurd (true≢false (sym m))
+    same (false ∷ set) e (suc a) zero m n = absurd (true≢false (sym n))
+    same (false ∷ set) e (suc a) (suc b) m n = ap suc (same set (sym (counts_out set) ∙ e) a b m n)

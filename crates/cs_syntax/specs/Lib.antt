@@ -25,6 +25,8 @@ pub mod Levels
 pub mod Written
 pub mod Choices
 -- What functions inside promise each other.
+pub mod Bits
+pub mod SetWords
 pub mod CharPlaces
 pub mod Widths
 pub mod TreeCode

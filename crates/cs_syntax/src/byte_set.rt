@@ -3,25 +3,31 @@ ghost use Rattle.std.specs.Prelude.{⊤, ◌≡◌, ◌<◌, ◌||◌, ◌&&◌,
 ghost use Rattle.cs_syntax.specs.Members.{count, IsOnly};
 ghost use Rattle.cs_syntax.specs.Matching.{member};
 ghost use Rattle.cs_syntax.specs.ByteSet.{set_of, all_bytes, is_letter, other_case, is_in_folded, char_set};
+ghost use Rattle.cs_syntax.specs.SetWords.{AnswersAs};
 ghost use Rattle.cs_syntax.specs.Ranges.{is_in_ranges};
 
 use crate::char_set::is_in_runs;
 use std::marker::Model;
 
-/// A set of bytes.
+/// A set of bytes, kept as a bit for each of the 256. Contracts see the list of the answers.
 #[derive(Drop)]
 pub struct ByteSet {
-    members: [bool; 256],
+    words: [u64; 4],
 }
 
 impl Model for ByteSet {
-    ghost use Rattle.std.specs.Prelude.{List, Bool};
+    ghost use Rattle.std.specs.Prelude.{◌≡◌, List, Bool};
+    ghost use Rattle.cs_syntax.specs.SetWords.{set_of_bits, words_of};
 
     ghost Value = { List Bool };
 
-    ghost view = { λ s. s.members };
+    ghost view = { λ s. set_of_bits s.words };
 
-    ghost inverse = { λ v. record { members = v } };
+    ghost invariant = { λ s. words_of (set_of_bits s.words) ≡ s.words };
+
+    ghost inverse = { λ v. record { words = words_of v } };
+
+    ghost inverse_ok = { λ s h i. record { words = h i } };
 }
 
 impl Clone for ByteSet {
@@ -41,7 +47,7 @@ impl ByteSet {
     pub fn contains(&self, byte: u8) -> bool
         ensures { result ≡ member self.now byte }
     {
-        self.members[byte as usize]
+        self.words[(byte / 64) as usize] >> (byte % 64) & 1 == 1
     }
 
     /// How many members there are.
@@ -49,7 +55,10 @@ impl ByteSet {
         ensures members { result ≡ count self.now }
         ensures bytes { length self.now ≡ 256 }
     {
-        self.members.iter().filter(|m| **m).count() as u32
+        self.words[0].count_ones()
+            + self.words[1].count_ones()
+            + self.words[2].count_ones()
+            + self.words[3].count_ones()
     }
 
     /// The member, where there is exactly one.
@@ -57,16 +66,29 @@ impl ByteSet {
         ensures some { IfSome result (IsOnly self.now) }
         ensures none { IfNone result ((b : ℕ) → IsOnly self.now b → ⊥) }
     {
-        let mut found = None;
-        for (b, m) in self.members.iter().enumerate() {
-            if *m {
-                if found.is_some() {
-                    return None;
-                }
-                found = Some(b as u8);
+        if self.len() != 1 {
+            return None;
+        }
+        for (k, word) in self.words.iter().enumerate() {
+            if *word != 0 {
+                return Some((64 * k) as u8 + word.trailing_zeros() as u8);
             }
         }
-        found
+        None
+    }
+
+    /// The bytes that pass the test.
+    fn of<F: Fn(usize) -> bool>(test: F) -> ByteSet
+        requires { (b : ℕ) → b < 256 → F.pre test b }
+        ensures { (f : ℕ → Bool) → AnswersAs (F.post test) f → result ≡ set_of f }
+    {
+        let mut words = [0u64; 4];
+        for b in 0..256 {
+            if test(b) {
+                words[b / 64] |= 1 << (b % 64);
+            }
+        }
+        ByteSet { words }
     }
 
     /// All bytes.
@@ -74,41 +96,30 @@ impl ByteSet {
         ensures { result ≡ all_bytes }
     {
         ByteSet {
-            members: [true; 256],
+            words: [u64::MAX; 4],
         }
     }
 
     /// An ASCII character, and its other case where letters are folded.
+    #[tactic(auto, unfolding(crate::specs::ByteSet::char_set))]
     pub(crate) fn of_char(fold: bool, char: u8) -> ByteSet
         ensures { result ≡ char_set fold char }
     {
-        let mut members = [false; 256];
-        for (b, m) in members.iter_mut().enumerate() {
-            *m = is_in_folded(fold, &[(char, char)], b);
-        }
-        ByteSet { members }
+        ByteSet::of(|b| is_in_folded(fold, &[(char, char)], b))
     }
 
     /// The bytes from one to another.
     pub(crate) fn of_range(low: u8, high: u8) -> ByteSet
         ensures { result ≡ set_of (is_in_ranges ((low, high) ∷ [])) }
     {
-        let mut members = [false; 256];
-        for (b, m) in members.iter_mut().enumerate() {
-            *m = is_in_ranges(&[(low, high)], b);
-        }
-        ByteSet { members }
+        ByteSet::of(|b| is_in_ranges(&[(low, high)], b))
     }
 
     /// The ASCII characters of some runs.
     pub(crate) fn of_ascii(runs: &[(u32, u32)]) -> ByteSet
         ensures { result ≡ set_of (λ b. nat_lt b 128 && is_in_ranges runs.now b) }
     {
-        let mut members = [false; 256];
-        for (b, m) in members.iter_mut().enumerate() {
-            *m = b < 128 && is_in_runs(runs, b as u32);
-        }
-        ByteSet { members }
+        ByteSet::of(|b| b < 128 && is_in_runs(runs, b as u32))
     }
 }
 

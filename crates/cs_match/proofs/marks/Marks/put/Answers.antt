@@ -1,6 +1,7 @@
 use Rattle.std.proofs.Common.{◌≡◌, ◌+◌, ◌/◌, ◌%◌, ◌∷◌, ◌++◌, ◌∙◌, take, drop, get_or, ap, arith}
 use Rattle.std.proofs.lemmas.List.{get_or_read}
-use Rattle.cs_match.proofs.BitsLemmas.{IsWithBit, place_within, word_within, marks_of-set, AreMarks-set}
+use Rattle.cs_syntax.proofs.BitLemmas.{IsWithBit}
+use Rattle.cs_match.proofs.BitsLemmas.{place_within, word_within, marks_of-set, AreMarks-set}
 use Rattle.cs_match.proofs.marks.Marks.put.Goals as goal
 
 pub index-requires : goal.index-requires

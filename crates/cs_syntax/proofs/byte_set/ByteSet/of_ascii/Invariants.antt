@@ -1,6 +1,0 @@
-use Rattle.std.proofs.Common.{◌≡◌, ℕ, ◌<◌, ◌&&◌, nat_lt, false, get_or}
-use Rattle.cs_syntax.specs.Ranges.{is_in_ranges}
-use Rattle.cs_syntax.proofs.byte_set.ByteSet.of_ascii.Given as goal
-
-abbrev pub invariant-loop-b : goal.invariant-loop-b
-invariant-loop-b l = (k : ℕ) → k < l.b → get_or l.m-items k false ≡ (nat_lt k 128 && is_in_ranges l.runs k)

@@ -1,0 +1,22 @@
+-- A set of bytes, kept as the bits of four words.
+use Rattle.std.specs.Prelude.{◌≡◌, ℕ, ◌*◌, ◌<◌, Bool, List, map, take, drop}
+use Rattle.std.specs.List.{range_with_len}
+use Rattle.std.specs.Simd.Lanes.{mask_l}
+use Rattle.cs_syntax.specs.ByteSet.{set_of}
+use Rattle.cs_syntax.specs.Bits.{has_bit}
+
+-- the set of the bytes whose bits are set
+unfoldable pub set_of_bits : List ℕ → List Bool
+set_of_bits words = set_of (has_bit words)
+
+-- word k of a set
+abbrev pub word_of : List Bool → ℕ → ℕ
+word_of set k = mask_l (take 64 (drop (k * 64) set))
+
+-- the words of a set
+unfoldable pub words_of : List Bool → List ℕ
+words_of set = map (word_of set) (range_with_len 0 4)
+
+-- at each byte a test can answer nothing but f
+abbrev pub AnswersAs : (ℕ → Bool → Type 0) → (ℕ → Bool) → Type 0
+AnswersAs answers f = (b : ℕ) (answer : Bool) → b < 256 → answers b answer → answer ≡ f b

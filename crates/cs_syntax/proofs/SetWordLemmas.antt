@@ -1,5 +1,5 @@
 -- Sets of bytes kept as bits.
-use Rattle.std.proofs.Common.{◌≡◌, ℕ, zero, suc, ◌+◌, ◌*◌, ◌/◌, ◌%◌, ◌^◌, ◌<◌, ◌≤◌, Bool, true, false, eqb, cond, List, [], ◌∷◌, length, get_or, set, take, drop, refl, sym, ◌∙◌, ap, subst, inl, inr, arith, ext_get_or, length-set, lit<, eq-eqb, w64, drop_of_length-le}
+use Rattle.std.proofs.Common.{min, ◌-◌, ◌≤◌, true≢false, ◌≡◌, ℕ, zero, suc, ◌+◌, ◌*◌, ◌/◌, ◌%◌, ◌^◌, ◌<◌, Bool, true, false, eqb, cond, List, [], ◌∷◌, length, get_or, set, take, drop, refl, sym, ◌∙◌, ap, subst, inl, inr, arith, ext_get_or, length-set, lit<, eq-eqb, w64, drop_of_length-le}
 use Rattle.std.specs.Prelude.{All, bit_or, count_ones}
 use Rattle.std.specs.Int.{bit_at, trailing_zeros}
 use Rattle.std.specs.Simd.Lanes.{mask_l}
@@ -7,11 +7,12 @@ use Rattle.std.proofs.lemmas.List.{get_or-take, get_or-drop, length-take-le, len
 use Rattle.std.proofs.lemmas.List.FromFn.{length-map-range_with_len, get_or-map-range_with_len}
 use Rattle.std.proofs.lemmas.List.Elements.{All-get_or, All-set, All-replicate}
 use Rattle.std.proofs.lemmas.List.Sums.{sum_by-take-drop}
-use Rattle.std.proofs.lemmas.Bool.{cases_eq, cases_lt}
+use Rattle.std.proofs.lemmas.Bool.{cases_eq, cases_lt, and_parts, and_from, or_cases, or_left, le-leb, leb-true, false_from_ne_true}
 use Rattle.std.proofs.lemmas.Nat.{or_lt}
-use Rattle.std.proofs.lemmas.Nat.Bits.{bit_at-lt, bit_at-trailing_zeros, same_from_bits_below}
-use Rattle.std.proofs.Math.Nat.{mod-lt}
+use Rattle.std.proofs.lemmas.Nat.Bits.{bit_at-lt, bit_at-trailing_zeros, same_from_bits_below, bit_at_mask_below, bit_at_mask_above, bit_at_mask_inside}
+use Rattle.std.proofs.Math.Nat.{mod-lt, one-le-pow}
 use Rattle.std.proofs.lemmas.Simd.{mask_l-lt, bit_mask_l, ones-mask_l}
+use Rattle.cs_syntax.specs.Ranges.{is_in_ranges}
 use Rattle.cs_syntax.specs.Matching.{member}
 use Rattle.cs_syntax.specs.Members.{count}
 use Rattle.cs_syntax.specs.ByteSet.{set_of}
@@ -173,3 +174,46 @@ module _ (answers : ℕ → Bool → Type 0) where
   pub answered_all : (b : ℕ) (words : List ℕ) (f : ℕ → Bool) → 256 ≤ b → HaveAnswers answers b words → AnswersAs answers f → set_of_bits words ≡ set_of f
   unfolding set_of_bits
   answered_all b words f all have agree = set_of-agree (has_bit words) f (λ k low. agree k (has_bit words k) low (have.done k (omega arith)))
+
+-- ---- words that are made of a range
+
+-- words that have f at each of their bits
+pub set_of_words : (f : ℕ → Bool) (words : List ℕ) → ((k i : ℕ) → k < 4 → i < 64 → eqb (bit_at (get_or words k 0) i) 1 ≡ f (k * 64 + i)) → set_of_bits words ≡ set_of f
+unfolding set_of_bits
+set_of_words f words h = set_of-agree (has_bit words) f (λ b low.
+    let place : b / 64 * 64 + b % 64 ≡ b = omega arith in
+    h (b / 64) (b % 64) (omega arith) (omega arith) ∙ ap f place)
+
+pub run_bits : (low high first from to i : ℕ) → i < 64 → from ≡ min (low - first) 64 → to ≡ min (high + 1 - first) 64
+    → eqb (bit_at (2 ^ to - 2 ^ from) i) 1 ≡ is_in_ranges ((low, high) ∷ []) (first + i)
+run_bits low high first from to i within from-is to-is =
+    elim (cases_lt (first + i) low) [
+      | inl before ↦
+          ap (λ x. eqb x 1) (bit_at_mask_below from to i (omega (arith, from-is)))
+          ∙ sym (none (λ inside. omega arith))
+      | inr from_low ↦ elim (cases_lt high (first + i)) [
+        | inl past ↦
+            ap (λ x. eqb x 1) (bit_at_mask_above from to i (omega (arith, to-is)))
+            ∙ sym (none (λ inside. omega arith))
+        | inr to_high ↦
+            ap (λ x. eqb x 1) (bit_at_mask_inside from to i (omega (arith, from-is)) (omega (arith, to-is)))
+            ∙ sym (or_left _ false (and_from _ _ (le-leb low (first + i) from_low) (le-leb (first + i) high to_high)))
+      ]
+    ]
+  where
+    none : ((low ≤ first + i) × (first + i ≤ high) → ⊥) → is_in_ranges ((low, high) ∷ []) (first + i) ≡ false
+    none out = false_from_ne_true _ (λ e. elim (or_cases _ false e) [
+      | inl h ↦ let p = and_parts _ _ h in out (leb-true low (first + i) p.0, leb-true (first + i) high p.1)
+      | inr h ↦ true≢false (sym h)
+    ])
+
+pub low_ones_between : (m n : ℕ) → 2 ^ m - 1 - (2 ^ n - 1) ≡ 2 ^ m - 2 ^ n
+low_ones_between m n = omega (arith, one-le-pow n 2 (lit< tt), one-le-pow m 2 (lit< tt))
+
+-- what is so of each of four words
+pub by_four : (P : ℕ → Type 0) → P 0 → P 1 → P 2 → P 3 → (k : ℕ) → k < 4 → P k
+by_four P a b c d zero h = a
+by_four P a b c d (suc zero) h = b
+by_four P a b c d (suc (suc zero)) h = c
+by_four P a b c d (suc (suc (suc zero))) h = d
+by_four P a b c d (suc (suc (suc (suc k)))) h = absurd (omega arith)

@@ -1,5 +1,6 @@
 // Sets of bytes.
-ghost use Rattle.std.specs.Prelude.{⊤, ◌≡◌, ◌<◌, ◌||◌, ◌&&◌, ◌∷◌, [], nat_lt, ℕ, List, Bool, false, not, Option, IfSome, IfNone, length};
+ghost use Rattle.std.specs.Prelude.{⊤, ◌≡◌, ◌+◌, ◌-◌, ◌^◌, ◌<◌, ◌≤◌, ◌==◌, ◌||◌, ◌&&◌, ◌∷◌, [], nat_eq, nat_lt, ℕ, List, Bool, false, not, Option, IfSome, IfNone, length};
+ghost use Rattle.std.specs.Int.{bit_at};
 ghost use Rattle.cs_syntax.specs.Members.{count, IsOnly};
 ghost use Rattle.cs_syntax.specs.Matching.{member};
 ghost use Rattle.cs_syntax.specs.ByteSet.{set_of, all_bytes, is_letter, other_case, is_in_folded, char_set};
@@ -66,7 +67,7 @@ impl ByteSet {
         ensures some { IfSome result (IsOnly self.now) }
         ensures none { IfNone result ((b : ℕ) → IsOnly self.now b → ⊥) }
     {
-        if self.len() != 1 {
+        if !self.has_one() {
             return None;
         }
         for (k, word) in self.words.iter().enumerate() {
@@ -75,6 +76,12 @@ impl ByteSet {
             }
         }
         None
+    }
+
+    fn has_one(&self) -> bool
+        ensures { result ≡ nat_eq (count self.now) 1 }
+    {
+        self.len() == 1
     }
 
     /// The bytes that pass the test.
@@ -112,7 +119,15 @@ impl ByteSet {
     pub(crate) fn of_range(low: u8, high: u8) -> ByteSet
         ensures { result ≡ set_of (is_in_ranges ((low, high) ∷ [])) }
     {
-        ByteSet::of(|b| is_in_ranges(&[(low, high)], b))
+        let (low, high) = (low as usize, high as usize);
+        ByteSet {
+            words: [
+                ones(low, high, 0),
+                ones(low, high, 64),
+                ones(low, high, 128),
+                ones(low, high, 192),
+            ],
+        }
     }
 
     /// The ASCII characters of some runs.
@@ -120,6 +135,29 @@ impl ByteSet {
         ensures { result ≡ set_of (λ b. nat_lt b 128 && is_in_ranges runs.now b) }
     {
         ByteSet::of(|b| b < 128 && is_in_runs(runs, b as u32))
+    }
+}
+
+/// The bits of those bytes from `low` to `high` that are among the 64 from `first` on.
+fn ones(low: usize, high: usize, first: usize) -> u64
+    requires { high < 256 }
+    ensures { (i : ℕ) → i < 64
+        → (bit_at result i == 1) ≡ is_in_ranges ((low, high) ∷ []) (first + i) }
+{
+    let from = low.saturating_sub(first).min(64);
+    let to = (high + 1).saturating_sub(first).min(64);
+    low_ones(to).saturating_sub(low_ones(from))
+}
+
+/// So many of the lowest bits.
+fn low_ones(count: usize) -> u64
+    requires { count ≤ 64 }
+    ensures { result ≡ 2 ^ count - 1 }
+{
+    if count < 64 {
+        (1 << count) - 1
+    } else {
+        u64::MAX
     }
 }
 

@@ -13,6 +13,7 @@ use Rattle.cs_syntax.specs.Fronts.{item, fault, unit, is_front}
 use Rattle.cs_syntax.specs.ClassSets.{is_in_item, is_in_items, class_tree}
 use Rattle.cs_syntax.specs.Classes.{name_length, ClassRest, closed, failed, with_item, items_from, class_front, piece, misread, class, class_of}
 use Rattle.cs_syntax.specs.ClassState.{with_items, HaveItems}
+use Rattle.cs_syntax.proofs.CharSetLemmas.{and_or}
 use Rattle.cs_syntax.specs.declared.class_item.ClassItem.{ClassItem}
 use Rattle.cs_syntax.specs.declared.fault.PatternFault.{PatternFault}
 
@@ -60,15 +61,11 @@ any-last : (fold : Bool) (is : List ClassItem) (i : ClassItem) (b : ℕ) → (is
 any-last fold [] i b = sym (or-false (is_in_item fold i b))
 any-last fold (j ∷ is) i b = or_assoc (is_in_item fold j b) (is_in_items fold is b) (is_in_item fold i b) ∙ ap (λ x. is_in_item fold j b || x) (any-last fold is i b)
 
-and_or : (s x y : Bool) → ((s && x) || (s && y)) ≡ (s && (x || y))
-and_or true x y = refl
-and_or false x y = refl
-
 -- one more item in the ranges
 pub have-last : (fold : Bool) (is : List ClassItem) (i : ClassItem) (old new : List (ℕ × ℕ)) → HaveItems fold is old →
     ((c : ℕ) → has_char new c ≡ (has_char old c || (is_scalar c && is_in_item fold i c))) → HaveItems fold (is ++ i ∷ []) new
 have-last fold is i old new have more c =
-    more c ∙ ap (λ b. b || (is_scalar c && is_in_item fold i c)) (have c) ∙ and_or (is_scalar c) (is_in_items fold is c) (is_in_item fold i c)
+    more c ∙ ap (λ b. b || (is_scalar c && is_in_item fold i c)) (have c) ∙ sym (and_or (is_scalar c) (is_in_items fold is c) (is_in_item fold i c))
     ∙ ap (λ b. is_scalar c && b) (any-last fold is i c)
 
 pub have-read : (fold : Bool) (is : List ClassItem) (ranges read : List (ℕ × ℕ)) → read ≡ ranges → HaveItems fold is ranges → HaveItems fold is read

@@ -3,6 +3,7 @@ use Rattle.std.proofs.Common.{cond, ◌≡◌, ℕ, zero, suc, ◌+◌, ◌-◌,
 use Rattle.std.specs.Prelude.{nat_eq, nat_le, nat_lt, if◌then◌else◌, Result, Ok, Err, IfOk}
 use Rattle.std.specs.Char.{scalar_index}
 use Rattle.std.specs.List.{filter, range_with_len}
+use Rattle.std.proofs.Math.Bool.{and-false, and-true, or-false, or_assoc}
 use Rattle.std.proofs.lemmas.Bool.Decides.{nat_tests}
 use Rattle.std.proofs.lemmas.Bool.{cases_Bool, eqb-true}
 use Rattle.std.proofs.lemmas.List.Folds.{list_any-append}
@@ -43,10 +44,6 @@ near_has c x run scalar h near = grind (arith, nat_tests, scalar_tells c, scalar
 one_has : (c x : ℕ) → is_in (x, x) c ≡ nat_eq x c
 one_has c x = grind (arith, nat_tests)
 
-or_assoc : (x y z : Bool) → ((x || y) || z) ≡ (x || (y || z))
-or_assoc true y z = refl
-or_assoc false y z = refl
-
 with_char_has : (c x : ℕ) (runs : List (ℕ × ℕ)) → is_scalar x ≡ true → AreRunsFrom (scalar_index x + 1) runs →
     has_char (with_char x runs) c ≡ ((is_scalar c && nat_eq x c) || has_char runs c)
 with_char_has c x [] scalar h = has_char-cons (x, x) [] c ∙ ap (λ b. (is_scalar c && b) || has_char [] c) (one_has c x)
@@ -65,18 +62,6 @@ with_char_has c x (run ∷ runs) scalar h =
     ]
 
 -- ---- the characters from one number on
-
-and-false : (x : Bool) → (x && false) ≡ false
-and-false true = refl
-and-false false = refl
-
-or-false : (x : Bool) → (x || false) ≡ x
-or-false true = refl
-or-false false = refl
-
-and-true : (x : Bool) → (x && true) ≡ x
-and-true true = refl
-and-true false = refl
 
 here_and_later : (s t e x : Bool) → (e ≡ true → (s && t) ≡ true) → ((s && e) || ((s && t) && x)) ≡ ((s && t) && (e || x))
 here_and_later true true e x h = refl

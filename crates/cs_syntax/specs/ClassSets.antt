@@ -42,6 +42,7 @@ is_in_items fold items c = list_any (λ i. is_in_item fold i c) items
 abbrev pub is_in_class : Bool → Bool → List ClassItem → ℕ → Bool
 is_in_class fold negated items c = differ negated (is_in_items fold items c)
 
+-- the class as a tree
 abbrev pub class_tree : Bool → Bool → List ClassItem → Tree
 class_tree fold negated items = chars_tree (is_in_class fold negated items)
 
@@ -53,5 +54,6 @@ item_tree i = chars_tree (is_in_item false i)
 abbrev pub is_in_dot : Bool → ℕ → Bool
 is_in_dot dot_all c = dot_all || not (nat_eq c 10)
 
+-- a dot as a tree
 abbrev pub dot_tree : Bool → Tree
 dot_tree dot_all = chars_tree (is_in_dot dot_all)

@@ -45,7 +45,7 @@ fn stops_at_each_place(rt: &impl Abort, sieve: &Sieve, word: &[u8; 3]) {
 /// A window is stopped at, wherever it stands.
 #[test]
 fn a_window_at_each_place(rt: HostRuntime) -> Result<(), Fail> {
-    let sieve = sieve(&rt, &["[xX][0-9]z", "q.[[:digit:]]"])?;
+    let sieve = sieve(&rt, &["[xX][0-9]z", "q\\C[[:digit:]]"])?;
     stops_at_each_place(&rt, &sieve, b"x7z");
     stops_at_each_place(&rt, &sieve, b"X0z");
     stops_at_each_place(&rt, &sieve, b"qz5");

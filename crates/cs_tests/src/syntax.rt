@@ -1,5 +1,5 @@
 // What patterns read as, and where they are refused.
-use cs_syntax::{ByteSet, Node, PatternError, PatternFault, parse};
+use cs_syntax::{ByteSet, CharSet, Node, PatternError, PatternFault, parse};
 use std::alloc::{AllocError, Global};
 use std::test::Fail;
 
@@ -19,8 +19,10 @@ const FAULTS: &[(&str, PatternFault, usize)] = &[
     ("[b-a]", PatternFault::BadRange, 1),
     ("\\x{99999999999999999999}", PatternFault::BadEscape, 0),
     ("a\\", PatternFault::LoneBackslash, 1),
-    ("[é]", PatternFault::NotInProfile, 1),
+    ("[é-a]", PatternFault::BadRange, 1),
+    ("[aé-\\pL]", PatternFault::NotInProfile, 5),
     ("(a{1000}){20}", PatternFault::TooLarge, 0),
+    ("(.{1000}){9}", PatternFault::TooLarge, 0),
 ];
 
 /// Each fault of a text once; further rows are worked in `proofs/Examples.antt`.
@@ -58,6 +60,8 @@ const ACCEPTED: &[&str] = &[
     "^[[:a]$",
     "\\101\\08\\x{10ffff}é*",
     "a]}",
+    "[é][^à-ü][\\x{d7ff}-\\x{e000}]",
+    "(?s)(.{1000}){9}",
 ];
 
 #[test]
@@ -120,4 +124,67 @@ fn lends_the_tree(rt: HostRuntime) -> Result<(), Fail> {
     let set = set_of(rt.alloc(), false).ok_or("set")?;
     assert_eq!(rt; set.single(), Some(b'a'));
     Ok(())
+}
+
+/// Patterns that are one set of bytes, and how many it has.
+const BYTES: &[(&str, u32)] = &[
+    ("\\C", 256),
+    ("\\d", 10),
+    ("[a-c]", 3),
+    ("(?i)[[:upper:]]", 52),
+    ("[^\\x{80}-\\x{10ffff}]", 128),
+    ("[^\\0-\\x{10ffff}]", 0),
+];
+
+/// Patterns that are one set of characters, how many it has, and its runs.
+const CHARS: &[(&str, u32, &[(u32, u32)])] = &[
+    (".", 1_112_063, &[(0, 9), (11, 0x10_FFFF)]),
+    ("(?s).", 1_112_064, &[(0, 0x10_FFFF)]),
+    ("\\D", 1_112_054, &[(0, 47), (58, 0x10_FFFF)]),
+    ("[\\x{d7ff}-\\x{e000}]", 2, &[(0xD7FF, 0xE000)]),
+    ("[[:^ascii:]]", 1_111_936, &[(0x80, 0x10_FFFF)]),
+    (
+        "[é-ëaê€😀]",
+        6,
+        &[
+            (97, 97),
+            (0xE9, 0xEB),
+            (0x20AC, 0x20AC),
+            (0x1_F600, 0x1_F600),
+        ],
+    ),
+    ("(?i)[É-ÊK-k]", 60, &[(65, 122), (0xC9, 0xCA)]),
+    ("(?i)[^É]", 1_112_063, &[(0, 0xC8), (0xCA, 0x10_FFFF)]),
+];
+
+fn byte_count(alloc: Global, text: &str) -> Option<u32> {
+    let pattern = parse(alloc, text, false).ok()?;
+    let Node::Set(set) = pattern.tree() else {
+        return None;
+    };
+    Some(set.len())
+}
+
+fn has_runs(alloc: Global, text: &str, count: u32, runs: &[(u32, u32)]) -> bool {
+    let Ok(pattern) = parse(alloc, text, false) else {
+        return false;
+    };
+    let Node::Chars(set) = pattern.tree() else {
+        return false;
+    };
+    is_of(set, count, runs)
+}
+
+fn is_of(set: &CharSet, count: u32, runs: &[(u32, u32)]) -> bool {
+    set.len() == count && set.runs() == runs
+}
+
+#[test]
+fn reads_sets(rt: HostRuntime) {
+    for (text, count) in BYTES {
+        assert_eq!(rt; byte_count(rt.alloc(), text), Some(*count), "at {text}");
+    }
+    for (text, count, runs) in CHARS {
+        assert!(rt; has_runs(rt.alloc(), text, *count, *runs), "at {text}");
+    }
 }

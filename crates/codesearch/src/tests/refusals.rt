@@ -61,7 +61,7 @@ const FAULTS_OF_CLASSES_AND_ESCAPES: &[(&str, &str)] = &[
     (r"\8", "0: bad escape"),
     (r"a\", "1: lone backslash"),
     (r"\A", "0: not in this profile"),
-    ("[é]", "1: not in this profile"),
+    ("[é-a]", "1: bad range"),
 ];
 
 #[test]

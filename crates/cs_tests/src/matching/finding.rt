@@ -47,6 +47,23 @@ const ROWS: &[(&str, &str, bool)] = &[
     ("^\\B", "a", false),
     ("^[[:^digit:]]$", "x", true),
     ("^[[:^digit:]]$", "5", false),
+    ("^.$", "é", true),
+    ("^.$", "a", true),
+    ("^.$", "😀", true),
+    ("^.$", "ab", false),
+    ("^..$", "éa", true),
+    ("^..$", "é", false),
+    ("^\\C\\C$", "é", true),
+    ("^\\C\\C$", "a", false),
+    ("[é]", "é", true),
+    ("^[à-ü]$", "é", true),
+    ("^[à-ü]$", "e", false),
+    ("^[^é]$", "è", true),
+    ("^[^é]$", "é", false),
+    ("(?i)[É]", "É", true),
+    ("(?i)[É]", "é", false),
+    ("[[:^ascii:]]", "aé", true),
+    ("[[:^ascii:]]", "a", false),
 ];
 
 #[test]
@@ -59,8 +76,39 @@ fn rows_of_patterns_and_lines(rt: HostRuntime) -> Result<(), Fail> {
             "{pattern} in {line}"
         );
     }
+    Ok(())
+}
+
+/// Patterns, lines of bytes, and whether something is found.
+const ROWS_OF_BYTES: &[(&str, &[u8], bool)] = &[
     // The pattern asks for the character, which is two bytes, and not for the byte.
-    assert!(rt; !found(rt.alloc(), "^\\xe9$", &[0xe9])?);
+    ("^\\xe9$", b"\xe9", false),
+    ("^.$", b"\xff", false),
+    ("^.$", b"\xc0\x80", false),
+    ("^.$", b"\xed\xa0\x80", false),
+    ("^.$", b"\xf4\x90\x80\x80", false),
+    ("^(?s).$", b"\n", true),
+    ("^\\C$", b"\xff", true),
+    ("[é]", b"\xc3", false),
+    ("[é]", b"\xc3\x83", false),
+    ("^[^é]$", b"\xe9", false),
+    ("^[^é]", b"\xa9", false),
+    ("\\D", b"\xff\xc3", false),
+    // What is broken is taken by no character, and the search goes on behind it.
+    ("a.b", b"a\xffb a\xc3\xa9b", true),
+    ("a.b", b"a\xffb a\xc3b", false),
+    ("^\\C*€$", b"\xff\xe2\x82\xac", true),
+];
+
+#[test]
+fn rows_of_patterns_and_bytes(rt: HostRuntime) -> Result<(), Fail> {
+    for (pattern, line, want) in ROWS_OF_BYTES {
+        assert_eq!(rt;
+            found(rt.alloc(), pattern, line)?,
+            *want,
+            "{pattern} in {line:?}"
+        );
+    }
     Ok(())
 }
 

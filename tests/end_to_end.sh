@@ -145,6 +145,37 @@ while IFS=$tab read -r words at pattern; do
     verdict "cgrep -- '$pattern'"
 done < "$root/tests/refusals.tsv"
 
+# ---- characters -------------------------------------------------------------------------------------------------------
+# Where grep -P takes characters, it is the peer. What PCRE2 makes of \D as machine code (JIT) finds none past ASCII in 10.42.
+utf8=$(locale -a 2>/dev/null | grep -ix 'c\.utf-\{0,1\}8' | head -n 1)
+# finds BYTES PATTERN: whether grep finds the pattern in the bytes
+finds() { printf -- "$1\n" | LC_ALL=$utf8 grep -aqP "(*NO_JIT)$2" 2>/dev/null; }
+[ -n "$utf8" ] && finds '\303\251' '^\D$' && ! finds '\377' '^.$' || utf8=
+if [ -n "$utf8" ]; then
+    # All lines of one to four of a letter and the bytes with which ranges of well-formed sequences begin and end.
+    LC_ALL=C awk 'BEGIN {
+        n = split("97 127 128 143 144 159 160 169 191 193 194 195 223 224 225 236 237 238 239 240 241 243 244 245 255", byte)
+        for (i in byte) byte[i] = sprintf("%c", byte[i] + 0)
+        for (i = 1; i <= n; i++) {
+            print byte[i]
+            for (j = 1; j <= n; j++) {
+                print byte[i] byte[j]
+                for (k = 1; k <= n; k++) {
+                    print byte[i] byte[j] byte[k]
+                    for (l = 1; l <= n; l++) print byte[i] byte[j] byte[k] byte[l]
+                }
+            }
+        }
+    }' > files/forms
+    for pattern in . '^.$' '^..$' '^.{3}$' '[^a]' '^[^é]$' '^[à-ü]' '\D\W$' '[^[:ascii:]]a' '^[\x{7ff}-\x{800}]' \
+        '[\x{d7ff}-\x{e000}]' '[\x{ffff}-\x{10000}]' '[\x{80}-\x{7ff}]a' '[\x{800}-\x{ffff}]$' '^[\x{10000}-\x{10ffff}]$' \
+        '^[^\x{3ffff}-\x{40000}]*$'; do
+        same "cgrep -h '$pattern' files/forms" "LC_ALL=$utf8 grep -aP '(*NO_JIT)$pattern' files/forms"
+    done
+else
+    skipped 'characters as grep takes them: there is no C.UTF-8, or grep -P does not take characters there'
+fi
+
 # ---- words ----------------------------------------------------------------------------------------------------------
 printf 'one\ntwo\none\n' > files/p
 printf 'say -x\na-b\n' > files/dashes
@@ -200,7 +231,9 @@ try 1 '' 'cgrep: files: cannot be read\n' "cgrep one files"
 try 1 '' '' "cgrep '' files/empty"
 try 0 'files/unended:last one\n' '' "cgrep one files/unended"
 try 0 'files/nul:a\0one\n' '' "cgrep one files/nul"
-try 0 'files/latin:\377one\351\n' '' "cgrep '^.one.\$' files/latin"
+try 0 'files/latin:\377one\351\n' '' "cgrep 'o.e' files/latin"
+try 0 'files/latin:\377one\351\n' '' "cgrep '^\\Cone\\C\$' files/latin"
+try 1 '' '' "cgrep '^.one|one.\$' files/latin"
 try 0 "$lines$lines" '' "cgrep one files/p files/p"
 try 0 "files/unended:last one\n$lines" '' "cgrep one files/unended files/p"
 if shuts; then

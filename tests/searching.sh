@@ -104,10 +104,8 @@ Err\(.*Fault
 [Bb]uild(er)?s?
 wo+rd
 (one|two|three)s
-[^ -~]+ →
 ^}$
 pub (fn|struct|enum)
-a.c.e
 (ab|cd)(ef|gh)
 must-fail|proofs
 Ok\(\(\)\)
@@ -115,6 +113,20 @@ while let Some
 // .*\.$
 ^ghost use
 String::from_str
+PATTERNS
+# Patterns that take characters. By end_to_end.sh `utf8` is a locale in which grep -P takes them, or empty.
+while [ -n "$utf8" ] && read -r pattern; do
+    same "csearch -n '$pattern'" "LC_ALL=$utf8 xargs -s 1000000 grep -aPHn '(*NO_JIT)$pattern' < results/names"
+    same "csearch -brute '$pattern'" "xargs -s 1000000 \"\$program\" cgrep '$pattern' < results/names"
+done <<'PATTERNS'
+a.c.e
+[^ -~]+ →
+^[^a-z]+[≡→] .
+[α-ω] [a-z]+\.
+[^[:ascii:]]{2}
+(List|→) [ℕ-ℤ]$
+(é|[à-ü])\w
+[一-龥]
 PATTERNS
 same "csearch -i REQUIRES" "LC_ALL=C xargs -s 1000000 grep -aiEH REQUIRES < results/names"
 same "csearch -l -f '\.rt\$' unwrap_or" "grep '\.rt\$' results/names | LC_ALL=C xargs -s 1000000 grep -aEl unwrap_or"

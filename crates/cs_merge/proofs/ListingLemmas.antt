@@ -13,7 +13,7 @@ use Rattle.cs_index.specs.IdStream.{next_after}
 use Rattle.cs_index.specs.Laid.{Laid, AllBelow, last_ids, with_laid_id, with_last_id, with_last_ids}
 use Rattle.cs_index.specs.Rising.{RiseWithin, moved}
 use Rattle.cs_merge.specs.Renumbering.{list_of}
-use Rattle.cs_merge.specs.SideBySide.{lower_of, without_first, AreRun, of_older, of_newer, IsGiven}
+use Rattle.cs_merge.specs.SideBySide.{lower_of, without_number, IsStretchOfOne, of_older, of_newer, IsGiven}
 use Rattle.cs_merge.proofs.CarryingLemmas.{with_one_more, ids_of_more}
 
 -- ---- the lower one of two first ids
@@ -64,7 +64,7 @@ none_left (a ∷ xs) (b ∷ bs) e =
 
 -- ---- ids without the first
 
-rise_without : (count next id : ℕ) (ids : List ℕ) → RiseWithin count next ids → AtLeast id ids → RiseWithin count (id + 1) (without_first id ids)
+rise_without : (count next id : ℕ) (ids : List ℕ) → RiseWithin count next ids → AtLeast id ids → RiseWithin count (id + 1) (without_number id ids)
 rise_without count next id [] up from = tt
 rise_without count next id (one ∷ ids) up from =
     elim (cases_eq one id) [
@@ -72,7 +72,7 @@ rise_without count next id (one ∷ ids) up from =
       | inr differs ↦ subst (λ b. RiseWithin count (id + 1) (cond b ids (one ∷ ids))) (sym (ne_eqb one id differs)) (omega (arith, from, differs), up.1, up.2)
     ]
 
-has_without : (id n : ℕ) (ids : List ℕ) → eqb id n ≡ false → has (without_first id ids) n ≡ has ids n
+has_without : (id n : ℕ) (ids : List ℕ) → eqb id n ≡ false → has (without_number id ids) n ≡ has ids n
 has_without id n [] differs = refl
 has_without id n (one ∷ ids) differs =
     elim (cases_Bool (eqb one id)) [
@@ -103,11 +103,11 @@ next_after_push next id [] = refl
 next_after_push next id (one ∷ ids) = next_after_push (one + 1) id ids
 
 -- an id more among those given, and no more among those left
-each_more : (given some others : List ℕ) (id n : ℕ) → IsLowest id some others → (has (given ++ id ∷ []) n || (has (without_first id some) n || has (without_first id others) n)) ≡ (has given n || (has some n || has others n))
+each_more : (given some others : List ℕ) (id n : ℕ) → IsLowest id some others → (has (given ++ id ∷ []) n || (has (without_number id some) n || has (without_number id others) n)) ≡ (has given n || (has some n || has others n))
 each_more given some others id n least =
     elim (cases_Bool (eqb id n)) [
       | inl is ↦
-          ap (λ b. b || (has (without_first id some) n || has (without_first id others) n)) (has_push given id n ∙ ap (λ b. has given n || b) is ∙ or_true (has given n))
+          ap (λ b. b || (has (without_number id some) n || has (without_number id others) n)) (has_push given id n ∙ ap (λ b. has given n || b) is ∙ or_true (has given n))
           ∙ sym (ap (λ b. has given n || b) (found least.among is) ∙ or_true (has given n))
       | inr differs ↦ λ i. (has_push given id n ∙ ap (λ b. has given n || b) differs ∙ or_none (has given n)) i || (has_without id n some differs i || has_without id n others differs i)
     ]
@@ -156,7 +156,7 @@ module _ (trigram : ℕ) (before now : Laid) (older newer older_left newer_left 
       let ids : last_ids now ≡ state.given = ap (λ o. option_map_or (ids_of now.lists) o []) begun ∙ ap (λ lists. ids_of lists trigram) state.lists ∙ ids_of_more trigram before.lists state.given below in
       subst (λ ids. next_after 0 ids ≤ id) (sym ids) bounds.0
 
-  pub given_more : (after : Laid) → after ≡ with_last_id now id → IsGiven trigram before after older newer (without_first id older_left) (without_first id newer_left)
+  pub given_more : (after : Laid) → after ≡ with_last_id now id → IsGiven trigram before after older newer (without_number id older_left) (without_number id newer_left)
   given_more after e =
       let least = lowest older_left newer_left id next in
       let is : after ≡ with_laid_id now trigram id = e ∙ ap (λ o. option_map_or (λ g. with_laid_id now g id) o now) begun in
@@ -167,8 +167,8 @@ module _ (trigram : ℕ) (before now : Laid) (older newer older_left newer_left 
         names = ap (λ (l : Laid). l.names) is ∙ state.names;
         lists = ap (λ (l : Laid). l.lists) is ∙ ap (λ lists. with_id lists trigram id) state.lists ∙ with_one_more trigram id before.lists state.given below;
         each = λ n. each_more state.given older_left newer_left id n least ∙ state.each n;
-        older_rise = subst (λ m. RiseWithin (length before.names) m (without_first id older_left)) last (rise_without (length before.names) (next_after 0 state.given) id older_left state.older_rise least.some_from);
-        newer_rise = subst (λ m. RiseWithin (length before.names) m (without_first id newer_left)) last (rise_without (length before.names) (next_after 0 state.given) id newer_left state.newer_rise least.others_from);
+        older_rise = subst (λ m. RiseWithin (length before.names) m (without_number id older_left)) last (rise_without (length before.names) (next_after 0 state.given) id older_left state.older_rise least.some_from);
+        newer_rise = subst (λ m. RiseWithin (length before.names) m (without_number id newer_left)) last (rise_without (length before.names) (next_after 0 state.given) id newer_left state.newer_rise least.others_from);
       }
 
   pub still_begun : (after : Laid) → after ≡ with_last_id now id → after.begun ≡ Some trigram
@@ -204,7 +204,7 @@ next_below id next most (one ∷ run) within all =
     next_below id (id + 1 + one + 1) most run (omega (arith, below)) all.1
 
 -- what is left of the others stands behind a run that ends before them
-others_behind : (count id : ℕ) (run others : List ℕ) → AtLeast id others → RiseWithin count (id + 1) (without_first id others) → ((most : ℕ) → slice_get others 0 ≡ Some most → AllByRecursion (λ other. id + 1 + other < most) run) → RiseWithin count (next_after (id + 1) (moved (id + 1) run)) (without_first id others)
+others_behind : (count id : ℕ) (run others : List ℕ) → AtLeast id others → RiseWithin count (id + 1) (without_number id others) → ((most : ℕ) → slice_get others 0 ≡ Some most → AllByRecursion (λ other. id + 1 + other < most) run) → RiseWithin count (next_after (id + 1) (moved (id + 1) run)) (without_number id others)
 others_behind count id [] others from up below = up
 others_behind count id (one ∷ run) [] from up below = tt
 others_behind count id (one ∷ run) (other ∷ others) from up below =
@@ -240,8 +240,8 @@ with_more trigram now lists given (id ∷ more) begun is below =
     ∙ ap (λ ids. let l : Laid = record { paths = now.paths; names = now.names; lists = lists ++ list_of trigram ids; begun = now.begun } in l) (append_assoc given (id ∷ []) more)
 
 -- the ids of a run are given behind an id that is the lowest of both
-module _ (trigram : ℕ) (before now laid : Laid) (older newer older_left newer_left : List ℕ) (state : IsGiven trigram before now older newer older_left newer_left) (below : AllBelow before.lists trigram) (begun : now.begun ≡ Some trigram) (id : ℕ) (next : lower_of (slice_get older_left 0) (slice_get newer_left 0) ≡ Some id) (is : laid ≡ with_last_id now id) (run older_rest newer_rest : List ℕ) (are : AreRun id run older_left newer_left older_rest newer_rest) where
-  one : IsGiven trigram before laid older newer (without_first id older_left) (without_first id newer_left)
+module _ (trigram : ℕ) (before now laid : Laid) (older newer older_left newer_left : List ℕ) (state : IsGiven trigram before now older newer older_left newer_left) (below : AllBelow before.lists trigram) (begun : now.begun ≡ Some trigram) (id : ℕ) (next : lower_of (slice_get older_left 0) (slice_get newer_left 0) ≡ Some id) (is : laid ≡ with_last_id now id) (run older_rest newer_rest : List ℕ) (are : IsStretchOfOne id run older_left newer_left older_rest newer_rest) where
+  one : IsGiven trigram before laid older newer (without_number id older_left) (without_number id newer_left)
   one = given_more trigram before now older newer older_left newer_left state below begun id next laid is
 
   begun_one : laid.begun ≡ Some trigram
@@ -271,11 +271,11 @@ module _ (trigram : ℕ) (before now laid : Laid) (older newer older_left newer_
   names : length laid.names ≡ length before.names
   names = ap (λ (ns : List (List ℕ)). length ns) one.names
 
-  older_up : RiseWithin (length before.names) (id + 1) (without_first id older_left)
-  older_up = subst (λ n. RiseWithin (length before.names) n (without_first id older_left)) next_one one.older_rise
+  older_up : RiseWithin (length before.names) (id + 1) (without_number id older_left)
+  older_up = subst (λ n. RiseWithin (length before.names) n (without_number id older_left)) next_one one.older_rise
 
-  newer_up : RiseWithin (length before.names) (id + 1) (without_first id newer_left)
-  newer_up = subst (λ n. RiseWithin (length before.names) n (without_first id newer_left)) next_one one.newer_rise
+  newer_up : RiseWithin (length before.names) (id + 1) (without_number id newer_left)
+  newer_up = subst (λ n. RiseWithin (length before.names) n (without_number id newer_left)) next_one one.newer_rise
 
   within : id + 1 ≤ length before.names
   within = let b = bounds trigram before now older newer older_left newer_left state below begun id next in omega (arith, b.1)
@@ -283,24 +283,24 @@ module _ (trigram : ℕ) (before now laid : Laid) (older newer older_left newer_
   run_ends : next_after (id + 1) (moved (id + 1) run) ≤ length before.names
   run_ends = by_side are
     where
-      by_side : AreRun id run older_left newer_left older_rest newer_rest → next_after (id + 1) (moved (id + 1) run) ≤ length before.names
-      by_side (of_older r same) = rise_ends (length before.names) (id + 1) (moved (id + 1) run) (without_first id older_rest) within (subst (RiseWithin (length before.names) (id + 1)) r.ids_are older_up)
-      by_side (of_newer r same) = rise_ends (length before.names) (id + 1) (moved (id + 1) run) (without_first id newer_rest) within (subst (RiseWithin (length before.names) (id + 1)) r.ids_are newer_up)
+      by_side : IsStretchOfOne id run older_left newer_left older_rest newer_rest → next_after (id + 1) (moved (id + 1) run) ≤ length before.names
+      by_side (of_older r same) = rise_ends (length before.names) (id + 1) (moved (id + 1) run) (without_number id older_rest) within (subst (RiseWithin (length before.names) (id + 1)) r.ids_are older_up)
+      by_side (of_newer r same) = rise_ends (length before.names) (id + 1) (moved (id + 1) run) (without_number id newer_rest) within (subst (RiseWithin (length before.names) (id + 1)) r.ids_are newer_up)
 
   pub run_named : next_after 0 (last_ids laid) + next_after 0 run ≤ length laid.names
   run_named =
       let end : next_after (id + 1) (moved (id + 1) run) ≡ id + 1 + next_after 0 run = moved_last (id + 1) run in
       omega (arith, last_one, run_ends, names, end)
 
-  pub run_given : (after : Laid) → after ≡ with_last_ids laid (moved (next_after 0 (last_ids laid)) run) → IsGiven trigram before after older newer (without_first id older_rest) (without_first id newer_rest)
+  pub run_given : (after : Laid) → after ≡ with_last_ids laid (moved (next_after 0 (last_ids laid)) run) → IsGiven trigram before after older newer (without_number id older_rest) (without_number id newer_rest)
   run_given after e = record {
     given = one.given ++ ids;
     paths = ap (λ (l : Laid). l.paths) all ∙ one.paths;
     names = ap (λ (l : Laid). l.names) all ∙ one.names;
     lists = ap (λ (l : Laid). l.lists) all;
     each = λ n. by_each are n ∙ one.each n;
-    older_rise = subst (λ m. RiseWithin (length before.names) m (without_first id older_rest)) (sym ends) (older_behind are);
-    newer_rise = subst (λ m. RiseWithin (length before.names) m (without_first id newer_rest)) (sym ends) (newer_behind are);
+    older_rise = subst (λ m. RiseWithin (length before.names) m (without_number id older_rest)) (sym ends) (older_behind are);
+    newer_rise = subst (λ m. RiseWithin (length before.names) m (without_number id newer_rest)) (sym ends) (newer_behind are);
   }
     where
       ids : List ℕ
@@ -312,29 +312,29 @@ module _ (trigram : ℕ) (before now laid : Laid) (older newer older_left newer_
       ends : next_after 0 (one.given ++ ids) ≡ next_after (id + 1) ids
       ends = next_both 0 one.given ids ∙ ap (λ n. next_after n ids) next_one
 
-      by_each : AreRun id run older_left newer_left older_rest newer_rest → (n : ℕ) → (has (one.given ++ ids) n || (has (without_first id older_rest) n || has (without_first id newer_rest) n)) ≡ (has one.given n || (has (without_first id older_left) n || has (without_first id newer_left) n))
+      by_each : IsStretchOfOne id run older_left newer_left older_rest newer_rest → (n : ℕ) → (has (one.given ++ ids) n || (has (without_number id older_rest) n || has (without_number id newer_rest) n)) ≡ (has one.given n || (has (without_number id older_left) n || has (without_number id newer_left) n))
       by_each (of_older r same) n =
-          ap (λ b. b || (has (without_first id older_rest) n || has (without_first id newer_rest) n)) (has_both one.given ids n)
-          ∙ given_older (has one.given n) (has ids n) (has (without_first id older_rest) n) (has (without_first id newer_rest) n)
-          ∙ (λ i. has one.given n || ((sym (has_both ids (without_first id older_rest) n) ∙ ap (λ l. has l n) (sym r.ids_are)) i || has (without_first id (same i)) n))
+          ap (λ b. b || (has (without_number id older_rest) n || has (without_number id newer_rest) n)) (has_both one.given ids n)
+          ∙ given_older (has one.given n) (has ids n) (has (without_number id older_rest) n) (has (without_number id newer_rest) n)
+          ∙ (λ i. has one.given n || ((sym (has_both ids (without_number id older_rest) n) ∙ ap (λ l. has l n) (sym r.ids_are)) i || has (without_number id (same i)) n))
       by_each (of_newer r same) n =
-          ap (λ b. b || (has (without_first id older_rest) n || has (without_first id newer_rest) n)) (has_both one.given ids n)
-          ∙ given_newer (has one.given n) (has ids n) (has (without_first id older_rest) n) (has (without_first id newer_rest) n)
-          ∙ (λ i. has one.given n || (has (without_first id (same i)) n || (sym (has_both ids (without_first id newer_rest) n) ∙ ap (λ l. has l n) (sym r.ids_are)) i))
+          ap (λ b. b || (has (without_number id older_rest) n || has (without_number id newer_rest) n)) (has_both one.given ids n)
+          ∙ given_newer (has one.given n) (has ids n) (has (without_number id older_rest) n) (has (without_number id newer_rest) n)
+          ∙ (λ i. has one.given n || (has (without_number id (same i)) n || (sym (has_both ids (without_number id newer_rest) n) ∙ ap (λ l. has l n) (sym r.ids_are)) i))
 
-      older_behind : AreRun id run older_left newer_left older_rest newer_rest → RiseWithin (length before.names) (next_after (id + 1) ids) (without_first id older_rest)
-      older_behind (of_older r same) = rise_tail (length before.names) (id + 1) ids (without_first id older_rest) (subst (RiseWithin (length before.names) (id + 1)) r.ids_are older_up)
-      older_behind (of_newer r same) = subst (λ l. RiseWithin (length before.names) (next_after (id + 1) ids) (without_first id l)) (sym same) (others_behind (length before.names) id run older_left least.some_from older_up r.below)
+      older_behind : IsStretchOfOne id run older_left newer_left older_rest newer_rest → RiseWithin (length before.names) (next_after (id + 1) ids) (without_number id older_rest)
+      older_behind (of_older r same) = rise_tail (length before.names) (id + 1) ids (without_number id older_rest) (subst (RiseWithin (length before.names) (id + 1)) r.ids_are older_up)
+      older_behind (of_newer r same) = subst (λ l. RiseWithin (length before.names) (next_after (id + 1) ids) (without_number id l)) (sym same) (others_behind (length before.names) id run older_left least.some_from older_up r.below)
 
-      newer_behind : AreRun id run older_left newer_left older_rest newer_rest → RiseWithin (length before.names) (next_after (id + 1) ids) (without_first id newer_rest)
-      newer_behind (of_older r same) = subst (λ l. RiseWithin (length before.names) (next_after (id + 1) ids) (without_first id l)) (sym same) (others_behind (length before.names) id run newer_left least.others_from newer_up r.below)
-      newer_behind (of_newer r same) = rise_tail (length before.names) (id + 1) ids (without_first id newer_rest) (subst (RiseWithin (length before.names) (id + 1)) r.ids_are newer_up)
+      newer_behind : IsStretchOfOne id run older_left newer_left older_rest newer_rest → RiseWithin (length before.names) (next_after (id + 1) ids) (without_number id newer_rest)
+      newer_behind (of_older r same) = subst (λ l. RiseWithin (length before.names) (next_after (id + 1) ids) (without_number id l)) (sym same) (others_behind (length before.names) id run newer_left least.others_from newer_up r.below)
+      newer_behind (of_newer r same) = rise_tail (length before.names) (id + 1) ids (without_number id newer_rest) (subst (RiseWithin (length before.names) (id + 1)) r.ids_are newer_up)
 
   -- and fewer are left
-  pub run_shorter : length (without_first id older_rest) + length (without_first id newer_rest) < length older_left + length newer_left
+  pub run_shorter : length (without_number id older_rest) + length (without_number id newer_rest) < length older_left + length newer_left
   run_shorter = by_side least.among are
     where
-      no_longer : (ids : List ℕ) → length (without_first id ids) ≤ length ids
+      no_longer : (ids : List ℕ) → length (without_number id ids) ≤ length ids
       no_longer [] = omega arith
       no_longer (other ∷ ids) =
           elim (cases_Bool (eqb other id)) [
@@ -342,18 +342,18 @@ module _ (trigram : ℕ) (before now laid : Laid) (older newer older_left newer_
             | inr differs ↦ let e = ap (λ b. length (cond b ids (other ∷ ids))) differs in omega (arith, e)
           ]
 
-      shorter : (ids : List ℕ) → slice_get ids 0 ≡ Some id → length (without_first id ids) < length ids
+      shorter : (ids : List ℕ) → slice_get ids 0 ≡ Some id → length (without_number id ids) < length ids
       shorter [] there = cc
       shorter (other ∷ ids) there = let e = ap (λ b. length (cond b ids (other ∷ ids))) (eq-eqb other id (same_Some other id there)) in omega (arith, e)
 
-      behind : (ids rest : List ℕ) → without_first id ids ≡ moved (id + 1) run ++ without_first id rest → length (without_first id rest) ≤ length (without_first id ids)
-      behind ids rest is = let long = ap length is in let both = length-append (moved (id + 1) run) (without_first id rest) in omega (arith, long, both)
+      behind : (ids rest : List ℕ) → without_number id ids ≡ moved (id + 1) run ++ without_number id rest → length (without_number id rest) ≤ length (without_number id ids)
+      behind ids rest is = let long = ap length is in let both = length-append (moved (id + 1) run) (without_number id rest) in omega (arith, long, both)
 
-      by_side : (slice_get older_left 0 ≡ Some id) ⊎ (slice_get newer_left 0 ≡ Some id) → AreRun id run older_left newer_left older_rest newer_rest → length (without_first id older_rest) + length (without_first id newer_rest) < length older_left + length newer_left
-      by_side (inl there) (of_older r same) = let a = shorter older_left there in let b = behind older_left older_rest r.ids_are in let d = no_longer newer_left in let e = ap (λ ids. length (without_first id ids)) same in omega (arith, a, b, d, e)
-      by_side (inl there) (of_newer r same) = let a = shorter older_left there in let b = behind newer_left newer_rest r.ids_are in let d = no_longer newer_left in let e = ap (λ ids. length (without_first id ids)) same in omega (arith, a, b, d, e)
-      by_side (inr there) (of_older r same) = let a = shorter newer_left there in let b = behind older_left older_rest r.ids_are in let d = no_longer older_left in let e = ap (λ ids. length (without_first id ids)) same in omega (arith, a, b, d, e)
-      by_side (inr there) (of_newer r same) = let a = shorter newer_left there in let b = behind newer_left newer_rest r.ids_are in let d = no_longer older_left in let e = ap (λ ids. length (without_first id ids)) same in omega (arith, a, b, d, e)
+      by_side : (slice_get older_left 0 ≡ Some id) ⊎ (slice_get newer_left 0 ≡ Some id) → IsStretchOfOne id run older_left newer_left older_rest newer_rest → length (without_number id older_rest) + length (without_number id newer_rest) < length older_left + length newer_left
+      by_side (inl there) (of_older r same) = let a = shorter older_left there in let b = behind older_left older_rest r.ids_are in let d = no_longer newer_left in let e = ap (λ ids. length (without_number id ids)) same in omega (arith, a, b, d, e)
+      by_side (inl there) (of_newer r same) = let a = shorter older_left there in let b = behind newer_left newer_rest r.ids_are in let d = no_longer newer_left in let e = ap (λ ids. length (without_number id ids)) same in omega (arith, a, b, d, e)
+      by_side (inr there) (of_older r same) = let a = shorter newer_left there in let b = behind older_left older_rest r.ids_are in let d = no_longer older_left in let e = ap (λ ids. length (without_number id ids)) same in omega (arith, a, b, d, e)
+      by_side (inr there) (of_newer r same) = let a = shorter newer_left there in let b = behind newer_left newer_rest r.ids_are in let d = no_longer older_left in let e = ap (λ ids. length (without_number id ids)) same in omega (arith, a, b, d, e)
 
   pub run_begun : (after : Laid) → after ≡ with_last_ids laid (moved (next_after 0 (last_ids laid)) run) → after.begun ≡ Some trigram
   run_begun after e =

@@ -12,7 +12,7 @@ use Rattle.cs_index.specs.Opening.{Parts, are_whole, ids_read, is_entry, lists_i
 use Rattle.cs_index.specs.Parts.{AreParts}
 use Rattle.cs_index.specs.PostingLists.{Ids, set_at}
 use Rattle.cs_index.specs.Rising.{RiseWithin}
-use Rattle.cs_merge.specs.SideBySide.{list_ids, lower_of, no_ids, place_after, trigram_of}
+use Rattle.cs_merge.specs.SideBySide.{list_ids, lower_of, no_ids, place_after, list_trigram}
 use Rattle.cs_merge.proofs.ReadLemmas.{list_rises, lists_push, one_damaged, read_posting, set_push, whole_push}
 use Rattle.cs_merge.proofs.ReadyLemmas.{none_read}
 
@@ -137,7 +137,7 @@ module _ (parts : Parts) (place trigram : ℕ) where
       by_taking (takes entry there same ids after) = let less = slice_get_within parts.entries place entry there in (omega (arith, after), omega (arith, after, less))
       by_taking (stays ids after differs) = (omega (arith, after), omega (arith, after, within))
 
-  pub moves : trigram_of parts place ≡ Some trigram → place_after parts place trigram ≡ place + 1
+  pub moves : list_trigram parts place ≡ Some trigram → place_after parts place trigram ≡ place + 1
   moves e = by_taking taking
     where
       by_taking : Taking → place_after parts place trigram ≡ place + 1
@@ -153,7 +153,7 @@ module _ (parts : Parts) (place trigram : ℕ) where
 
 -- ---- the lower one of two trigrams
 
-pub entry_trigram : (parts : Parts) (place : ℕ) (entry : ListEntry) → slice_get parts.entries place ≡ Some entry → trigram_of parts place ≡ Some entry.trigram
+pub entry_trigram : (parts : Parts) (place : ℕ) (entry : ListEntry) → slice_get parts.entries place ≡ Some entry → list_trigram parts place ≡ Some entry.trigram
 entry_trigram parts place entry there = ap (option_map (λ (d : ListEntry). d.trigram)) there
 
 -- The number is the lower one of both, which may be missing.

@@ -13,7 +13,7 @@ use Rattle.cs_tree.specs.NameOrder.{are_ascending}
 use Rattle.cs_index.specs.Opening.{Parts}
 use Rattle.cs_index.specs.Order.{Named, id_in as id_of, name_in, with_ids, IsOrder}
 use Rattle.cs_index.specs.Parts.{AreParts}
-use Rattle.cs_merge.specs.Ranked.{Ranked, id_at, id_in, names_by, names_in, IsRanked}
+use Rattle.cs_merge.specs.Ranked.{Ranked, id_at, id_at_place, names_by, names_in, IsRanked}
 use Rattle.cs_merge.specs.Renumbering.{NewIds, AreByRank, AreNamed, AreRenumbered, ArePut, IsOfOne, new, kept, IsOrdering, IsPlaced}
 use Rattle.cs_merge.proofs.RenumberingLemmas.{ascends_at, never_below}
 
@@ -173,7 +173,7 @@ module _ (parts : Parts) (are : AreParts parts) where
 
 -- ---- what an index in the order of its names has
 
-id_there : (order : Option (List ℕ)) (names : List (List ℕ)) (place : ℕ) (name : List ℕ) → slice_get (names_in order names) place ≡ Some name → (id : ℕ) × (id_in order place ≡ Some id)
+id_there : (order : Option (List ℕ)) (names : List (List ℕ)) (place : ℕ) (name : List ℕ) → slice_get (names_in order names) place ≡ Some name → (id : ℕ) × (id_at_place order place ≡ Some id)
 id_there None names place name there = (place, refl)
 id_there (Some ids) names place name there = by_item (slice_get ids place) refl
   where

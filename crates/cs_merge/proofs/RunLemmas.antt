@@ -5,8 +5,8 @@ use Rattle.std.specs.List.{cons_option, AllByRecursion}
 use Rattle.std.specs.Prelude.{option_map}
 use Rattle.cs_index.specs.PostingLists.{Ids}
 use Rattle.cs_index.specs.Rising.{moved}
-use Rattle.cs_merge.specs.Renumbering.{NewIds, new_id, renumbered, AreEnds, MoveTogether}
-use Rattle.cs_merge.specs.SideBySide.{without_first, IsCarried, IsRun}
+use Rattle.cs_merge.specs.Renumbering.{NewIds, new_id, renumbered, AreEndsOfMoves, MoveTogether}
+use Rattle.cs_merge.specs.SideBySide.{without_number, IsCarried, IsStretchOf}
 use Rattle.cs_merge.proofs.RenumberingLemmas.{get_push}
 
 -- ---- new ids that are further on
@@ -45,8 +45,8 @@ module _ (new_ids : NewIds) where
       ∙ sym (further (id + 1 - id) (other - (id + 1)) (other - id) (new_id new_ids id) (omega (arith, from)))
       ∙ sym (ap (option_map (λ new. new + (other - (id + 1)))) next)
 
-  pub ends_push : (ends : List ℕ) (id end : ℕ) → length ends ≡ id → AreEnds new_ids ends → MoveTogether new_ids id end →
-      AreEnds new_ids (ends ++ end ∷ [])
+  pub ends_push : (ends : List ℕ) (id end : ℕ) → length ends ≡ id → AreEndsOfMoves new_ids ends → MoveTogether new_ids id end →
+      AreEndsOfMoves new_ids (ends ++ end ∷ [])
   ends_push ends id end long are together place found there =
       elim (get_push ends end found place there) [
         | inl before ↦ are place found before
@@ -103,17 +103,17 @@ module _ (new_ids : NewIds) (first : Option ℕ) (last id : ℕ) (rest : Ids) (i
 
   pub is_run : (limit : Option ℕ) (end most : ℕ) (run left : List ℕ) → rest.ids ≡ moved (last + 1) run ++ left → MoveTogether new_ids last end →
       AllByRecursion (λ other. last + 1 + other < min end most) run → ((least : ℕ) → limit ≡ Some least → most ≤ last + (least - id)) →
-      IsRun id limit run (cons_option first (renumbered new_ids rest.ids)) (cons_option first (renumbered new_ids left))
+      IsStretchOf id limit run (cons_option first (renumbered new_ids rest.ids)) (cons_option first (renumbered new_ids left))
   is_run limit end most run left ids together all short =
       record {
         ids_are =
-            ap (λ o. without_first id (cons_option o (renumbered new_ids rest.ids))) has_first
+            ap (λ o. without_number id (cons_option o (renumbered new_ids rest.ids))) has_first
             ∙ ap (λ b. cond b (renumbered new_ids rest.ids) (id ∷ renumbered new_ids rest.ids)) (eq-eqb id id refl)
             ∙ ap (renumbered new_ids) ids
             ∙ renumbered_run new_ids last end id run left (is.first_is id has_first) together
             (all_weaker (λ other. last + 1 + other < min end most) (λ other. last + 1 + other < end) (λ n h. omega (arith, h)) run all)
             ∙ ap (λ ids. moved (id + 1) run ++ ids)
             (sym (ap (λ b. cond b (renumbered new_ids left) (id ∷ renumbered new_ids left)) (eq-eqb id id refl))
-            ∙ sym (ap (λ o. without_first id (cons_option o (renumbered new_ids left))) has_first));
+            ∙ sym (ap (λ o. without_number id (cons_option o (renumbered new_ids left))) has_first));
         below = λ least e. let h = short least e in all_weaker (λ other. last + 1 + other < min end most) (λ other. id + 1 + other < least) (λ n g. omega (arith, g, h)) run all;
       }

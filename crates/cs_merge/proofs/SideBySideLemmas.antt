@@ -16,7 +16,7 @@ use Rattle.cs_index.specs.Rising.{RiseWithin}
 use Rattle.cs_index.specs.declared.fault.IndexFault.{IndexFault}
 use Rattle.cs_merge.specs.Joinable.{both_whole}
 use Rattle.cs_merge.specs.Renumbering.{NewIds, renumbered, KeepsOrder, StayBelow, AreCarried, AreRenumberings}
-use Rattle.cs_merge.specs.SideBySide.{list_ids, lower_of, place_after, trigram_of, AreListed, IsGiven}
+use Rattle.cs_merge.specs.SideBySide.{list_ids, lower_of, place_after, list_trigram, AreListed, IsGiven}
 use Rattle.cs_merge.proofs.CarryingLemmas.{all_below_more, newer_carried, older_carried}
 use Rattle.cs_merge.proofs.PlaceLemmas.{closing_has_none, damage_found, entry_trigram, ids_rise, is_lower, moves, moves_within, next_above, sets_grow, whole_so_far}
 use Rattle.cs_merge.proofs.RenumberingLemmas.{rise_renumbered}
@@ -59,11 +59,11 @@ carried_rise parts place trigram count new_ids order below =
     rise_renumbered new_ids count (length parts.names) 0 0 (list_ids parts place trigram).ids order below (ids_rise parts place trigram) (λ id new h e. omega arith)
 
 module _ (older newer : Parts) (older_ids newer_ids : NewIds) (before now : Laid) (a b : ℕ) (state : AreListed older newer older_ids newer_ids before now a b) where
-  module _ (older_are : AreParts older) (newer_are : AreParts newer) (trigram : ℕ) (next : lower_of (trigram_of older a) (trigram_of newer b) ≡ Some trigram) where
+  module _ (older_are : AreParts older) (newer_are : AreParts newer) (trigram : ℕ) (next : lower_of (list_trigram older a) (list_trigram newer b) ≡ Some trigram) where
     pub list_above : AllBelow now.lists trigram
-    list_above = by_side (is_lower (trigram_of older a) (trigram_of newer b) trigram next).one
+    list_above = by_side (is_lower (list_trigram older a) (list_trigram newer b) trigram next).one
       where
-        of_entry : (parts : Parts) (place : ℕ) → ((entry : ListEntry) → slice_get parts.entries place ≡ Some entry → AllBelow now.lists entry.trigram) → trigram_of parts place ≡ Some trigram → AllBelow now.lists trigram
+        of_entry : (parts : Parts) (place : ℕ) → ((entry : ListEntry) → slice_get parts.entries place ≡ Some entry → AllBelow now.lists entry.trigram) → list_trigram parts place ≡ Some trigram → AllBelow now.lists trigram
         of_entry parts place left e = by_entry (slice_get parts.entries place) refl
           where
             by_entry : (o : Option ListEntry) → slice_get parts.entries place ≡ o → AllBelow now.lists trigram
@@ -73,7 +73,7 @@ module _ (older newer : Parts) (older_ids newer_ids : NewIds) (before now : Laid
                 none h = cc
             by_entry (Some entry) f = subst (AllBelow now.lists) (same_Some entry.trigram trigram (sym (ap (option_map (λ (d : ListEntry). d.trigram)) f) ∙ e)) (left entry f)
 
-        by_side : (trigram_of older a ≡ Some trigram) ⊎ (trigram_of newer b ≡ Some trigram) → AllBelow now.lists trigram
+        by_side : (list_trigram older a ≡ Some trigram) ⊎ (list_trigram newer b ≡ Some trigram) → AllBelow now.lists trigram
         by_side (inl e) = of_entry older a state.older_left e
         by_side (inr e) = of_entry newer b state.newer_left e
 
@@ -85,10 +85,10 @@ module _ (older newer : Parts) (older_ids newer_ids : NewIds) (before now : Laid
         ]
 
     older_least : (entry : ListEntry) → slice_get older.entries a ≡ Some entry → trigram ≤ entry.trigram
-    older_least entry there = (is_lower (trigram_of older a) (trigram_of newer b) trigram next).some_from entry.trigram (entry_trigram older a entry there)
+    older_least entry there = (is_lower (list_trigram older a) (list_trigram newer b) trigram next).some_from entry.trigram (entry_trigram older a entry there)
 
     newer_least : (entry : ListEntry) → slice_get newer.entries b ≡ Some entry → trigram ≤ entry.trigram
-    newer_least entry there = (is_lower (trigram_of older a) (trigram_of newer b) trigram next).other_from entry.trigram (entry_trigram newer b entry there)
+    newer_least entry there = (is_lower (list_trigram older a) (list_trigram newer b) trigram next).other_from entry.trigram (entry_trigram newer b entry there)
 
     -- the places move on, and at least one of them does
     pub places_move : (a + b < place_after older a trigram + place_after newer b trigram) × (place_after older a trigram ≤ length older.entries) × (place_after newer b trigram ≤ length newer.entries)
@@ -97,7 +97,7 @@ module _ (older newer : Parts) (older_ids newer_ids : NewIds) (before now : Laid
         let second = moves_within newer b trigram state.newer_within in
         let up = first.0 in
         let up' = second.0 in (
-          elim (is_lower (trigram_of older a) (trigram_of newer b) trigram next).one [
+          elim (is_lower (list_trigram older a) (list_trigram newer b) trigram next).one [
             | inl e ↦ let on = moves older a trigram e in omega (arith, on, up')
             | inr e ↦ let on = moves newer b trigram e in omega (arith, on, up)
           ],
@@ -131,7 +131,7 @@ module _ (older newer : Parts) (older_ids newer_ids : NewIds) (before now : Laid
 
   -- ---- the end
 
-  past : (parts : Parts) (place : ℕ) → trigram_of parts place ≡ None → length parts.entries ≤ place
+  past : (parts : Parts) (place : ℕ) → list_trigram parts place ≡ None → length parts.entries ≤ place
   past parts place e =
       elim (cases_lt place (length parts.entries)) [
         | inl within ↦
@@ -152,12 +152,12 @@ module _ (older newer : Parts) (older_ids newer_ids : NewIds) (before now : Laid
       by_test true f = cc
       by_test false f = cc
 
-  module _ (ends : lower_of (trigram_of older a) (trigram_of newer b) ≡ None) where
+  module _ (ends : lower_of (list_trigram older a) (list_trigram newer b) ≡ None) where
     older_past : a ≡ length older.entries
-    older_past = let from = past older a (both_none (trigram_of older a) (trigram_of newer b) ends).0 in let within = state.older_within in omega (arith, from, within)
+    older_past = let from = past older a (both_none (list_trigram older a) (list_trigram newer b) ends).0 in let within = state.older_within in omega (arith, from, within)
 
     newer_past : b ≡ length newer.entries
-    newer_past = let from = past newer b (both_none (trigram_of older a) (trigram_of newer b) ends).1 in let within = state.newer_within in omega (arith, from, within)
+    newer_past = let from = past newer b (both_none (list_trigram older a) (list_trigram newer b) ends).1 in let within = state.newer_within in omega (arith, from, within)
 
     all_lists : (parts : Parts) (place : ℕ) → place ≡ length parts.entries → ◌≡◌ {A = List Posting} (take place (lists_in parts)) (lists_in parts)
     all_lists parts place e =

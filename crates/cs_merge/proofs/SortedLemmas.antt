@@ -10,7 +10,7 @@ use Rattle.cs_trigram.specs.Trigram.{has}
 use Rattle.cs_index.specs.Laid.{Laid, with_list}
 use Rattle.cs_index.specs.Rising.{RiseWithin}
 use Rattle.cs_merge.specs.Renumbering.{NewIds, new_id, renumbered, AreApart, IsOneToOne, StayBelow}
-use Rattle.cs_merge.specs.SideBySide.{lower_of, without_first, AreIds, IsGiven, StandOnce}
+use Rattle.cs_merge.specs.SideBySide.{lower_of, without_number, AreIds, IsGiven, StandOnce}
 use Rattle.cs_merge.proofs.ListingLemmas.{has_both}
 use Rattle.cs_merge.proofs.RenumberingLemmas.{has_no_renumbered, has_renumbered, renumbered_from}
 
@@ -170,9 +170,9 @@ nothing_given trigram laid ids e = record {
 pub first_left : (ids : List ℕ) (place : ℕ) → place < length ids → lower_of (slice_get (drop place ids) 0) None ≡ Some (get_or ids place 0)
 first_left ids place h = ap (λ ns. lower_of (slice_get ns 0) None) (drop_more ids place 0 h)
 
-pub rest_left : (ids : List ℕ) (place : ℕ) → place < length ids → without_first (get_or ids place 0) (drop place ids) ≡ drop (place + 1) ids
+pub rest_left : (ids : List ℕ) (place : ℕ) → place < length ids → without_number (get_or ids place 0) (drop place ids) ≡ drop (place + 1) ids
 rest_left ids place h =
-    ap (without_first (get_or ids place 0)) (drop_more ids place 0 h)
+    ap (without_number (get_or ids place 0)) (drop_more ids place 0 h)
     ∙ ap (λ b. cond b (drop (place + 1) ids) (get_or ids place 0 ∷ drop (place + 1) ids)) (eq-eqb (get_or ids place 0) (get_or ids place 0) refl)
 
 -- ids that were put in order are those of both

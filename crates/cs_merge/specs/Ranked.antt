@@ -11,12 +11,12 @@ pub record Ranked : Type 0 where
   pub order : Option (List ℕ)
 
 -- the id at a place of an order
-abbrev pub id_in : Option (List ℕ) → ℕ → Option ℕ
-id_in None place = Some place
-id_in (Some ids) place = slice_get ids place
+abbrev pub id_at_place : Option (List ℕ) → ℕ → Option ℕ
+id_at_place None place = Some place
+id_at_place (Some ids) place = slice_get ids place
 
 abbrev pub id_at : Ranked → ℕ → Option ℕ
-id_at ranked place = id_in ranked.order place
+id_at ranked place = id_at_place ranked.order place
 
 -- names in an order
 abbrev pub names_in : Option (List ℕ) → List (List ℕ) → List (List ℕ)

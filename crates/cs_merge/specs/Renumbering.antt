@@ -50,12 +50,12 @@ MoveTogether new_ids id end = (other : ℕ) → id ≤ other → other < end →
     new_id new_ids other ≡ option_map (λ new. new + (other - id)) (new_id new_ids id)
 
 -- at each id stands one up to which those from it on move together
-abbrev pub AreEnds : NewIds → List ℕ → Type 0
-AreEnds new_ids ends = (id end : ℕ) → slice_get ends id ≡ Some end → MoveTogether new_ids id end
+abbrev pub AreEndsOfMoves : NewIds → List ℕ → Type 0
+AreEndsOfMoves new_ids ends = (id end : ℕ) → slice_get ends id ≡ Some end → MoveTogether new_ids id end
 
 -- Where ids end that move together, and that ids keep their order, if they are said to.
-pub record AreRuns (new_ids : NewIds) (ends : List ℕ) (keep_order : Bool) : Type 0 where
-  pub ends_are : AreEnds new_ids ends
+pub record AreKnownMoves (new_ids : NewIds) (ends : List ℕ) (keep_order : Bool) : Type 0 where
+  pub ends_are : AreEndsOfMoves new_ids ends
   pub order : keep_order ≡ true → KeepsOrder new_ids
 
 -- What lists of ids are renumbered by.

@@ -18,13 +18,13 @@ lower_of (Some one) None = Some one
 lower_of (Some one) (Some other) = if nat_lt other one then Some other else Some one
 
 -- numbers without the first one, where that is this number
-abbrev pub without_first : ℕ → List ℕ → List ℕ
-without_first number [] = []
-without_first number (one ∷ rest) = if nat_eq one number then rest else one ∷ rest
+abbrev pub without_number : ℕ → List ℕ → List ℕ
+without_number number [] = []
+without_number number (one ∷ rest) = if nat_eq one number then rest else one ∷ rest
 
 -- what is left of ids that are read
 abbrev pub ids_after : ℕ → Ids → Ids
-ids_after id read = record { ids = without_first id read.ids; whole = read.whole }
+ids_after id read = record { ids = without_number id read.ids; whole = read.whole }
 
 -- no ids, and no damage
 abbrev pub no_ids : Ids
@@ -40,20 +40,20 @@ pub record IsCarried (new_ids : NewIds) (first : Option ℕ) (last : ℕ) (rest 
   pub end : first ≡ None → (rest.ids ≡ []) × (rest.whole ≡ true)
 
 -- Ids that follow an id, counted from it, are the first of some behind it, and below a limit if there is one.
-pub record IsRun (id : ℕ) (limit : Option ℕ) (run ids rest : List ℕ) : Type 0 where
-  pub ids_are : without_first id ids ≡ moved (id + 1) run ++ without_first id rest
+pub record IsStretchOf (id : ℕ) (limit : Option ℕ) (run ids rest : List ℕ) : Type 0 where
+  pub ids_are : without_number id ids ≡ moved (id + 1) run ++ without_number id rest
   pub below : (most : ℕ) → limit ≡ Some most → AllByRecursion (λ other. id + 1 + other < most) run
 
--- A run of one of both: of the one that has the id, up to the first id of the other.
-pub data AreRun (id : ℕ) (run older newer older_left newer_left : List ℕ) : Type 0 where
-  of_older : IsRun id (slice_get newer 0) run older older_left → newer_left ≡ newer →
-      AreRun id run older newer older_left newer_left
-  of_newer : IsRun id (slice_get older 0) run newer newer_left → older_left ≡ older →
-      AreRun id run older newer older_left newer_left
+-- A stretch of one of both: of the one that has the id, up to the first id of the other.
+pub data IsStretchOfOne (id : ℕ) (run older newer older_left newer_left : List ℕ) : Type 0 where
+  of_older : IsStretchOf id (slice_get newer 0) run older older_left → newer_left ≡ newer →
+      IsStretchOfOne id run older newer older_left newer_left
+  of_newer : IsStretchOf id (slice_get older 0) run newer newer_left → older_left ≡ older →
+      IsStretchOfOne id run older newer older_left newer_left
 
 -- the trigram of the list at a place
-abbrev pub trigram_of : Parts → ℕ → Option ℕ
-trigram_of parts place = option_map (λ (e : ListEntry). e.trigram) (slice_get parts.entries place)
+abbrev pub list_trigram : Parts → ℕ → Option ℕ
+list_trigram parts place = option_map (λ (e : ListEntry). e.trigram) (slice_get parts.entries place)
 
 -- the ids of the list at a place, where it is that of the trigram
 abbrev pub list_ids : Parts → ℕ → ℕ → Ids

@@ -3,7 +3,7 @@ ghost use Rattle.std.specs.Prelude.{◌≡◌, ◌+◌, ◌<◌, ◌++◌, [], t
 ghost use Rattle.std.specs.List.{cons_option, AllByRecursion};
 ghost use Rattle.cs_index.specs.Rising.{moved};
 ghost use Rattle.cs_merge.specs.Renumbering.{new_id as new_id', renumbered, renumbered_ids};
-ghost use Rattle.cs_merge.specs.SideBySide.{ids_after, new_of, no_ids, IsRun};
+ghost use Rattle.cs_merge.specs.SideBySide.{ids_after, new_of, no_ids, IsStretchOf};
 
 use crate::runs::Runs;
 use cs_index::{IndexFault, Postings, Stretch};
@@ -76,7 +76,7 @@ impl<'a, 'b> Carried<'a, 'b> {
     /// count from the first.
     pub(crate) fn run(&mut self, id: u32, limit: Option<u32>) -> Stretch<'a>
         requires { slice_get self.old.ids 0 ≡ Some id }
-        ensures run { IsRun id limit result self.old.ids self.new.ids }
+        ensures run { IsStretchOf id limit result self.old.ids self.new.ids }
         ensures whole { self.new.whole ≡ self.old.whole }
     {
         let end = self.runs.end(self.last);

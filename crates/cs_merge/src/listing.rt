@@ -8,7 +8,7 @@ ghost use Rattle.cs_index.specs.Opening.{lists_in};
 ghost use Rattle.cs_index.specs.Parts.{AreParts};
 ghost use Rattle.cs_merge.specs.Joinable.{both_whole};
 ghost use Rattle.cs_merge.specs.Renumbering.{renumbered_ids, AreCarried, AreRenumberings, KeepsOrder};
-ghost use Rattle.cs_merge.specs.SideBySide.{list_ids, lower_of, place_after, trigram_of, AreIds, AreRun, IsGiven};
+ghost use Rattle.cs_merge.specs.SideBySide.{list_ids, lower_of, place_after, list_trigram, AreIds, IsStretchOfOne, IsGiven};
 
 use crate::carrying::Carried;
 use crate::renumbering::Renumberings;
@@ -88,7 +88,7 @@ fn keep_order(older_runs: &Runs<'_>, newer_runs: &Runs<'_>) -> bool
 
 /// The trigram of the list at a place.
 fn trigram_at(index: &Index<'_>, place: u32) -> Option<u32>
-    ensures { result ≡ trigram_of index.now place }
+    ensures { result ≡ list_trigram index.now place }
 {
     match index.list_at(place) {
         Some((trigram, _ids)) => Some(trigram),
@@ -239,7 +239,7 @@ fn lay_list<'a>(
 /// Passes ids behind the lowest one of both that move with it.
 fn take_run<'a>(older: &mut Carried<'a, '_>, newer: &mut Carried<'a, '_>, id: u32) -> Stretch<'a>
     requires { lower_of (slice_get older.old.ids 0) (slice_get newer.old.ids 0) ≡ Some id }
-    ensures run { AreRun id result older.old.ids newer.old.ids older.new.ids newer.new.ids }
+    ensures run { IsStretchOfOne id result older.old.ids newer.old.ids older.new.ids newer.new.ids }
     ensures older_whole { older.new.whole ≡ older.old.whole }
     ensures newer_whole { newer.new.whole ≡ newer.old.whole }
 {

@@ -15,13 +15,13 @@ pub(crate) struct Runs<'a> {
 }
 
 impl<'a> Model for Runs<'a> {
-    ghost use Rattle.cs_merge.specs.Renumbering.{NewIds, AreRuns};
+    ghost use Rattle.cs_merge.specs.Renumbering.{NewIds, AreKnownMoves};
 
     ghost Value = { NewIds };
 
     ghost view = { λ s. s.new_ids.now };
 
-    ghost invariant = { λ s. AreRuns s.new_ids.now s.ends.items s.keep_order };
+    ghost invariant = { λ s. AreKnownMoves s.new_ids.now s.ends.items s.keep_order };
 }
 
 impl<'a> Runs<'a> {

@@ -4,7 +4,7 @@ use Rattle.std.proofs.lemmas.Result.{err_from_is_err_and}
 use Rattle.cs_index.specs.PostingLists.{Ids}
 use Rattle.cs_index.specs.Rising.{RiseWithin}
 use Rattle.cs_merge.specs.Renumbering.{renumbered, AreRenumberings}
-use Rattle.cs_merge.specs.SideBySide.{list_ids, lower_of, place_after, trigram_of, AreIds, AreListed}
+use Rattle.cs_merge.specs.SideBySide.{list_ids, lower_of, place_after, list_trigram, AreIds, AreListed}
 use Rattle.cs_merge.proofs.ListingLemmas.{no_more}
 use Rattle.cs_merge.proofs.PlaceLemmas.{damage_found, ids_rise}
 use Rattle.cs_merge.proofs.SortedLemmas.{new_ids_of_both}
@@ -42,7 +42,7 @@ lay_ids-requires-clause-ids c =
 
 pub lay_ids-requires-clause-below : goal.lay_ids-requires-clause-below
 lay_ids-requires-clause-below c =
-    let next : lower_of (trigram_of c.args.old.now c.lists.older_place) (trigram_of c.args.newer.now c.lists.newer_place) ≡ Some c.in-Some.trigram = (λ i. lower_of (sym c.trigram_at.ensures i) (sym c.trigram_at-in-lists.ensures i)) ∙ sym c.lower.ensures ∙ c.in-Some.is in
+    let next : lower_of (list_trigram c.args.old.now c.lists.older_place) (list_trigram c.args.newer.now c.lists.newer_place) ≡ Some c.in-Some.trigram = (λ i. lower_of (sym c.trigram_at.ensures i) (sym c.trigram_at-in-lists.ensures i)) ∙ sym c.lower.ensures ∙ c.in-Some.is in
     elim (list_fits c.args.old.now c.args.newer.now c.args.older_runs.now c.args.newer_runs.now c.args.sections.now c.lists.sections c.lists.older_place c.lists.newer_place c.lists.invariant c.requires.old_parts c.requires.newer_parts c.in-Some.trigram next) [
       | inl below ↦ inl below
       | inr none ↦ inr (ap (λ (r : Ids). r.ids) c.in_ok-older.ensures.ids ∙ none.0, ap (λ (r : Ids). r.ids) c.in_ok-later.ensures.ids ∙ none.1)
@@ -50,7 +50,7 @@ lay_ids-requires-clause-below c =
 
 pub lists-smaller : goal.lists-smaller
 lists-smaller c =
-    let next : lower_of (trigram_of c.args.old.now c.lists.older_place) (trigram_of c.args.newer.now c.lists.newer_place) ≡ Some c.in-Some.trigram = (λ i. lower_of (sym c.trigram_at.ensures i) (sym c.trigram_at-in-lists.ensures i)) ∙ sym c.lower.ensures ∙ c.in-Some.is in
+    let next : lower_of (list_trigram c.args.old.now c.lists.older_place) (list_trigram c.args.newer.now c.lists.newer_place) ≡ Some c.in-Some.trigram = (λ i. lower_of (sym c.trigram_at.ensures i) (sym c.trigram_at-in-lists.ensures i)) ∙ sym c.lower.ensures ∙ c.in-Some.is in
     let on = places_move c.args.old.now c.args.newer.now c.args.older_runs.now c.args.newer_runs.now c.args.sections.now c.lists.sections c.lists.older_place c.lists.newer_place c.lists.invariant c.requires.old_parts c.requires.newer_parts c.in-Some.trigram next in
     let more = on.0 in
     let first = on.1 in
@@ -61,7 +61,7 @@ lists-smaller c =
 
 pub lists-preserved : goal.lists-preserved
 lists-preserved c =
-    let next : lower_of (trigram_of c.args.old.now c.lists.older_place) (trigram_of c.args.newer.now c.lists.newer_place) ≡ Some c.in-Some.trigram = (λ i. lower_of (sym c.trigram_at.ensures i) (sym c.trigram_at-in-lists.ensures i)) ∙ sym c.lower.ensures ∙ c.in-Some.is in
+    let next : lower_of (list_trigram c.args.old.now c.lists.older_place) (list_trigram c.args.newer.now c.lists.newer_place) ≡ Some c.in-Some.trigram = (λ i. lower_of (sym c.trigram_at.ensures i) (sym c.trigram_at-in-lists.ensures i)) ∙ sym c.lower.ensures ∙ c.in-Some.is in
     let whole = and_parts c.in_ok-older.older.whole c.in_ok-later.later.whole c.in_ok-lay_ids.ensures.fault in
     let more = listed_more c.args.old.now c.args.newer.now c.args.older_runs.now c.args.newer_runs.now c.args.sections.now c.lists.sections c.lists.older_place c.lists.newer_place c.lists.invariant c.requires.old_parts c.requires.newer_parts c.in-Some.trigram next (length c.args.sections.now.names) c.lay_ids.new.sections c.in_ok-older.older.ids c.in_ok-later.later.ids c.requires.ids (ap (λ (r : Ids). r.ids) c.in_ok-older.ensures.ids) (ap (λ (r : Ids). r.ids) c.in_ok-later.ensures.ids) (sym (ap (λ (r : Ids). r.whole) c.in_ok-older.ensures.ids) ∙ whole.0) (sym (ap (λ (r : Ids). r.whole) c.in_ok-later.ensures.ids) ∙ whole.1) c.in_ok-lay_ids.ensures.ok in
     subst (λ n. AreListed c.args.old.now c.args.newer.now c.args.older_runs.now c.args.newer_runs.now c.args.sections.now c.lay_ids.new.sections n c.take_list-in-Some.new.place) (sym c.in_ok-older.ensures.place)

@@ -1,6 +1,6 @@
 use Rattle.std.proofs.Common.{length, sym, ap, subst, arith}
 use Rattle.std.proofs.lemmas.List.{length_push}
-use Rattle.cs_merge.specs.Renumbering.{AreEnds, MoveTogether}
+use Rattle.cs_merge.specs.Renumbering.{AreEndsOfMoves, MoveTogether}
 use Rattle.cs_merge.proofs.RunLemmas.{ends_push, together_rest}
 use Rattle.cs_merge.proofs.runs.Runs.new.Goals as goal
 use Rattle.cs_merge.proofs.runs.Runs.new.Goals.{then-id-end, else-id-end}
@@ -16,6 +16,6 @@ ids-preserved c =
     let all = ap length c.in_ok-push.ensures.items in
     record {
       long = omega (arith, long, all, c.ids.invariant.long);
-      are = subst (AreEnds ids) (sym c.in_ok-push.ensures.items) (ends_push ids c.ids.ends.items c.ids.id c.if-id-end.end c.ids.invariant.long c.ids.invariant.are now);
+      are = subst (AreEndsOfMoves ids) (sym c.in_ok-push.ensures.items) (ends_push ids c.ids.ends.items c.ids.id c.if-id-end.end c.ids.invariant.long c.ids.invariant.are now);
       together = together_rest ids c.ids.id c.if-id-end.end now;
     }

@@ -11,7 +11,7 @@ use Rattle.cs_match.specs.Chains.{row_after, first_noisy, IsQuiet, AreBytes, Abs
 use Rattle.cs_match.proofs.LinesLemmas.{ended_lines-part, ended_lines-line, IsPart-append}
 use Rattle.cs_match.proofs.WholeLemmas.{whole_between, none_between, whole_line, ended_line}
 
-abbrev IsByte : ℕ → Type 0
+abbrev pub IsByte : ℕ → Type 0
 IsByte b = b < 256
 
 -- a front and then the rest
@@ -64,7 +64,7 @@ module _ (cells : List ℕ) (fits : (at : ℕ) → at < 65536 → get_or cells a
       let up : first_noisy ≤ bit_or row b = omega (arith, le_or_l row b) in
       stays_noisy (get_or cells (bit_or row b) 0) text (absorbs (bit_or row b) up at) (fits (bit_or row b) at) (All-tail IsByte b text bytes)
 
-  small_row : (row : ℕ) (text : List ℕ) → row < 65536 → AreBytes text → row_after cells row text < 65536
+  pub small_row : (row : ℕ) (text : List ℕ) → row < 65536 → AreBytes text → row_after cells row text < 65536
   unfolding row_after
   small_row row [] low bytes = low
   small_row row (b ∷ text) low bytes =

@@ -1,5 +1,5 @@
 -- Where a run over a line by the cells of a table is quiet, nothing is found in the line.
-use Rattle.std.proofs.Common.{◌≡◌, ℕ, zero, suc, ◌+◌, ◌-◌, ◌/◌, ◌<◌, ◌≤◌, Bool, true, false, List, [], ◌∷◌, ◌++◌, take, length, get_or, refl, sym, ap, subst, ◌∙◌, arith, inl, inr}
+use Rattle.std.proofs.Common.{◌≡◌, ℕ, zero, suc, ◌+◌, ◌-◌, ◌*◌, ◌/◌, ◌%◌, ◌<◌, ◌≤◌, ◌⊎◌, Bool, true, false, List, [], ◌∷◌, ◌++◌, take, length, get_or, refl, sym, ap, subst, ◌∙◌, arith, inl, inr}
 use Rattle.std.specs.Prelude.{IsTrue, ◌↔◌, bit_or, slice_index, ◌≢◌}
 use Rattle.std.proofs.lemmas.Bool.{both_ways, cases_lt, eqb-false}
 use Rattle.std.proofs.lemmas.List.Elements.{All-nil, All-cons, All-head, All-tail, All-append}
@@ -11,7 +11,8 @@ use Rattle.cs_match.specs.Places.{places, exit_at, IsLooped}
 use Rattle.cs_match.specs.Standings.{start, moved, moved_all, after, is_left_before}
 use Rattle.cs_match.specs.Table.{found_number, unknown_number, IsRow, found, next, IsCell, unknown, known, AreRows, AreCells}
 use Rattle.cs_match.specs.Chains.{row_after, first_noisy, Absorbs, AreBytes, TellsLines}
-use Rattle.cs_match.proofs.TableLemmas.{cell_place}
+use Rattle.cs_match.specs.Counting.{found_row, unknown_row, CountsLines}
+use Rattle.cs_match.proofs.TableLemmas.{cell_place, row_stays}
 use Rattle.cs_match.proofs.StandingLemmas.{left_in_line, left_at_end}
 use Rattle.cs_match.proofs.MarksLemmas.{found_where_left}
 
@@ -51,6 +52,32 @@ is_false : {P : Type 0} (b : Bool) → IsTrue b ↔ P → (P → ⊥) → b ≡ 
 is_false true h never = absurd (never (h.0 refl))
 is_false false h never = refl
 
+-- the tree can be left before the byte at this place of a line and its newline
+abbrev LeftAt : Tree → Standing → List ℕ → ℕ → Type 0
+LeftAt t n line i = is_left_before t (moved_all t n (take i line)) (slice_index (line ++ newline ∷ []) i) ≡ true
+
+left_within : (t : Tree) (n : Standing) (line : List ℕ) (i : ℕ) → i < length line → LeftAt t n line i → is_left_before t (moved_all t n (take i line)) (slice_index line i) ≡ true
+left_within t n [] i low h = absurd (omega arith)
+left_within t n (b ∷ line) zero low h = h
+left_within t n (b ∷ line) (suc i) low h = left_within t (moved t n b) line i (omega arith) h
+
+left_last : (t : Tree) (n : Standing) (line : List ℕ) → LeftAt t n line (length line) → is_left_before t (moved_all t n line) newline ≡ true
+left_last t n [] h = h
+left_last t n (b ∷ line) h = left_last t (moved t n b) line h
+
+left_found : (t : Tree) (line : List ℕ) → IsLooped t → IsPart line → (i : ℕ) → i ≤ length line → LeftAt t (start (places t)) line i → Found t line
+left_found t line looped part i high left =
+    (found_where_left t line looped).1 (i, high, exits_there)
+  where
+    exits_there : exit_at line t (λ _. true) i ≡ true
+    exits_there =
+        elim (cases_lt i (length line)) [
+          | inl low ↦ sym (left_in_line t line i low (part_at line part i low)) ∙ left_within t (start (places t)) line i low left
+          | inr past ↦
+              let e : i ≡ length line = omega (arith, past, high) in
+              ap (exit_at line t (λ _. true)) e ∙ sym (left_at_end t line) ∙ left_last t (start (places t)) line (subst (LeftAt t (start (places t)) line) e left)
+        ]
+
 module _ (t : Tree) (rows : List Standing) (used : ℕ) (cells : List ℕ) (few : used ≤ 254) (given : AreCells t rows used cells) where
   -- the two numbers that no row has lead back to themselves
   from_found : (text : List ℕ) → AreBytes text → row_after cells found_number text ≡ found_number
@@ -69,6 +96,11 @@ module _ (t : Tree) (rows : List Standing) (used : ℕ) (cells : List ℕ) (few 
       ap (λ row. row_after cells row text) (ap (λ k. get_or cells k 0) (cell_place unknown_number b refl byte) ∙ given.unknown b byte)
       ∙ from_unknown text (All-tail IsByte b text bytes)
 
+  stays : (at : ℕ) → unknown_row ≤ at → at < 65536 → get_or cells at 0 ≡ unknown_row
+  stays at low high =
+      let e : unknown_number + (at - unknown_number) ≡ at = omega arith in
+      sym (ap (λ k. get_or cells k 0) e) ∙ given.unknown (at - unknown_number) (omega arith)
+
   pub absorbs : Absorbs cells
   absorbs at low high =
       elim (cases_lt at unknown_number) [
@@ -78,6 +110,29 @@ module _ (t : Tree) (rows : List Standing) (used : ℕ) (cells : List ℕ) (few 
         | inr more ↦
             let e : unknown_number + (at - unknown_number) ≡ at = omega arith in
             let is = sym (ap (λ k. get_or cells k 0) e) ∙ given.unknown (at - unknown_number) (omega arith) in omega (arith, is)
+      ]
+
+  -- each cell leads to a row in use, or to one of the two
+  kind_of : (row b cell : ℕ) → IsCell t rows used row b cell → (cell < first_noisy) ⊎ (cell ≡ found_row) ⊎ (cell ≡ unknown_row)
+  kind_of row b cell (unknown is) = inr (inr is)
+  kind_of row b cell (known low (found is h)) = inr (inl is)
+  kind_of row b cell (known low (next h there line)) = inl (row_stays t rows used cell (after t (get_or rows row (start (places t))) b) few there)
+
+  kinds : (at : ℕ) → at < 65536 → (get_or cells at 0 < first_noisy) ⊎ (get_or cells at 0 ≡ found_row) ⊎ (get_or cells at 0 ≡ unknown_row)
+  kinds at low =
+      elim (cases_lt at found_number) [
+        | inl less ↦
+            let e : 256 * (at / 256) + at % 256 ≡ at = omega arith in
+            let byte : at % 256 < 256 = omega arith in
+            subst (λ k. (get_or cells k 0 < first_noisy) ⊎ (get_or cells k 0 ≡ found_row) ⊎ (get_or cells k 0 ≡ unknown_row)) e
+            (kind_of (at / 256) (at % 256) (get_or cells (256 * (at / 256) + at % 256) 0) (given.right (at / 256) (at % 256) (omega arith) byte))
+        | inr more ↦
+            elim (cases_lt at unknown_number) [
+              | inl less ↦
+                  let e : found_number + (at - found_number) ≡ at = omega arith in
+                  inr (inl (sym (ap (λ k. get_or cells k 0) e) ∙ given.found (at - found_number) (omega arith)))
+              | inr most ↦ inr (inr (stays at most low))
+            ]
       ]
 
   -- what a cell tells, where the run over the rest of the text is quiet
@@ -109,6 +164,39 @@ module _ (t : Tree) (rows : List Standing) (used : ℕ) (cells : List ℕ) (few 
       (subst (λ (m : Standing). IsRow t rows used (get_or cells (bit_or number b) 0) m) moves step.1) quiet in
       (rest.0, (step.0, rest.1))
 
+  -- what a cell tells, where the run over the rest of the text comes to the row of what is found
+  found_here : (n : Standing) (b cell : ℕ) (text : List ℕ) → AreBytes text → (row : ℕ) → get_or rows row (start (places t)) ≡ n → IsCell t rows used row b cell → row_after cells cell text ≡ found_row →
+      (is_left_before t n b ≡ true) ⊎ IsRow t rows used cell (after t n b)
+  found_here n b cell text bytes row same (unknown is) end = absurd (omega (arith, end, ap (λ c. row_after cells c text) is ∙ from_unknown text bytes))
+  found_here n b cell text bytes row same (known low (found is h)) end = inl (sym (ap (λ m. is_left_before t m b) same) ∙ h)
+  found_here n b cell text bytes row same (known low (next h there line)) end = inr (subst (λ (m : Standing). IsRow t rows used cell (after t m b)) same there)
+
+  found_step : (n : Standing) (number b : ℕ) (text : List ℕ) → b < 256 → AreBytes text → IsRow t rows used number n → row_after cells (get_or cells (bit_or number b) 0) text ≡ found_row →
+      (is_left_before t n b ≡ true) ⊎ IsRow t rows used (get_or cells (bit_or number b) 0) (after t n b)
+  found_step n number b text byte bytes row end =
+      let place = cell_place number b row.whole byte in
+      let right : IsCell t rows used (number / 256) b (get_or cells (bit_or number b) 0) = subst (λ k. IsCell t rows used (number / 256) b (get_or cells k 0)) (sym place) (given.right (number / 256) b (omega (arith, row.in_use)) byte) in
+      found_here n b (get_or cells (bit_or number b) 0) text bytes (number / 256) row.same right end
+
+  -- a run over a line and its newline that comes to the row of what is found
+  left_somewhere : (n : Standing) (number : ℕ) (line : List ℕ) → AreBytes (line ++ newline ∷ []) → IsPart line → IsRow t rows used number n → row_after cells number (line ++ newline ∷ []) ≡ found_row →
+      (i : ℕ) × (i ≤ length line) × LeftAt t n line i
+  unfolding row_after
+  left_somewhere n number [] bytes part row end =
+      elim (found_step n number newline [] (omega arith) (All-nil IsByte) row end) [
+        | inl h ↦ (0, omega arith, h)
+        | inr there ↦ absurd (omega (arith, row_stays t rows used (get_or cells (bit_or number newline) 0) (after t n newline) few there, end))
+      ]
+  left_somewhere n number (b ∷ line) bytes part row end =
+      elim (found_step n number b (line ++ newline ∷ []) (All-head IsByte b (line ++ newline ∷ []) bytes) (All-tail IsByte b (line ++ newline ∷ []) bytes) row end) [
+        | inl h ↦ (0, omega arith, h)
+        | inr there ↦
+            let moves : after t n b ≡ moved t n b = rw part.0 refl in
+            let rest = left_somewhere (moved t n b) (get_or cells (bit_or number b) 0) line (All-tail IsByte b (line ++ newline ∷ []) bytes) part.1
+            (subst (λ (m : Standing). IsRow t rows used (get_or cells (bit_or number b) 0) m) moves there) end in
+            (suc rest.0, omega (arith, rest.1), rest.2)
+      ]
+
   -- the cells tell of each line where the tree finds nothing in it
   pub table_tells : AreRows t rows used → IsLooped t → (finds : List ℕ → Bool) → Decides finds t → TellsLines finds cells
   table_tells right looped finds decides =
@@ -119,4 +207,18 @@ module _ (t : Tree) (rows : List Standing) (used : ℕ) (cells : List ℕ) (few 
         back = λ line bytes part quiet. (quiet_line (start (places t)) 0 line (ended line bytes) part first quiet).0;
         none = λ line bytes part quiet.
             is_false (finds line) (decides line) (never_found t line looped part (quiet_line (start (places t)) 0 line (ended line bytes) part first quiet).1);
+      }
+
+  -- and where it finds something
+  pub table_counts : AreRows t rows used → IsLooped t → (finds : List ℕ → Bool) → Decides finds t → CountsLines finds cells
+  table_counts right looped finds decides =
+      let first : IsRow t rows used 0 (start (places t)) = record { whole = refl; in_use = omega (arith, right.some); same = right.first } in
+      record {
+        tells = table_tells right looped finds decides;
+        kinds = kinds;
+        stays = stays;
+        found = λ line bytes part end.
+            let ended = All-append IsByte line (newline ∷ []) bytes (All-cons IsByte newline [] (omega arith) (All-nil IsByte)) in
+            let w = left_somewhere (start (places t)) 0 line ended part first end in
+            (decides line).1 (left_found t line looped part w.0 w.1 w.2);
       }

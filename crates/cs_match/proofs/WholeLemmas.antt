@@ -95,7 +95,7 @@ pub whole_is_ended : (text : List ℕ) → AreWhole text ↔ unended text ≡ []
 whole_is_ended text = (unended_whole text, whole_unended text)
 
 -- from one place to another, by way of a third
-between_by : (block : List ℕ) (from middle to : ℕ) → from ≤ middle → middle ≤ to → take (to - from) (drop from block) ≡ take (middle - from) (drop from block) ++ take (to - middle) (drop middle block)
+pub between_by : (block : List ℕ) (from middle to : ℕ) → from ≤ middle → middle ≤ to → take (to - from) (drop from block) ≡ take (middle - from) (drop from block) ++ take (to - middle) (drop middle block)
 between_by block from middle to low high =
     let size : to - from ≡ middle - from + (to - middle) = omega arith in
     let at : from + (middle - from) ≡ middle = omega arith in

@@ -9,7 +9,7 @@ use crate::finding::whole_lines;
 use memchr::memchr;
 
 /// From this row on, a row is no set of places: something is found, or nothing is known.
-const FIRST_NOISY: u16 = 0xFE00;
+pub(crate) const FIRST_NOISY: u16 = 0xFE00;
 
 /// How many bytes a part has at least, where there are as many.
 const PART: usize = 512;

@@ -3,13 +3,14 @@
 //! takes is said in `specs/Matching.antt` of `cs_syntax`. Read `specs/Finding.antt` first, then
 //! `specs/Lines.antt`, which says what the lines of a text are, and `specs/Skipping.antt`. What goes
 //! on inside is said by `specs/Places.antt`, `specs/Standings.antt`, `specs/Table.antt`,
-//! `specs/Chains.antt`, `specs/Expansion.antt`, `specs/Needle.antt` and `specs/NeededWindows.antt`.
+//! `specs/Chains.antt`, `specs/Counting.antt`, `specs/Expansion.antt`, `specs/Needle.antt` and `specs/NeededWindows.antt`.
 #![tactic(auto)]
 
 mod around;
 mod chains;
 mod choice;
 mod compiler;
+mod counting;
 mod finding;
 pub mod laws;
 mod marks;

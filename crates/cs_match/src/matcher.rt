@@ -1,11 +1,13 @@
 // Matchers: programs with what their runs remember.
-ghost use Rattle.std.specs.Prelude.{◌≡◌, ◌≤◌, ◌-◌, ◌↔◌, ℕ, Bool, List, IsTrue, IfOk, IfSome, length, take, drop};
+ghost use Rattle.std.specs.Prelude.{◌≡◌, ◌≤◌, ◌<◌, ◌-◌, ◌↔◌, ℕ, Bool, List, IsTrue, IfOk, IfSome, length, take, drop, count_by};
 ghost use Rattle.cs_syntax.specs.Matching.{Found};
 ghost use Rattle.cs_match.specs.Finding.{Decides};
 ghost use Rattle.cs_match.specs.Lines.{ended_lines};
 ghost use Rattle.cs_match.specs.Skipping.{AreWhole, NoneFound, ArePassed};
+ghost use Rattle.cs_match.specs.Counting.{AreCounted};
 
 use crate::chains::{GROUP, cut, line_end, pass_quiet, pass_run};
+use crate::counting::count_group;
 use crate::finding::{skip_to_needle, skip_to_window};
 use crate::pause::Pause;
 use crate::program::Program;
@@ -24,6 +26,9 @@ const MOST_MISSES: usize = 16;
 
 /// Where one run passes so many bytes, six side by side pass lines faster.
 const FAR: usize = 1024;
+
+/// Where hits stand closer to one another than so many bytes, lines are counted faster than each is found.
+const DENSE: usize = 96;
 
 /// A program with what its runs remember. Contracts see it as the program's tree.
 #[derive(Drop)]
@@ -46,6 +51,15 @@ pub struct Matcher<'a> {
     misses: usize,
     /// Whether nothing was found in the line that was asked about last.
     missed: bool,
+    /// How many hits in a row stood close to the one before.
+    dense: usize,
+}
+
+/// Lines that were counted: up to which place, and in how many of them something is found.
+#[derive(Clone, Copy)]
+pub(crate) struct Counted {
+    to: usize,
+    hits: u64,
 }
 
 impl<'a> Model for Matcher<'a> {
@@ -85,6 +99,7 @@ impl<'a> Matcher<'a> {
             near: false,
             misses: 0,
             missed: false,
+            dense: 0,
         })
     }
 
@@ -139,6 +154,95 @@ impl<'a> Matcher<'a> {
             at = end;
         }
         at
+    }
+
+    /// In how many lines of the block something is found. The block is whole lines.
+    pub fn count(&mut self, block: &[u8]) -> u64
+        requires whole { AreWhole block.now }
+        ensures found { (finds : List ℕ → Bool) → Decides finds self.old →
+            result ≡ count_by finds (ended_lines block.now) }
+        ensures few { result ≤ length (ended_lines block.now) }
+        ensures same { self.new ≡ self.old }
+    {
+        let mut at = 0;
+        let mut hits = 0u64;
+        'lines: while at < block.len() {
+            let counted = self.count_some(block, at);
+            at = counted.to;
+            hits += counted.hits;
+        }
+        hits
+    }
+
+    /// Counts some lines in the way that is the faster one here.
+    fn count_some(&mut self, block: &[u8], from: usize) -> Counted
+        requires within { from < length block.now }
+        requires whole { AreWhole (drop from block.now) }
+        ensures counted { AreCounted (λ finds. Decides finds self.old)
+            block.now from result.to result.hits }
+        ensures moves { from < result.to }
+        ensures same { self.new ≡ self.old }
+    {
+        if self.dense <= MOST_MISSES {
+            return self.count_next(block, from);
+        }
+        let counted = self.count_group(block, from);
+        self.note_group(counted.to - from, counted.hits);
+        counted
+    }
+
+    /// Passes lines in which nothing is found, and tests the one behind them.
+    fn count_next(&mut self, block: &[u8], from: usize) -> Counted
+        requires within { from < length block.now }
+        requires whole { AreWhole (drop from block.now) }
+        ensures counted { AreCounted (λ finds. Decides finds self.old)
+            block.now from result.to result.hits }
+        ensures moves { from < result.to }
+        ensures same { self.new ≡ self.old }
+    {
+        let at = self.skip(block, from);
+        if at == block.len() {
+            return Counted { to: at, hits: 0 };
+        }
+        let counted = self.count_lines(block, at, at + 1);
+        self.note_hit(at - from, counted.hits);
+        counted
+    }
+
+    /// Counts lines by runs side by side over the cells that are known, and where one is not, line by line.
+    fn count_group(&mut self, block: &[u8], from: usize) -> Counted
+        requires within { from < length block.now }
+        requires whole { AreWhole (drop from block.now) }
+        ensures counted { AreCounted (λ finds. Decides finds self.old)
+            block.now from result.to result.hits }
+        ensures moves { from < result.to }
+        ensures same { self.new ≡ self.old }
+    {
+        let group = count_group(&self.table.cells, block, from);
+        match group.hits {
+            Some(hits) => Counted { to: group.to, hits },
+            None => self.count_lines(block, from, group.to),
+        }
+    }
+
+    /// Counts lines one by one, up to the place `least` at least.
+    fn count_lines(&mut self, block: &[u8], from: usize, least: usize) -> Counted
+        requires low { from < least }
+        requires high { least ≤ length block.now }
+        requires whole { AreWhole (drop from block.now) }
+        ensures counted { AreCounted (λ finds. Decides finds self.old)
+            block.now from result.to result.hits }
+        ensures moves { from < result.to }
+        ensures same { self.new ≡ self.old }
+    {
+        let mut at = from;
+        let mut hits = 0u64;
+        'lines: while at < least {
+            let end = line_end(block, at);
+            hits += u64::from(self.is_match(&block[at..end]));
+            at = end + 1;
+        }
+        Counted { to: at, hits }
     }
 
     /// Passes the lines that do not have the needle, or none of the windows, where that is faster
@@ -259,6 +363,26 @@ impl<'a> Matcher<'a> {
         }
         if passed >= FAR {
             self.pause.end();
+        }
+    }
+
+    /// Notes how many bytes were passed before a line, and whether it was a hit.
+    fn note_hit(&mut self, passed: usize, hits: u64)
+        ensures { self.new ≡ self.old }
+    {
+        self.dense = if passed < DENSE && hits > 0 {
+            self.dense.saturating_add(1)
+        } else {
+            0
+        };
+    }
+
+    /// Notes how many hits stood in so many bytes.
+    fn note_group(&mut self, bytes: usize, hits: u64)
+        ensures { self.new ≡ self.old }
+    {
+        if (bytes / DENSE) as u64 > hits {
+            self.dense = 0;
         }
     }
 

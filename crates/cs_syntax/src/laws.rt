@@ -1,7 +1,7 @@
 // Laws of the definitions.
-ghost use Rattle.std.specs.Prelude.{◌↔◌, ◌≡◌, ◌≢◌, ◌<◌, ◌≤◌, ◌^◌, [], ◌∷◌, ◌++◌, ℕ, Bool, List, Some, IsUtf8};
+ghost use Rattle.std.specs.Prelude.{◌↔◌, ◌≡◌, ◌≢◌, ◌<◌, ◌≤◌, ◌^◌, ◌&&◌, [], ◌∷◌, ◌++◌, ℕ, Bool, List, Some, IsUtf8};
 ghost use Rattle.std.specs.Str.{chars};
-ghost use Rattle.cs_syntax.specs.Characters.{has_char, AreRuns, TakesChar};
+ghost use Rattle.cs_syntax.specs.Characters.{is_scalar, has_char, AreRuns, runs_of, TakesChar};
 ghost use Rattle.cs_syntax.specs.Decided.{IsDecided};
 ghost use Rattle.cs_syntax.specs.Levels.{HasLevels};
 ghost use Rattle.cs_syntax.specs.Lowering.{lowered};
@@ -67,10 +67,14 @@ pub fn bars_read_as_choices()
         → (z : Tree) × Reads (s ++ 124 ∷ t) fold z × TakesEither z x y }
 {}
 
-/// Sets of characters with the same members have the same maximal runs.
+/// Sets of characters with the same members have the same maximal runs, and those of a test have just the characters that
+/// pass it.
 pub fn runs_are_told_by_their_characters()
-    ensures { (xs ys : List (ℕ × ℕ)) → AreRuns xs → AreRuns ys
+    ensures same { (xs ys : List (ℕ × ℕ)) → AreRuns xs → AreRuns ys
         → ((c : ℕ) → has_char xs c ≡ has_char ys c) → xs ≡ ys }
+    ensures maximal { (test : ℕ → Bool) → AreRuns (runs_of test) }
+    ensures passing { (test : ℕ → Bool) (c : ℕ)
+        → has_char (runs_of test) c ≡ (is_scalar c && test c) }
 {}
 
 /// A lowered set takes the UTF-8 forms of its members and nothing else.

@@ -12,7 +12,7 @@ use Rattle.cs_syntax.specs.declared.node.Node.{Node}
 use Rattle.cs_syntax.specs.declared.node.Node.TheVariants.{Empty, LineStart, LineEnd, WordEdge, NotWordEdge}
 use Rattle.cs_sieve.specs.declared.window.Window.{Window}
 use Rattle.cs_match.specs.NeededWindows.{HasOne, HasChosen, EndAt}
-use Rattle.cs_match.specs.Trails.{run_from, run_of, Follow}
+use Rattle.cs_match.specs.Trails.{sets_from, sets_at_hand, TrailsFollow}
 use Rattle.cs_match.specs.declared.trail.Trail.{Trail}
 use Rattle.cs_match.proofs.NeedleLemmas.{within, first_round, last_round, still}
 
@@ -75,82 +75,82 @@ module _ (line : List ℕ) where
   ends_same v w i same h = subst (λ u. EndAt line u i) same h
 
 -- nothing is taken
-pub follow_none : (T : List ℕ → ℕ → ℕ → Type 0) → ((line : List ℕ) (i j : ℕ) → T line i j → i ≡ j) → (trail : Trail) → Follow T trail trail
+pub follow_none : (T : List ℕ → ℕ → ℕ → Type 0) → ((line : List ℕ) (i j : ℕ) → T line i j → i ≡ j) → (trail : Trail) → TrailsFollow T trail trail
 follow_none T still trail = record {
   rises = omega arith;
   grows = omega arith;
   ends = λ from low high line i j h ends.
       let to : from ≡ max from trail.start = omega arith in
-      subst (EndAt line (run_from (max from trail.start) trail)) (still line i j h) (ends_same line _ _ i (ap (λ n. run_from n trail) to) ends);
+      subst (EndAt line (sets_from (max from trail.start) trail)) (still line i j h) (ends_same line _ _ i (ap (λ n. sets_from n trail) to) ends);
   best = λ line i j h ends has. has;
 }
 
 -- a set more
 pub follow_set : (set : List Bool) (old new : Trail) → new.sets.items ≡ old.sets.items ++ set ∷ [] → new.start ≡ old.start →
-    ((line : List ℕ) (j : ℕ) → EndAt line (run_of new) j → HasChosen line old.best → HasChosen line new.best) →
-    Follow (λ line i j. Takes line (one_of set) i j) old new
+    ((line : List ℕ) (j : ℕ) → EndAt line (sets_at_hand new) j → HasChosen line old.best → HasChosen line new.best) →
+    TrailsFollow (λ line i j. Takes line (one_of set) i j) old new
 follow_set set old new sets start best = record {
   rises = omega (arith, start);
   grows = omega (arith, ap length sets, length-append old.sets.items (set ∷ []));
   ends = ends;
   best = λ line i j h e has.
       let same : max old.start new.start ≡ new.start = omega (arith, start) in
-      best line j (ends_same line _ _ j (ap (λ n. run_from n new) same) (ends old.start (omega arith) (omega (arith, old.within)) line i j h e)) has;
+      best line j (ends_same line _ _ j (ap (λ n. sets_from n new) same) (ends old.start (omega arith) (omega (arith, old.within)) line i j h e)) has;
 }
   where
     ends : (from : ℕ) → old.start ≤ from → from ≤ length old.sets.items → (line : List ℕ) (i j : ℕ) → Takes line (one_of set) i j →
-        EndAt line (run_from from old) i → EndAt line (run_from (max from new.start) new) j
+        EndAt line (sets_from from old) i → EndAt line (sets_from (max from new.start) new) j
     ends from low high line i j h e =
         let to : from ≡ max from new.start = omega (arith, start) in
-        let is : run_from from old ++ set ∷ [] ≡ run_from (max from new.start) new =
-        sym (drop-append-le from old.sets.items (set ∷ []) high) ∙ ap (drop from) (sym sets) ∙ ap (λ n. run_from n new) to in
-        ends_same line _ _ j is (ends_more line (run_from from old) set i j e h.0 h.1 h.2)
+        let is : sets_from from old ++ set ∷ [] ≡ sets_from (max from new.start) new =
+        sym (drop-append-le from old.sets.items (set ∷ []) high) ∙ ap (drop from) (sym sets) ∙ ap (λ n. sets_from n new) to in
+        ends_same line _ _ j is (ends_more line (sets_from from old) set i j e h.0 h.1 h.2)
 
 -- the run ends, and nothing is known of the bytes that are taken
 pub follow_cut : (t : Tree) (old new : Trail) → new.sets.items ≡ old.sets.items → new.start ≡ vec_len old.sets →
     ((line : List ℕ) (i j : ℕ) → i ≤ length line → Takes line t i j → HasChosen line old.best → HasChosen line new.best) →
-    Follow (λ line i j. Takes line t i j) old new
+    TrailsFollow (λ line i j. Takes line t i j) old new
 follow_cut t old new sets start best = record {
   rises = omega (arith, start, old.within);
   grows = omega (arith, ap length sets);
   ends = λ from low high line i j h e.
       let to : length old.sets.items ≡ max from new.start = omega (arith, start) in
-      let is : [] ≡ run_from (max from new.start) new = sym (drop-length old.sets.items) ∙ ap (drop (length old.sets.items)) (sym sets) ∙ ap (λ n. run_from n new) to in
+      let is : [] ≡ sets_from (max from new.start) new = sym (drop-length old.sets.items) ∙ ap (drop (length old.sets.items)) (sym sets) ∙ ap (λ n. sets_from n new) to in
       ends_same line _ _ j is (ends_empty line j (within line t i j h e.within));
   best = λ line i j h e has. best line i j e.within h has;
 }
 
 -- the run at hand ends where the tree's part ends
-run_ends : (T : List ℕ → ℕ → ℕ → Type 0) (old new : Trail) → Follow T old new → (line : List ℕ) (i j : ℕ) → T line i j → EndAt line (run_of old) i → EndAt line (run_of new) j
+run_ends : (T : List ℕ → ℕ → ℕ → Type 0) (old new : Trail) → TrailsFollow T old new → (line : List ℕ) (i j : ℕ) → T line i j → EndAt line (sets_at_hand old) i → EndAt line (sets_at_hand new) j
 run_ends T old new f line i j h e =
     let to : max old.start new.start ≡ new.start = omega (arith, f.rises) in
-    ends_same line _ _ j (ap (λ n. run_from n new) to) (f.ends old.start (omega arith) (omega (arith, old.within)) line i j h e)
+    ends_same line _ _ j (ap (λ n. sets_from n new) to) (f.ends old.start (omega arith) (omega (arith, old.within)) line i j h e)
 
 -- one after another
-pub follow_more : (t : Tree) (ts : Trees) (first next last : Trail) → Follow (λ line i j. Takes line t i j) first next → Follow (λ line i j. TakesAll line ts i j) next last →
-    Follow (λ line i j. TakesAll line (more t ts) i j) first last
+pub follow_more : (t : Tree) (ts : Trees) (first next last : Trail) → TrailsFollow (λ line i j. Takes line t i j) first next → TrailsFollow (λ line i j. TakesAll line ts i j) next last →
+    TrailsFollow (λ line i j. TakesAll line (more t ts) i j) first last
 follow_more t ts first next last f g = record {
   rises = omega (arith, f.rises, g.rises);
   grows = omega (arith, f.grows, g.grows);
   ends = λ from low high line i j h e.
       let to : max (max from next.start) last.start ≡ max from last.start = omega (arith, g.rises) in
       let mid = f.ends from low high line i h.0 h.1 e in
-      ends_same line _ _ j (ap (λ n. run_from n last) to) (g.ends (max from next.start) (omega arith) (omega (arith, f.grows, next.within)) line h.0 j h.2 mid);
+      ends_same line _ _ j (ap (λ n. sets_from n last) to) (g.ends (max from next.start) (omega arith) (omega (arith, f.grows, next.within)) line h.0 j h.2 mid);
   best = λ line i j h e has.
       g.best line h.0 j h.2 (run_ends _ first next f line i h.0 h.1 e) (f.best line i h.0 h.1 e has);
 }
 
 -- at least one round
-pub follow_rounds : (x : Tree) (n at : ℕ) (m : Option ℕ) (first next last : Trail) → 0 < n → at ≡ vec_len first.sets → Follow (λ line i j. Takes line x i j) first next →
+pub follow_rounds : (x : Tree) (n at : ℕ) (m : Option ℕ) (first next last : Trail) → 0 < n → at ≡ vec_len first.sets → TrailsFollow (λ line i j. Takes line x i j) first next →
     last.sets.items ≡ next.sets.items → last.start ≡ max next.start at → last.best ≡ next.best →
-    Follow (λ line i j. Takes line (rep x n m) i j) first last
+    TrailsFollow (λ line i j. Takes line (rep x n m) i j) first last
 follow_rounds x n at m first next last some behind f sets start best = record {
   rises = omega (arith, f.rises, start);
   grows = omega (arith, f.grows, ap length sets);
   ends = λ from low high line i j h e.
       let to : max at next.start ≡ max from last.start = omega (arith, start, behind) in
-      let is : run_from (max at next.start) next ≡ run_from (max from last.start) last =
-      ap (drop (max at next.start)) (sym sets) ∙ ap (λ k. run_from k last) to in
+      let is : sets_from (max at next.start) next ≡ sets_from (max from last.start) last =
+      ap (drop (max at next.start)) (sym sets) ∙ ap (λ k. sets_from k last) to in
       let round = last_round line x n m i j some h e.within in
       let none_yet = ends_same line _ _ round.0 (sym (drop_of_length-le first.sets.items {i = at} (omega (arith, behind)))) (ends_empty line round.0 round.1) in
       ends_same line _ _ j is (f.ends at (omega (arith, behind, first.within)) (omega (arith, behind)) line round.0 j round.2 none_yet);
@@ -160,15 +160,15 @@ follow_rounds x n at m first next last some behind f sets start best = record {
 }
 
 -- from nothing
-pub chosen : (t : Tree) (first last : Trail) → first.sets.items ≡ [] → first.best ≡ None → Follow (λ line i j. Takes line t i j) first last →
+pub chosen : (t : Tree) (first last : Trail) → first.sets.items ≡ [] → first.best ≡ None → TrailsFollow (λ line i j. Takes line t i j) first last →
     (line : List ℕ) (i j : ℕ) → i ≤ length line → Takes line t i j → HasChosen line last.best
 chosen t first last sets best f line i j here h =
-    let empty_run : [] ≡ run_of first = sym (drop_of_length-le first.sets.items {i = first.start} (omega (arith, ap length sets))) in
+    let empty_run : [] ≡ sets_at_hand first = sym (drop_of_length-le first.sets.items {i = first.start} (omega (arith, ap length sets))) in
     f.best line i j h (ends_same line _ _ i empty_run (ends_empty line i here)) (subst (HasChosen line) (sym best) tt)
 
 -- the same of a tree that is known by another name
-pub follow_same : (t u : Tree) (old new : Trail) → t ≡ u → Follow (λ line i j. Takes line u i j) old new → Follow (λ line i j. Takes line t i j) old new
-follow_same t u old new e f = subst (λ (v : Tree). Follow (λ line i j. Takes line v i j) old new) (sym e) f
+pub follow_same : (t u : Tree) (old new : Trail) → t ≡ u → TrailsFollow (λ line i j. Takes line u i j) old new → TrailsFollow (λ line i j. Takes line t i j) old new
+follow_same t u old new e f = subst (λ (v : Tree). TrailsFollow (λ line i j. Takes line v i j) old new) (sym e) f
 
-pub follow_still : (node : Node) (trail : Trail) → (node ≡ Empty) ⊎ ((node ≡ LineStart) ⊎ ((node ≡ LineEnd) ⊎ ((node ≡ WordEdge) ⊎ (node ≡ NotWordEdge)))) → Follow (λ line i j. Takes line (tree_of node) i j) trail trail
+pub follow_still : (node : Node) (trail : Trail) → (node ≡ Empty) ⊎ ((node ≡ LineStart) ⊎ ((node ≡ LineEnd) ⊎ ((node ≡ WordEdge) ⊎ (node ≡ NotWordEdge)))) → TrailsFollow (λ line i j. Takes line (tree_of node) i j) trail trail
 follow_still node trail is = follow_none _ (λ line i j h. still line node is i j h) trail

@@ -43,5 +43,5 @@ abbrev pub HasRow : Table → ℕ → Standing → Type 0
 HasRow t number standing = table.IsRow (tree_in t) t.rows.items t.used number standing
 
 -- what the number says of the standing and the byte
-abbrev pub Tells : Table → Standing → ℕ → ℕ → Type 0
-Tells t standing b number = table.Tells (tree_in t) t.rows.items t.used standing b number
+abbrev pub TellsIn : Table → Standing → ℕ → ℕ → Type 0
+TellsIn t standing b number = table.Tells (tree_in t) t.rows.items t.used standing b number

@@ -4,19 +4,19 @@ use Rattle.cs_match.specs.NeededWindows.{EndAt, HasChosen}
 use Rattle.cs_match.specs.declared.trail.Trail.{Trail}
 
 -- the sets from a place on
-abbrev pub run_from : ℕ → Trail → List (List Bool)
-run_from at trail = drop at trail.sets.items
+abbrev pub sets_from : ℕ → Trail → List (List Bool)
+sets_from at trail = drop at trail.sets.items
 
 -- the run at hand
-abbrev pub run_of : Trail → List (List Bool)
-run_of trail = run_from trail.start trail
+abbrev pub sets_at_hand : Trail → List (List Bool)
+sets_at_hand trail = sets_from trail.start trail
 
 -- Whatever is taken of a line from i to j, as `Takes` says it: where the run at hand ended at i, or an end of that run,
 -- what is left of it ends at j; and the line has one of the best windows where it had one of those before.
-pub record Follow (Takes : List ℕ → ℕ → ℕ → Type 0) (old new : Trail) : Type 0 where
+pub record TrailsFollow (Takes : List ℕ → ℕ → ℕ → Type 0) (old new : Trail) : Type 0 where
   pub rises : old.start ≤ new.start
   pub grows : length old.sets.items ≤ length new.sets.items
   pub ends : (from : ℕ) → old.start ≤ from → from ≤ length old.sets.items → (line : List ℕ) (i j : ℕ) → Takes line i j →
-      EndAt line (run_from from old) i → EndAt line (run_from (max from new.start) new) j
-  pub best : (line : List ℕ) (i j : ℕ) → Takes line i j → EndAt line (run_of old) i → HasChosen line old.best →
+      EndAt line (sets_from from old) i → EndAt line (sets_from (max from new.start) new) j
+  pub best : (line : List ℕ) (i j : ℕ) → Takes line i j → EndAt line (sets_at_hand old) i → HasChosen line old.best →
       HasChosen line new.best

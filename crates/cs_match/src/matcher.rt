@@ -27,8 +27,12 @@ const MOST_MISSES: usize = 16;
 /// Where one run passes so many bytes, six side by side pass lines faster.
 const FAR: usize = 1024;
 
-/// Where hits stand closer to one another than so many bytes, lines are counted faster than each is found.
-const DENSE: usize = 96;
+/// Where hits stand closer to one another than so many bytes, runs side by side count them faster than a search for the
+/// needle or the windows finds each.
+const DENSE: usize = 192;
+
+/// And faster than the table finds each.
+const LESS_DENSE: usize = 2048;
 
 /// A program with what its runs remember. Contracts see it as the program's tree.
 #[derive(Drop)]
@@ -366,23 +370,35 @@ impl<'a> Matcher<'a> {
         }
     }
 
+    /// How many bytes stand between hits at most, so that they are counted by runs side by side.
+    fn spacing(&self) -> usize
+        ensures { 0 < result }
+    {
+        if self.seeks || self.sieve.is_some() {
+            DENSE
+        } else {
+            LESS_DENSE
+        }
+    }
+
     /// Notes how many bytes were passed before a line, and whether it was a hit.
     fn note_hit(&mut self, passed: usize, hits: u64)
         ensures { self.new ≡ self.old }
     {
-        self.dense = if passed < DENSE && hits > 0 {
+        self.dense = if hits > 0 && passed < self.spacing() {
             self.dense.saturating_add(1)
         } else {
             0
         };
     }
 
-    /// Notes how many hits stood in so many bytes.
+    /// Notes how many hits stood in so many bytes. Where they were few, the next that is close to the one before is
+    /// enough.
     fn note_group(&mut self, bytes: usize, hits: u64)
         ensures { self.new ≡ self.old }
     {
-        if (bytes / DENSE) as u64 > hits {
-            self.dense = 0;
+        if (bytes / self.spacing()) as u64 > hits {
+            self.dense = MOST_MISSES;
         }
     }
 

@@ -6,7 +6,7 @@ ghost use Rattle.cs_match.specs.Places.{places, repeats, IsLooped};
 ghost use Rattle.cs_match.specs.Standings.{start, after, is_left_before};
 ghost use Rattle.cs_match.specs.Table.{blank_cell};
 ghost use Rattle.cs_match.specs.declared.standing.Standing.{Standing};
-ghost use Rattle.cs_match.specs.Remembering.{IsRight, HasRow, Tells, tree_in, standing_in, is_left_from, standing_after};
+ghost use Rattle.cs_match.specs.Remembering.{IsRight, HasRow, TellsIn, tree_in, standing_in, is_left_from, standing_after};
 
 use crate::program::Program;
 use crate::standing::Standing;
@@ -141,7 +141,7 @@ impl<'a> Table<'a> {
     pub(crate) fn next(&mut self, from: u16, byte: u8) -> u16
         requires right { IsRight self.old }
         requires row { HasRow self.old from (standing_in self.old from) }
-        ensures told { Tells self.new (standing_in self.old from) byte result }
+        ensures told { TellsIn self.new (standing_in self.old from) byte result }
         ensures right { IsRight self.new }
         ensures same { tree_in self.new ≡ tree_in self.old }
     {
@@ -192,7 +192,7 @@ impl<'a> Table<'a> {
     fn fill(&mut self, from: u16, byte: u8) -> u16
         requires right { IsRight self.old }
         requires row { HasRow self.old from (standing_in self.old from) }
-        ensures told { Tells self.new (standing_in self.old from) byte result }
+        ensures told { TellsIn self.new (standing_in self.old from) byte result }
         ensures right { IsRight self.new }
         ensures same { tree_in self.new ≡ tree_in self.old }
     {
@@ -220,7 +220,7 @@ impl<'a> Table<'a> {
         requires within { byte ≢ 10 }
         requires stays { is_left_from self.old from byte ≡ false }
         requires now { self.old.now ≡ standing_after self.old from byte }
-        ensures told { Tells self.new (standing_in self.old from) byte result }
+        ensures told { TellsIn self.new (standing_in self.old from) byte result }
         ensures right { IsRight self.new }
         ensures same { tree_in self.new ≡ tree_in self.old }
     {
@@ -244,8 +244,8 @@ impl<'a> Table<'a> {
     fn put(&mut self, from: u16, byte: u8, next: u16)
         requires right { IsRight self.old }
         requires row { HasRow self.old from (standing_in self.old from) }
-        requires told { Tells self.old (standing_in self.old from) byte next }
-        ensures told { Tells self.new (standing_in self.old from) byte next }
+        requires told { TellsIn self.old (standing_in self.old from) byte next }
+        ensures told { TellsIn self.new (standing_in self.old from) byte next }
         ensures right { IsRight self.new }
         ensures same { tree_in self.new ≡ tree_in self.old }
     {

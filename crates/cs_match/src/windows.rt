@@ -3,7 +3,7 @@ ghost use Rattle.std.specs.Prelude.{ℕ, ◌≤◌, List, IfOk, IfSome, OnOk, le
 ghost use Rattle.cs_syntax.specs.Matching.{Takes, TakesAll, TakesSome};
 ghost use Rattle.cs_syntax.specs.Node.{tree_of, trees_of};
 ghost use Rattle.cs_match.specs.NeededWindows.{AreNeeded, HasChosen};
-ghost use Rattle.cs_match.specs.Trails.{Follow};
+ghost use Rattle.cs_match.specs.Trails.{TrailsFollow};
 
 use crate::choice::Choice;
 use crate::rarity::are_worth;
@@ -41,7 +41,7 @@ pub(crate) fn best(alloc: Global, node: &Node) -> Result<Option<Choice>, AllocEr
 #[cycle(gather)]
 fn gather(alloc: Global, node: &Node, trail: &mut Trail) -> Result<(), AllocError>
     ensures { OnOk result
-        (Follow (λ line i j. Takes line (tree_of node.now) i j) trail.old trail.new) }
+        (TrailsFollow (λ line i j. Takes line (tree_of node.now) i j) trail.old trail.new) }
 {
     match node {
         Node::Empty | Node::LineStart | Node::LineEnd | Node::WordEdge | Node::NotWordEdge => Ok(
@@ -71,7 +71,7 @@ fn gather(alloc: Global, node: &Node, trail: &mut Trail) -> Result<(), AllocErro
 #[cycle(gather)]
 fn gather_all(alloc: Global, parts: &[Node], trail: &mut Trail) -> Result<(), AllocError>
     ensures { OnOk result
-        (Follow (λ line i j. TakesAll line (trees_of parts.now) i j) trail.old trail.new) }
+        (TrailsFollow (λ line i j. TakesAll line (trees_of parts.now) i j) trail.old trail.new) }
 {
     for part in parts {
         gather(alloc, part, trail)?;

@@ -5,7 +5,7 @@ use Rattle.std.specs.Prelude.{Option}
 use Rattle.std.specs.List.{list_all}
 use Rattle.std.proofs.lemmas.List.{append-nil, take-append-drop}
 use Rattle.cs_syntax.specs.Matching.{Tree, Trees, empty, one_of, one_char, cat, alt, rep, line_start, line_end, word_edge, not_word_edge, none, more, Chain, Takes, TakesAll, TakesSome}
-use Rattle.cs_trigram.specs.Affixes.{part, laid, near_part, Fits, FitsSome, AreAffixes, AreAffixesOfAll}
+use Rattle.cs_trigram.specs.Affixes.{part, laid, near_part, HasAffix, HasSomeAffix, AreAffixes, AreAffixesOfAll}
 use Rattle.cs_trigram.specs.ShortWord.{bytes_of}
 use Rattle.cs_trigram.specs.declared.affixes.Side.{Side}
 use Rattle.cs_trigram.specs.declared.affixes.Side.TheVariants.{Prefix, Suffix}
@@ -26,7 +26,7 @@ laid_behind Suffix a = append-nil a
 
 -- an affix of a joining, where the near one is whole and where it is not
 pub fits_joined : (side : Side) (near far affix : Affix) → (bytes_of affix.word) ≡ laid side (bytes_of near.word) (bytes_of far.word) → affix.whole ≡ far.whole → near.whole ≡ true →
-    (u v : List ℕ) → Fits side near u → Fits side far v → Fits side affix (laid side u v)
+    (u v : List ℕ) → HasAffix side near u → HasAffix side far v → HasAffix side affix (laid side u v)
 fits_joined side near far affix word whole is u v a b =
     let same : u ≡ (bytes_of near.word) = a.1 ∙ ap (laid side (bytes_of near.word)) (a.2 is) ∙ laid_none side (bytes_of near.word) in (
       b.0,
@@ -36,7 +36,7 @@ fits_joined side near far affix word whole is u v a b =
     )
 
 pub fits_open : (side : Side) (near affix : Affix) → (bytes_of affix.word) ≡ (bytes_of near.word) → affix.whole ≡ false →
-    (u v : List ℕ) → Fits side near u → Fits side affix (laid side u v)
+    (u v : List ℕ) → HasAffix side near u → HasAffix side affix (laid side u v)
 fits_open side near affix word loose u v a = (
   laid side a.0 v,
   ap (λ (x : List ℕ). laid side x v) a.1 ∙ laid_assoc side (bytes_of near.word) a.0 v ∙ ap (λ (x : List ℕ). laid side x (laid side a.0 v)) (sym word),
@@ -45,7 +45,7 @@ fits_open side near affix word loose u v a = (
 
 -- the same affixes, where none is whole
 pub fits_all_open : (side : Side) (affixes : List Affix) (u v : List ℕ) → list_all (λ (affix : Affix). not affix.whole) affixes ≡ true →
-    FitsSome side affixes u → FitsSome side affixes (laid side u v)
+    HasSomeAffix side affixes u → HasSomeAffix side affixes (laid side u v)
 fits_all_open side [] u v loose h = h
 fits_all_open side (e ∷ affixes) u v loose h =
     elim h [
@@ -62,12 +62,12 @@ fits_all_open side (e ∷ affixes) u v loose h =
     others false rest h = h
 
 -- an affix with the same word and kind
-pub fits_same : (side : Side) (old affix : Affix) → (bytes_of affix.word) ≡ (bytes_of old.word) → affix.whole ≡ old.whole → (text : List ℕ) → Fits side old text → Fits side affix text
+pub fits_same : (side : Side) (old affix : Affix) → (bytes_of affix.word) ≡ (bytes_of old.word) → affix.whole ≡ old.whole → (text : List ℕ) → HasAffix side old text → HasAffix side affix text
 fits_same side old affix word whole text a =
     (a.0, a.1 ∙ ap (λ (x : List ℕ). laid side x a.0) (sym word), λ e. a.2 (sym whole ∙ e))
 
 -- an affix that is cut
-pub fits_cut : (side : Side) (old affix : Affix) (rest : List ℕ) → (bytes_of old.word) ≡ laid side (bytes_of affix.word) rest → affix.whole ≡ false → (text : List ℕ) → Fits side old text → Fits side affix text
+pub fits_cut : (side : Side) (old affix : Affix) (rest : List ℕ) → (bytes_of old.word) ≡ laid side (bytes_of affix.word) rest → affix.whole ≡ false → (text : List ℕ) → HasAffix side old text → HasAffix side affix text
 fits_cut side old affix rest word loose text a = (
   laid side rest a.0,
   a.1 ∙ ap (λ (x : List ℕ). laid side x a.0) word ∙ laid_assoc side (bytes_of affix.word) rest a.0,
@@ -75,7 +75,7 @@ fits_cut side old affix rest word loose text a = (
 )
 
 -- one affix more
-pub fits_push : (side : Side) (affixes : List Affix) (affix : Affix) (text : List ℕ) → Fits side affix text ⊎ FitsSome side affixes text → FitsSome side (affixes ++ affix ∷ []) text
+pub fits_push : (side : Side) (affixes : List Affix) (affix : Affix) (text : List ℕ) → HasAffix side affix text ⊎ HasSomeAffix side affixes text → HasSomeAffix side (affixes ++ affix ∷ []) text
 fits_push side [] affix text h = h
 fits_push side (e ∷ affixes) affix text h =
     elim h [
@@ -85,28 +85,28 @@ fits_push side (e ∷ affixes) affix text h =
 
 -- the affixes from a place on
 pub fits_from : (side : Side) (affixes : List Affix) (i : ℕ) (affix : Affix) (text : List ℕ) → i < length affixes →
-    FitsSome side (drop i affixes) text → Fits side (get_or affixes i affix) text ⊎ FitsSome side (drop (i + 1) affixes) text
+    HasSomeAffix side (drop i affixes) text → HasAffix side (get_or affixes i affix) text ⊎ HasSomeAffix side (drop (i + 1) affixes) text
 fits_from side affixes i affix text lt h =
     let next : suc i ≡ i + 1 = omega arith in
     let cut : drop i affixes ≡ get_or affixes i affix ∷ drop (i + 1) affixes =
     drop-cons affixes i affix lt ∙ ap (λ n. get_or affixes i affix ∷ drop n affixes) next in
-    subst (λ (es : List Affix). FitsSome side es text) cut h
+    subst (λ (es : List Affix). HasSomeAffix side es text) cut h
 
 pub fits_at : (side : Side) (affixes : List Affix) (i : ℕ) (affix : Affix) (text : List ℕ) → i < length affixes →
-    Fits side (get_or affixes i affix) text → FitsSome side affixes text
+    HasAffix side (get_or affixes i affix) text → HasSomeAffix side affixes text
 fits_at side [] i affix text lt h = absurd (omega arith)
 fits_at side (e ∷ affixes) zero affix text lt h = inl h
 fits_at side (e ∷ affixes) (suc i) affix text lt h = inr (fits_at side affixes i affix text (omega arith) h)
 
 -- the affix of each text, and that of the text without bytes
-pub fits_any : (side : Side) (affix : Affix) (text : List ℕ) → (bytes_of affix.word) ≡ [] → affix.whole ≡ false → FitsSome side (affix ∷ []) text
+pub fits_any : (side : Side) (affix : Affix) (text : List ℕ) → (bytes_of affix.word) ≡ [] → affix.whole ≡ false → HasSomeAffix side (affix ∷ []) text
 fits_any side affix text word loose =
     inl (text, sym (laid_behind side text) ∙ ap (λ (x : List ℕ). laid side x text) (sym word), λ e. let odd : false ≡ true = sym loose ∙ e in (cc))
 
-pub fits_none : (side : Side) (affix : Affix) → (bytes_of affix.word) ≡ [] → FitsSome side (affix ∷ []) []
+pub fits_none : (side : Side) (affix : Affix) → (bytes_of affix.word) ≡ [] → HasSomeAffix side (affix ∷ []) []
 fits_none side affix word = inl ([], sym (laid_none side []) ∙ ap (λ (x : List ℕ). laid side x []) (sym word), λ e. refl)
 
-pub fits_whole : (side : Side) (affix : Affix) (text : List ℕ) → text ≡ (bytes_of affix.word) → Fits side affix text
+pub fits_whole : (side : Side) (affix : Affix) (text : List ℕ) → text ≡ (bytes_of affix.word) → HasAffix side affix text
 fits_whole side affix text e = ([], e ∙ sym (laid_none side (bytes_of affix.word)), λ w. refl)
 
 -- places rise
@@ -137,50 +137,50 @@ module _ (s : List ℕ) where
     rises_some (more t ts) i j h = elim h [ inl a ↦ rises t i j a | inr b ↦ rises_some ts i j b ]
 
 -- a sequence from its front, and from its back
-pub affixes_none : (side : Side) (affixes : List Affix) → FitsSome side affixes [] → AreAffixesOfAll side affixes none
-affixes_none side affixes h = λ s i j e. subst (FitsSome side affixes) (sym (part_empty s i) ∙ ap (part s i) e) h
+pub affixes_none : (side : Side) (affixes : List Affix) → HasSomeAffix side affixes [] → AreAffixesOfAll side affixes none
+affixes_none side affixes h = λ s i j e. subst (HasSomeAffix side affixes) (sym (part_empty s i) ∙ ap (part s i) e) h
 
 -- one tree more in front of a sequence
 pub affixes_before : (side : Side) (fronts backs affixes : List Affix) (t : Tree) (ts : Trees) →
-    ((u v : List ℕ) → FitsSome side fronts u → FitsSome side backs v → FitsSome side affixes (u ++ v)) →
+    ((u v : List ℕ) → HasSomeAffix side fronts u → HasSomeAffix side backs v → HasSomeAffix side affixes (u ++ v)) →
     AreAffixes side fronts t → AreAffixesOfAll side backs ts → AreAffixesOfAll side affixes (more t ts)
 affixes_before side fronts backs affixes t ts join a b = λ s i j h.
-    subst (FitsSome side affixes) (sym (part_split s i h.0 j (rises s t i h.0 h.1) (rises_all s ts h.0 j h.2)))
+    subst (HasSomeAffix side affixes) (sym (part_split s i h.0 j (rises s t i h.0 h.1) (rises_all s ts h.0 j h.2)))
     (join (part s i h.0) (part s h.0 j) (a s i h.0 h.1) (b s h.0 j h.2))
 
 -- rounds
 abbrev pub AreAffixesOfRounds : Side → List Affix → Tree → ℕ → Type 0
-AreAffixesOfRounds side affixes t n = (s : List ℕ) (k i j : ℕ) → n ≤ k → Chain (Takes s t) k i j → FitsSome side affixes (part s i j)
+AreAffixesOfRounds side affixes t n = (s : List ℕ) (k i j : ℕ) → n ≤ k → Chain (Takes s t) k i j → HasSomeAffix side affixes (part s i j)
 
 chain_last : (R : ℕ → ℕ → Type 0) (k i j : ℕ) → Chain R (suc k) i j → (l : ℕ) × Chain R k i l × R l j
 chain_last R zero i j c = (i, refl, subst (R i) c.2 c.1)
 chain_last R (suc k) i j c = let r = chain_last R k c.0 j c.2 in (r.0, (c.0, c.1, r.1), r.2)
 
 pub round_more : (side : Side) (once fars affixes : List Affix) (t : Tree) (n : ℕ) →
-    ((u v : List ℕ) → FitsSome side once u → FitsSome side fars v → FitsSome side affixes (laid side u v)) →
+    ((u v : List ℕ) → HasSomeAffix side once u → HasSomeAffix side fars v → HasSomeAffix side affixes (laid side u v)) →
     AreAffixes side once t → AreAffixesOfRounds side fars t n → AreAffixesOfRounds side affixes t (n + 1)
 round_more side once fars affixes t n join a b = λ s k i j le c. by side join a b s k i j le c
   where
-    by : (side : Side) → ((u v : List ℕ) → FitsSome side once u → FitsSome side fars v → FitsSome side affixes (laid side u v)) →
-        AreAffixes side once t → AreAffixesOfRounds side fars t n → (s : List ℕ) (k i j : ℕ) → n + 1 ≤ k → Chain (Takes s t) k i j → FitsSome side affixes (part s i j)
+    by : (side : Side) → ((u v : List ℕ) → HasSomeAffix side once u → HasSomeAffix side fars v → HasSomeAffix side affixes (laid side u v)) →
+        AreAffixes side once t → AreAffixesOfRounds side fars t n → (s : List ℕ) (k i j : ℕ) → n + 1 ≤ k → Chain (Takes s t) k i j → HasSomeAffix side affixes (part s i j)
     by side join a b s zero i j le c = absurd (omega arith)
     by Prefix join a b s (suc k) i j le c =
-        subst (FitsSome Prefix affixes) (sym (part_split s i c.0 j (rises s t i c.0 c.1) (chain_rises (Takes s t) (rises s t) k c.0 j c.2)))
+        subst (HasSomeAffix Prefix affixes) (sym (part_split s i c.0 j (rises s t i c.0 c.1) (chain_rises (Takes s t) (rises s t) k c.0 j c.2)))
         (join (part s i c.0) (part s c.0 j) (a s i c.0 c.1) (b s k c.0 j (omega arith) c.2))
     by Suffix join a b s (suc k) i j le c =
         let r = chain_last (Takes s t) k i j c in
-        subst (FitsSome Suffix affixes) (sym (part_split s i r.0 j (chain_rises (Takes s t) (rises s t) k i r.0 r.1) (rises s t r.0 j r.2)))
+        subst (HasSomeAffix Suffix affixes) (sym (part_split s i r.0 j (chain_rises (Takes s t) (rises s t) k i r.0 r.1) (rises s t r.0 j r.2)))
         (join (part s r.0 j) (part s i r.0) (a s r.0 j r.2) (b s k i r.0 (omega arith) r.1))
 
 -- any number of rounds: none, or one and anything
-pub rounds_any : (side : Side) (once any loose affixes : List Affix) (t : Tree) → ((text : List ℕ) → FitsSome side any text) →
-    ((u v : List ℕ) → FitsSome side once u → FitsSome side any v → FitsSome side loose (laid side u v)) →
-    FitsSome side affixes [] → ((text : List ℕ) → FitsSome side loose text → FitsSome side affixes text) →
+pub rounds_any : (side : Side) (once any loose affixes : List Affix) (t : Tree) → ((text : List ℕ) → HasSomeAffix side any text) →
+    ((u v : List ℕ) → HasSomeAffix side once u → HasSomeAffix side any v → HasSomeAffix side loose (laid side u v)) →
+    HasSomeAffix side affixes [] → ((text : List ℕ) → HasSomeAffix side loose text → HasSomeAffix side affixes text) →
     AreAffixes side once t → AreAffixesOfRounds side affixes t 0
 rounds_any side once any loose affixes t all join none_fits keep a = λ s k i j le c. by s k i j c
   where
-    by : (s : List ℕ) (k i j : ℕ) → Chain (Takes s t) k i j → FitsSome side affixes (part s i j)
-    by s zero i j c = subst (FitsSome side affixes) (sym (part_empty s i) ∙ ap (part s i) c) none_fits
+    by : (s : List ℕ) (k i j : ℕ) → Chain (Takes s t) k i j → HasSomeAffix side affixes (part s i j)
+    by s zero i j c = subst (HasSomeAffix side affixes) (sym (part_empty s i) ∙ ap (part s i) c) none_fits
     by s (suc k) i j c =
         keep (part s i j) (round_more side once any loose t 0 join a (λ r l x y le d. all (part r x y)) s (suc k) i j (omega arith) c)
 
@@ -188,12 +188,12 @@ pub affixes_rounds : (side : Side) (affixes : List Affix) (t : Tree) (n least : 
 affixes_rounds side affixes t n least m le r = λ s i j h. r s h.0 i j (omega (arith, h.1, le)) h.3
 
 -- the same affixes
-pub fits_via : (side : Side) (xs ys : List Affix) (text : List ℕ) → ys ≡ xs → FitsSome side xs text → FitsSome side ys text
-fits_via side xs ys text e h = subst (λ (es : List Affix). FitsSome side es text) (sym e) h
+pub fits_via : (side : Side) (xs ys : List Affix) (text : List ℕ) → ys ≡ xs → HasSomeAffix side xs text → HasSomeAffix side ys text
+fits_via side xs ys text e h = subst (λ (es : List Affix). HasSomeAffix side es text) (sym e) h
 
 -- there is none behind the last
-pub fits_end : (side : Side) (affixes : List Affix) (i : ℕ) (text : List ℕ) → length affixes ≤ i → FitsSome side (drop i affixes) text → ⊥
-fits_end side affixes i text le h = subst (λ (es : List Affix). FitsSome side es text) (drop_of_length-le affixes {i = i} le) h
+pub fits_end : (side : Side) (affixes : List Affix) (i : ℕ) (text : List ℕ) → length affixes ≤ i → HasSomeAffix side (drop i affixes) text → ⊥
+fits_end side affixes i text le h = subst (λ (es : List Affix). HasSomeAffix side es text) (drop_of_length-le affixes {i = i} le) h
 
 -- what is left of a word that is cut
 abbrev pub far_part : Side → ℕ → List ℕ → List ℕ

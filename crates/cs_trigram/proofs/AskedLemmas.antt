@@ -7,7 +7,7 @@ use Rattle.cs_syntax.specs.Matching.{Tree, Trees, cat, none, more, Takes, TakesA
 use Rattle.cs_trigram.specs.Trigram.{trigram_sequence}
 use Rattle.cs_trigram.specs.Affixes.{part}
 use Rattle.cs_trigram.specs.Query.{HasTrigrams}
-use Rattle.cs_trigram.specs.Windows.{IsMember, IsRun, Shows, ShowsRuns, HasWindows}
+use Rattle.cs_trigram.specs.Windows.{IsMember, IsPlainRun, Shows, ShowsRuns, HasWindows}
 use Rattle.cs_trigram.specs.FiniteWords.{is_finite, are_finite, HasWord, JoinWords, HaveFewWords}
 use Rattle.cs_trigram.specs.Sample.{with_words, joinings, IsSample, AreWords, IsBlocked, IsFront, TreeWords, has_any, IsAsked}
 use Rattle.cs_trigram.proofs.FewLemmas.{empty_words, few_front, few_back, front_begins, whole_words, words_sample, before_sample, joins_one, spells_one}
@@ -40,7 +40,7 @@ module _ (set : ℕ → Bool) where
       let word = spelled_all s f.run i r.0 f.finite r.1 in
       shown_any ws (part s i r.0) ((f.each.each (part s i r.0)).0 word.1) (has_part set (r.0 - i) i s has)
 
-  runs_more : (t : Tree) (ts : Trees) → ShowsRuns set ts → ((run after : Trees) → more t ts ≡ append run after → IsRun run → Shows set run) → ShowsRuns set (more t ts)
+  runs_more : (t : Tree) (ts : Trees) → ShowsRuns set ts → ((run after : Trees) → more t ts ≡ append run after → IsPlainRun run → Shows set run) → ShowsRuns set (more t ts)
   runs_more t ts old new none run after e few = new run after e few
   runs_more t ts old new (more b before) run after e few = let tail : ts ≡ append before (append run after) = (cc) in old before run after tail few
 
@@ -52,7 +52,7 @@ module _ (set : ℕ → Bool) where
       let r = front_begins ts ws f w.0 w.1 run after e few in
       (r.0, r.2, has_front set r.0 r.1 (subst (HasTrigrams set) r.3 w.2))
 
-  fronts_shown : (ts : Trees) (ws : List (List ℕ)) → IsFront ts ws → has_any set ws ≡ true → (run after : Trees) → ts ≡ append run after → IsRun run → Shows set run
+  fronts_shown : (ts : Trees) (ws : List (List ℕ)) → IsFront ts ws → has_any set ws ≡ true → (run after : Trees) → ts ≡ append run after → IsPlainRun run → Shows set run
   fronts_shown ts ws f h run after e few =
       let r = fronts_words ts ws f h run after e (run_has_few run few) in
       (r.0, has_joins run few.0 r.0 r.1, r.2)
@@ -90,7 +90,7 @@ module _ (front : List (List ℕ)) (needs later : (ℕ → Bool) → Bool) (t : 
         (runs_more set t ts windows.0 (short set), (sharp set both.1, windows.1));
   }
     where
-      short : (set : ℕ → Bool) (run after : Trees) → more t ts ≡ append run after → IsRun run → Shows set run
+      short : (set : ℕ → Bool) (run after : Trees) → more t ts ≡ append run after → IsPlainRun run → Shows set run
       short set none after e few = ([], refl, refl)
       short set (more u run) after e few =
           let same : u ≡ t = (cc) in

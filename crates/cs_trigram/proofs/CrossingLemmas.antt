@@ -6,7 +6,7 @@ use Rattle.cs_syntax.specs.Matching.{Tree, Trees, more, TakesAll}
 use Rattle.cs_trigram.specs.Trigram.{trigram_sequence}
 use Rattle.cs_trigram.specs.Query.{holds, HasTrigrams}
 use Rattle.cs_trigram.specs.Sample.{some_holds, AsksForText}
-use Rattle.cs_trigram.specs.Affixes.{part, Fits, FitsSome, AreAffixes, AreAffixesOfAll, StandsIn}
+use Rattle.cs_trigram.specs.Affixes.{part, HasAffix, HasSomeAffix, AreAffixes, AreAffixesOfAll, StandsIn}
 use Rattle.cs_trigram.specs.ShortWord.{bytes_of}
 use Rattle.cs_trigram.specs.declared.affixes.Side.TheVariants.{Prefix, Suffix}
 use Rattle.cs_trigram.specs.declared.affixes.Affix.{Affix}
@@ -17,7 +17,7 @@ use Rattle.cs_trigram.proofs.SpellingLemmas.{part_split}
 use Rattle.cs_trigram.proofs.AffixLemmas.{rises, rises_all}
 
 -- a suffix and a prefix, joined
-pub stands_across : (suffix prefix : Affix) (word u v : List ℕ) → word ≡ (bytes_of suffix.word) ++ (bytes_of prefix.word) → Fits Suffix suffix u → Fits Prefix prefix v → StandsIn word (u ++ v)
+pub stands_across : (suffix prefix : Affix) (word u v : List ℕ) → word ≡ (bytes_of suffix.word) ++ (bytes_of prefix.word) → HasAffix Suffix suffix u → HasAffix Prefix prefix v → StandsIn word (u ++ v)
 stands_across suffix prefix word u v is a b = (
   a.0,
   b.0,
@@ -33,7 +33,7 @@ module _ (set : ℕ → Bool) where
 
   -- one joining more
   pub joining_held : (queries : List Query) (q : Query) (suffix prefix : Affix) (u v : List ℕ) → AsksForText q ((bytes_of suffix.word) ++ (bytes_of prefix.word)) →
-      Fits Suffix suffix u → Fits Prefix prefix v → HasTrigrams set (u ++ v) → some_holds (queries ++ q ∷ []) set ≡ true
+      HasAffix Suffix suffix u → HasAffix Prefix prefix v → HasTrigrams set (u ++ v) → some_holds (queries ++ q ∷ []) set ≡ true
   joining_held queries q suffix prefix u v asks a b has =
       let word = (bytes_of suffix.word) ++ (bytes_of prefix.word) in
       some_holds_push set queries q
@@ -44,7 +44,7 @@ module _ (set : ℕ → Bool) where
 
   -- what is asked across the seam of a part and those behind it holds of each line in which they take a part
   pub seam_held : (query : (ℕ → Bool) → Bool) (suffixes prefixes : List Affix) (t : Tree) (ts : Trees) →
-      ((u v : List ℕ) → FitsSome Suffix suffixes u → FitsSome Prefix prefixes v → HasTrigrams set (u ++ v) → query set ≡ true) →
+      ((u v : List ℕ) → HasSomeAffix Suffix suffixes u → HasSomeAffix Prefix prefixes v → HasTrigrams set (u ++ v) → query set ≡ true) →
       AreAffixes Suffix suffixes t → AreAffixesOfAll Prefix prefixes ts →
       (s : List ℕ) (i j : ℕ) → TakesAll s (more t ts) i j → HasTrigrams set s → query set ≡ true
   seam_held query suffixes prefixes t ts asks a b s i j h has =

@@ -2,7 +2,7 @@
 use Rattle.std.proofs.Common.{◌≡◌, ℕ, inl, inr, true, List, refl, arith}
 use Rattle.std.proofs.lemmas.Bool.{and_parts, and_from}
 use Rattle.cs_syntax.specs.Matching.{Tree, Trees, empty, one_of, one_char, cat, alt, rep, line_start, line_end, word_edge, not_word_edge, none, more}
-use Rattle.cs_trigram.specs.Windows.{is_plain, are_plain, Spells, Joins, SomeSpells, IsRun}
+use Rattle.cs_trigram.specs.Windows.{is_plain, are_plain, Spells, Joins, SomeSpells, IsPlainRun}
 use Rattle.cs_trigram.specs.FiniteWords.{is_finite, are_finite, HasWord, JoinWords, SomeHasWord, HaveFewWords}
 
 mutual
@@ -75,7 +75,7 @@ mutual
       elim s [ inl a ↦ inl (has_spells t q.0 w a) | inr b ↦ inr (has_some ts q.1 w b) ]
 
 -- a run has few words
-pub run_has_few : (ts : Trees) → IsRun ts → HaveFewWords ts
+pub run_has_few : (ts : Trees) → IsPlainRun ts → HaveFewWords ts
 run_has_few ts few = (
   all_finite ts few.0,
   (few.1.0, joins_has ts few.0 few.1.0 few.1.1),

@@ -6,7 +6,7 @@ use Rattle.std.proofs.lemmas.Bool.{true≢false}
 use Rattle.cs_syntax.specs.Matching.{Tree, Trees, one_of, cat, alt, rep, none, more, member, Found, TakesAll}
 use Rattle.cs_trigram.specs.Trigram.{tri}
 use Rattle.cs_trigram.specs.Query.{HasTrigrams, LosesNoLine}
-use Rattle.cs_trigram.specs.Windows.{Joins, IsMember, IsRun, HasWindows, IsSharp}
+use Rattle.cs_trigram.specs.Windows.{Joins, IsMember, IsPlainRun, HasWindows, IsSharp}
 use Rattle.cs_trigram.specs.declared.queries.Query.TheVariants.{All, Tri}
 use Rattle.cs_trigram.proofs.QueryLemmas.{holds-All, holds-Tri}
 use Rattle.cs_trigram.proofs.WindowLemmas.{taken_windows}
@@ -47,7 +47,7 @@ join_no_other (b ∷ text) word j =
 abbrev hello : List ℕ
 hello = codes "hello"
 
-hello_is_a_run : IsRun (letters hello)
+hello_is_a_run : IsPlainRun (letters hello)
 hello_is_a_run = (refl, (hello, join hello), (hello ∷ [], omega arith, λ word j. inl (join_no_other hello word j)))
 
 hello_takes_hello : TakesAll hello (letters hello) 0 5
@@ -94,7 +94,7 @@ choice_joins word j =
       ]
     ]
 
-choice_is_a_run : IsRun choice
+choice_is_a_run : IsPlainRun choice
 choice_is_a_run = (
   refl,
   (codes "abef", (codes "ab", codes "ef", inl (join (codes "ab")), join (codes "ef"), refl)),

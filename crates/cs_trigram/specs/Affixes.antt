@@ -27,42 +27,42 @@ abbrev pub are_bare : List Affix → Bool
 are_bare affixes = list_all (λ affix. nat_eq (length (bytes_of affix.word)) 0) affixes
 
 -- the text has the affix's word at the side, and nothing else where the affix is whole
-abbrev pub Fits : Side → Affix → List ℕ → Type 0
-Fits side affix text = (rest : List ℕ) × (text ≡ laid side (bytes_of affix.word) rest) × (affix.whole ≡ true → rest ≡ [])
+abbrev pub HasAffix : Side → Affix → List ℕ → Type 0
+HasAffix side affix text = (rest : List ℕ) × (text ≡ laid side (bytes_of affix.word) rest) × (affix.whole ≡ true → rest ≡ [])
 
--- the text fits some affix
-abbrev pub FitsSome : Side → List Affix → List ℕ → Type 0
-FitsSome side [] text = ⊥
-FitsSome side (affix ∷ affixes) text = Fits side affix text ⊎ FitsSome side affixes text
+-- the text has some affix
+abbrev pub HasSomeAffix : Side → List Affix → List ℕ → Type 0
+HasSomeAffix side [] text = ⊥
+HasSomeAffix side (affix ∷ affixes) text = HasAffix side affix text ⊎ HasSomeAffix side affixes text
 
--- each text that fits the other affix fits this one
+-- each text that has the other affix has this one
 abbrev pub IsWider : Side → Affix → Affix → Type 0
-IsWider side affix other = (text : List ℕ) → Fits side other text → Fits side affix text
+IsWider side affix other = (text : List ℕ) → HasAffix side other text → HasAffix side affix text
 
--- each text that fits the affix fits some of these
+-- each text that has the affix has some of these
 abbrev pub HaveWider : Side → List Affix → Affix → Type 0
-HaveWider side affixes affix = (text : List ℕ) → Fits side affix text → FitsSome side affixes text
+HaveWider side affixes affix = (text : List ℕ) → HasAffix side affix text → HasSomeAffix side affixes text
 
--- each text that fits some of the others fits some of these
+-- each text that has some of the others has some of these
 abbrev pub AreWider : Side → List Affix → List Affix → Type 0
-AreWider side affixes others = (text : List ℕ) → FitsSome side others text → FitsSome side affixes text
+AreWider side affixes others = (text : List ℕ) → HasSomeAffix side others text → HasSomeAffix side affixes text
 
--- a text that fits the one, with a text behind it that fits the other, fits this affix
+-- a text that has the one, with a text behind it that has the other, has this affix
 abbrev pub IsAffixOfTwo : Side → Affix → Affix → Affix → Type 0
-IsAffixOfTwo side near far affix = (u v : List ℕ) → Fits side near u → Fits side far v → Fits side affix (laid side u v)
+IsAffixOfTwo side near far affix = (u v : List ℕ) → HasAffix side near u → HasAffix side far v → HasAffix side affix (laid side u v)
 
 abbrev pub AreAffixesOfTwo : Side → List Affix → List Affix → List Affix → Type 0
-AreAffixesOfTwo side nears fars affixes = (u v : List ℕ) → FitsSome side nears u → FitsSome side fars v → FitsSome side affixes (laid side u v)
+AreAffixesOfTwo side nears fars affixes = (u v : List ℕ) → HasSomeAffix side nears u → HasSomeAffix side fars v → HasSomeAffix side affixes (laid side u v)
 
--- each part of a line that the tree takes fits some affix
+-- each part of a line that the tree takes has some affix
 abbrev pub AreAffixes : Side → List Affix → Tree → Type 0
-AreAffixes side affixes t = (s : List ℕ) (i j : ℕ) → Takes s t i j → FitsSome side affixes (part s i j)
+AreAffixes side affixes t = (s : List ℕ) (i j : ℕ) → Takes s t i j → HasSomeAffix side affixes (part s i j)
 
 abbrev pub AreAffixesOfAll : Side → List Affix → Trees → Type 0
-AreAffixesOfAll side affixes ts = (s : List ℕ) (i j : ℕ) → TakesAll s ts i j → FitsSome side affixes (part s i j)
+AreAffixesOfAll side affixes ts = (s : List ℕ) (i j : ℕ) → TakesAll s ts i j → HasSomeAffix side affixes (part s i j)
 
 abbrev pub AreAffixesOfSome : Side → List Affix → Trees → Type 0
-AreAffixesOfSome side affixes ts = (s : List ℕ) (i j : ℕ) → TakesSome s ts i j → FitsSome side affixes (part s i j)
+AreAffixesOfSome side affixes ts = (s : List ℕ) (i j : ℕ) → TakesSome s ts i j → HasSomeAffix side affixes (part s i j)
 
 -- the same of at least so many rounds of the tree
 abbrev pub AreAffixesOfRepeat : Side → List Affix → Tree → ℕ → Type 0

@@ -4,7 +4,7 @@ use Rattle.cs_trigram.specs.QueryNumbers.{are_trigrams}
 use Rattle.std.specs.List.{list_all}
 use Rattle.cs_syntax.specs.Matching.{Tree, Trees, more}
 use Rattle.cs_trigram.specs.Query.{holds, HasTrigrams}
-use Rattle.cs_trigram.specs.Affixes.{are_bare, FitsSome}
+use Rattle.cs_trigram.specs.Affixes.{are_bare, HasSomeAffix}
 use Rattle.cs_trigram.specs.ShortWord.{bytes_of}
 use Rattle.cs_trigram.specs.Sample.{IsAsked, all_hold, some_holds}
 use Rattle.cs_trigram.specs.declared.queries.Query.{Query}
@@ -29,12 +29,12 @@ has_all_across asked suffixes prefixes =
 -- the query holds where a set has the trigrams of a text with one of the suffixes before one with one of the prefixes
 abbrev pub HoldsAcross : Query → List Affix → List Affix → Type 0
 HoldsAcross query suffixes prefixes =
-    (set : ℕ → Bool) (u v : List ℕ) → FitsSome Suffix suffixes u → FitsSome Prefix prefixes v → HasTrigrams set (u ++ v) → holds query set ≡ true
+    (set : ℕ → Bool) (u v : List ℕ) → HasSomeAffix Suffix suffixes u → HasSomeAffix Prefix prefixes v → HasTrigrams set (u ++ v) → holds query set ≡ true
 
 -- some query holds there
 abbrev pub SomeHoldsAcross : List Query → List Affix → List Affix → Type 0
 SomeHoldsAcross queries suffixes prefixes =
-    (set : ℕ → Bool) (u v : List ℕ) → FitsSome Suffix suffixes u → FitsSome Prefix prefixes v → HasTrigrams set (u ++ v) → some_holds queries set ≡ true
+    (set : ℕ → Bool) (u v : List ℕ) → HasSomeAffix Suffix suffixes u → HasSomeAffix Prefix prefixes v → HasTrigrams set (u ++ v) → some_holds queries set ≡ true
 
 -- what was asked of the parts is asked of them with this one before them
 abbrev pub IsAskedBefore : Asked → Asked → Tree → Trees → Type 0

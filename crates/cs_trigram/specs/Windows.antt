@@ -52,8 +52,8 @@ IsMember word [] = ⊥
 IsMember word (w ∷ ws) = (word ≡ w) ⊎ IsMember word ws
 
 -- the trees are plain, and the words that join theirs are at least one and at most eight
-abbrev pub IsRun : Trees → Type 0
-IsRun ts =
+abbrev pub IsPlainRun : Trees → Type 0
+IsPlainRun ts =
     (are_plain ts ≡ true)
     × ((word : List ℕ) × Joins ts word)
     × ((words : List (List ℕ)) × (length words ≤ 8) × ((word : List ℕ) → Joins ts word → IsMember word words))
@@ -64,7 +64,7 @@ Shows set ts = (word : List ℕ) × Joins ts word × HasTrigrams set word
 
 -- the set shows each run of neighbours
 abbrev pub ShowsRuns : (ℕ → Bool) → Trees → Type 0
-ShowsRuns set ts = (before run after : Trees) → ts ≡ append before (append run after) → IsRun run → Shows set run
+ShowsRuns set ts = (before run after : Trees) → ts ≡ append before (append run after) → IsPlainRun run → Shows set run
 
 -- a sequence: each run of neighbours is shown, and the set has the windows of each member; a choice: it has those of some
 -- branch; a repeat of at least one round: it has those of what is repeated

@@ -2,7 +2,7 @@
 ghost use Rattle.std.specs.Prelude.{not, ◌≡◌, ◌<◌, ◌≤◌, ◌⊎◌, [], ◌∷◌, ℕ, true, List, length, IfOk, IfSome, OnOk};
 ghost use Rattle.std.specs.List.{list_all};
 ghost use Rattle.cs_trigram.specs.Windows.{IsMember};
-ghost use Rattle.cs_trigram.specs.Affixes.{laid, near_part, are_bare, Fits, FitsSome, IsWider, HaveWider, AreWider, IsAffixOfTwo, AreAffixesOfTwo};
+ghost use Rattle.cs_trigram.specs.Affixes.{laid, near_part, are_bare, HasAffix, HasSomeAffix, IsWider, HaveWider, AreWider, IsAffixOfTwo, AreAffixesOfTwo};
 ghost use Rattle.cs_trigram.specs.Cuts.{AreCutsOf};
 ghost use Rattle.cs_trigram.specs.ShortWord.{bytes_of};
 
@@ -161,7 +161,7 @@ fn cut_affixes(alloc: Global, side: Side, affixes: Vec<Affix>) -> Result<Vec<Aff
 
 /// The affix cut to so many bytes, of a text with any other behind it.
 fn open_affix(side: Side, affix: Affix, longest: usize) -> Affix
-    ensures { (u v : List ℕ) → Fits side affix u → Fits side result (laid side u v) }
+    ensures { (u v : List ℕ) → HasAffix side affix u → HasAffix side result (laid side u v) }
 {
     let short = short_affix(side, affix, longest);
     Affix {
@@ -221,8 +221,8 @@ fn add_joinings(
 ) -> Result<(), AllocError>
     ensures keeps { OnOk result (AreWider side affixes.new.items affixes.old.items) }
     ensures joins { OnOk result (length affixes.new.items ≤ 20 → (u v : List ℕ) →
-        Fits side near u → FitsSome side fars.now v →
-        FitsSome side affixes.new.items (laid side u v)) }
+        HasAffix side near u → HasSomeAffix side fars.now v →
+        HasSomeAffix side affixes.new.items (laid side u v)) }
 {
     for far in fars {
         if affixes.len() > MANY {
@@ -244,8 +244,8 @@ fn add_joined(
 ) -> Result<(), AllocError>
     ensures keeps { OnOk result (AreWider side affixes.new.items affixes.old.items) }
     ensures joins { OnOk result (length affixes.new.items ≤ 20 → (all : List Affix) (u v : List ℕ) →
-        AreCutsOf side fars.now all → Fits side near u → FitsSome side all v →
-        FitsSome side affixes.new.items (laid side u v)) }
+        AreCutsOf side fars.now all → HasAffix side near u → HasSomeAffix side all v →
+        HasSomeAffix side affixes.new.items (laid side u v)) }
 {
     let len = near.word.len();
     if !near.whole || len > longest {
@@ -335,8 +335,8 @@ pub(crate) fn either_affixes(
     more: &[Affix],
 ) -> Result<Vec<Affix>, AllocError>
     ensures { IfOk result (λ both. (text : List ℕ) →
-        FitsSome side affixes.items text ⊎ FitsSome side more.now text →
-        FitsSome side both.items text) }
+        HasSomeAffix side affixes.items text ⊎ HasSomeAffix side more.now text →
+        HasSomeAffix side both.items text) }
 {
     let mut both = affixes;
     for affix in more {
@@ -347,7 +347,7 @@ pub(crate) fn either_affixes(
 
 /// The affix of each text.
 pub(crate) fn any_affix(alloc: Global) -> Result<Vec<Affix>, AllocError>
-    ensures { IfOk result (λ any. (side : Side) (text : List ℕ) → FitsSome side any.items text) }
+    ensures { IfOk result (λ any. (side : Side) (text : List ℕ) → HasSomeAffix side any.items text) }
 {
     let mut affixes = Vec::new(alloc);
     affixes.push(Affix {
@@ -359,7 +359,7 @@ pub(crate) fn any_affix(alloc: Global) -> Result<Vec<Affix>, AllocError>
 
 /// The affix of the text without bytes.
 pub(crate) fn empty_affix(alloc: Global) -> Result<Vec<Affix>, AllocError>
-    ensures { IfOk result (λ affixes. (side : Side) → FitsSome side affixes.items []) }
+    ensures { IfOk result (λ affixes. (side : Side) → HasSomeAffix side affixes.items []) }
 {
     let mut affixes = Vec::new(alloc);
     affixes.push(Affix {
@@ -382,7 +382,7 @@ fn near_bytes(side: Side, word: &[u8], len: usize) -> &[u8]
 
 /// The affix of a word.
 fn affix_of_word(side: Side, word: &Word) -> Affix
-    ensures { Fits side result word.now }
+    ensures { HasAffix side result word.now }
 {
     let bytes = word.bytes();
     if bytes.len() <= LONGEST {
@@ -404,7 +404,7 @@ pub(crate) fn affixes_of_words(
     words: &[Word],
 ) -> Result<Vec<Affix>, AllocError>
     ensures { IfOk result (λ affixes. (text : List ℕ) → IsMember text words.now →
-        FitsSome side affixes.items text) }
+        HasSomeAffix side affixes.items text) }
 {
     let mut affixes = Vec::with_capacity(alloc, words.len())?;
     for word in words {

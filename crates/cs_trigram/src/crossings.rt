@@ -6,7 +6,7 @@ ghost use Rattle.cs_trigram.specs.Query.{HasTrigrams};
 ghost use Rattle.cs_trigram.specs.Asked.{HoldsAcross, SomeHoldsAcross};
 ghost use Rattle.cs_trigram.specs.Sample.{some_holds, AsksForText};
 ghost use Rattle.cs_trigram.specs.ShortWord.{bytes_of};
-ghost use Rattle.cs_trigram.specs.Affixes.{Fits, FitsSome};
+ghost use Rattle.cs_trigram.specs.Affixes.{HasAffix, HasSomeAffix};
 ghost use Rattle.cs_trigram.specs.declared.affixes.Side.TheVariants.{Prefix, Suffix};
 
 use crate::affixes::{Affix, Side, short_affixes};
@@ -42,8 +42,8 @@ fn add_crossings(
 ) -> Result<(), AllocError>
     ensures keeps { OnOk result ((set : ℕ → Bool) → some_holds members.old.items set ≡ true →
         some_holds members.new.items set ≡ true) }
-    ensures adds { OnOk result ((set : ℕ → Bool) (u v : List ℕ) → Fits Suffix suffix.now u →
-        FitsSome Prefix prefixes.now v → HasTrigrams set (u ++ v) →
+    ensures adds { OnOk result ((set : ℕ → Bool) (u v : List ℕ) → HasAffix Suffix suffix.now u →
+        HasSomeAffix Prefix prefixes.now v → HasTrigrams set (u ++ v) →
         some_holds members.new.items set ≡ true) }
     ensures numbers { OnOk result (list_all are_trigrams members.old.items ≡ true →
         list_all are_trigrams members.new.items ≡ true) }

@@ -8,8 +8,15 @@ overflow_add-result c =
     let rest = λ (from : ℕ). drop from c.args.block.now in
     let a = c.cut-a in
     let b = c.cut-b in
-    omega (arith, count_few_in c.args.cells.now c.four.result.0 (rest c.args.from) (a.result - c.args.from) c.four.ensures.first,
-    count_few_in c.args.cells.now c.four.result.1 (rest a.result) (b.result - a.result) c.four.ensures.second, a.ensures.low, a.ensures.high, b.ensures.low, b.ensures.high)
+    omega (
+      arith,
+      count_few_in c.args.cells.now c.four.result.0 (rest c.args.from) (a.result - c.args.from) c.four.ensures.first,
+      count_few_in c.args.cells.now c.four.result.1 (rest a.result) (b.result - a.result) c.four.ensures.second,
+      a.ensures.low,
+      a.ensures.high,
+      b.ensures.low,
+      b.ensures.high,
+    )
 
 pub overflow_add-result-2 : goal.overflow_add-result-2
 overflow_add-result-2 c =
@@ -17,10 +24,18 @@ overflow_add-result-2 c =
     let a = c.cut-a in
     let b = c.cut-b in
     let d = c.cut-c in
-    omega (arith, count_few_in c.args.cells.now c.four.result.0 (rest c.args.from) (a.result - c.args.from) c.four.ensures.first,
-    count_few_in c.args.cells.now c.four.result.1 (rest a.result) (b.result - a.result) c.four.ensures.second,
-    count_few_in c.args.cells.now c.four.result.2 (rest b.result) (d.result - b.result) c.four.ensures.third,
-    a.ensures.low, a.ensures.high, b.ensures.low, b.ensures.high, d.ensures.low, d.ensures.high)
+    omega (
+      arith,
+      count_few_in c.args.cells.now c.four.result.0 (rest c.args.from) (a.result - c.args.from) c.four.ensures.first,
+      count_few_in c.args.cells.now c.four.result.1 (rest a.result) (b.result - a.result) c.four.ensures.second,
+      count_few_in c.args.cells.now c.four.result.2 (rest b.result) (d.result - b.result) c.four.ensures.third,
+      a.ensures.low,
+      a.ensures.high,
+      b.ensures.low,
+      b.ensures.high,
+      d.ensures.low,
+      d.ensures.high,
+    )
 
 pub overflow_add-result-3 : goal.overflow_add-result-3
 overflow_add-result-3 c =
@@ -29,11 +44,21 @@ overflow_add-result-3 c =
     let b = c.cut-b in
     let d = c.cut-c in
     let e = c.cut-d in
-    omega (arith, count_few_in c.args.cells.now c.four.result.0 (rest c.args.from) (a.result - c.args.from) c.four.ensures.first,
-    count_few_in c.args.cells.now c.four.result.1 (rest a.result) (b.result - a.result) c.four.ensures.second,
-    count_few_in c.args.cells.now c.four.result.2 (rest b.result) (d.result - b.result) c.four.ensures.third,
-    count_few_in c.args.cells.now c.four.result.3 (rest d.result) (e.result - d.result) c.four.ensures.fourth,
-    a.ensures.low, a.ensures.high, b.ensures.low, b.ensures.high, d.ensures.low, d.ensures.high, e.ensures.low, e.ensures.high)
+    omega (
+      arith,
+      count_few_in c.args.cells.now c.four.result.0 (rest c.args.from) (a.result - c.args.from) c.four.ensures.first,
+      count_few_in c.args.cells.now c.four.result.1 (rest a.result) (b.result - a.result) c.four.ensures.second,
+      count_few_in c.args.cells.now c.four.result.2 (rest b.result) (d.result - b.result) c.four.ensures.third,
+      count_few_in c.args.cells.now c.four.result.3 (rest d.result) (e.result - d.result) c.four.ensures.fourth,
+      a.ensures.low,
+      a.ensures.high,
+      b.ensures.low,
+      b.ensures.high,
+      d.ensures.low,
+      d.ensures.high,
+      e.ensures.low,
+      e.ensures.high,
+    )
 
 pub returns-clause-counted : goal.returns-clause-counted
 returns-clause-counted c =

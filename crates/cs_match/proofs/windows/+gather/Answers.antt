@@ -7,7 +7,7 @@ use Rattle.cs_syntax.specs.declared.node.Node.{Node}
 use Rattle.cs_syntax.proofs.NodeLemmas.{tree_of-Set, tree_of-Cat, tree_of-Alt, tree_of-Rep}
 use Rattle.cs_syntax.proofs.TreeLemmas.{trees_from}
 use Rattle.cs_match.specs.NeededWindows.{HasOne, HasChosen}
-use Rattle.cs_match.specs.Trails.{Follow}
+use Rattle.cs_match.specs.Trails.{TrailsFollow}
 use Rattle.cs_match.proofs.NeedleLemmas.{on_ok_both}
 use Rattle.cs_match.proofs.WindowLemmas.{follow_none, follow_set, follow_cut, follow_more, follow_rounds, follow_same, chosen, one_before, one_behind}
 use Rattle.cs_match.proofs.windows.+gather.Goals as goal
@@ -57,7 +57,7 @@ gather_all-returns t c =
     let trail = c.loop-part.trail in
     let end = drop_of_length-le c.args.parts.now {i = c.loop-part.part-index} (omega arith) in
     c.loop-part.invariant trail
-    (subst (λ (ns : List Node). Follow (λ line i j. TakesAll line (trees_of ns) i j) trail trail) (sym end) (follow_none _ (λ line i j h. h) trail))
+    (subst (λ (ns : List Node). TrailsFollow (λ line i j. TakesAll line (trees_of ns) i j) trail trail) (sym end) (follow_none _ (λ line i j h. h) trail))
 
 pub gather_all-loop-part-preserved : goal.gather_all-loop-part-preserved
 gather_all-loop-part-preserved t c = λ last f.
@@ -66,7 +66,7 @@ gather_all-loop-part-preserved t c = λ last f.
     let others = trees_of (drop (c.loop-part.part-index + 1) c.args.parts.now) in
     let next = trees_from c.args.parts.now c.loop-part.part-index c.part-item.result c.loop-part-test.true c.part-item.is in
     c.loop-part.invariant last
-    (subst (λ (ts : Trees). Follow (λ line i j. TakesAll line ts i j) first last) (sym next) (follow_more part others first c.gather.new.trail last c.in_ok-gather.ensures f))
+    (subst (λ (ts : Trees). TrailsFollow (λ line i j. TakesAll line ts i j) first last) (sym next) (follow_more part others first c.gather.new.trail last c.in_ok-gather.ensures f))
 
 pub best_of_each-loop-branch-preserved : goal.best_of_each-loop-branch-preserved
 best_of_each-loop-branch-preserved t c = λ line i j here h.

@@ -1,6 +1,6 @@
 use Rattle.std.proofs.Common.{◌≡◌, ◌⊎◌, ◌+◌, drop, inl, inr, sym, subst, arith, drop_of_length-le}
 use Rattle.cs_trigram.specs.Windows.{IsMember}
-use Rattle.cs_trigram.specs.Affixes.{Fits}
+use Rattle.cs_trigram.specs.Affixes.{HasAffix}
 use Rattle.cs_trigram.proofs.SampleLemmas.{words_from}
 use Rattle.cs_trigram.proofs.affixes.affixes_of_words.Goals as goal
 
@@ -15,7 +15,7 @@ loop-word-preserved c = λ text h.
       | inr y ↦
           let z : (text ≡ word) ⊎ IsMember text (drop (i + 1) words) = subst (IsMember text) (words_from words i word c.loop-word-test.true c.word-item.is) y in
           elim z [
-            | inl e ↦ inl (c.in_ok-add_affix.ensures side text (inl (subst (Fits side c.affix_of_word.result) (sym e) c.affix_of_word.ensures)))
+            | inl e ↦ inl (c.in_ok-add_affix.ensures side text (inl (subst (HasAffix side c.affix_of_word.result) (sym e) c.affix_of_word.ensures)))
             | inr n ↦ inr n
           ]
     ]

@@ -4,7 +4,7 @@ use Rattle.std.proofs.lemmas.Bool.{and_from}
 use Rattle.cs_trigram.specs.QueryNumbers.{are_trigrams}
 use Rattle.cs_trigram.specs.Query.{holds}
 use Rattle.cs_trigram.specs.Sample.{all_hold}
-use Rattle.cs_trigram.specs.Affixes.{FitsSome}
+use Rattle.cs_trigram.specs.Affixes.{HasSomeAffix}
 use Rattle.cs_trigram.specs.declared.affixes.Affix.{Affix}
 use Rattle.cs_trigram.specs.declared.queries.Query.{Query}
 use Rattle.cs_trigram.specs.declared.affixes.Side.TheVariants.{Prefix, Suffix}
@@ -15,8 +15,8 @@ pub returns-clause-asks : goal.returns-clause-asks
 returns-clause-asks c = λ set u v a b has.
     let one = c.in_ok-crossing.field-0 in
     let other = c.in_ok-crossing-2.field-0 in
-    let first = subst (λ (xs : List Affix). FitsSome Prefix xs v) (sym c.deref.ensures.value) (c.in_ok-first.ensures v b) in
-    let last = subst (λ (xs : List Affix). FitsSome Suffix xs u) (sym c.deref-2.ensures.value) (c.in_ok-last.ensures u a) in
+    let first = subst (λ (xs : List Affix). HasSomeAffix Prefix xs v) (sym c.deref.ensures.value) (c.in_ok-first.ensures v b) in
+    let last = subst (λ (xs : List Affix). HasSomeAffix Suffix xs u) (sym c.deref-2.ensures.value) (c.in_ok-last.ensures u a) in
     let none : all_hold c.new-needs.result.items set ≡ true = ap (λ (qs : List Query). all_hold qs set) c.new-needs.ensures.items in
     holds-And set c.add_need-2.new.needs ∙ c.in_ok-add_need-2.ensures.asks set
     ∙ and_from (all_hold c.add_need.new.needs.items set) (holds other set)

@@ -1,7 +1,7 @@
 use Rattle.std.proofs.Common.{subst}
 use Rattle.cs_match.proofs.TableLemmas.{tells_next}
 use Rattle.cs_match.specs.declared.standing.Standing.{Standing}
-use Rattle.cs_match.specs.Remembering.{Tells, tree_in, standing_in}
+use Rattle.cs_match.specs.Remembering.{TellsIn, tree_in, standing_in}
 use Rattle.cs_match.proofs.table.Table.next_row.Goals as goal
 
 pub put-requires-2-clause-told : goal.put-requires-2-clause-told
@@ -15,4 +15,4 @@ put-requires-2-clause-told c =
 pub returns-clause-told : goal.returns-clause-told
 returns-clause-told c =
     let kept = c.add-next.ensures.kept c.args.from (standing_in c.args.self.now c.args.from) c.requires.row in
-    subst (λ (n : Standing). Tells c.put-2.new.self n c.args.byte c.add-next.result) kept.same c.put-2.ensures.told
+    subst (λ (n : Standing). TellsIn c.put-2.new.self n c.args.byte c.add-next.result) kept.same c.put-2.ensures.told

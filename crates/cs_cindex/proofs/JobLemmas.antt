@@ -12,7 +12,7 @@ use Rattle.cs_words.specs.declared.jobs.Reply.{Reply}
 use Rattle.cs_words.specs.declared.jobs.Reply.TheVariants.{Done, Refused}
 use Rattle.cs_words.specs.declared.fault.CindexFault.{CindexFault}
 use Rattle.cs_words.specs.declared.fault.CindexFault.TheVariants.{NoIndex, BadIndex, Unsorted, TooLarge, BadPath, Write, Memory}
-use Rattle.cs_history.specs.History.{History, index_of}
+use Rattle.cs_history.specs.History.{History, nothing, index_of}
 use Rattle.cs_history.specs.WellFormed.{IsHistory}
 use Rattle.cs_history.specs.Jobs.{given_texts, has_no_path, snapshot_told}
 use Rattle.cs_history.specs.Headline.{IsShort}
@@ -57,7 +57,7 @@ is_early (Some Memory) late fault no_memory none h = either fault Memory no_memo
 
 -- what refuses a job early, on the index that some jobs left
 pub data Causes (earlier : History) (job : IndexJob) (fault : CindexFault) : Type 0 where
-  none_there : earlier ≡ [] → NeedsIndex job → fault ≡ NoIndex → Causes earlier job fault
+  none_there : earlier ≡ nothing → NeedsIndex job → fault ≡ NoIndex → Causes earlier job fault
   refused : (place : ℕ) → job.list ≡ false → first_bad (string_bytes job.cwd) (given_texts job) ≡ Some place → fault ≡ BadPath place → Causes earlier job fault
 
 module _ (earlier : History) (is : IsHistory earlier) (job : IndexJob) where
@@ -175,7 +175,7 @@ no_order : (earlier : History) (job : IndexJob) → Causes earlier job Unsorted 
 no_order earlier job (none_there e n is) = cc
 no_order earlier job (refused place l b is) = cc
 
-none_cause : (earlier : History) (job : IndexJob) → Causes earlier job NoIndex → (earlier ≡ []) × NeedsIndex job
+none_cause : (earlier : History) (job : IndexJob) → Causes earlier job NoIndex → (earlier ≡ nothing) × NeedsIndex job
 none_cause earlier job (none_there e n is) = (e, n)
 none_cause earlier job (refused place l b is) = absurd (apart is)
   where
@@ -192,7 +192,7 @@ path_cause earlier job place (refused at l b is) = subst (IsFirstBad job) (same 
     same : BadPath place ≡ BadPath at → at ≡ place
     same h = cc
 
-done_early : (job : IndexJob) (earlier : History) (old : Option (List ℕ)) → index_of earlier ≡ old → earlier ≡ [] → NeedsIndex job → early_fault job old ≡ Some NoIndex
+done_early : (job : IndexJob) (earlier : History) (old : Option (List ℕ)) → index_of earlier ≡ old → earlier ≡ nothing → NeedsIndex job → early_fault job old ≡ Some NoIndex
 done_early job earlier old left e needs = ap (early_fault job) (sym left ∙ ap index_of e) ∙ needs_one job needs
 
 is_reply : (fault other : CindexFault) → Refused fault ≡ Refused other → fault ≡ other

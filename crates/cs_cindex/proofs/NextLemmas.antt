@@ -14,31 +14,29 @@ use Rattle.cs_tree.specs.Cover.{least}
 use Rattle.cs_tree.specs.Clean.{clean_path}
 use Rattle.cs_tree.specs.Snapshot.{Snapshot}
 use Rattle.cs_tree.proofs.Sets.{same_set}
-use Rattle.cs_index.specs.Image.{image}
 use Rattle.cs_index.specs.Opening.{Parts, opening}
 use Rattle.cs_index.specs.declared.fault.IndexFault.{IndexFault}
 use Rattle.cs_merge.specs.Content.{paths_in}
 use Rattle.cs_merge.specs.Joinable.{joined_index, AreJoinable}
-use Rattle.cs_merge.specs.Join.{join_files, join_paths}
 use Rattle.cs_cindex.specs.Indexed.{IsIndexOf, IsTreeTooLarge, IsIndexingFault}
 use Rattle.cs_words.specs.declared.jobs.IndexJob.{IndexJob}
 use Rattle.cs_words.specs.declared.fault.CindexFault.{CindexFault}
 use Rattle.cs_words.specs.declared.fault.CindexFault.TheVariants.{NoIndex, BadIndex, Unsorted, TooLarge, BadPath, Write, Memory}
-use Rattle.cs_history.specs.History.{History, Visit, walked_paths, all_given, paths_of, files_of, index_of}
+use Rattle.cs_history.specs.History.{History, nothing, ◌⊳◌, Visit, walked_paths, paths_of, index_of}
 use Rattle.cs_history.specs.WellFormed.{IsHistory}
 use Rattle.cs_history.specs.Jobs.{given_texts, given_paths, has_no_path, AreTaken, visit_of, after_done, snapshot_told}
 use Rattle.cs_history.specs.Headline.{IsShort, Premises}
 use Rattle.cs_history.specs.Replies.{IsLong, Walks}
 use Rattle.cs_history.proofs.JobLemmas.{taken_visit}
 use Rattle.cs_history.proofs.FollowingLemmas.{first_premises}
-use Rattle.cs_history.proofs.HistoryLemmas.{walk_content, walk_lies, least_twice}
-use Rattle.cs_history.proofs.IndexLemmas.{index_joined, first_index, given_some, walked_again, no_index}
+use Rattle.cs_history.proofs.HistoryLemmas.{walk_content, walk_lies}
+use Rattle.cs_history.proofs.IndexLemmas.{joined_as, first_index, given_some, walked_again, no_index}
 use Rattle.std.specs.Result.{IsOkAnd}
 use Rattle.cs_index.specs.Opening.{are_whole}
 use Rattle.cs_cindex.specs.Joins.{IsSound, JoinsTo, IsJoinRefusal}
 use Rattle.cs_cindex.specs.Next.{opening_paths, base_paths, paths_walked, index_alone, opening_join, next_index, HasWholeLists, IsIndex, IsOwn, IsNextLong, alone, joined, IsNext}
 use Rattle.cs_cindex.specs.Refusals.{base, IsWalkFault}
-use Rattle.cs_cindex.proofs.OldLemmas.{OpensWith, history_opens, opened_image}
+use Rattle.cs_cindex.proofs.OldLemmas.{OpensWith, OpensFor, history_opens, opened_image}
 
 -- ---- of what a walk gives, whatever bytes the job goes on from
 
@@ -128,7 +126,7 @@ module _ (job : IndexJob) (tree : Option Snapshot) (old : List ℕ) (parts : Par
 
 -- what is known there
 pub record On (job : IndexJob) (tree : Snapshot) (old : Option (List ℕ)) (earlier : History) : Type 0 where
-  pub history : IsHistory (visit_of job tree ∷ earlier)
+  pub history : IsHistory (visit_of job tree ⊳ earlier)
   pub left : index_of earlier ≡ old
   pub few : IsShort old
 
@@ -145,9 +143,9 @@ none_given job none = ap (λ ts. set.len (set.from_list (map (λ text. clean_pat
 walked_own : (visit : Visit) (before : History) → set.len visit.given ≢ 0 → walked_paths visit before ≡ least visit.given
 walked_own visit before some = ap (λ b. cond b (paths_of before) (least visit.given)) (ne_eqb (set.len visit.given) 0 some)
 
-content_paths : (opening : Result Parts IndexFault) (earlier : History) → OpensWith opening (paths_of earlier) (files_of earlier) → least (opening_paths opening) ≡ paths_of earlier
+content_paths : (opening : Result Parts IndexFault) (earlier : History) → OpensFor earlier opening → least (opening_paths opening) ≡ paths_of earlier
 unfolding paths_in
-content_paths (Ok parts) earlier h = ap least h.paths_are ∙ least_twice (all_given earlier)
+content_paths (Ok parts) earlier h = h.paths_are
 content_paths (Err fault) earlier h = absurd h
 
 recorded_left : (old : Option (List ℕ)) (earlier : History) → IsHistory earlier → index_of earlier ≡ old → IsShort old → least (base_paths old) ≡ paths_of earlier
@@ -169,14 +167,12 @@ walked_is job tree old earlier on =
 pub own_is : (job : IndexJob) (tree : Snapshot) (old : Option (List ℕ)) (earlier : History) → On job tree old earlier → index_alone job tree old ≡ tree_index tree (walked_paths (visit_of job tree) earlier)
 own_is job tree old earlier on = ap (tree_index tree) (walked_is job tree old earlier on)
 
-content_joined : (visit : Visit) (earlier : History) (old own : Result Parts IndexFault) → OpensWith old (paths_of earlier) (files_of earlier) → OpensWith own (walked_paths visit earlier) (files_found visit earlier) → opening_join old own ≡ index_of (visit ∷ earlier)
-content_joined visit earlier (Ok old) (Ok own) h k =
-    (λ i. Some (image (join_paths (h.paths_are i) (k.paths_are i)) (join_files (k.paths_are i) (h.files_are i) (k.files_are i))))
-    ∙ index_joined earlier visit
+content_joined : (visit : Visit) (earlier : History) (old own : Result Parts IndexFault) → OpensFor earlier old → OpensWith own (walked_paths visit earlier) (files_found visit earlier) → opening_join old own ≡ index_of (visit ⊳ earlier)
+content_joined visit earlier (Ok old) (Ok own) h k = joined_as earlier visit old own h.paths_are h.files_are k.paths_are k.files_are
 content_joined visit earlier (Ok old) (Err fault) h k = absurd k
 content_joined visit earlier (Err fault) own h k = absurd h
 
-pub next_is : (job : IndexJob) (tree : Snapshot) (old : Option (List ℕ)) (earlier : History) → On job tree old earlier → length (index_alone job tree old) < 2 ^ 32 → next_index old (index_alone job tree old) ≡ index_of (visit_of job tree ∷ earlier)
+pub next_is : (job : IndexJob) (tree : Snapshot) (old : Option (List ℕ)) (earlier : History) → On job tree old earlier → length (index_alone job tree old) < 2 ^ 32 → next_index old (index_alone job tree old) ≡ index_of (visit_of job tree ⊳ earlier)
 next_is job tree None earlier on short = first_index earlier (visit_of job tree) (index_alone job tree None) on.left (own_is job tree None earlier on)
 next_is job tree (Some bytes) earlier on short =
     let visit = visit_of job tree in
@@ -186,7 +182,7 @@ next_is job tree (Some bytes) earlier on short =
     (opened_image own (walked_paths visit earlier) (files_found visit earlier) (walk_content visit earlier on.history) (walk_lies visit earlier) (own_is job tree (Some bytes) earlier on) short)
 
 -- what is too large is so in the words of the history
-pub large_is : (job : IndexJob) (tree : Option Snapshot) (old : Option (List ℕ)) (earlier : History) → Tells tree → On job (snapshot_told tree) old earlier → IsNextLong job tree old → IsLong (Some (tree_index (snapshot_told tree) (walked_paths (visit_of job (snapshot_told tree)) earlier))) ⊎ IsLong (index_of (visit_of job (snapshot_told tree) ∷ earlier))
+pub large_is : (job : IndexJob) (tree : Option Snapshot) (old : Option (List ℕ)) (earlier : History) → Tells tree → On job (snapshot_told tree) old earlier → IsNextLong job tree old → IsLong (Some (tree_index (snapshot_told tree) (walked_paths (visit_of job (snapshot_told tree)) earlier))) ⊎ IsLong (index_of (visit_of job (snapshot_told tree) ⊳ earlier))
 large_is job tree old earlier tells on (alone long) = inl (subst (λ b. 2 ^ 32 ≤ length b) (own_is job (snapshot_told tree) old earlier on) (long tells))
 large_is job tree old earlier tells on (joined own is whole long) =
     inr (subst IsLong (ap (next_index old) (is.told tells) ∙ next_is job (snapshot_told tree) old earlier on (told_short job tree old own is tells)) long)
@@ -196,7 +192,7 @@ not_both None short long = long
 not_both (Some bytes) short long = omega (arith, short, long)
 
 -- and what was done is not
-pub fits_is : (job : IndexJob) (tree : Snapshot) (old new : Option (List ℕ)) (earlier : History) → On job tree old earlier → new ≡ next_index old (index_alone job tree old) → length (index_alone job tree old) < 2 ^ 32 → IsShort new → IsLong (Some (tree_index tree (walked_paths (visit_of job tree) earlier))) ⊎ IsLong (index_of (visit_of job tree ∷ earlier)) → ⊥
+pub fits_is : (job : IndexJob) (tree : Snapshot) (old new : Option (List ℕ)) (earlier : History) → On job tree old earlier → new ≡ next_index old (index_alone job tree old) → length (index_alone job tree old) < 2 ^ 32 → IsShort new → IsLong (Some (tree_index tree (walked_paths (visit_of job tree) earlier))) ⊎ IsLong (index_of (visit_of job tree ⊳ earlier)) → ⊥
 fits_is job tree old new earlier on is own_short short (inl own) =
     not_both (Some (index_alone job tree old)) own_short (subst (λ b. 2 ^ 32 ≤ length b) (sym (own_is job tree old earlier on)) own)
 fits_is job tree old new earlier on is own_short short (inr next) =
@@ -204,20 +200,20 @@ fits_is job tree old new earlier on is own_short short (inr next) =
 
 -- ---- the history, and the bytes, that a job that walks goes on from
 
-pub base_premises : (job : IndexJob) (tree : Option Snapshot) (old : Option (List ℕ)) (earlier : History) → Premises (tree ∷ []) old earlier → Premises (tree ∷ []) (base job old) (cond job.reset [] earlier)
-base_premises job tree old earlier p = elim job.reset as (λ r. Premises (tree ∷ []) (cond r None old) (cond r [] earlier)) [ true ↦ first_premises (tree ∷ []) p.trees_tell | false ↦ p ]
+pub base_premises : (job : IndexJob) (tree : Option Snapshot) (old : Option (List ℕ)) (earlier : History) → Premises (tree ∷ []) old earlier → Premises (tree ∷ []) (base job old) (cond job.reset nothing earlier)
+base_premises job tree old earlier p = elim job.reset as (λ r. Premises (tree ∷ []) (cond r None old) (cond r nothing earlier)) [ true ↦ first_premises (tree ∷ []) p.trees_tell | false ↦ p ]
 
-pub on_base : (job : IndexJob) (tree : Option Snapshot) (old : Option (List ℕ)) (earlier : History) → AreTaken job → Premises (tree ∷ []) old earlier → On job (snapshot_told tree) (base job old) (cond job.reset [] earlier)
+pub on_base : (job : IndexJob) (tree : Option Snapshot) (old : Option (List ℕ)) (earlier : History) → AreTaken job → Premises (tree ∷ []) old earlier → On job (snapshot_told tree) (base job old) (cond job.reset nothing earlier)
 on_base job tree old earlier taken p =
     let b = base_premises job tree old earlier p in
     record { history = (taken_visit job tree p.trees_tell.0 taken, b.jobs_were); left = b.they_left; few = b.short }
 
-pub walks_on : (job : IndexJob) (tree : Snapshot) (earlier : History) → Walks job → after_done earlier job tree ≡ visit_of job tree ∷ cond job.reset [] earlier
+pub walks_on : (job : IndexJob) (tree : Snapshot) (earlier : History) → Walks job → after_done earlier job tree ≡ visit_of job tree ⊳ cond job.reset nothing earlier
 walks_on job tree earlier w =
-    ap (λ b. cond b earlier (cond job.reset (cond (has_no_path job) [] (visit_of job tree ∷ [])) (visit_of job tree ∷ earlier))) w.0
+    ap (λ b. cond b earlier (cond job.reset (cond (has_no_path job) nothing (visit_of job tree ⊳ nothing)) (visit_of job tree ⊳ earlier))) w.0
     ∙ by_reset job.reset (has_no_path job) w.1
   where
-    by_reset : (r none : Bool) → (r && none) ≡ false → cond r (cond none [] (visit_of job tree ∷ [])) (visit_of job tree ∷ earlier) ≡ visit_of job tree ∷ cond r [] earlier
+    by_reset : (r none : Bool) → (r && none) ≡ false → cond r (cond none nothing (visit_of job tree ⊳ nothing)) (visit_of job tree ⊳ earlier) ≡ visit_of job tree ⊳ cond r nothing earlier
     by_reset true true e = absurd (true≢false e)
     by_reset true false e = refl
     by_reset false none e = refl

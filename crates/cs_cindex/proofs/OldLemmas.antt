@@ -12,7 +12,7 @@ use Rattle.std.specs.Ordering.{eq_by_cmp}
 use Rattle.std.specs.FinMap as map'
 use Rattle.std.specs.Cmp.Lexicographic.{nat_list_cmp_total}
 use Rattle.cs_tree.specs.PathSet as set
-use Rattle.cs_tree.specs.Cover.{is_covered}
+use Rattle.cs_tree.specs.Cover.{is_covered, least}
 use Rattle.cs_tree.specs.Folders.{are_distinct}
 use Rattle.cs_tree.proofs.Listed.{ascending_distinct}
 use Rattle.cs_tree.proofs.Sets.{tied_same, entries_in_order}
@@ -25,9 +25,9 @@ use Rattle.cs_index.specs.declared.fault.IndexFault.TheVariants.{BadPaths}
 use Rattle.cs_words.specs.declared.fault.CindexFault.TheVariants.{BadIndex, Unsorted}
 use Rattle.cs_merge.specs.Content.{IsContent, LieUnder}
 use Rattle.cs_merge.proofs.ContentLemmas.{content_indexable, ascending_sets}
-use Rattle.cs_history.specs.History.{History, paths_of, files_of, index_of}
-use Rattle.cs_history.specs.WellFormed.{AreClean, IsHistory}
-use Rattle.cs_history.proofs.HistoryLemmas.{history_content, history_lies, index_is, clean_paths}
+use Rattle.cs_history.specs.History.{History, nothing, handed_in, ◌⊳◌, all_given, paths_of, files_of, index_of}
+use Rattle.cs_history.specs.WellFormed.{AreClean, IsBeginning, IsHistory}
+use Rattle.cs_history.proofs.HistoryLemmas.{history_content, history_lies, is_begun, files_begun, index_is, clean_paths, least_twice}
 use Rattle.cs_tree.specs.Cleaning.{is_settled}
 use Rattle.cs_merge.specs.Content.{paths_in, files_in}
 use Rattle.cs_merge.specs.Joinable.{are_covered}
@@ -105,9 +105,6 @@ image_content paths files content under short =
 pub opened_image : (bytes : List ℕ) (paths : Paths) (files : Files) → IsContent paths files → LieUnder paths files → bytes ≡ image paths files → length bytes < 2 ^ 32 → OpensWith (opening bytes) paths files
 opened_image bytes paths files content under is short = subst (λ b. OpensWith (opening b) paths files) (sym is) (image_content paths files content under (subst (λ b. length b < 2 ^ 32) is short))
 
-pub history_opens : (earlier : History) (bytes : List ℕ) → IsHistory earlier → index_of earlier ≡ Some bytes → length bytes < 2 ^ 32 → OpensWith (opening bytes) (paths_of earlier) (files_of earlier)
-history_opens earlier bytes is e short = opened_image bytes (paths_of earlier) (files_of earlier) (history_content earlier is) (history_lies earlier) (sym (index_is earlier bytes e)) short
-
 -- what holds of the members of a set holds of the list that it was made of
 pub each_listed : (P : List ℕ → Type 0) (ps : List (List ℕ)) → ((path : List ℕ) → set.contains (set.from_list ps) path ≡ true → P path) → AllByRecursion P ps
 each_listed P ps h = each ps (λ path member. h path (ap is_some (map'.get-from_entries nat_list_cmp_total (set.with_units ps) path) ∙ marked_items path ps ∙ member))
@@ -116,32 +113,74 @@ each_listed P ps h = each ps (λ path member. h path (ap is_some (map'.get-from_
     each [] g = tt
     each (q ∷ qs) g = (g q (or_left (eq_by_cmp bytes_cmp q q) _ (tied_same q)), each qs (λ path member. g path (or_right (eq_by_cmp bytes_cmp path q) _ member)))
 
--- its paths are as cleaning gives them
-content_settled : (parts : Parts) (paths : Paths) (files : Files) → AreClean paths → HasContent parts paths files → list_all is_settled parts.paths ≡ true
-unfolding paths_in
-content_settled parts paths files clean h = all_pass is_settled parts.paths (each_listed (λ p. is_settled p ≡ true) parts.paths (λ p member. (clean p (subst (λ s. set.contains s p ≡ true) h.paths_are member)).settled))
+-- ---- the index of a history, also one that was handed in
 
-content_fault : (opening : Result Parts IndexFault) (paths : Paths) (files : Files) → AreClean paths → OpensWith opening paths files → opening_fault unfit_parts_fault opening ≡ None
-content_fault (Err fault) paths files clean h = absurd h
-content_fault (Ok parts) paths files clean h =
-    ap (λ b. cond (not b) (Some (BadIndex BadPaths)) (cond (not (are_distinct parts.names)) (Some Unsorted) None)) (content_settled parts paths files clean h)
+-- what is known of it: its paths, but for some that others cover, and its files; it is gone on from
+pub record GoesOn (earlier : History) (parts : Parts) : Type 0 where
+  pub paths_are : least (paths_in parts) ≡ paths_of earlier
+  pub files_are : files_in parts ≡ files_of earlier
+  pub settled : list_all is_settled parts.paths ≡ true
+  pub sound : IsSound parts
+
+abbrev pub OpensFor : History → Result Parts IndexFault → Type 0
+OpensFor earlier opening = IsOkAnd opening (GoesOn earlier)
+
+content_goes : (earlier : History) (opening : Result Parts IndexFault) → AreClean (paths_of earlier) → OpensWith opening (paths_of earlier) (files_of earlier) → OpensFor earlier opening
+unfolding paths_in
+content_goes earlier (Err fault) clean h = h
+content_goes earlier (Ok parts) clean h = record {
+  paths_are = ap least h.paths_are ∙ least_twice (all_given earlier);
+  files_are = h.files_are;
+  settled = all_pass is_settled parts.paths (each_listed (λ p. is_settled p ≡ true) parts.paths (λ p member. (clean p (subst (λ s. set.contains s p ≡ true) h.paths_are member)).settled));
+  sound = h.sound;
+}
+
+begun_goes : (bytes : List ℕ) (parts : Parts) → IsBeginning bytes parts → GoesOn (handed_in bytes parts) parts
+unfolding are_covered paths_in files_in
+begun_goes bytes parts is = record {
+  paths_are = refl;
+  files_are = sym (files_begun bytes parts);
+  settled = is.settled;
+  sound = record { distinct = is.distinct; covered = is.under; whole = is.whole };
+}
+
+pub history_opens : (earlier : History) (bytes : List ℕ) → IsHistory earlier → index_of earlier ≡ Some bytes → length bytes < 2 ^ 32 → OpensFor earlier (opening bytes)
+history_opens nothing bytes is e short = absurd (apart e)
+  where
+    apart : None ≡ Some bytes → ⊥
+    apart h = cc
+history_opens (handed_in old parts) bytes is e short =
+    subst (λ b. OpensFor (handed_in old parts) (opening b)) (same e)
+    (subst (OpensFor (handed_in old parts)) (sym is.opens) (begun_goes old parts is))
+  where
+    same : Some old ≡ Some bytes → old ≡ bytes
+    same h = cc
+history_opens (visit ⊳ before) bytes is e short =
+    let earlier : History = visit ⊳ before in
+    content_goes earlier (opening bytes) (clean_paths earlier is)
+    (opened_image bytes (paths_of earlier) (files_of earlier) (history_content earlier is) (history_lies earlier (is_begun earlier is)) (sym (index_is earlier bytes tt e)) short)
+
+content_fault : (earlier : History) (opening : Result Parts IndexFault) → OpensFor earlier opening → opening_fault unfit_parts_fault opening ≡ None
+content_fault earlier (Err fault) h = absurd h
+content_fault earlier (Ok parts) h =
+    ap (λ b. cond (not b) (Some (BadIndex BadPaths)) (cond (not (are_distinct parts.names)) (Some Unsorted) None)) h.settled
     ∙ ap (λ b. cond (not b) (Some Unsorted) None) h.sound.distinct
 
--- it is gone on from, and no list of it is damaged
+-- no fault of it refuses a job
 pub history_goes : (earlier : History) (bytes : List ℕ) → IsHistory earlier → index_of earlier ≡ Some bytes → length bytes < 2 ^ 32 → opening_fault unfit_parts_fault (opening bytes) ≡ None
-history_goes earlier bytes is e short = content_fault (opening bytes) (paths_of earlier) (files_of earlier) (clean_paths earlier is) (history_opens earlier bytes is e short)
+history_goes earlier bytes is e short = content_fault earlier (opening bytes) (history_opens earlier bytes is e short)
 
-content_whole : (opening : Result Parts IndexFault) (paths : Paths) (files : Files) → OpensWith opening paths files → IsOkAnd opening (λ parts. are_whole parts ≡ false) → ⊥
-content_whole (Err fault) paths files h damaged = h
-content_whole (Ok parts) paths files h damaged = true≢false (sym h.sound.whole ∙ damaged)
+content_whole : (earlier : History) (opening : Result Parts IndexFault) → OpensFor earlier opening → IsOkAnd opening (λ parts. are_whole parts ≡ false) → ⊥
+content_whole earlier (Err fault) h damaged = h
+content_whole earlier (Ok parts) h damaged = true≢false (sym h.sound.whole ∙ damaged)
 
 pub history_whole : (earlier : History) (bytes : List ℕ) → IsHistory earlier → index_of earlier ≡ Some bytes → length bytes < 2 ^ 32 → IsDamaged (Some bytes) → ⊥
-history_whole earlier bytes is e short damaged = content_whole (opening bytes) (paths_of earlier) (files_of earlier) (history_opens earlier bytes is e short) damaged
+history_whole earlier bytes is e short damaged = content_whole earlier (opening bytes) (history_opens earlier bytes is e short) damaged
 
 -- and it opens
-content_lists : (opening : Result Parts IndexFault) (paths : Paths) (files : Files) → OpensWith opening paths files → opening_fault (λ _. None) opening ≡ None
-content_lists (Err fault) paths files h = absurd h
-content_lists (Ok parts) paths files h = refl
+content_lists : (earlier : History) (opening : Result Parts IndexFault) → OpensFor earlier opening → opening_fault (λ _. None) opening ≡ None
+content_lists earlier (Err fault) h = absurd h
+content_lists earlier (Ok parts) h = refl
 
 pub history_lists : (earlier : History) (bytes : List ℕ) → IsHistory earlier → index_of earlier ≡ Some bytes → length bytes < 2 ^ 32 → opening_fault (λ _. None) (opening bytes) ≡ None
-history_lists earlier bytes is e short = content_lists (opening bytes) (paths_of earlier) (files_of earlier) (history_opens earlier bytes is e short)
+history_lists earlier bytes is e short = content_lists earlier (opening bytes) (history_opens earlier bytes is e short)

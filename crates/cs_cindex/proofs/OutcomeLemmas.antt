@@ -8,7 +8,7 @@ use Rattle.cs_words.specs.declared.jobs.Reply.{Reply}
 use Rattle.cs_words.specs.declared.jobs.Reply.TheVariants.{Done, Refused}
 use Rattle.cs_words.specs.declared.fault.CindexFault.{CindexFault}
 use Rattle.cs_words.specs.declared.fault.CindexFault.TheVariants.{TooLarge, BadPath}
-use Rattle.cs_history.specs.History.{History, index_of}
+use Rattle.cs_history.specs.History.{History, nothing, index_of}
 use Rattle.cs_history.specs.Jobs.{given_texts, has_no_path, AreTaken, snapshot_told}
 use Rattle.cs_history.specs.Headline.{Premises, Indexes}
 use Rattle.cs_history.specs.Replies.{Walks, IsLong, IsTooLarge}
@@ -44,7 +44,7 @@ walk_indexes job tree old bytes w none next =
       index = λ earlier p.
           let tells = p.trees_tell.0 in
           told_next job tree (base job old) (Some bytes) next tells
-          ∙ next_is job (snapshot_told tree) (base job old) (cond job.reset [] earlier) (on_base job tree old earlier taken p) (told_short job tree (base job old) next.own next.own_is tells)
+          ∙ next_is job (snapshot_told tree) (base job old) (cond job.reset nothing earlier) (on_base job tree old earlier taken p) (told_short job tree (base job old) next.own next.own_is tells)
           ∙ ap index_of (sym (walks_on job (snapshot_told tree) earlier w));
       fitting = ((λ _. taken), tt);
       short = λ _. next.short;
@@ -75,7 +75,7 @@ large_late job tree old earlier p none late =
           record {
             walks = w;
             long = subst (λ h. IsLong (Some (Rattle.cs_history.specs.Replies.own_index earlier job (snapshot_told tree))) ⊎ IsLong (index_of h)) (sym (walks_on job (snapshot_told tree) earlier w))
-                (large_is job tree (base job old) (cond job.reset [] earlier) p.trees_tell.0 (on_base job tree old earlier (early_taken job old w none) p) next);
+                (large_is job tree (base job old) (cond job.reset nothing earlier) p.trees_tell.0 (on_base job tree old earlier (early_taken job old w none) p) next);
           }
     ]
 
@@ -92,7 +92,7 @@ done_fits job tree old new Done earlier p cause next e large =
     let w = large.walks in
     let done = next refl w in
     let tells = p.trees_tell.0 in
-    fits_is job (snapshot_told tree) (base job old) new (cond job.reset [] earlier) (on_base job tree old earlier (early_taken job old w cause) p) (told_next job tree (base job old) new done tells) (told_short job tree (base job old) done.own done.own_is tells) done.short
+    fits_is job (snapshot_told tree) (base job old) new (cond job.reset nothing earlier) (on_base job tree old earlier (early_taken job old w cause) p) (told_next job tree (base job old) new done tells) (told_short job tree (base job old) done.own done.own_is tells) done.short
     (subst (λ h. IsLong (Some (Rattle.cs_history.specs.Replies.own_index earlier job (snapshot_told tree))) ⊎ IsLong (index_of h)) (walks_on job (snapshot_told tree) earlier w) large.long)
 
 -- ---- the reply of a job

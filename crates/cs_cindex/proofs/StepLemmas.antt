@@ -16,7 +16,7 @@ use Rattle.cs_words.specs.declared.jobs.IndexJob.{IndexJob}
 use Rattle.cs_words.specs.declared.jobs.Reply.{Reply}
 use Rattle.cs_words.specs.declared.jobs.Reply.TheVariants.{Done, Refused}
 use Rattle.cs_words.specs.declared.fault.CindexFault.{CindexFault}
-use Rattle.cs_history.specs.History.{index_of}
+use Rattle.cs_history.specs.History.{nothing, ◌⊳◌, index_of}
 use Rattle.cs_history.specs.Jobs.{given_texts, has_no_path, IsTaken, visit_of, snapshot_told}
 use Rattle.cs_history.specs.Headline.{Indexes}
 use Rattle.cs_history.specs.Replies.{Walks}
@@ -42,7 +42,7 @@ list_indexes : (job : IndexJob) (tree : Option Snapshot) (old : Option (List ℕ
 list_indexes job tree old l = record {
   index = λ earlier p.
       let visit = visit_of job (snapshot_told tree) in
-      sym p.they_left ∙ ap (λ b. index_of (cond b earlier (cond job.reset (cond (has_no_path job) [] (visit ∷ [])) (visit ∷ earlier)))) (sym l);
+      sym p.they_left ∙ ap (λ b. index_of (cond b earlier (cond job.reset (cond (has_no_path job) nothing (visit ⊳ nothing)) (visit ⊳ earlier)))) (sym l);
   fitting = ((λ f. absurd (true≢false (sym l ∙ f))), tt);
   short = λ h. h;
 }
@@ -55,9 +55,9 @@ clear_indexes : (job : IndexJob) (tree : Option Snapshot) (old : Option (List �
 clear_indexes job tree old l r n = record {
   index = λ earlier p.
       let visit = visit_of job (snapshot_told tree) in
-      sym (ap (λ b. index_of (cond b earlier (cond job.reset (cond (has_no_path job) [] (visit ∷ [])) (visit ∷ earlier)))) l
-      ∙ ap (λ b. index_of (cond b (cond (has_no_path job) [] (visit ∷ [])) (visit ∷ earlier))) r
-      ∙ ap (λ b. index_of (cond b [] (visit ∷ []))) n);
+      sym (ap (λ b. index_of (cond b earlier (cond job.reset (cond (has_no_path job) nothing (visit ⊳ nothing)) (visit ⊳ earlier)))) l
+      ∙ ap (λ b. index_of (cond b (cond (has_no_path job) nothing (visit ⊳ nothing)) (visit ⊳ earlier))) r
+      ∙ ap (λ b. index_of (cond b nothing (visit ⊳ nothing))) n);
   fitting = ((λ _. none_taken (string_bytes job.cwd) (given_texts job) (length-map job.paths.items string_bytes ∙ eqb-true (length job.paths.items) 0 n)), tt);
   short = λ _. tt;
 }

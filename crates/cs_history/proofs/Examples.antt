@@ -1,6 +1,6 @@
 -- Worked rows of histories. Of each history stand here the paths, the files with their trigrams, the length of the index and
 -- where its five sections begin. The newest job comes first.
-use Rattle.std.proofs.Common.{◌≡◌, ℕ, false, List, [], ◌∷◌, ◌++◌, length, take, drop, ap, sym, ◌∙◌, Option, Some}
+use Rattle.std.proofs.Common.{◌≡◌, ℕ, false, List, [], ◌∷◌, ◌++◌, length, take, drop, ap, sym, ◌∙◌, Option, Some, None}
 use Rattle.std.specs.Prelude.{codes, option_map, ◌-◌, flat_map}
 use Rattle.std.specs.FinMap as map'
 use Rattle.cs_tree.specs.PathSet as set
@@ -9,7 +9,8 @@ use Rattle.cs_index.specs.Image.{four_bytes, varint}
 use Rattle.cs_history.specs.History.{paths_of, files_of, index_of}
 use Rattle.cs_merge.specs.Join.{join_files}
 use Rattle.cs_history.specs.Shards.{files_of_both}
-use Rattle.cs_history.proofs.RowLemmas.{Job, history_of, paths_computed, files_computed, index_computed, entries_joined, entries_of_both}
+use Rattle.cs_index.specs.Opening.{Parts}
+use Rattle.cs_history.proofs.RowLemmas.{Job, history_from, history_of, paths_computed, files_computed, index_computed, entries_joined, entries_of_both}
 
 -- ---- what stands in the trees
 
@@ -70,14 +71,14 @@ one_folder = record {
 }
 
 paths_beside : set.items (paths_of (history_of (one_folder ∷ both_folders ∷ []))) ≡ codes "/a/b" ∷ codes "/a/bc" ∷ []
-paths_beside = paths_computed (one_folder ∷ both_folders ∷ [])
+paths_beside = paths_computed None (one_folder ∷ both_folders ∷ [])
 
 files_beside : map'.entries (files_of (history_of (one_folder ∷ both_folders ∷ []))) ≡ (codes "/a/b/f", six) ∷ (codes "/a/bc/y", two) ∷ []
-files_beside = files_computed (one_folder ∷ both_folders ∷ [])
+files_beside = files_computed None (one_folder ∷ both_folders ∷ [])
 
 index_beside : option_map frame (index_of (history_of (one_folder ∷ both_folders ∷ []))) ≡ framed 160 (16 ∷ 28 ∷ 44 ∷ 68 ∷ 80 ∷ [])
 unfolding varint
-index_beside = ap (option_map frame) (index_computed one_folder (both_folders ∷ []))
+index_beside = ap (option_map frame) (index_computed None one_folder (both_folders ∷ []))
 
 -- ---- a file that becomes a folder, and a file again
 
@@ -119,16 +120,16 @@ as_a_file_again = record {
 }
 
 paths_of_a_folder : set.items (paths_of (history_of (as_a_folder ∷ as_a_file ∷ []))) ≡ codes "/a" ∷ []
-paths_of_a_folder = paths_computed (as_a_folder ∷ as_a_file ∷ [])
+paths_of_a_folder = paths_computed None (as_a_folder ∷ as_a_file ∷ [])
 
 files_of_a_folder : map'.entries (files_of (history_of (as_a_folder ∷ as_a_file ∷ []))) ≡ (codes "/a/b-x", two) ∷ (codes "/a/b/z", six) ∷ []
-files_of_a_folder = files_computed (as_a_folder ∷ as_a_file ∷ [])
+files_of_a_folder = files_computed None (as_a_folder ∷ as_a_file ∷ [])
 
 paths_of_a_file_again : set.items (paths_of (history_of (as_a_file_again ∷ as_a_folder ∷ as_a_file ∷ []))) ≡ codes "/a" ∷ []
-paths_of_a_file_again = paths_computed (as_a_file_again ∷ as_a_folder ∷ as_a_file ∷ [])
+paths_of_a_file_again = paths_computed None (as_a_file_again ∷ as_a_folder ∷ as_a_file ∷ [])
 
 files_of_a_file_again : map'.entries (files_of (history_of (as_a_file_again ∷ as_a_folder ∷ as_a_file ∷ []))) ≡ (codes "/a/b", ten) ∷ (codes "/a/b-x", two) ∷ []
-files_of_a_file_again = files_computed (as_a_file_again ∷ as_a_folder ∷ as_a_file ∷ [])
+files_of_a_file_again = files_computed None (as_a_file_again ∷ as_a_folder ∷ as_a_file ∷ [])
 
 -- ---- a folder below a path, and then the path again
 
@@ -172,20 +173,20 @@ again = record {
 }
 
 paths_below_a_path : set.items (paths_of (history_of (below ∷ whole ∷ []))) ≡ codes "/a" ∷ []
-paths_below_a_path = paths_computed (below ∷ whole ∷ [])
+paths_below_a_path = paths_computed None (below ∷ whole ∷ [])
 
 files_below_a_path : map'.entries (files_of (history_of (below ∷ whole ∷ []))) ≡ (codes "/a/b/f", six) ∷ (codes "/a/g", two) ∷ []
-files_below_a_path = files_computed (below ∷ whole ∷ [])
+files_below_a_path = files_computed None (below ∷ whole ∷ [])
 
 index_below_a_path : option_map frame (index_of (history_of (below ∷ whole ∷ []))) ≡ framed 149 (16 ∷ 20 ∷ 33 ∷ 57 ∷ 69 ∷ [])
 unfolding varint
-index_below_a_path = ap (option_map frame) (index_computed below (whole ∷ []))
+index_below_a_path = ap (option_map frame) (index_computed None below (whole ∷ []))
 
 paths_read_again : set.items (paths_of (history_of (again ∷ below ∷ whole ∷ []))) ≡ codes "/a" ∷ []
-paths_read_again = paths_computed (again ∷ below ∷ whole ∷ [])
+paths_read_again = paths_computed None (again ∷ below ∷ whole ∷ [])
 
 files_read_again : map'.entries (files_of (history_of (again ∷ below ∷ whole ∷ []))) ≡ (codes "/a/b/f", six) ∷ (codes "/a/g", ten) ∷ []
-files_read_again = files_computed (again ∷ below ∷ whole ∷ [])
+files_read_again = files_computed None (again ∷ below ∷ whole ∷ [])
 
 -- ---- a path that is gone
 
@@ -210,23 +211,96 @@ gone = record {
 }
 
 paths_of_what_was_there : set.items (paths_of (history_of (there ∷ []))) ≡ codes "/v" ∷ []
-paths_of_what_was_there = paths_computed (there ∷ [])
+paths_of_what_was_there = paths_computed None (there ∷ [])
 
 files_of_what_was_there : map'.entries (files_of (history_of (there ∷ []))) ≡ (codes "/v/f", one) ∷ []
-files_of_what_was_there = files_computed (there ∷ [])
+files_of_what_was_there = files_computed None (there ∷ [])
 
 paths_of_what_is_gone : set.items (paths_of (history_of (gone ∷ there ∷ []))) ≡ codes "/v" ∷ []
-paths_of_what_is_gone = paths_computed (gone ∷ there ∷ [])
+paths_of_what_is_gone = paths_computed None (gone ∷ there ∷ [])
 
 files_of_what_is_gone : map'.entries (files_of (history_of (gone ∷ there ∷ []))) ≡ []
-files_of_what_is_gone = files_computed (gone ∷ there ∷ [])
+files_of_what_is_gone = files_computed None (gone ∷ there ∷ [])
 
 index_of_what_is_gone : option_map frame (index_of (history_of (gone ∷ there ∷ []))) ≡ framed 65 (16 ∷ 20 ∷ 21 ∷ 25 ∷ 29 ∷ [])
 unfolding varint
-index_of_what_is_gone = ap (option_map frame) (index_computed gone (there ∷ []))
+index_of_what_is_gone = ap (option_map frame) (index_computed None gone (there ∷ []))
 
 bytes_of_what_is_gone_stay : index_of (history_of (gone ∷ gone ∷ there ∷ [])) ≡ index_of (history_of (gone ∷ there ∷ []))
-bytes_of_what_is_gone_stay = index_computed gone (gone ∷ there ∷ []) ∙ sym (index_computed gone (there ∷ []))
+bytes_of_what_is_gone_stay = index_computed None gone (gone ∷ there ∷ []) ∙ sym (index_computed None gone (there ∷ []))
+
+-- ---- an index that was handed in
+
+-- an index as the Go tool writes it: the names `/a/b/z` and `/a/b-x` stand in the order of its walk, both have `abc`,
+-- and an entry for `ff ff ff` has no file
+abbrev of_the_go_tool : Option Parts
+of_the_go_tool = Some (record {
+  paths = codes "/a" ∷ [];
+  names = codes "/a/b/z" ∷ codes "/a/b-x" ∷ [];
+  entries = record { trigram = 0x616263; count = 2; offset = 0 } ∷ record { trigram = 0xffffff; count = 0; offset = 6 } ∷ [];
+  postings = 0x61 ∷ 0x62 ∷ 0x63 ∷ 1 ∷ 1 ∷ 0 ∷ 0xff ∷ 0xff ∷ 0xff ∷ 0 ∷ [];
+})
+
+abbrev abc : List ℕ
+abc = 0x616263 ∷ []
+
+files_handed_in : map'.entries (files_of (history_from of_the_go_tool [])) ≡ (codes "/a/b-x", abc) ∷ (codes "/a/b/z", abc) ∷ []
+files_handed_in = files_computed of_the_go_tool []
+
+-- `cindex`
+abbrev go_again : Job
+go_again = record {
+  paths = [];
+  items =
+      folder_at (codes "/") (codes "a" ∷ [])
+      ∷ folder_at (codes "/a") (codes "b" ∷ codes "b-x" ∷ [])
+      ∷ folder_at (codes "/a/b") (codes "z" ∷ [])
+      ∷ (codes "/a/b/z", file (codes "abc"))
+      ∷ (codes "/a/b-x", file (codes "abc"))
+      ∷ [];
+}
+
+-- `cindex /a/b-x`, which has changed
+abbrev go_on : Job
+go_on = record {
+  paths = codes "/a/b-x" ∷ [];
+  items =
+      folder_at (codes "/") (codes "a" ∷ [])
+      ∷ folder_at (codes "/a") (codes "b-x" ∷ [])
+      ∷ file_at (codes "/a/b-x") (codes "six")
+      ∷ [];
+}
+
+-- `cindex /c`, an empty folder
+abbrev go_beside : Job
+go_beside = record {
+  paths = codes "/c" ∷ [];
+  items =
+      folder_at (codes "/") (codes "c" ∷ [])
+      ∷ folder_at (codes "/c") []
+      ∷ [];
+}
+
+index_read_again : option_map frame (index_of (history_from of_the_go_tool (go_again ∷ []))) ≡ framed 104 (16 ∷ 20 ∷ 35 ∷ 45 ∷ 57 ∷ [])
+unfolding varint
+index_read_again = ap (option_map frame) (index_computed of_the_go_tool go_again [])
+
+paths_gone_on_from : set.items (paths_of (history_from of_the_go_tool (go_on ∷ []))) ≡ codes "/a" ∷ []
+paths_gone_on_from = paths_computed of_the_go_tool (go_on ∷ [])
+
+files_gone_on_from : map'.entries (files_of (history_from of_the_go_tool (go_on ∷ []))) ≡ (codes "/a/b-x", six) ∷ (codes "/a/b/z", abc) ∷ []
+files_gone_on_from = files_computed of_the_go_tool (go_on ∷ [])
+
+index_gone_on_from : option_map frame (index_of (history_from of_the_go_tool (go_on ∷ []))) ≡ framed 135 (16 ∷ 20 ∷ 35 ∷ 54 ∷ 66 ∷ [])
+unfolding varint
+index_gone_on_from = ap (option_map frame) (index_computed of_the_go_tool go_on [])
+
+paths_beside_it : set.items (paths_of (history_from of_the_go_tool (go_beside ∷ []))) ≡ codes "/a" ∷ codes "/c" ∷ []
+paths_beside_it = paths_computed of_the_go_tool (go_beside ∷ [])
+
+index_beside_it : option_map frame (index_of (history_from of_the_go_tool (go_beside ∷ []))) ≡ framed 107 (16 ∷ 23 ∷ 38 ∷ 48 ∷ 60 ∷ [])
+unfolding varint
+index_beside_it = ap (option_map frame) (index_computed of_the_go_tool go_beside [])
 
 -- ---- joins
 

@@ -1,5 +1,5 @@
 -- The paths of histories are clean and reduced, and their files can be held by an index.
-use Rattle.std.proofs.Common.{◌≡◌, ℕ, ◌<◌, ◌^◌, true, false, cond, eqb, List, [], ◌∷◌, length, get_or, sym, ap, subst, ◌∙◌, inl, inr, Some, None}
+use Rattle.std.proofs.Common.{◌≡◌, ℕ, ◌<◌, ◌^◌, true, false, cond, eqb, List, length, get_or, refl, sym, ap, subst, ◌∙◌, inl, inr, Some, None, Ok}
 use Rattle.cs_tree.specs.PathSet.{Paths}
 use Rattle.cs_index.specs.PostingLists.{set_at}
 use Rattle.std.proofs.lemmas.Bool.{true≢false, or_cases}
@@ -14,17 +14,21 @@ use Rattle.cs_tree.proofs.Least.{least_says, least_settled, covered-least}
 use Rattle.cs_index.specs.Image.{Files, image}
 use Rattle.cs_trigram.specs.Text.{text_trigrams, limits}
 use Rattle.cs_merge.specs.Join.{join_files}
-use Rattle.cs_merge.specs.Content.{IsContent, LieUnder, Holds}
+use Rattle.cs_merge.specs.Content.{IsContent, LieUnder, Holds, paths_in, files_in}
+use Rattle.cs_merge.proofs.OpeningLemmas.{held_opens}
 use Rattle.cs_merge.proofs.JoinLemmas.{newer_at, old_at}
 use Rattle.cs_merge.proofs.ContentLemmas.{content_joined, under_joined}
 use Rattle.cs_merge.proofs.HoldingLemmas.{content_held, held_once, held_names, held_set}
-use Rattle.cs_history.specs.History.{Visit, History, all_given, paths_of, walked_paths, files_of, index_of}
+use Rattle.cs_index.specs.Opening.{Parts, opening, are_whole}
+use Rattle.cs_history.specs.History.{Visit, History, nothing, handed_in, ◌⊳◌, all_given, paths_of, walked_paths, files_spelled, files_of, index_of}
 use Rattle.cs_history.specs.JobIndex.{files_found}
 use Rattle.cs_index.specs.Image.{IsString}
 use Rattle.cs_tree.proofs.SettledLemmas.{settled_filled, settled_no_nul, no_nul_bytes}
 use Rattle.cs_history.specs.WellFormed.{IsClean, AreClean, IsHistory}
-use Rattle.cs_history.specs.Headline.{indexed_names, StillReads}
-use Rattle.cs_history.proofs.KeepingLemmas.{join_kept, join_paths_of, get-kept}
+use Rattle.cs_history.specs.Begun.{IsBegun}
+use Rattle.cs_history.specs.Headline.{IsByJobs, indexed_names, StillReads}
+use Rattle.cs_history.proofs.BeginningLemmas.{spelled_content, begun_clean, begun_lies}
+use Rattle.cs_history.proofs.KeepingLemmas.{join_kept, join_paths_of, kept_spelled, get-kept}
 use Rattle.cs_history.proofs.WalkLemmas.{AreStrings, found_content, found_lies}
 
 -- ---- paths
@@ -40,8 +44,9 @@ clean_union a b f g path member =
     elim (or_cases (set.contains a path) (set.contains b path) (sym (contains-union a b path) ∙ member)) [ inl here ↦ f path here | inr there ↦ g path there ]
 
 clean_given : (history : History) → IsHistory history → AreClean (all_given history)
-clean_given [] is path member = absurd (true≢false (sym member ∙ contains-empty path))
-clean_given (visit ∷ before) is path member = clean_union (all_given before) visit.given (clean_given before is.1) is.0.given_are path member
+clean_given nothing is path member = absurd (true≢false (sym member ∙ contains-empty path))
+clean_given (handed_in bytes parts) is path member = begun_clean bytes parts is path member
+clean_given (visit ⊳ before) is path member = clean_union (all_given before) visit.given (clean_given before is.1) is.0.given_are path member
 
 pub clean_paths : (history : History) → IsHistory history → AreClean (paths_of history)
 clean_paths history is = clean_least (all_given history) (clean_given history is)
@@ -51,7 +56,7 @@ module _ (P : Paths → Type 0) (visit : Visit) (before : History) where
   by_walked : P (paths_of before) → P (least visit.given) → P (walked_paths visit before)
   by_walked old own = elim (eqb (set.len visit.given) 0) as (λ b. P (cond b (paths_of before) (least visit.given))) [ true ↦ old | false ↦ own ]
 
-pub clean_walked : (visit : Visit) (before : History) → IsHistory (visit ∷ before) → AreClean (walked_paths visit before)
+pub clean_walked : (visit : Visit) (before : History) → IsHistory (visit ⊳ before) → AreClean (walked_paths visit before)
 clean_walked visit before is = by_walked AreClean visit before (clean_paths before is.1) (clean_least visit.given is.0.given_are)
 
 pub reduced_walked : (visit : Visit) (before : History) → least (walked_paths visit before) ≡ walked_paths visit before
@@ -65,70 +70,118 @@ clean_strings paths h path member = clean_string path (h path member)
 
 -- ---- files
 
-pub walk_content : (visit : Visit) (before : History) → IsHistory (visit ∷ before) → IsContent (walked_paths visit before) (files_found visit before)
+pub walk_content : (visit : Visit) (before : History) → IsHistory (visit ⊳ before) → IsContent (walked_paths visit before) (files_found visit before)
 walk_content visit before is = found_content limits visit.tree (walked_paths visit before) is.0.tree_is (clean_strings (walked_paths visit before) (clean_walked visit before is))
 
 pub walk_lies : (visit : Visit) (before : History) → LieUnder (walked_paths visit before) (files_found visit before)
 walk_lies visit before name trigrams h = found_lies (text_trigrams limits) visit.tree (walked_paths visit before) name trigrams h
 
-nothing_kept : (name trigrams : List ℕ) → map.get (files_of []) name ≡ Some trigrams → ⊥
-nothing_kept name trigrams h = none_some (sym (get-kept (text_trigrams limits) [] name) ∙ h)
+nothing_kept : (name trigrams : List ℕ) → map.get (files_of nothing) name ≡ Some trigrams → ⊥
+nothing_kept name trigrams h = none_some (sym (get-kept (text_trigrams limits) files_spelled nothing name) ∙ h)
   where
     none_some : None ≡ Some trigrams → ⊥
     none_some e = cc
 
+-- an index that was handed in has the files that it spells
+pub files_begun : (bytes : List ℕ) (parts : Parts) → files_of (handed_in bytes parts) ≡ files_spelled parts
+files_begun bytes parts = kept_spelled (text_trigrams limits) files_spelled bytes parts
+
+pub is_begun : (history : History) → IsHistory history → IsBegun history
+is_begun nothing is = tt
+is_begun (handed_in bytes parts) is = is
+is_begun (visit ⊳ before) is = is_begun before is.1
+
 pub history_content : (history : History) → IsHistory history → IsContent (paths_of history) (files_of history)
-history_content [] is = record {
-  paths_are = clean_strings (paths_of []) (clean_paths [] is);
+history_content nothing is = record {
+  paths_are = clean_strings (paths_of nothing) (clean_paths nothing is);
   names_are = λ name trigrams h. absurd (nothing_kept name trigrams h);
   sets_are = λ name trigrams h. absurd (nothing_kept name trigrams h);
 }
-history_content (visit ∷ before) is =
+history_content (handed_in bytes parts) is =
+    let content = spelled_content bytes parts is.opens in
+    subst (λ files. IsContent (paths_of (handed_in bytes parts)) files) (sym (files_begun bytes parts))
+    (record { paths_are = clean_strings (paths_of (handed_in bytes parts)) (clean_paths (handed_in bytes parts) is); names_are = content.names_are; sets_are = content.sets_are })
+history_content (visit ⊳ before) is =
     let joined = content_joined (paths_of before) (walked_paths visit before) (files_of before) (files_found visit before) (history_content before is.1) (walk_content visit before is) in
-    subst (λ files. IsContent (paths_of (visit ∷ before)) files) (join_kept (text_trigrams limits) before visit)
+    subst (λ files. IsContent (paths_of (visit ⊳ before)) files) (join_kept (text_trigrams limits) files_spelled before visit)
     (subst (λ paths. IsContent paths (join_files (walked_paths visit before) (files_of before) (files_found visit before))) (join_paths_of before visit) joined)
 
-pub history_lies : (history : History) → LieUnder (paths_of history) (files_of history)
-history_lies [] name trigrams h = absurd (nothing_kept name trigrams h)
-history_lies (visit ∷ before) name trigrams h =
-    let joined = under_joined (paths_of before) (walked_paths visit before) (files_of before) (files_found visit before) (history_lies before) (walk_lies visit before) in
+pub history_lies : (history : History) → IsBegun history → LieUnder (paths_of history) (files_of history)
+history_lies nothing is name trigrams h = absurd (nothing_kept name trigrams h)
+history_lies (handed_in bytes parts) is name trigrams h =
+    covered-least (set.from_list parts.paths) name ∙ begun_lies bytes parts is name trigrams (subst (λ files. map.get files name ≡ Some trigrams) (files_begun bytes parts) h)
+history_lies (visit ⊳ before) is name trigrams h =
+    let joined = under_joined (paths_of before) (walked_paths visit before) (files_of before) (files_found visit before) (history_lies before is) (walk_lies visit before) in
     subst (λ paths. is_covered paths name ≡ true) (join_paths_of before visit)
-    (joined name trigrams (subst (λ files. map.get files name ≡ Some trigrams) (sym (join_kept (text_trigrams limits) before visit)) h))
+    (joined name trigrams (subst (λ files. map.get files name ≡ Some trigrams) (sym (join_kept (text_trigrams limits) files_spelled before visit)) h))
 
 -- ---- the index
 
-pub index_is : (history : History) (bytes : List ℕ) → index_of history ≡ Some bytes → image (paths_of history) (files_of history) ≡ bytes
-index_is [] bytes h = cc
-index_is (visit ∷ before) bytes h = cc
+pub index_is : (history : History) (bytes : List ℕ) → IsByJobs history → index_of history ≡ Some bytes → image (paths_of history) (files_of history) ≡ bytes
+index_is nothing bytes by h = cc
+index_is (handed_in old parts) bytes by h = absurd by
+index_is (visit ⊳ before) bytes by h = cc
 
-pub index_holds : (history : History) (bytes : List ℕ) → IsHistory history → index_of history ≡ Some bytes → length bytes < 2 ^ 32 → Holds bytes (paths_of history) (files_of history)
-index_holds history bytes is h short =
-    let same = index_is history bytes h in
+pub index_holds : (history : History) (bytes : List ℕ) → IsHistory history → IsByJobs history → index_of history ≡ Some bytes → length bytes < 2 ^ 32 → Holds bytes (paths_of history) (files_of history)
+index_holds history bytes is by h short =
+    let same = index_is history bytes by h in
     subst (λ b. Holds b (paths_of history) (files_of history)) same
     (content_held (paths_of history) (files_of history) (history_content history is) (subst (λ b. length b < 2 ^ 32) (sym same) short))
 
-pub index_once : (history : History) (bytes : List ℕ) (paths : Paths) (files : Files) → IsHistory history → index_of history ≡ Some bytes → length bytes < 2 ^ 32 → Holds bytes paths files → (paths_of history ≡ paths) × (files_of history ≡ files)
-index_once history bytes paths files is h short holds = held_once bytes (paths_of history) paths (files_of history) files (index_holds history bytes is h short) holds
+pub index_once : (history : History) (bytes : List ℕ) (paths : Paths) (files : Files) → IsHistory history → IsByJobs history → index_of history ≡ Some bytes → length bytes < 2 ^ 32 → Holds bytes paths files → (paths_of history ≡ paths) × (files_of history ≡ files)
+index_once history bytes paths files is by h short holds = held_once bytes (paths_of history) paths (files_of history) files (index_holds history bytes is by h short) holds
+
+-- the index of a history opens, also one that was handed in: with its paths, but for some that others cover, and its
+-- files, and each list is whole
+pub record OpensAs (bytes : List ℕ) (history : History) : Type 0 where
+  pub parts : Parts
+  pub opened : opening bytes ≡ Ok parts
+  pub paths_are : least (paths_in parts) ≡ paths_of history
+  pub files_are : files_in parts ≡ files_of history
+  pub whole : are_whole parts ≡ true
+
+pub history_opens : (history : History) (bytes : List ℕ) → IsHistory history → index_of history ≡ Some bytes → length bytes < 2 ^ 32 → OpensAs bytes history
+unfolding paths_in files_in
+history_opens nothing bytes is h short = cc
+history_opens (handed_in old parts) bytes is h short = subst (λ b. OpensAs b (handed_in old parts)) (same h) (record {
+  parts = parts;
+  opened = is.opens;
+  paths_are = refl;
+  files_are = sym (files_begun old parts);
+  whole = is.whole;
+})
+  where
+    same : Some old ≡ Some bytes → old ≡ bytes
+    same e = cc
+history_opens (visit ⊳ before) bytes is h short =
+    let held = held_opens bytes (paths_of (visit ⊳ before)) (files_of (visit ⊳ before)) (index_holds (visit ⊳ before) bytes is tt h short) in
+    record {
+      parts = held.parts;
+      opened = held.opened;
+      paths_are = ap least held.has.paths_are ∙ least_twice (all_given (visit ⊳ before));
+      files_are = held.has.files_are;
+      whole = held.has.whole;
+    }
 
 -- ---- the latest job that covers a name
 
-pub newest_at : (visit : Visit) (before : History) (name : List ℕ) → is_covered (walked_paths visit before) name ≡ true → map.get (files_of (visit ∷ before)) name ≡ map.get (files_found visit before) name
+pub newest_at : (visit : Visit) (before : History) (name : List ℕ) → is_covered (walked_paths visit before) name ≡ true → map.get (files_of (visit ⊳ before)) name ≡ map.get (files_found visit before) name
 newest_at visit before name h =
-    ap (λ files. map.get files name) (sym (join_kept (text_trigrams limits) before visit))
+    ap (λ files. map.get files name) (sym (join_kept (text_trigrams limits) files_spelled before visit))
     ∙ newer_at (walked_paths visit before) (files_of before) (files_found visit before) name h
 
-pub others_at : (visit : Visit) (before : History) (name : List ℕ) → is_covered (walked_paths visit before) name ≡ false → map.get (files_of (visit ∷ before)) name ≡ map.get (files_of before) name
+pub others_at : (visit : Visit) (before : History) (name : List ℕ) → is_covered (walked_paths visit before) name ≡ false → map.get (files_of (visit ⊳ before)) name ≡ map.get (files_of before) name
 others_at visit before name h =
-    ap (λ files. map.get files name) (sym (join_kept (text_trigrams limits) before visit))
+    ap (λ files. map.get files name) (sym (join_kept (text_trigrams limits) files_spelled before visit))
     ∙ old_at (walked_paths visit before) (files_of before) (files_found visit before) name (found_under (text_trigrams limits) visit.tree (walked_paths visit before) name h) h
 
 -- ---- files that still read as they were indexed
 
-pub names_held : (history : History) (bytes : List ℕ) (paths : Paths) (files : Files) → IsHistory history → index_of history ≡ Some bytes → length bytes < 2 ^ 32 → (holds : Holds bytes paths files) → indexed_names history ≡ holds.names
-names_held history bytes paths files is h short holds =
-    ap map.keys (index_once history bytes paths files is h short holds).1 ∙ held_names bytes paths files holds
+pub names_held : (history : History) (bytes : List ℕ) (paths : Paths) (files : Files) → IsHistory history → IsByJobs history → index_of history ≡ Some bytes → length bytes < 2 ^ 32 → (holds : Holds bytes paths files) → indexed_names history ≡ holds.names
+names_held history bytes paths files is by h short holds =
+    ap map.keys (index_once history bytes paths files is by h short holds).1 ∙ held_names bytes paths files holds
 
-pub reads_agree : (history : History) (bytes : List ℕ) (paths : Paths) (files : Files) (tree : Snapshot) → IsHistory history → index_of history ≡ Some bytes → length bytes < 2 ^ 32 → StillReads history tree → (holds : Holds bytes paths files) (id : ℕ) (d : List ℕ) → id < length holds.names → read_item (text_trigrams limits) (item_at tree (get_or holds.names id d)) ≡ Some (set_at id holds.lists)
-reads_agree history bytes paths files tree is h short still holds id d within =
+pub reads_agree : (history : History) (bytes : List ℕ) (paths : Paths) (files : Files) (tree : Snapshot) → IsHistory history → IsByJobs history → index_of history ≡ Some bytes → length bytes < 2 ^ 32 → StillReads history tree → (holds : Holds bytes paths files) (id : ℕ) (d : List ℕ) → id < length holds.names → read_item (text_trigrams limits) (item_at tree (get_or holds.names id d)) ≡ Some (set_at id holds.lists)
+reads_agree history bytes paths files tree is by h short still holds id d within =
     still (get_or holds.names id d) (set_at id holds.lists)
-    (ap (λ m. map.get m (get_or holds.names id d)) (index_once history bytes paths files is h short holds).1 ∙ held_set bytes paths files holds id d within)
+    (ap (λ m. map.get m (get_or holds.names id d)) (index_once history bytes paths files is by h short holds).1 ∙ held_set bytes paths files holds id d within)

@@ -1,7 +1,7 @@
 -- What single jobs make of a history.
-use Rattle.std.proofs.Common.{◌≡◌, true, false, cond, List, [], ◌∷◌, ◌++◌, map, ap, ◌∙◌, Option, Some, None}
+use Rattle.std.proofs.Common.{◌≡◌, true, false, cond, List, [], ◌∷◌, ◌++◌, map, sym, ap, subst, ◌∙◌, inl, inr, Option, Some, None}
 use Rattle.cs_tree.specs.Folders.{IsTree, Tells}
-use Rattle.std.proofs.lemmas.Bool.{cond_both, ltb-false}
+use Rattle.std.proofs.lemmas.Bool.{cases_Bool, cond_both, ltb-false}
 use Rattle.std.proofs.lemmas.Str.{IsUtf8-append, IsUtf8-string_bytes}
 use Rattle.std.specs.Prelude.{string_bytes, String, is_some, nat_eq, nat_lt, length}
 use Rattle.std.specs.declared.alloc.Global.{Global}
@@ -14,7 +14,8 @@ use Rattle.cs_tree.specs.Snapshot.{Snapshot}
 use Rattle.cs_tree.specs.Clean.{absolute, clean_path, has_nul, longest_path}
 use Rattle.cs_tree.proofs.SettledLemmas.{settled_from, bytes_no_nul, no_nul_bytes, no_fault_parts}
 use Rattle.cs_merge.proofs.HoldingLemmas.{from_list_all}
-use Rattle.cs_history.specs.History.{History}
+use Rattle.cs_history.specs.History.{History, nothing, ◌⊳◌}
+use Rattle.cs_history.specs.Headline.{IsByJobs}
 use Rattle.cs_history.specs.WellFormed.{IsClean, AreClean, IsVisit, IsHistory}
 use Rattle.cs_history.specs.Jobs.{given_texts, given_paths, has_no_path, IsTaken, AreTaken, IsFitting, visit_of, reset_history, after_done, after, history_after, snapshot_told}
 use Rattle.cs_words.specs.declared.jobs.IndexJob.{IndexJob}
@@ -56,29 +57,29 @@ given_clean job h = from_list_all IsClean (map (λ text. clean_path (string_byte
 -- ---- the history after a job
 
 pub list_adds_nothing : (before : History) (job : IndexJob) (tree : Snapshot) → job.list ≡ true → after_done before job tree ≡ before
-list_adds_nothing before job tree l = ap (λ b. cond b before (cond job.reset (reset_history job tree) (visit_of job tree ∷ before))) l
+list_adds_nothing before job tree l = ap (λ b. cond b before (cond job.reset (reset_history job tree) (visit_of job tree ⊳ before))) l
 
 pub reset_begins : (before : History) (job : IndexJob) (tree : Snapshot) → job.list ≡ false → job.reset ≡ true → after_done before job tree ≡ reset_history job tree
 reset_begins before job tree l r =
-    ap (λ b. cond b before (cond job.reset (reset_history job tree) (visit_of job tree ∷ before))) l
-    ∙ ap (λ b. cond b (reset_history job tree) (visit_of job tree ∷ before)) r
+    ap (λ b. cond b before (cond job.reset (reset_history job tree) (visit_of job tree ⊳ before))) l
+    ∙ ap (λ b. cond b (reset_history job tree) (visit_of job tree ⊳ before)) r
 
-pub other_goes_on : (before : History) (job : IndexJob) (tree : Snapshot) → job.list ≡ false → job.reset ≡ false → after_done before job tree ≡ visit_of job tree ∷ before
+pub other_goes_on : (before : History) (job : IndexJob) (tree : Snapshot) → job.list ≡ false → job.reset ≡ false → after_done before job tree ≡ visit_of job tree ⊳ before
 other_goes_on before job tree l r =
-    ap (λ b. cond b before (cond job.reset (reset_history job tree) (visit_of job tree ∷ before))) l
-    ∙ ap (λ b. cond b (reset_history job tree) (visit_of job tree ∷ before)) r
+    ap (λ b. cond b before (cond job.reset (reset_history job tree) (visit_of job tree ⊳ before))) l
+    ∙ ap (λ b. cond b (reset_history job tree) (visit_of job tree ⊳ before)) r
 
 begun_history : (job : IndexJob) (tree : Snapshot) → IsTree tree → AreClean (given_paths job) → IsHistory (reset_history job tree)
-begun_history job tree is clean = cond_both (has_no_path job) [] (visit_of job tree ∷ []) IsHistory (λ _. tt) (λ _. (record { tree_is = is; given_are = clean }, tt))
+begun_history job tree is clean = cond_both (has_no_path job) nothing (visit_of job tree ⊳ nothing) IsHistory (λ _. tt) (λ _. (record { tree_is = is; given_are = clean }, tt))
 
 pub after_history : (before : History) (job : IndexJob) (tree : Snapshot) (reply : Reply) → IsHistory before → IsTree tree → IsFitting job reply → IsHistory (after before job tree reply)
 after_history before job tree (Refused fault) is well fits = is
 after_history before job tree Done is well fits =
-    cond_both job.list before (cond job.reset (reset_history job tree) (visit_of job tree ∷ before)) IsHistory
+    cond_both job.list before (cond job.reset (reset_history job tree) (visit_of job tree ⊳ before)) IsHistory
     (λ _. is)
     (λ walks.
     let clean = given_clean job (fits walks) in
-    cond_both job.reset (reset_history job tree) (visit_of job tree ∷ before) IsHistory
+    cond_both job.reset (reset_history job tree) (visit_of job tree ⊳ before) IsHistory
     (λ _. begun_history job tree well clean)
     (λ _. (record { tree_is = well; given_are = clean }, is)))
 
@@ -88,6 +89,23 @@ followed_history before (job ∷ jobs) [] replies is well fits = is
 followed_history before (job ∷ jobs) (tree ∷ trees) [] is well fits = is
 followed_history before (job ∷ jobs) (tree ∷ trees) (reply ∷ replies) is well fits =
     followed_history (after before job tree reply) jobs trees replies (after_history before job tree reply is well.0 fits.0) well.1 fits.1
+
+-- ---- what was handed in is left by the first job that is done and no `-list`
+
+pub done_by_jobs : (before : History) (job : IndexJob) (tree : Snapshot) → job.list ≡ false → IsByJobs (after_done before job tree)
+done_by_jobs before job tree l =
+    subst IsByJobs (sym (ap (λ b. cond b before (cond job.reset (reset_history job tree) (visit_of job tree ⊳ before))) l))
+    (cond_both job.reset (reset_history job tree) (visit_of job tree ⊳ before) IsByJobs
+    (λ _. cond_both (has_no_path job) nothing (visit_of job tree ⊳ nothing) IsByJobs (λ _. tt) (λ _. tt))
+    (λ _. tt))
+
+pub later_by_jobs : (before : History) (job : IndexJob) (tree : Snapshot) (reply : Reply) → IsByJobs before → IsByJobs (after before job tree reply)
+later_by_jobs before job tree (Refused fault) by = by
+later_by_jobs before job tree Done by =
+    elim (cases_Bool job.list) [
+      | inl l ↦ subst IsByJobs (sym (list_adds_nothing before job tree l)) by
+      | inr l ↦ done_by_jobs before job tree l
+    ]
 
 -- ---- the job over a tree that tells its snapshot
 

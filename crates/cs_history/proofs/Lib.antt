@@ -3,6 +3,7 @@ pub mod TextLemmas
 pub mod PathLemmas
 pub mod CleanLemmas
 pub mod WalkLemmas
+pub mod BeginningLemmas
 pub mod HistoryLemmas
 pub mod JobLemmas
 pub mod IndexLemmas

@@ -1,6 +1,6 @@
 -- What sets, maps and histories have, as lists that compute: for worked rows.
 use Rattle.std.proofs.Common.{◌≡◌, ℕ, Bool, true, false, not, cond, ◌&&◌, List, [], ◌∷◌, ◌++◌, length, map, filter, refl, sym, ap, ◌∙◌, Option, Some, None}
-use Rattle.std.specs.Prelude.{nat_eq, nat_le, option_map, option_and_then, filter_map, unwrap_or}
+use Rattle.std.specs.Prelude.{nat_eq, nat_le, option_map, filter_map, unwrap_or}
 use Rattle.std.specs.Cmp.Lexicographic.{nat_list_cmp_total}
 use Rattle.std.specs.List.{list_any}
 use Rattle.std.specs.FinMap as map'
@@ -19,7 +19,8 @@ use Rattle.cs_trigram.specs.Text.{text_trigrams, limits}
 use Rattle.cs_index.specs.Image.{Entry, image, image_of}
 use Rattle.cs_merge.specs.Join.{join_files}
 use Rattle.cs_history.specs.Shards.{files_of_both}
-use Rattle.cs_history.specs.History.{Visit, History, all_given, paths_of, walked_paths, Walk, last_walk, kept_at, names_found, kept_files, files_of, index_of}
+use Rattle.cs_index.specs.Opening.{Parts, files_read}
+use Rattle.cs_history.specs.History.{Visit, History, nothing, handed_in, ◌⊳◌, all_given, paths_of, walked_paths, kept_at, names_found, kept_files, files_of, index_of}
 
 -- ---- maps
 
@@ -126,69 +127,86 @@ record Rows : Type 0 where
   given : PathRows
   tree : TreeRows
 
-abbrev rows_of : History → List Rows
-rows_of [] = []
-rows_of (visit ∷ before) = record { given = map'.entries visit.given; tree = map'.entries visit.tree } ∷ rows_of before
+-- the jobs, the newest one first, and the parts of the index that they began with
+abbrev jobs_of : History → List Rows
+jobs_of nothing = []
+jobs_of (handed_in bytes parts) = []
+jobs_of (visit ⊳ before) = record { given = map'.entries visit.given; tree = map'.entries visit.tree } ∷ jobs_of before
 
-abbrev given_in : List Rows → PathRows
-given_in [] = []
-given_in (rows ∷ before) = laid (given_in before ++ rows.given)
+abbrev begun_of : History → Option Parts
+begun_of nothing = None
+begun_of (handed_in bytes parts) = Some parts
+begun_of (visit ⊳ before) = begun_of before
 
-abbrev walked_in : Rows → List Rows → PathRows
-walked_in rows before = cond (nat_eq (length rows.given) 0) (least_rows (given_in before)) (least_rows rows.given)
+abbrev given_first : Option Parts → PathRows
+given_first None = []
+given_first (Some parts) = laid (set.with_units parts.paths)
 
-given-rows : (history : History) → map'.entries (all_given history) ≡ given_in (rows_of history)
-given-rows [] = entries_in_order [] tt
-given-rows (visit ∷ before) =
+abbrev given_in : Option Parts → List Rows → PathRows
+given_in begun [] = given_first begun
+given_in begun (rows ∷ before) = laid (given_in begun before ++ rows.given)
+
+abbrev walked_in : Option Parts → Rows → List Rows → PathRows
+walked_in begun rows before = cond (nat_eq (length rows.given) 0) (least_rows (given_in begun before)) (least_rows rows.given)
+
+given-rows : (history : History) → map'.entries (all_given history) ≡ given_in (begun_of history) (jobs_of history)
+given-rows nothing = entries_in_order [] tt
+given-rows (handed_in bytes parts) = entries-laid (set.with_units parts.paths)
+given-rows (visit ⊳ before) =
     entries-laid (map'.entries (all_given before) ++ map'.entries visit.given) ∙ ap (λ es. laid (es ++ map'.entries visit.given)) (given-rows before)
 
-paths-rows : (history : History) → map'.entries (paths_of history) ≡ least_rows (given_in (rows_of history))
+paths-rows : (history : History) → map'.entries (paths_of history) ≡ least_rows (given_in (begun_of history) (jobs_of history))
 paths-rows history = entries-least (all_given history) ∙ ap least_rows (given-rows history)
 
-walked-rows : (visit : Visit) (before : History) → map'.entries (walked_paths visit before) ≡ walked_in (record { given = map'.entries visit.given; tree = map'.entries visit.tree }) (rows_of before)
+walked-rows : (visit : Visit) (before : History) → map'.entries (walked_paths visit before) ≡ walked_in (begun_of before) (record { given = map'.entries visit.given; tree = map'.entries visit.tree }) (jobs_of before)
 walked-rows visit before =
-    elim (nat_eq (set.len visit.given) 0) as (λ b. map'.entries (cond b (paths_of before) (least visit.given)) ≡ cond b (least_rows (given_in (rows_of before))) (least_rows (map'.entries visit.given))) [
+    let old : PathRows = given_in (begun_of before) (jobs_of before) in
+    elim (nat_eq (set.len visit.given) 0) as (λ b. map'.entries (cond b (paths_of before) (least visit.given)) ≡ cond b (least_rows old) (least_rows (map'.entries visit.given))) [
       | true ↦ paths-rows before
       | false ↦ entries-least visit.given
     ]
-    ∙ ap (λ n. cond (nat_eq n 0) (least_rows (given_in (rows_of before))) (least_rows (map'.entries visit.given))) (map'.len-entries visit.given)
+    ∙ ap (λ n. cond (nat_eq n 0) (least_rows old) (least_rows (map'.entries visit.given))) (map'.len-entries visit.given)
 
-module _ {X : Type 0} (read : List ℕ → Option X) where
-  abbrev kept_in : List Rows → List ℕ → Option X
-  kept_in [] name = None
-  kept_in (rows ∷ before) name =
-      cond (list_any (λ path. covers path name) (names_in (walked_in rows before))) (find bytes_cmp name (reached_in read rows.tree (walked_in rows before))) (kept_in before name)
+module _ {X : Type 0} (read : List ℕ → Option X) (listed : Parts → List (List ℕ × X)) where
+  abbrev spelled : Parts → map'.FinMap bytes_cmp X
+  spelled parts = map'.from_entries (listed parts)
 
-  abbrev names_found_in : List Rows → List (List ℕ)
-  names_found_in [] = []
-  names_found_in (rows ∷ before) = names_in (reached_in read rows.tree (walked_in rows before)) ++ names_found_in before
+  abbrev files_first : Option Parts → List (List ℕ × X)
+  files_first None = []
+  files_first (Some parts) = laid (listed parts)
 
-  abbrev files_in : List Rows → List (List ℕ × X)
-  files_in rows = laid (filter_map (λ name. option_map (λ (x : X). (name, x)) (kept_in rows name)) (names_found_in rows))
+  abbrev kept_in : Option Parts → List Rows → List ℕ → Option X
+  kept_in begun [] name = find bytes_cmp name (files_first begun)
+  kept_in begun (rows ∷ before) name =
+      cond (list_any (λ path. covers path name) (names_in (walked_in begun rows before))) (find bytes_cmp name (reached_in read rows.tree (walked_in begun rows before))) (kept_in begun before name)
 
-  walk-rows : (visit : Visit) (before : History) → map'.entries (files_reached read visit.tree (walked_paths visit before)) ≡ reached_in read (map'.entries visit.tree) (walked_in (record { given = map'.entries visit.given; tree = map'.entries visit.tree }) (rows_of before))
+  abbrev names_found_in : Option Parts → List Rows → List (List ℕ)
+  names_found_in begun [] = names_in (files_first begun)
+  names_found_in begun (rows ∷ before) = names_in (reached_in read rows.tree (walked_in begun rows before)) ++ names_found_in begun before
+
+  abbrev files_in : Option Parts → List Rows → List (List ℕ × X)
+  files_in begun rows = laid (filter_map (λ name. option_map (λ (x : X). (name, x)) (kept_in begun rows name)) (names_found_in begun rows))
+
+  walk-rows : (visit : Visit) (before : History) → map'.entries (files_reached read visit.tree (walked_paths visit before)) ≡ reached_in read (map'.entries visit.tree) (walked_in (begun_of before) (record { given = map'.entries visit.given; tree = map'.entries visit.tree }) (jobs_of before))
   walk-rows visit before = reached-rows read visit.tree (walked_paths visit before) ∙ ap (reached_in read (map'.entries visit.tree)) (walked-rows visit before)
 
-  kept-rows : (history : History) (name : List ℕ) → kept_at read history name ≡ kept_in (rows_of history) name
-  kept-rows [] name = refl
-  kept-rows (visit ∷ before) name =
+  kept-rows : (history : History) (name : List ℕ) → kept_at read spelled history name ≡ kept_in (begun_of history) (jobs_of history) name
+  kept-rows nothing name = refl
+  kept-rows (handed_in bytes parts) name = map'.get-entries (spelled parts) name ∙ ap (find bytes_cmp name) (entries-laid (listed parts))
+  kept-rows (visit ⊳ before) name =
       let paths : Paths = walked_paths visit before in
-      let found : Option X = map'.get (files_reached read visit.tree paths) name in
-      elim (is_covered paths name) as (λ b. option_and_then (λ (walk : Walk). map'.get (files_reached read walk.tree walk.paths) name) (cond b (Some (record { tree = visit.tree; paths = paths })) (last_walk before name)) ≡ cond b found (kept_at read before name)) [
-        | true ↦ refl
-        | false ↦ refl
-      ]
-      ∙ (λ i. cond (list_any (λ path. covers path name) (names_in (walked-rows visit before i)))
+      λ i. cond (list_any (λ path. covers path name) (names_in (walked-rows visit before i)))
       ((map'.get-entries (files_reached read visit.tree paths) name ∙ ap (find bytes_cmp name) (walk-rows visit before)) i)
-      (kept-rows before name i))
+      (kept-rows before name i)
 
-  names-rows : (history : History) → names_found read history ≡ names_found_in (rows_of history)
-  names-rows [] = refl
-  names-rows (visit ∷ before) = λ i. names_in (walk-rows visit before i) ++ names-rows before i
+  names-rows : (history : History) → names_found read spelled history ≡ names_found_in (begun_of history) (jobs_of history)
+  names-rows nothing = refl
+  names-rows (handed_in bytes parts) = ap names_in (entries-laid (listed parts))
+  names-rows (visit ⊳ before) = λ i. names_in (walk-rows visit before i) ++ names-rows before i
 
-  files-rows : (history : History) → map'.entries (kept_files read history) ≡ files_in (rows_of history)
+  files-rows : (history : History) → map'.entries (kept_files read spelled history) ≡ files_in (begun_of history) (jobs_of history)
   files-rows history =
-      entries-laid (filter_map (λ name. option_map (λ (x : X). (name, x)) (kept_at read history name)) (names_found read history))
+      entries-laid (filter_map (λ name. option_map (λ (x : X). (name, x)) (kept_at read spelled history name)) (names_found read spelled history))
       ∙ (λ i. laid (filter_map (λ name. option_map (λ (x : X). (name, x)) (kept-rows history name i)) (names-rows history i)))
 
 -- ---- histories as they are written down
@@ -201,30 +219,52 @@ pub record Job : Type 0 where
 abbrev pub visit_of : Job → Visit
 visit_of job = record { given = set.from_list job.paths; tree = map'.from_entries job.items }
 
+-- jobs that began with no index, or with one that has these parts
+abbrev begun_with : Option Parts → History
+begun_with None = nothing
+begun_with (Some parts) = handed_in [] parts
+
+abbrev pub history_from : Option Parts → List Job → History
+history_from begun [] = begun_with begun
+history_from begun (job ∷ before) = visit_of job ⊳ history_from begun before
+
 abbrev pub history_of : List Job → History
-history_of jobs = map visit_of jobs
+history_of jobs = history_from None jobs
 
 abbrev rows_made : List Job → List Rows
 rows_made [] = []
 rows_made (job ∷ before) = record { given = laid (set.with_units job.paths); tree = laid job.items } ∷ rows_made before
 
-made : (jobs : List Job) → rows_of (history_of jobs) ≡ rows_made jobs
-made [] = refl
-made (job ∷ before) = λ i. record { given = entries-laid (set.with_units job.paths) i; tree = entries-laid job.items i } ∷ made before i
+made : (begun : Option Parts) (jobs : List Job) → jobs_of (history_from begun jobs) ≡ rows_made jobs
+made begun [] = none_yet begun
+  where
+    none_yet : (begun : Option Parts) → jobs_of (begun_with begun) ≡ []
+    none_yet None = refl
+    none_yet (Some parts) = refl
+made begun (job ∷ before) = λ i. record { given = entries-laid (set.with_units job.paths) i; tree = entries-laid job.items i } ∷ made begun before i
 
--- the paths of the index after the jobs, its files, and its bytes
-abbrev pub paths_after : List Job → List (List ℕ)
-paths_after jobs = names_in (least_rows (given_in (rows_made jobs)))
+begun_made : (begun : Option Parts) (jobs : List Job) → begun_of (history_from begun jobs) ≡ begun
+begun_made begun [] = alone begun
+  where
+    alone : (begun : Option Parts) → begun_of (begun_with begun) ≡ begun
+    alone None = refl
+    alone (Some parts) = refl
+begun_made begun (job ∷ before) = begun_made begun before
 
-abbrev pub files_after : List Job → List Entry
-files_after jobs = files_in (text_trigrams limits) (rows_made jobs)
+module _ (begun : Option Parts) where
+  -- the paths of the index after the jobs, its files, and its bytes
+  abbrev pub paths_after : List Job → List (List ℕ)
+  paths_after jobs = names_in (least_rows (given_in begun (rows_made jobs)))
 
-pub paths_computed : (jobs : List Job) → set.items (paths_of (history_of jobs)) ≡ paths_after jobs
-paths_computed jobs = ap names_in (paths-rows (history_of jobs) ∙ ap (λ rows. least_rows (given_in rows)) (made jobs))
+  abbrev pub files_after : List Job → List Entry
+  files_after jobs = files_in (text_trigrams limits) files_read begun (rows_made jobs)
 
-pub files_computed : (jobs : List Job) → map'.entries (files_of (history_of jobs)) ≡ files_after jobs
-files_computed jobs = files-rows (text_trigrams limits) (history_of jobs) ∙ ap (files_in (text_trigrams limits)) (made jobs)
+  pub paths_computed : (jobs : List Job) → set.items (paths_of (history_from begun jobs)) ≡ paths_after jobs
+  paths_computed jobs = ap names_in (paths-rows (history_from begun jobs)) ∙ (λ i. names_in (least_rows (given_in (begun_made begun jobs i) (made begun jobs i))))
 
-pub index_computed : (job : Job) (before : List Job) → index_of (history_of (job ∷ before)) ≡ Some (image_of (paths_after (job ∷ before)) (files_after (job ∷ before)))
-unfolding image
-index_computed job before = λ i. Some (image_of (paths_computed (job ∷ before) i) (files_computed (job ∷ before) i))
+  pub files_computed : (jobs : List Job) → map'.entries (files_of (history_from begun jobs)) ≡ files_after jobs
+  files_computed jobs = files-rows (text_trigrams limits) files_read (history_from begun jobs) ∙ (λ i. files_in (text_trigrams limits) files_read (begun_made begun jobs i) (made begun jobs i))
+
+  pub index_computed : (job : Job) (before : List Job) → index_of (history_from begun (job ∷ before)) ≡ Some (image_of (paths_after (job ∷ before)) (files_after (job ∷ before)))
+  unfolding image
+  index_computed job before = λ i. Some (image_of (paths_computed (job ∷ before) i) (files_computed (job ∷ before) i))

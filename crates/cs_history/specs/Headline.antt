@@ -11,7 +11,7 @@ use Rattle.std.specs.FinMap as map'
 use Rattle.cs_tree.specs.Snapshot.{Snapshot, item_at}
 use Rattle.cs_tree.specs.Reached.{read_item}
 use Rattle.cs_trigram.specs.Text.{text_trigrams, limits}
-use Rattle.cs_history.specs.History.{History, files_of, index_of}
+use Rattle.cs_history.specs.History.{History, handed_in, files_of, index_of}
 use Rattle.cs_history.specs.WellFormed.{IsHistory}
 use Rattle.cs_history.specs.Jobs.{history_after, snapshot_told, IsFitting}
 use Rattle.cs_words.specs.declared.jobs.IndexJob.{IndexJob}
@@ -23,8 +23,8 @@ use Rattle.cs_words.specs.declared.jobs.Reply.{Reply}
 abbrev pub IsShort : Option (List ℕ) → Type 0
 IsShort index = IfSome index (λ bytes. length bytes < 2 ^ 32)
 
--- Each tree tells what stands in it, and the index is the one that these earlier jobs left: none,
--- where there were none.
+-- Each tree tells what stands in it, and the index is the one that these earlier jobs left: where there were none,
+-- the one that was handed in, or none.
 pub record Premises (trees : List (Option Snapshot)) (index : Option (List ℕ)) (earlier : History) : Type 0 where
   pub trees_tell : AllByRecursion Tells trees
   pub jobs_were : IsHistory earlier
@@ -53,9 +53,15 @@ abbrev pub StillReads : History → Snapshot → Type 0
 StillReads history tree =
     (name trigrams : List ℕ) → map'.get (files_of history) name ≡ Some trigrams → read_item (text_trigrams limits) (item_at tree name) ≡ Some trigrams
 
+-- the index is one that a job built, and not just the one that was handed in, whose names may stand in another order
+abbrev pub IsByJobs : History → Type 0
+IsByJobs (handed_in bytes parts) = ⊥
+IsByJobs history = Unit {0}
+
 -- What the last part rests on: the earlier jobs left the index, and every file that it names still reads as it was.
 pub record SearchPremises (tree : Option Snapshot) (index : Option (List ℕ)) (earlier : History) : Type 0 where
   pub jobs_left : Premises (tree ∷ []) index earlier
+  pub by_jobs : IsByJobs earlier
   pub still_reads : StillReads earlier (snapshot_told tree)
 
 -- `searched` is what cgrep prints over some names in a tree, with a pattern and a style: on its output, on that of

@@ -8,7 +8,7 @@ use Rattle.cs_tree.specs.PathSet as set
 use Rattle.cs_tree.specs.Snapshot.{Snapshot}
 use Rattle.cs_tree.specs.Clean.{clean_path}
 use Rattle.cs_tree.specs.Cleaning.{clean_fault}
-use Rattle.cs_history.specs.History.{History, Visit}
+use Rattle.cs_history.specs.History.{History, nothing, ◌⊳◌, Visit}
 use Rattle.cs_words.specs.declared.jobs.IndexJob.{IndexJob}
 use Rattle.cs_words.specs.declared.jobs.Reply.{Reply}
 use Rattle.cs_words.specs.declared.jobs.Reply.TheVariants.{Done, Refused}
@@ -47,11 +47,11 @@ visit_of job tree = record { given = given_paths job; tree = tree }
 
 -- `-reset`: the job stands alone, and without paths there is no job and so no index
 abbrev pub reset_history : IndexJob → Snapshot → History
-reset_history job tree = if has_no_path job then [] else visit_of job tree ∷ []
+reset_history job tree = if has_no_path job then nothing else visit_of job tree ⊳ nothing
 
 -- a job that was done: `-list` adds nothing, `-reset` begins anew, any other job goes on
 abbrev pub after_done : History → IndexJob → Snapshot → History
-after_done before job tree = if job.list then before else (if job.reset then reset_history job tree else visit_of job tree ∷ before)
+after_done before job tree = if job.list then before else (if job.reset then reset_history job tree else visit_of job tree ⊳ before)
 
 -- a refused job adds nothing
 abbrev pub after : History → IndexJob → Snapshot → Reply → History

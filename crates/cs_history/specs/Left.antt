@@ -3,7 +3,7 @@ use Rattle.std.specs.Prelude.{◌≡◌, ◌<◌, ◌^◌, ℕ, List, Some, leng
 use Rattle.cs_history.specs.History.{History, index_of}
 use Rattle.cs_history.specs.WellFormed.{IsHistory}
 
--- the jobs left these bytes as their index, and 32 bits count them
+-- the jobs left these bytes as their index, or they were handed in; and 32 bits count them
 pub record HasLeft (history : History) (bytes : List ℕ) : Type 0 where
   pub jobs_were : IsHistory history
   pub they_left : index_of history ≡ Some bytes

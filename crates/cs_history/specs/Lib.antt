@@ -7,11 +7,14 @@ pub use Rattle.cs_tree.specs.Snapshot
 pub use Rattle.cs_tree.specs.Reached
 pub use Rattle.cs_trigram.specs.Text
 pub use Rattle.cs_index.specs.Image
+pub use Rattle.cs_index.specs.Opening
 pub use Rattle.cs_merge.specs.Join
+pub use Rattle.cs_merge.specs.Joinable
 pub use Rattle.cs_merge.specs.Content
 pub mod Headline
 pub mod History
 pub mod WellFormed
+pub mod Begun
 pub mod Jobs
 pub mod JobIndex
 pub mod Left

@@ -4,7 +4,7 @@ use Rattle.std.specs.Prelude.{◌≡◌, ◌≢◌, ◌<◌, ◌≤◌, ◌^◌,
 use Rattle.std.specs.List.{AllByRecursion}
 use Rattle.cs_tree.specs.Snapshot.{Snapshot}
 use Rattle.cs_index.specs.declared.fault.IndexFault.{IndexFault}
-use Rattle.cs_history.specs.History.{History, index_of}
+use Rattle.cs_history.specs.History.{History, nothing, index_of}
 use Rattle.cs_history.specs.JobIndex.{visit_index}
 use Rattle.cs_history.specs.Jobs.{given_texts, has_no_path, IsTaken, visit_of, after_done, after}
 use Rattle.cs_words.specs.declared.jobs.IndexJob.{IndexJob}
@@ -28,7 +28,7 @@ pub record IsFirstBad (job : IndexJob) (place : ℕ) : Type 0 where
 -- the index of what the job finds, alone
 abbrev pub own_index : History → IndexJob → Snapshot → List ℕ
 own_index before job tree =
-    visit_index (visit_of job tree) (if job.reset then [] else before)
+    visit_index (visit_of job tree) (if job.reset then nothing else before)
 
 -- the job walks: it is neither `-list` nor a `-reset` without paths
 abbrev pub Walks : IndexJob → Type 0
@@ -46,10 +46,10 @@ pub record IsTooLarge (before : History) (job : IndexJob) (tree : Snapshot) : Ty
 
 -- ---- replies
 
--- Each refusal has its cause, and no job is done that is too large. A history's index is never bad, and its
--- names are in order.
+-- Each refusal has its cause, and no job is done that is too large. A history's index is never bad, and
+-- holds no name twice.
 pub record IsRightReply (before : History) (job : IndexJob) (tree : Snapshot) (reply : Reply) : Type 0 where
-  pub no_index : (reply ≡ Refused NoIndex) ↔ ((before ≡ []) × NeedsIndex job)
+  pub no_index : (reply ≡ Refused NoIndex) ↔ ((before ≡ nothing) × NeedsIndex job)
   pub bad_path : (place : ℕ) → reply ≡ Refused (BadPath place) → IsFirstBad job place
   pub too_large : reply ≡ Refused TooLarge → IsTooLarge before job tree
   pub fits : reply ≡ Done → IsTooLarge before job tree → ⊥

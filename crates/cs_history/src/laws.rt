@@ -1,5 +1,5 @@
 // Laws of histories. None of these functions does anything.
-ghost use Rattle.std.specs.Prelude.{◌≡◌, ◌↔◌, ◌<◌, ◌^◌, List, [], ◌∷◌, ◌++◌, ℕ, Option, Some, None, Bool, true, false, map, length, slice_index_or};
+ghost use Rattle.std.specs.Prelude.{◌≡◌, ◌↔◌, ◌<◌, ◌^◌, List, [], ◌∷◌, ◌++◌, ℕ, Option, Some, None, Ok, Bool, true, false, map, length, slice_index_or};
 ghost use Rattle.cs_tree.specs.Folders.{IsTree, Tells};
 ghost use Rattle.cs_tree.specs.PathSet.{Paths};
 ghost use Rattle.cs_index.specs.PostingLists.{set_at};
@@ -10,16 +10,19 @@ ghost use Rattle.cs_tree.specs.Cover.{is_covered, least};
 ghost use Rattle.cs_tree.specs.Snapshot.{Snapshot, item_at};
 ghost use Rattle.cs_tree.specs.Reached.{files_reached, read_item};
 ghost use Rattle.cs_index.specs.Image.{Files, image};
+ghost use Rattle.cs_index.specs.Opening.{Parts, opening};
 ghost use Rattle.cs_trigram.specs.Text.{text_trigrams, limits};
 ghost use Rattle.cs_merge.specs.Join.{join_files, join_paths};
+ghost use Rattle.cs_merge.specs.Joinable.{joined_index};
 ghost use Rattle.cs_merge.specs.Content.{IsContent, LieUnder, Holds};
-ghost use Rattle.cs_history.specs.History.{History, Visit, kept_files, walked_paths, paths_of, files_of, index_of};
+ghost use Rattle.cs_history.specs.History.{History, nothing, handed_in, ◌⊳◌, Visit, kept_files, walked_paths, paths_of, files_spelled, files_of, index_of};
 ghost use Rattle.cs_history.specs.JobIndex.{files_found, tree_index, visit_index};
-ghost use Rattle.cs_history.specs.WellFormed.{AreClean, IsHistory};
+ghost use Rattle.cs_history.specs.WellFormed.{AreClean, IsBeginning, IsHistory};
+ghost use Rattle.cs_history.specs.Begun.{IsBegun};
 ghost use Rattle.cs_history.specs.Left.{HasLeft};
 ghost use Rattle.cs_history.specs.Jobs.{given_paths, has_no_path, AreTaken, IsFitting, after, history_after, snapshot_told};
 ghost use Rattle.cs_history.specs.Replies.{NeedsIndex, IsFirstBad, IsRightReply, AreRightReplies};
-ghost use Rattle.cs_history.specs.Headline.{Premises, Indexes, indexed_names, StillReads};
+ghost use Rattle.cs_history.specs.Headline.{Premises, Indexes, IsByJobs, indexed_names, StillReads};
 ghost use Rattle.cs_history.specs.Shards.{LieBeside, AreShards, files_of_both, by_name, searched_names};
 ghost use Rattle.cs_trigram.specs.declared.queries.Query.{Query};
 ghost use Rattle.cs_words.specs.declared.jobs.IndexJob.{IndexJob};
@@ -27,38 +30,58 @@ ghost use Rattle.cs_words.specs.declared.fault.CindexFault.{CindexFault};
 ghost use Rattle.cs_words.specs.declared.jobs.Reply.{Reply};
 ghost use Rattle.cs_words.specs.declared.jobs.Reply.TheVariants.{Done, Refused};
 
-/// Joining what is kept with what one more job found gives what is kept after that job.
-pub fn joining_keeps()
-    ensures files { (read : List ℕ → Option (List ℕ)) (history : History) (visit : Visit) →
-        join_files (walked_paths visit history) (kept_files read history)
-        (files_reached read visit.tree (walked_paths visit history)) ≡
-        kept_files read (visit ∷ history) }
-    ensures paths { (history : History) (visit : Visit) →
-        join_paths (paths_of history) (walked_paths visit history) ≡ paths_of (visit ∷ history) }
+/// An index that was handed in counts as a first job: its paths were given, its sets were read, and until
+/// a later job its bytes are the index.
+pub fn histories_may_begin_with_an_index()
+    ensures index { (bytes : List ℕ) (parts : Parts) →
+        index_of (handed_in bytes parts) ≡ Some bytes }
+    ensures paths { (bytes : List ℕ) (parts : Parts) →
+        paths_of (handed_in bytes parts) ≡ least (set.from_list parts.paths) }
+    ensures files { (bytes : List ℕ) (parts : Parts) →
+        files_of (handed_in bytes parts) ≡ files_spelled parts }
 {}
 
-/// The first job's index is that of what it found.
+/// Joining what is kept with what one more job found gives what is kept after that job.
+pub fn joining_keeps()
+    ensures files { (read : List ℕ → Option (List ℕ)) (spelled : Parts → Files)
+        (history : History) (visit : Visit) →
+        join_files (walked_paths visit history) (kept_files read spelled history)
+        (files_reached read visit.tree (walked_paths visit history)) ≡
+        kept_files read spelled (visit ⊳ history) }
+    ensures paths { (history : History) (visit : Visit) →
+        join_paths (paths_of history) (walked_paths visit history) ≡ paths_of (visit ⊳ history) }
+{}
+
+/// The first job's index is that of what it found, where it began with none.
 pub fn first_job()
-    ensures { (visit : Visit) → index_of (visit ∷ []) ≡ Some (visit_index visit []) }
+    ensures { (visit : Visit) → index_of (visit ⊳ nothing) ≡ Some (visit_index visit nothing) }
 {}
 
 /// The index after one more job is that of the join of what was there with what the job found.
 pub fn one_job_more()
     ensures { (before : History) (visit : Visit) →
-        index_of (visit ∷ before) ≡
+        index_of (visit ⊳ before) ≡
         Some (image (join_paths (paths_of before) (walked_paths visit before))
         (join_files (walked_paths visit before) (files_of before) (files_found visit before))) }
 {}
 
 /// Merging the index that some jobs left with the index of what one more job found, by whatever
-/// content the two hold, gives the index after that job.
+/// content the two hold, gives the index after that job; and so does joining what the two open as, also where
+/// the old one was handed in.
 pub fn merging_gives_the_next_index()
-    ensures { (before : History) (visit : Visit) (old newer bytes : List ℕ) →
-        IsHistory (visit ∷ before) → index_of before ≡ Some old → length old < 2 ^ 32 →
+    ensures held { (before : History) (visit : Visit) (old newer bytes : List ℕ) →
+        IsHistory (visit ⊳ before) → IsByJobs before →
+        index_of before ≡ Some old → length old < 2 ^ 32 →
         newer ≡ visit_index visit before → length newer < 2 ^ 32 →
         ((p q : Paths) (f g : Files) → Holds old p f → Holds newer q g →
         bytes ≡ image (join_paths p q) (join_files q f g)) →
-        Some bytes ≡ index_of (visit ∷ before) }
+        Some bytes ≡ index_of (visit ⊳ before) }
+    ensures opened { (before : History) (visit : Visit) (old newer bytes : List ℕ) →
+        IsHistory (visit ⊳ before) → index_of before ≡ Some old → length old < 2 ^ 32 →
+        newer ≡ visit_index visit before → length newer < 2 ^ 32 →
+        ((a b : Parts) → opening old ≡ Ok a → opening newer ≡ Ok b →
+        bytes ≡ joined_index a b) →
+        Some bytes ≡ index_of (visit ⊳ before) }
 {}
 
 /// A reset with paths leaves the index of what it found under these alone, and one without paths
@@ -80,23 +103,31 @@ pub fn lists_and_refusals_change_nothing()
         index_of (after before job tree (Refused fault)) ≡ index_of before }
 {}
 
+/// From the first job on that is done and is no `-list`, the index is by jobs.
+pub fn jobs_leave_what_was_handed_in()
+    ensures done { (before : History) (job : IndexJob) (tree : Snapshot) → job.list ≡ false →
+        IsByJobs (after before job tree Done) }
+    ensures later { (before : History) (job : IndexJob) (tree : Snapshot) (reply : Reply) →
+        IsByJobs before → IsByJobs (after before job tree reply) }
+{}
+
 /// At a name that a job's paths cover the index has what the job found there, and nothing where it
 /// found nothing. At any other name it has what it had.
 pub fn latest_job_decides()
     ensures covered { (visit : Visit) (before : History) (name : List ℕ) →
         is_covered (walked_paths visit before) name ≡ true →
-        map'.get (files_of (visit ∷ before)) name ≡ map'.get (files_found visit before) name }
+        map'.get (files_of (visit ⊳ before)) name ≡ map'.get (files_found visit before) name }
     ensures others { (visit : Visit) (before : History) (name : List ℕ) →
         is_covered (walked_paths visit before) name ≡ false →
-        map'.get (files_of (visit ∷ before)) name ≡ map'.get (files_of before) name }
+        map'.get (files_of (visit ⊳ before)) name ≡ map'.get (files_of before) name }
 {}
 
 /// A job without paths keeps the paths of the index, and reads all below them anew.
 pub fn job_without_paths()
     ensures paths { (visit : Visit) (before : History) → set.len visit.given ≡ 0 →
-        paths_of (visit ∷ before) ≡ paths_of before }
+        paths_of (visit ⊳ before) ≡ paths_of before }
     ensures files { (visit : Visit) (before : History) → set.len visit.given ≡ 0 →
-        files_of (visit ∷ before) ≡
+        IsBegun before → files_of (visit ⊳ before) ≡
         files_reached (text_trigrams limits) visit.tree (paths_of before) }
 {}
 
@@ -104,7 +135,7 @@ pub fn job_without_paths()
 pub fn paths_are_clean_and_reduced()
     ensures clean { (history : History) → IsHistory history → AreClean (paths_of history) }
     ensures reduced { (history : History) → least (paths_of history) ≡ paths_of history }
-    ensures walked_clean { (visit : Visit) (before : History) → IsHistory (visit ∷ before) →
+    ensures walked_clean { (visit : Visit) (before : History) → IsHistory (visit ⊳ before) →
         AreClean (walked_paths visit before) }
     ensures walked_reduced { (visit : Visit) (before : History) →
         least (walked_paths visit before) ≡ walked_paths visit before }
@@ -112,7 +143,7 @@ pub fn paths_are_clean_and_reduced()
 
 /// What a job finds can be held by an index, and lies under the paths that it walked.
 pub fn walks_find_content()
-    ensures content { (visit : Visit) (before : History) → IsHistory (visit ∷ before) →
+    ensures content { (visit : Visit) (before : History) → IsHistory (visit ⊳ before) →
         IsContent (walked_paths visit before) (files_found visit before) }
     ensures under { (visit : Visit) (before : History) →
         LieUnder (walked_paths visit before) (files_found visit before) }
@@ -122,15 +153,17 @@ pub fn walks_find_content()
 pub fn histories_have_content()
     ensures content { (history : History) → IsHistory history →
         IsContent (paths_of history) (files_of history) }
-    ensures under { (history : History) → LieUnder (paths_of history) (files_of history) }
+    ensures under { (history : History) → IsBegun history →
+        LieUnder (paths_of history) (files_of history) }
+    ensures begun { (history : History) → IsHistory history → IsBegun history }
 {}
 
 /// An index that some jobs left holds their paths and files, and nothing else.
 pub fn indexes_tell_their_content()
     ensures held { (history : History) (bytes : List ℕ) → HasLeft history bytes →
-        Holds bytes (paths_of history) (files_of history) }
+        IsByJobs history → Holds bytes (paths_of history) (files_of history) }
     ensures once { (history : History) (bytes : List ℕ) (paths : Paths) (files : Files) →
-        HasLeft history bytes → Holds bytes paths files →
+        HasLeft history bytes → IsByJobs history → Holds bytes paths files →
         (paths_of history ≡ paths) × (files_of history ≡ files) }
 {}
 
@@ -138,18 +171,18 @@ pub fn indexes_tell_their_content()
 /// say.
 pub fn still_reading_agrees()
     ensures names { (history : History) (bytes : List ℕ) (paths : Paths) (files : Files) →
-        HasLeft history bytes → (holds : Holds bytes paths files) →
+        HasLeft history bytes → IsByJobs history → (holds : Holds bytes paths files) →
         indexed_names history ≡ holds.names }
     ensures sets { (history : History) (bytes : List ℕ) (paths : Paths) (files : Files)
-        (tree : Snapshot) → HasLeft history bytes → StillReads history tree →
+        (tree : Snapshot) → HasLeft history bytes → IsByJobs history → StillReads history tree →
         (holds : Holds bytes paths files) (id : ℕ) (d : List ℕ) → id < length holds.names →
         read_item (text_trigrams limits) (item_at tree (slice_index_or holds.names id d)) ≡
         Some (set_at id holds.lists) }
 {}
 
-/// There is no index exactly where no job is left.
+/// There is no index exactly where no job is left, and none was handed in.
 pub fn no_index_without_a_job()
-    ensures { (history : History) → (index_of history ≡ None) ↔ (history ≡ []) }
+    ensures { (history : History) → (index_of history ≡ None) ↔ (history ≡ nothing) }
 {}
 
 /// Paths that cleaning takes are clean, and jobs that were done on histories leave histories.
@@ -185,11 +218,14 @@ pub fn replies_are_right_one_by_one()
         IsFirstBad job other → place ≡ other }
 {}
 
-/// The premises of the main promise hold where no index is there, and after each call for the next
-/// one.
+/// The premises of the main promise hold where no index is there, where one is handed in that a history may
+/// begin with, and after each call for the next one.
 pub fn calls_find_their_premises()
     ensures first { (trees : List (Option Snapshot)) → AllByRecursion Tells trees →
-        Premises trees None [] }
+        Premises trees None nothing }
+    ensures begun { (trees : List (Option Snapshot)) (bytes : List ℕ) (parts : Parts) →
+        AllByRecursion Tells trees → IsBeginning bytes parts →
+        Premises trees (Some bytes) (handed_in bytes parts) }
     ensures next { (jobs : List IndexJob) (trees later : List (Option Snapshot))
         (replies : List Reply) (old new : Option (List ℕ)) (earlier : History) →
         Premises trees old earlier → Indexes jobs trees replies old new →
@@ -211,7 +247,7 @@ pub fn shards_join_by_name()
     ensures searched { (p q : Paths) (f g : Files) (query : Query) (keeps : List ℕ → Bool) →
         AreShards p f q g → searched_names query keeps (join_files q f g) ≡
         by_name (searched_names query keeps f ++ searched_names query keeps g) }
-    ensures left { (one other : History) → LieBeside (paths_of other) (files_of one) →
+    ensures left { (one other : History) → IsBegun one → IsBegun other → LieBeside (paths_of other) (files_of one) →
         LieBeside (paths_of one) (files_of other) →
         AreShards (paths_of one) (files_of one) (paths_of other) (files_of other) }
 {}

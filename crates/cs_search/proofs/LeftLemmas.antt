@@ -20,6 +20,7 @@ use Rattle.cs_index.specs.declared.fault.IndexFault.{IndexFault}
 use Rattle.cs_merge.proofs.ContentLemmas.{each_of_map}
 use Rattle.cs_history.specs.History.{History, files_of}
 use Rattle.cs_history.specs.Left.{HasLeft}
+use Rattle.cs_history.proofs.HistoryLemmas.{history_opens}
 use Rattle.cs_history.specs.Headline.{SearchPremises, indexed_names}
 use Rattle.cs_words.specs.declared.jobs.Tool.TheVariants.{Cgrep}
 use Rattle.cs_words.specs.declared.jobs.Style.{Style}
@@ -35,7 +36,7 @@ use Rattle.cs_search.specs.Printed.{Printed}
 use Rattle.cs_search.specs.SameSearch.{IsSameSearch}
 use Rattle.cs_search.proofs.AgreementLemmas.{search_quiet}
 use Rattle.cs_search.proofs.CgrepLemmas.{cgrep_files}
-use Rattle.cs_search.proofs.PromiseLemmas.{opens_once, written, opens_so, has_so}
+use Rattle.cs_search.proofs.PromiseLemmas.{opens_once}
 
 -- ---- each list is whole, and so the index is never refused
 
@@ -53,11 +54,7 @@ whole_answers parts query whole = each parts.entries whole
 
 module _ (history : History) (bytes : List ℕ) (left : HasLeft history bytes) where
   pub opens_whole : (parts : Parts) × (opening bytes ≡ Ok parts) × (are_whole parts ≡ true)
-  opens_whole = (
-    written history bytes left.jobs_were left.they_left left.short,
-    opens_so history bytes left.jobs_were left.they_left left.short,
-    (has_so history bytes left.jobs_were left.they_left left.short).whole,
-  )
+  opens_whole = let opens = history_opens history bytes left.jobs_were left.they_left left.short in (opens.parts, opens.opened, opens.whole)
 
   never_bad : (job : SearchJob) (fault : IndexFault) → IsBad job (Some bytes) fault → ⊥
   never_bad job fault (inl closed) = let opens = opens_whole.1 in let no : Ok opens_whole.0 ≡ Err fault = sym opens ∙ closed in cc

@@ -21,7 +21,7 @@ use Rattle.cs_index.proofs.WrittenLemmas.{image_opens, image_has}
 use Rattle.cs_merge.proofs.ContentLemmas.{content_indexable, ascending_sets, each_of_map}
 use Rattle.cs_history.specs.History.{History, index_of, paths_of, files_of}
 use Rattle.cs_history.specs.Jobs.{snapshot_told}
-use Rattle.cs_history.specs.Headline.{IsShort, StillReads, indexed_names, SearchPremises}
+use Rattle.cs_history.specs.Headline.{IsByJobs, IsShort, StillReads, indexed_names, SearchPremises}
 use Rattle.cs_history.specs.WellFormed.{IsHistory}
 use Rattle.cs_history.proofs.HistoryLemmas.{history_content, index_is}
 use Rattle.cs_words.specs.declared.jobs.Tool.TheVariants.{Csearch, Cgrep}
@@ -126,15 +126,15 @@ module _ (job : SearchJob) (index : Option (List ℕ)) (tree : Option Snapshot) 
 pub like_cgrep_quiet : (job : SearchJob) (index : Option (List ℕ)) (tree : Option Snapshot) (out err : Option Taken) → PrintsLikeCgrep MOST_SEARCHED job index tree (λ printed. PrintsSome printed out out err err)
 like_cgrep_quiet job index tree out err parts snapshot finds keeps opens is agrees seeks = PrintsSome-none (Some (searched_by_cgrep MOST_SEARCHED job.style finds snapshot (filter keeps parts.names))) out err
 
--- ---- an index that jobs left
+-- ---- an index that a job built
 
-module _ (history : History) (bytes : List ℕ) (is : IsHistory history) (left : index_of history ≡ Some bytes) (short : length bytes < 2 ^ 32) where
+module _ (history : History) (bytes : List ℕ) (is : IsHistory history) (by : IsByJobs history) (left : index_of history ≡ Some bytes) (short : length bytes < 2 ^ 32) where
   pub written : Parts
   written = parts_written (set.items (paths_of history)) (map'.entries (files_of history))
 
   there : image_of (set.items (paths_of history)) (map'.entries (files_of history)) ≡ bytes
   unfolding image
-  there = index_is history bytes left
+  there = index_is history bytes by left
 
   pub opens_so : opening bytes ≡ Ok written
   unfolding written
@@ -173,10 +173,10 @@ module _ (job : SearchJob) (index : Option (List ℕ)) (tree : Option Snapshot) 
       by_bytes (Some bytes) e opens left short =
           let left' : index_of earlier ≡ Some bytes = left ∙ e in
           let short' = subst IsShort e short in
-          let agrees = agrees_still earlier bytes premises.jobs_left.jobs_were left' short' asks.parts snapshot opens (subst (StillReads earlier) (sym snapshot_is) premises.still_reads) in
+          let agrees = agrees_still earlier bytes premises.jobs_left.jobs_were premises.by_jobs left' short' asks.parts snapshot opens (subst (StillReads earlier) (sym snapshot_is) premises.still_reads) in
           alike job index finds keeps asks tests snapshot agrees
           ∙ ap (λ (s : Snapshot). searched_by_cgrep MOST_SEARCHED job.style finds s (filter keeps asks.parts.names)) snapshot_is
-          ∙ ap (λ (names : List (List ℕ)). searched_by_cgrep MOST_SEARCHED job.style finds (snapshot_told tree) (filter keeps names)) (named earlier bytes premises.jobs_left.jobs_were left' short' asks.parts opens)
+          ∙ ap (λ (names : List (List ℕ)). searched_by_cgrep MOST_SEARCHED job.style finds (snapshot_told tree) (filter keeps names)) (named earlier bytes premises.jobs_left.jobs_were premises.by_jobs left' short' asks.parts opens)
 
 module _ (job : SearchJob) (index : Option (List ℕ)) (tree : Option Snapshot) (Prints : Option Printed → Type 0) (by_index : PrintsAsked MOST_SEARCHED job index tree Prints) where
   pub as_promised : PrintsAsPromised MOST_SEARCHED job index tree Prints

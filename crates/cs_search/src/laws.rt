@@ -46,7 +46,8 @@ pub fn files_may_be_left_out()
         (filter keeps (map (λ (e : Entry). e.0) files)) }
 {}
 
-/// The index that some jobs left opens and each list of it is whole, so that no search is refused for it.
+/// The index that some jobs left, or that was handed in, opens and each list of it is whole, so that no search is refused
+/// for it.
 pub fn left_indexes_are_never_refused()
     ensures whole { (history : History) (bytes : List ℕ) → HasLeft history bytes →
         (parts : Parts) × (opening bytes ≡ Ok parts) × (are_whole parts ≡ true) }

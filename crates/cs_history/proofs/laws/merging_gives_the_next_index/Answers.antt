@@ -1,5 +1,8 @@
-use Rattle.cs_history.proofs.IndexLemmas.{joined_index}
+use Rattle.cs_history.proofs.IndexLemmas.{merged_index, opened_index}
 use Rattle.cs_history.proofs.laws.merging_gives_the_next_index.Goals as goal
 
 pub returns : goal.returns
-returns c = joined_index
+returns c = record {
+  held = λ before visit old newer bytes is by there short found few. merged_index before visit old newer bytes is there short found few by;
+  opened = opened_index;
+}

@@ -8,5 +8,5 @@ returns c = record {
   once = λ p q f g name apart. no_file_twice p f q g apart name;
   names = λ p q f g bytes apart holds. names_joined p f q g apart bytes holds;
   searched = λ p q f g query keeps apart. searched_joined p f q g apart query keeps;
-  left = λ one other beside other_beside. record { under = history_lies one; beside = beside; other_under = history_lies other; other_beside = other_beside };
+  left = λ one other is other_is beside other_beside. record { under = history_lies one is; beside = beside; other_under = history_lies other other_is; other_beside = other_beside };
 }

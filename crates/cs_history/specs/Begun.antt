@@ -1,0 +1,10 @@
+-- What a history begins with.
+-- docs/PROMISES.md, "Histories".
+use Rattle.cs_history.specs.History.{History, nothing, handed_in, ◌⊳◌}
+use Rattle.cs_history.specs.WellFormed.{IsBeginning}
+
+-- an index that it began with, if any, is one that a history may begin with
+abbrev pub IsBegun : History → Type 0
+IsBegun nothing = Unit {0}
+IsBegun (handed_in bytes parts) = IsBeginning bytes parts
+IsBegun (visit ⊳ before) = IsBegun before

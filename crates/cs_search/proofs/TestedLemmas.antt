@@ -1,8 +1,9 @@
 -- Lines tested one after another.
-use Rattle.std.proofs.Common.{◌≡◌, ℕ, ◌+◌, ◌<◌, ◌≤◌, Bool, true, false, cond, List, [], ◌∷◌, ◌++◌, length, refl, sym, ap, subst, ◌∙◌, Option, arith, append-nil, length-append}
+use Rattle.std.proofs.Common.{◌≡◌, ℕ, ◌+◌, ◌<◌, ◌≤◌, Bool, true, false, cond, List, [], ◌∷◌, ◌++◌, length, refl, sym, ap, subst, ◌∙◌, Option, arith, append-nil, length-append, count_by}
 use Rattle.std.specs.Prelude.{IsTrue, ◌↔◌}
 use Rattle.std.specs.List.{flat_map}
 use Rattle.std.proofs.lemmas.List.{nil_from_length}
+use Rattle.std.proofs.lemmas.List.Sums.{sum_by-cons}
 use Rattle.std.proofs.lemmas.List.Concat.{flat_map-append}
 use Rattle.std.proofs.lemmas.List.Elements.{recursion_from_All}
 use Rattle.cs_tree.specs.Told.{Grows, Taken}
@@ -60,6 +61,29 @@ module _ (style : Style) (name : List ℕ) (finds : List ℕ → Bool) where
       record {
         hits = omega (arith, same, ap (λ (hs : List Hit). length hs) nothing);
         written = subst (λ (hs : List Hit). Grows taken taken (flat_map (shown style name) hs)) (sym nothing) (Grows-same taken);
+      }
+
+  counted_hits : (n : ℕ) (lines : List (List ℕ)) → length (hits_from n finds lines) ≡ count_by finds lines
+  unfolding hits_from
+  counted_hits n [] = refl
+  counted_hits n (line ∷ lines) =
+      let e = sum_by-cons (λ l. cond (finds l) 1 0) line lines in
+      elim (finds line) as (λ t. count_by finds (line ∷ lines) ≡ cond t 1 0 + count_by finds lines → length {A = Hit} (cond t ((n, line) ∷ hits_from (n + 1) finds lines) (hits_from (n + 1) finds lines)) ≡ count_by finds (line ∷ lines)) [
+        | true ↦ λ e. omega (arith, e, counted_hits (n + 1) lines)
+        | false ↦ λ e. omega (arith, e, counted_hits (n + 1) lines)
+      ] e
+
+  nothing_shown : style.count ≡ true → style.list ≡ false → (hits : List Hit) → flat_map (shown style name) hits ≡ []
+  unfolding shown
+  nothing_shown counts unlisted [] = refl
+  nothing_shown counts unlisted (hit ∷ hits) = rw (unlisted, counts) (nothing_shown counts unlisted hits)
+
+  -- with `-c` lines are counted, and nothing is printed of them
+  pub Tests-counted : (lines : List (List ℕ)) (before after : Tally) (taken : Option Taken) → style.count ≡ true → style.list ≡ false → after.hits ≡ before.hits + count_by finds lines → Tests style name finds lines before after taken taken
+  Tests-counted lines before after taken counts unlisted count =
+      record {
+        hits = omega (arith, count, counted_hits (before.lines + 1) lines);
+        written = subst (Grows taken taken) (sym (nothing_shown counts unlisted (hits_from (before.lines + 1) finds lines))) (Grows-same taken);
       }
 
   -- lines, and then lines

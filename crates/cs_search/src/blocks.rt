@@ -1,5 +1,5 @@
 // Searches of lines, and of blocks of lines.
-ghost use Rattle.std.specs.Prelude.{◌≡◌, ◌≤◌, ◌<◌, ◌+◌, ◌-◌, ◌^◌, ◌∷◌, [], ℕ, Bool, true, false, List, OnOk, OnErr, IfOk, IfSome, MatchBool, MatchOption, length, take, drop};
+ghost use Rattle.std.specs.Prelude.{◌≡◌, ◌≤◌, ◌<◌, ◌+◌, ◌-◌, ◌^◌, ◌∷◌, [], ℕ, Bool, true, false, List, OnOk, OnErr, IfOk, IfSome, MatchBool, MatchOption, length, take, drop, count_by};
 ghost use Rattle.cs_search.specs.GrepFaults.{is_grep_failure};
 ghost use Rattle.cs_tree.specs.Failures.{count_after};
 ghost use Rattle.cs_match.specs.Finding.{Decides};
@@ -91,6 +91,19 @@ fn pass_lines(tally: &mut Tally, block: &[u8], from: usize, matcher: &mut Matche
     next
 }
 
+/// Counts the lines of a block of whole lines, and those in which something is found.
+fn count_lines(tally: &mut Tally, block: &[u8], matcher: &mut Matcher<'_>)
+    requires whole { AreWhole block.now }
+    requires room { tally.old.lines + length block.now < 2 ^ 64 }
+    ensures lines { tally.new.lines ≡ tally.old.lines + length (ended_lines block.now) }
+    ensures hits { (finds : List ℕ → Bool) → Decides finds matcher.old →
+        tally.new.hits ≡ tally.old.hits + count_by finds (ended_lines block.now) }
+    ensures same { matcher.new ≡ matcher.old }
+{
+    tally.lines += newlines(block);
+    tally.hits += matcher.count(block);
+}
+
 /// Tests the lines of a block of whole lines. Under `-l` the first hit ends the search, and the answer is true.
 fn search_lines<O: Sink>(
     form: &Form<'_>,
@@ -118,6 +131,11 @@ fn search_lines<O: Sink>(
     ensures same { matcher.new ≡ matcher.old }
     ensures failed { O.failed out.new ≡ count_after is_grep_failure result (O.failed out.old) }
 {
+    // Under `-c` nothing is printed of a line, so that it does not matter which they are.
+    if form.counts() {
+        count_lines(tally, block, matcher);
+        return Ok(false);
+    }
     let mut at = pass_lines(tally, block, 0, matcher);
     'lines: while let Some(end) = next_newline(block, at) {
         search_line(form, tally, &block[at..end], matcher, out)?;

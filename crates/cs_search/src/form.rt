@@ -1,5 +1,5 @@
 // How what is found in an input is printed.
-ghost use Rattle.std.specs.Prelude.{◌≡◌, ◌++◌, ◌∷◌, [], ℕ, codes, decimal, if◌then◌else◌};
+ghost use Rattle.std.specs.Prelude.{◌≡◌, ◌++◌, ◌∷◌, [], ℕ, true, false, IsTrue, codes, decimal, if◌then◌else◌};
 ghost use Rattle.cs_search.specs.GrepFaults.{is_grep_failure};
 ghost use Rattle.cs_tree.specs.Failures.{count_after};
 ghost use Rattle.cs_match.specs.Lines.{newline};
@@ -20,6 +20,14 @@ pub struct Form<'a> {
 }
 
 impl Form<'_> {
+    /// Whether nothing is printed of a line, and at the end how many there are.
+    pub(crate) fn counts(&self) -> bool
+        ensures { IsTrue result →
+            (self.now.style.count ≡ true) × (self.now.style.list ≡ false) }
+    {
+        self.style.count && !self.style.list
+    }
+
     /// What is printed where something is found in a line: under `-l` the name, and under `-c` nothing.
     #[tactic(auto, using(crate::proofs::Printing::printing), unfolding(crate::specs::TestedLines::shown))]
     pub(crate) fn print_hit<O: Sink>(

@@ -9,7 +9,7 @@ use Rattle.cs_match.proofs.WholeLemmas.{whole_drop, whole_line, ended_line}
 use Rattle.cs_search.specs.declared.tally.Tally.{Tally}
 use Rattle.cs_search.specs.TestedLines.{Tests, TestsFront, IsListed}
 use Rattle.cs_search.proofs.BlockLemmas.{ended_front, ended_all, lines_on, whole_on, counted_within}
-use Rattle.cs_search.proofs.TestedLemmas.{Tests-none, Tests-more, Tests-passed, IsListed-first, IsListed-more}
+use Rattle.cs_search.proofs.TestedLemmas.{Tests-none, Tests-more, Tests-passed, Tests-counted, IsListed-first, IsListed-more}
 use Rattle.cs_search.proofs.FrontLemmas.{any_err, TestsFront-more, TestsFront-after}
 use Rattle.cs_search.proofs.blocks.search_lines.Goals as goal
 use Rattle.cs_search.proofs.blocks.search_lines.Goals.{else-form-via-then-form+else-tally-gt0, else-form-via-else-form}
@@ -43,6 +43,11 @@ lines-init g c =
       same = e.same;
       failed = refl;
     }
+
+pub returns-then-counts-clause-tests : goal.returns-then-counts-clause-tests
+returns-then-counts-clause-tests g c = λ finds decides.
+    let counts = c.counts.ensures c.if-counts.true in
+    Tests-counted c.args.form.now.style c.args.form.now.name.now finds (ended_lines c.args.block.now) c.args.tally.now c.count_lines.new.tally (g.O.Sink.taken c.args.out.now) counts.0 counts.1 (c.count_lines.ensures.hits finds decides)
 
 pub search_line-requires : goal.search_line-requires
 search_line-requires g c =

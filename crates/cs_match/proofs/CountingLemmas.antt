@@ -1,5 +1,5 @@
 -- Counting runs over a table of cells, and the lines that they count.
-use Rattle.std.proofs.Common.{◌≡◌, ℕ, zero, suc, ◌+◌, ◌-◌, ◌<◌, ◌≤◌, Bool, true, false, cond, ◌&&◌, if◌then◌else◌, nat_eq, List, [], ◌∷◌, ◌++◌, take, drop, length, get_or, bit_or, count_by, Fits, w8, w16, refl, ap, sym, subst, ◌∙◌, arith, append_assoc, length-take, inl, inr, All}
+use Rattle.std.proofs.Common.{◌≡◌, ℕ, zero, suc, ◌+◌, ◌-◌, ◌<◌, ◌≤◌, Bool, true, false, cond, ◌&&◌, if◌then◌else◌, nat_eq, List, [], ◌∷◌, ◌++◌, take, drop, length, get_or, bit_or, count_by, Fits, w8, w16, refl, ap, sym, subst, ◌∙◌, arith, append_assoc, length-take, inl, inr}
 use Rattle.std.proofs.lemmas.List.{take_more, take_rest, append-nil}
 use Rattle.std.proofs.lemmas.List.Sums.{sum_by-cons, sum_by-append}
 use Rattle.std.proofs.lemmas.List.Elements.{All-nil, All-cons, All-head, All-tail, All-append, All-take, All-drop, All-from_get_or, recursion_from_All}
@@ -10,7 +10,7 @@ use Rattle.std.proofs.lemmas.Nat.{le_or_l, or_of_16}
 use Rattle.std.proofs.lemmas.Bool.{eqb-true, ne_eqb}
 use Rattle.cs_match.specs.declared.counting.Count.{Count}
 use Rattle.cs_match.specs.Lines.{newline, ended_lines, IsPart}
-use Rattle.cs_match.specs.Skipping.{AreWhole, NoneFound, ArePassed}
+use Rattle.cs_match.specs.Skipping.{AreWhole, ArePassed}
 use Rattle.cs_match.specs.Chains.{row_after, first_noisy, AreBytes}
 use Rattle.cs_match.specs.Counting.{found_row, unknown_row, nothing_counted, counted_in, counted_on, count_after, CountsLines, AreCounted}
 use Rattle.cs_match.proofs.ChainLemmas.{IsByte, after_append, small_row}

@@ -1,4 +1,4 @@
-use Rattle.std.proofs.Common.{◌≡◌, refl, arith}
+use Rattle.std.proofs.Common.{refl, arith}
 use Rattle.cs_match.specs.Counting.{count_after}
 use Rattle.cs_match.proofs.CountingLemmas.{count_few_in, count_next, count_rest}
 use Rattle.cs_match.specs.Counting.{nothing_counted}

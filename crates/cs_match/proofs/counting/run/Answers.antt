@@ -1,4 +1,4 @@
-use Rattle.std.proofs.Common.{◌≡◌, ◌+◌, length, length-take, take, refl, ap, ◌∙◌, arith}
+use Rattle.std.proofs.Common.{◌≡◌, length, length-take, take, refl, ap, ◌∙◌, arith}
 use Rattle.cs_match.specs.declared.counting.Count.{Count}
 use Rattle.cs_match.specs.Counting.{count_after}
 use Rattle.cs_match.proofs.CountingLemmas.{count_all, count_few, count_next}

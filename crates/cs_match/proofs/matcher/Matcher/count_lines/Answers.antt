@@ -1,4 +1,4 @@
-use Rattle.std.proofs.Common.{◌≡◌, ◌+◌, ◌-◌, List, ℕ, Bool, take, drop, cond, refl, ap, sym, subst, ◌∙◌, arith}
+use Rattle.std.proofs.Common.{◌≡◌, ◌+◌, ◌-◌, List, ℕ, Bool, take, drop, cond, refl, sym, subst, ◌∙◌, arith}
 use Rattle.cs_match.specs.Finding.{Decides}
 use Rattle.cs_match.specs.Counting.{AreCounted}
 use Rattle.cs_match.proofs.ChainLemmas.{passed_none}

@@ -1,7 +1,6 @@
 use Rattle.std.proofs.Common.{◌≡◌, ◌+◌, ℕ, Bool, List, subst, arith}
 use Rattle.cs_syntax.specs.Matching.{Tree}
 use Rattle.cs_match.specs.Finding.{Decides}
-use Rattle.cs_match.specs.Skipping.{ArePassed}
 use Rattle.cs_match.specs.Counting.{AreCounted}
 use Rattle.cs_match.proofs.CountingLemmas.{counted_passed, counted_append}
 use Rattle.cs_match.proofs.WholeLemmas.{whole_from}

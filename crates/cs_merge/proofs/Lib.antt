@@ -12,6 +12,7 @@ pub mod NamingLemmas
 pub mod NewNamesLemmas
 pub mod LayingLemmas
 pub mod ListingLemmas
+pub mod PartLemmas
 pub mod PlaceLemmas
 pub mod SideBySideLemmas
 pub mod CoverLemmas

@@ -197,7 +197,7 @@ rise_ends count next [] more within up = within
 rise_ends count next (one ∷ ids) more within up = rise_ends count (one + 1) ids more (omega (arith, up.1)) up.2
 
 -- ids that are below a number end there
-next_below : (id next most : ℕ) (run : List ℕ) → next ≤ most → AllByRecursion (λ other. id + 1 + other < most) run → next_after next (moved (id + 1) run) ≤ most
+pub next_below : (id next most : ℕ) (run : List ℕ) → next ≤ most → AllByRecursion (λ other. id + 1 + other < most) run → next_after next (moved (id + 1) run) ≤ most
 next_below id next most [] within all = within
 next_below id next most (one ∷ run) within all =
     let below : id + 1 + one < most = all.0 in

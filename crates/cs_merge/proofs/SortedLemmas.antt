@@ -1,31 +1,29 @@
 -- New ids of a list, put in order.
-use Rattle.std.proofs.Common.{◌≡◌, ℕ, suc, ◌+◌, ◌<◌, ◌≤◌, Bool, true, false, cond, ◌||◌, eqb, ltb, List, [], ◌∷◌, ◌++◌, length, drop, get_or, refl, sym, ap, ◌∙◌, inl, inr, Option, Some, None, arith, slice_get}
-use Rattle.std.proofs.lemmas.Bool.{true≢false, cases_Bool, cases_eq, eqb-true, eq-eqb, ne_eqb, lt-ltb, or_cases}
-use Rattle.std.proofs.lemmas.List.{append-nil, drop_more}
-use Rattle.std.proofs.lemmas.List.Sorted.{sum_by-IsPermutation}
+use Rattle.std.proofs.Common.{◌≡◌, ℕ, ◌+◌, ◌<◌, ◌≤◌, Bool, true, false, cond, ◌||◌, eqb, ltb, List, [], ◌∷◌, ◌++◌, length, refl, sym, ap, ◌∙◌, inl, inr, Option, Some, None, arith}
+use Rattle.std.proofs.lemmas.Bool.{true≢false, cases_Bool, eqb-true, eq-eqb, ne_eqb, lt-ltb, or_cases}
+use Rattle.std.proofs.lemmas.List.{append-nil}
 use Rattle.std.proofs.lemmas.List.Sums.{sum_by-cons}
 use Rattle.std.specs.List.{cons_option, sum_by}
-use Rattle.std.specs.List.Sorted.{IsNonDecreasing, IsPermutation}
 use Rattle.cs_trigram.specs.Trigram.{has}
 use Rattle.cs_index.specs.Laid.{Laid, with_list}
 use Rattle.cs_index.specs.Rising.{RiseWithin}
 use Rattle.cs_merge.specs.Renumbering.{NewIds, new_id, renumbered, AreApart, IsOneToOne, StayBelow}
-use Rattle.cs_merge.specs.SideBySide.{lower_of, without_number, AreIds, IsGiven, StandOnce}
+use Rattle.cs_merge.specs.SideBySide.{AreIds, IsGiven, StandOnce}
 use Rattle.cs_merge.proofs.ListingLemmas.{has_both}
 use Rattle.cs_merge.proofs.RenumberingLemmas.{has_no_renumbered, has_renumbered, renumbered_from}
 
 -- ---- how often a number stands
 
-abbrev one : ℕ → ℕ → ℕ
+abbrev pub one : ℕ → ℕ → ℕ
 one n m = cond (eqb m n) 1 0
 
-abbrev many : ℕ → List ℕ → ℕ
+abbrev pub many : ℕ → List ℕ → ℕ
 many n ns = sum_by (one n) ns
 
 many-more : (n m : ℕ) (ns : List ℕ) → many n (m ∷ ns) ≡ one n m + many n ns
 many-more n m ns = sum_by-cons (one n) m ns
 
-has_many : (ns : List ℕ) (n : ℕ) → has ns n ≡ ltb 0 (many n ns)
+pub has_many : (ns : List ℕ) (n : ℕ) → has ns n ≡ ltb 0 (many n ns)
 has_many [] n = refl
 has_many (m ∷ ns) n =
     elim (cases_Bool (eqb m n)) [
@@ -49,7 +47,7 @@ none_many (m ∷ ns) n h =
           omega (arith, many-more n m ns, away, rest)
     ]
 
-once_few : (ns : List ℕ) (n : ℕ) → StandOnce ns → many n ns ≤ 1
+pub once_few : (ns : List ℕ) (n : ℕ) → StandOnce ns → many n ns ≤ 1
 once_few [] n once = omega arith
 once_few (m ∷ ns) n once =
     elim (cases_Bool (eqb m n)) [
@@ -62,48 +60,6 @@ once_few (m ∷ ns) n once =
           let rest = once_few ns n once.1 in
           omega (arith, many-more n m ns, away, rest)
     ]
-
--- ---- numbers in order
-
-rises_from : (count next : ℕ) (ns : List ℕ) → IsNonDecreasing ns → ((n : ℕ) → many n ns ≤ 1) → ((n : ℕ) → has ns n ≡ true → n < count) → ((n : ℕ) → slice_get ns 0 ≡ Some n → next ≤ n) → RiseWithin count next ns
-rises_from count next [] up few below from = tt
-rises_from count next (m ∷ ns) up few below from = (
-  from m refl,
-  below m (ap (λ b. b || has ns m) (eq-eqb m m refl)),
-  rises_from count (m + 1) ns (λ i j d h k. up (suc i) (suc j) d (omega (arith, h)) (omega (arith, k)))
-      (λ n. let f = few n in omega (arith, f, many-more n m ns))
-      (λ n h. below n (ap (λ b. eqb m n || b) h ∙ or_true (eqb m n)))
-      (λ n h. above ns n h few up),
-)
-  where
-    or_true : (b : Bool) → (b || true) ≡ true
-    or_true true = refl
-    or_true false = refl
-
-    above : (rest : List ℕ) (n : ℕ) → slice_get rest 0 ≡ Some n → ((k : ℕ) → many k (m ∷ rest) ≤ 1) → IsNonDecreasing (m ∷ rest) → m + 1 ≤ n
-    above [] n h few up = cc
-    above (x ∷ rest) n h few up =
-        let is : n ≡ x = let P : Some x ≡ Some n = h in let e : x ≡ n = cc in sym e in
-        let from : m ≤ x = up 0 1 0 (omega arith) (omega arith) in
-        elim (cases_eq m x) [
-          | inl same ↦
-              let here : one m m ≡ 1 = ap (λ b. cond b 1 0) (eq-eqb m m refl) in
-              let there : one m x ≡ 1 = ap (λ b. cond b 1 0) (eq-eqb x m (sym same)) in
-              let f = few m in
-              absurd (omega (arith, f, many-more m m (x ∷ rest), many-more m x rest, here, there))
-          | inr differs ↦ omega (arith, is, from, differs)
-        ]
-
-module _ (ids sorted : List ℕ) (moved : IsPermutation ids sorted) where
-  pub has_sorted : (n : ℕ) → has sorted n ≡ has ids n
-  has_sorted n = has_many sorted n ∙ ap (ltb 0) (sum_by-IsPermutation (one n) ids sorted moved) ∙ sym (has_many ids n)
-
-  pub sorted_rise : (count : ℕ) → IsNonDecreasing sorted → AreIds count ids → RiseWithin count 0 sorted
-  sorted_rise count up are =
-      rises_from count 0 sorted up
-      (λ n. let few = once_few ids n are.once in let same = sum_by-IsPermutation (one n) ids sorted moved in omega (arith, few, same))
-      (λ n h. are.below n (sym (has_sorted n) ∙ h))
-      (λ n h. omega arith)
 
 -- ---- the new ids of both
 
@@ -166,14 +122,6 @@ nothing_given trigram laid ids e = record {
   older_rise = tt;
   newer_rise = tt;
 }
-
-pub first_left : (ids : List ℕ) (place : ℕ) → place < length ids → lower_of (slice_get (drop place ids) 0) None ≡ Some (get_or ids place 0)
-first_left ids place h = ap (λ ns. lower_of (slice_get ns 0) None) (drop_more ids place 0 h)
-
-pub rest_left : (ids : List ℕ) (place : ℕ) → place < length ids → without_number (get_or ids place 0) (drop place ids) ≡ drop (place + 1) ids
-rest_left ids place h =
-    ap (without_number (get_or ids place 0)) (drop_more ids place 0 h)
-    ∙ ap (λ b. cond b (drop (place + 1) ids) (get_or ids place 0 ∷ drop (place + 1) ids)) (eq-eqb (get_or ids place 0) (get_or ids place 0) refl)
 
 -- ids that were put in order are those of both
 pub given_sorted : (trigram : ℕ) (before now : Laid) (sorted older newer : List ℕ) → ((n : ℕ) → has sorted n ≡ has (older ++ newer) n) → IsGiven trigram before now sorted [] [] [] → IsGiven trigram before now older newer [] []

@@ -49,6 +49,16 @@ abbrev pub MoveTogether : NewIds → ℕ → ℕ → Type 0
 MoveTogether new_ids id end = (other : ℕ) → id ≤ other → other < end →
     new_id new_ids other ≡ option_map (λ new. new + (other - id)) (new_id new_ids id)
 
+-- New ids from one on up to a number are those of ids that follow each other.
+pub record AreMoved (new_ids : NewIds) (new end : ℕ) : Type 0 where
+  pub from : ℕ
+  pub each : (other : ℕ) → new ≤ other → other < end → new_id new_ids (from + (other - new)) ≡ Some other
+
+-- new ids of ids that rise from `next` on
+abbrev pub RiseUnder : NewIds → ℕ → List ℕ → Type 0
+RiseUnder new_ids next [] = Unit {0}
+RiseUnder new_ids next (new ∷ news) = (id : ℕ) × (next ≤ id) × (new_id new_ids id ≡ Some new) × RiseUnder new_ids (id + 1) news
+
 -- at each id stands one up to which those from it on move together
 abbrev pub AreEndsOfMoves : NewIds → List ℕ → Type 0
 AreEndsOfMoves new_ids ends = (id end : ℕ) → slice_get ends id ≡ Some end → MoveTogether new_ids id end
@@ -57,6 +67,12 @@ AreEndsOfMoves new_ids ends = (id end : ℕ) → slice_get ends id ≡ Some end 
 pub record AreKnownMoves (new_ids : NewIds) (ends : List ℕ) (keep_order : Bool) : Type 0 where
   pub ends_are : AreEndsOfMoves new_ids ends
   pub order : keep_order ≡ true → KeepsOrder new_ids
+
+-- No new id comes of two ids of both.
+pub record AreOnce (older newer : NewIds) : Type 0 where
+  pub older_once : IsOneToOne older
+  pub newer_once : IsOneToOne newer
+  pub apart : AreApart older newer
 
 -- What lists of ids are renumbered by.
 pub record AreRenumberings (count : ℕ) (older newer : NewIds) : Type 0 where

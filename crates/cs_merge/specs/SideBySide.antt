@@ -9,7 +9,7 @@ use Rattle.cs_index.specs.Laid.{Laid, AllBelow}
 use Rattle.cs_index.specs.Opening.{Parts, ids_read, lists_in}
 use Rattle.cs_index.specs.PostingLists.{Ids}
 use Rattle.cs_index.specs.Rising.{RiseWithin, moved}
-use Rattle.cs_merge.specs.Renumbering.{NewIds, new_id, AreCarried, list_of}
+use Rattle.cs_merge.specs.Renumbering.{NewIds, new_id, AreCarried, AreMoved, list_of}
 
 -- the lower one of two numbers, either of which may be missing
 abbrev pub lower_of : Option ℕ → Option ℕ → Option ℕ
@@ -72,6 +72,31 @@ pub record IsGiven (trigram : ℕ) (before now : Laid) (older newer older_left n
   pub each : (id : ℕ) → (has given id || (has older_left id || has newer_left id)) ≡ (has older id || has newer id)
   pub older_rise : RiseWithin (length before.names) (next_after 0 given) older_left
   pub newer_rise : RiseWithin (length before.names) (next_after 0 given) newer_left
+
+-- An id, and those behind it, counted from it.
+abbrev pub Part : Type 0
+Part = ℕ × List ℕ
+
+-- its ids
+abbrev pub part_ids : Part → List ℕ
+part_ids part = part.0 ∷ moved (part.0 + 1) part.1
+
+abbrev pub parts_ids : List Part → List ℕ
+parts_ids [] = []
+parts_ids (part ∷ parts) = part_ids part ++ parts_ids parts
+
+-- The ids of a part are among those of ids that move together.
+pub record IsMove (new_ids : NewIds) (part : Part) : Type 0 where
+  pub end : ℕ
+  pub moved : AreMoved new_ids part.0 end
+  pub below : AllByRecursion (λ other. part.0 + 1 + other < end) part.1
+
+-- Parts behind others have the first of some ids, and those that are left follow.
+pub record AreGathered (new_ids : NewIds) (before now : List Part) (ids left : List ℕ) : Type 0 where
+  pub more : List Part
+  pub are : now ≡ before ++ more
+  pub ids_are : ids ≡ parts_ids more ++ left
+  pub each : AllByRecursion (IsMove new_ids) more
 
 -- each number stands once
 abbrev pub StandOnce : List ℕ → Type 0

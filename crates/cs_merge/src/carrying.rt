@@ -72,6 +72,11 @@ impl<'a, 'b> Carried<'a, 'b> {
         self.first
     }
 
+    /// The id whose new id is the first one. Whoever needs that asks for its new id.
+    pub(crate) fn last(&self) -> u32 {
+        self.last
+    }
+
     /// Passes ids behind the first one that move with it, as they are written. They are below a limit, and
     /// count from the first.
     pub(crate) fn run(&mut self, id: u32, limit: Option<u32>) -> Stretch<'a>

@@ -7,8 +7,8 @@ ghost use Rattle.cs_index.specs.Rising.{RiseWithin};
 ghost use Rattle.cs_index.specs.Opening.{lists_in};
 ghost use Rattle.cs_index.specs.Parts.{AreParts};
 ghost use Rattle.cs_merge.specs.Joinable.{both_whole};
-ghost use Rattle.cs_merge.specs.Renumbering.{renumbered_ids, AreCarried, AreRenumberings, KeepsOrder};
-ghost use Rattle.cs_merge.specs.SideBySide.{list_ids, lower_of, place_after, list_trigram, AreIds, IsStretchOfOne, IsGiven};
+ghost use Rattle.cs_merge.specs.Renumbering.{renumbered_ids, AreCarried, AreOnce, AreRenumberings, KeepsOrder, RiseUnder};
+ghost use Rattle.cs_merge.specs.SideBySide.{list_ids, lower_of, place_after, list_trigram, parts_ids, AreGathered, AreIds, IsStretchOfOne, IsGiven};
 
 use crate::carrying::Carried;
 use crate::renumbering::Renumberings;
@@ -73,7 +73,9 @@ fn lay_all(
     ) {
         let older = take_list(old, &mut older_place, trigram, &*older_runs)?;
         let later = take_list(newer, &mut newer_place, trigram, &*newer_runs)?;
-        lay_ids(alloc, sections, trigram, older, later, in_order)?;
+        lay_ids(
+            alloc, sections, trigram, older, later, older_runs, newer_runs, in_order,
+        )?;
     }
     Ok(())
 }
@@ -127,8 +129,13 @@ fn lay_ids<'a>(
     trigram: u32,
     older: Carried<'a, '_>,
     newer: Carried<'a, '_>,
+    older_runs: &Runs<'_>,
+    newer_runs: &Runs<'_>,
     in_order: bool,
 ) -> Result<(), IndexFault>
+    requires once { AreOnce older_runs.now newer_runs.now }
+    requires older_under { RiseUnder older_runs.now 0 older.ids }
+    requires newer_under { RiseUnder newer_runs.now 0 newer.ids }
     requires above { AllBelow sections.old.lists trigram }
     requires older_rise { in_order ≡ true →
         RiseWithin (length sections.old.names) 0 older.ids }
@@ -144,7 +151,9 @@ fn lay_ids<'a>(
     if in_order {
         lay_list(sections, trigram, older, newer)
     } else {
-        lay_sorted(alloc, sections, trigram, older, newer)
+        lay_sorted(
+            alloc, sections, trigram, older, newer, older_runs, newer_runs,
+        )
     }
 }
 
@@ -155,7 +164,12 @@ fn lay_sorted<'a>(
     trigram: u32,
     older: Carried<'a, '_>,
     newer: Carried<'a, '_>,
+    older_runs: &Runs<'_>,
+    newer_runs: &Runs<'_>,
 ) -> Result<(), IndexFault>
+    requires once { AreOnce older_runs.now newer_runs.now }
+    requires older_under { RiseUnder older_runs.now 0 older.ids }
+    requires newer_under { RiseUnder newer_runs.now 0 newer.ids }
     requires above { AllBelow sections.old.lists trigram }
     requires ids { AreIds (length sections.old.names) (older.ids ++ newer.ids) }
     requires below { (trigram < closing_trigram) ⊎ ((older.ids ≡ []) × (newer.ids ≡ [])) }
@@ -164,41 +178,53 @@ fn lay_sorted<'a>(
     ensures fault { MatchResult result (λ _. (older.entry.whole && newer.entry.whole) ≡ true)
         (IsListFault (older.entry.whole && newer.entry.whole)) }
 {
-    let mut ids = Vec::new(alloc);
-    gather(&mut ids, older)?;
-    gather(&mut ids, newer)?;
-    ids.sort()?;
-    lay_each(sections, trigram, &ids)?;
+    let mut parts = Vec::new(alloc);
+    gather(&mut parts, older, older_runs)?;
+    gather(&mut parts, newer, newer_runs)?;
+    parts.sort_unstable_by(|one, other| one.0.cmp(&other.0));
+    lay_parts(sections, trigram, &parts)?;
     Ok(())
 }
 
-/// Puts the ids of a list behind others.
-fn gather(ids: &mut Vec<u32>, list: Carried<'_, '_>) -> Result<(), IndexFault>
-    ensures ok { OnOk result (ids.new.items ≡ ids.old.items ++ list.entry.ids) }
+/// Puts the ids of a list behind others: each first one with those behind it that move with it.
+fn gather<'a>(
+    parts: &mut Vec<(u32, Stretch<'a>)>,
+    list: Carried<'a, '_>,
+    runs: &Runs<'_>,
+) -> Result<(), IndexFault>
+    ensures ok { OnOk result
+        (AreGathered runs.now parts.old.items parts.new.items list.entry.ids []) }
     ensures fault { MatchResult result (λ _. list.entry.whole ≡ true)
         (IsListFault list.entry.whole) }
 {
     let mut rest = list;
     'ids: while let Some(id) = rest.first() {
-        ids.push(id)?;
+        let end = runs.new_end(rest.last(), id);
+        let ids = rest.run(id, Some(end));
+        parts.push((id, ids))?;
         rest.pass(id)?;
     }
     Ok(())
 }
 
-/// Lays the list of a trigram: ids that ascend.
-fn lay_each(sections: &mut Sections, trigram: u32, ids: &[u32]) -> Result<(), AllocError>
+/// Lays the list of a trigram: parts whose ids ascend.
+fn lay_parts(
+    sections: &mut Sections,
+    trigram: u32,
+    parts: &[(u32, Stretch<'_>)],
+) -> Result<(), AllocError>
     requires above { AllBelow sections.old.lists trigram }
-    requires rise { RiseWithin (length sections.old.names) 0 ids.now }
-    requires below { (trigram < closing_trigram) ⊎ (ids.now ≡ []) }
-    ensures { OnOk result (IsGiven trigram sections.old sections.new ids.now [] [] []) }
+    requires rise { RiseWithin (length sections.old.names) 0 (parts_ids parts.now) }
+    requires below { (trigram < closing_trigram) ⊎ (parts_ids parts.now ≡ []) }
+    ensures { OnOk result (IsGiven trigram sections.old sections.new (parts_ids parts.now) [] [] []) }
 {
-    if ids.is_empty() {
+    if parts.is_empty() {
         return Ok(());
     }
     sections.list(trigram);
-    'ids: for id in ids {
-        sections.id(*id)?;
+    'parts: for (first, ids) in parts {
+        sections.id(*first)?;
+        sections.stretch(ids)?;
     }
     Ok(())
 }

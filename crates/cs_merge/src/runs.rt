@@ -1,6 +1,6 @@
 // Which ids of an index move together.
 ghost use Rattle.std.specs.Prelude.{◌≡◌, ◌+◌, ◌<◌, ◌^◌, true, length, IfOk, IfSome, option_map};
-ghost use Rattle.cs_merge.specs.Renumbering.{new_id as new_id', KeepsOrder, MoveTogether};
+ghost use Rattle.cs_merge.specs.Renumbering.{new_id as new_id', AreMoved, KeepsOrder, MoveTogether};
 
 use crate::renumbering::Renumbering;
 use std::alloc::{AllocError, Global};
@@ -68,6 +68,17 @@ impl<'a> Runs<'a> {
             Some(end) => *end,
             None => 0,
         }
+    }
+
+    /// Up to where new ids from one on are those of ids that follow each other. It is sought from the id
+    /// on; where that has another new id, none is known.
+    pub(crate) fn new_end(&self, id: u32, new: u32) -> u32
+        ensures { AreMoved self.now new result }
+    {
+        if self.new_id(id) != Some(new) {
+            return new;
+        }
+        new.saturating_add(self.end(id).saturating_sub(id))
     }
 }
 

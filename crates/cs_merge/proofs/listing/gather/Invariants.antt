@@ -1,9 +1,10 @@
-use Rattle.std.proofs.Common.{◌≡◌, ◌++◌, length}
+use Rattle.std.proofs.Common.{◌≡◌, length}
+use Rattle.cs_merge.specs.SideBySide.{AreGathered}
 use Rattle.cs_merge.proofs.listing.gather.Given as goal
 
 abbrev pub invariant-ids : goal.invariant-ids
 invariant-ids l = record {
-  all : l.ids.items ++ l.rest.ids ≡ l.initial.ids.items ++ l.fn.list.ids;
+  all : AreGathered l.runs l.initial.parts.items l.parts.items l.fn.list.ids l.rest.ids;
   whole : l.rest.whole ≡ l.fn.list.whole;
 }
 

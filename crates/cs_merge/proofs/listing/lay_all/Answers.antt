@@ -3,10 +3,11 @@ use Rattle.std.proofs.lemmas.Bool.{and_parts}
 use Rattle.std.proofs.lemmas.Result.{err_from_is_err_and}
 use Rattle.cs_index.specs.PostingLists.{Ids}
 use Rattle.cs_index.specs.Rising.{RiseWithin}
-use Rattle.cs_merge.specs.Renumbering.{renumbered, AreRenumberings}
+use Rattle.cs_merge.specs.Renumbering.{renumbered, AreRenumberings, RiseUnder}
 use Rattle.cs_merge.specs.SideBySide.{list_ids, lower_of, place_after, list_trigram, AreIds, AreListed}
 use Rattle.cs_merge.proofs.ListingLemmas.{no_more}
 use Rattle.cs_merge.proofs.PlaceLemmas.{damage_found, ids_rise}
+use Rattle.cs_merge.proofs.PartLemmas.{rise_under}
 use Rattle.cs_merge.proofs.SortedLemmas.{new_ids_of_both}
 use Rattle.cs_merge.proofs.SideBySideLemmas.{older_damaged, newer_damaged, fault_of_list, carried_rise, list_fits, places_move, listed_more, all_older, all_newer, all_whole}
 use Rattle.cs_merge.proofs.listing.lay_all.Goals as goal
@@ -20,6 +21,20 @@ pub returns-in_err-later-clause-fault : goal.returns-in_err-later-clause-fault
 returns-in_err-later-clause-fault c =
     let p = err_from_is_err_and c.from_residual-in_err-later.result c.from_residual-in_err-later.ensures.1 in
     rw (p.1, p.2) (inl (c.in_err-later.ensures.ids.0, newer_damaged c.args.old.now c.args.newer.now (damage_found c.args.newer.now c.lists.newer_place c.in-Some.trigram c.in_err-later.ensures.ids.1)))
+
+pub lay_ids-requires-clause-once : goal.lay_ids-requires-clause-once
+lay_ids-requires-clause-once c =
+    let are = c.requires.ids in record { older_once = are.older_once; newer_once = are.newer_once; apart = are.apart }
+
+pub lay_ids-requires-clause-older_under : goal.lay_ids-requires-clause-older_under
+lay_ids-requires-clause-older_under c =
+    subst (λ (r : Ids). RiseUnder c.args.older_runs.now 0 r.ids) (sym c.in_ok-older.ensures.ids)
+    (rise_under c.args.older_runs.now (length c.args.old.now.names) 0 (list_ids c.args.old.now c.lists.older_place c.in-Some.trigram).ids (ids_rise c.args.old.now c.lists.older_place c.in-Some.trigram))
+
+pub lay_ids-requires-clause-newer_under : goal.lay_ids-requires-clause-newer_under
+lay_ids-requires-clause-newer_under c =
+    subst (λ (r : Ids). RiseUnder c.args.newer_runs.now 0 r.ids) (sym c.in_ok-later.ensures.ids)
+    (rise_under c.args.newer_runs.now (length c.args.newer.now.names) 0 (list_ids c.args.newer.now c.lists.newer_place c.in-Some.trigram).ids (ids_rise c.args.newer.now c.lists.newer_place c.in-Some.trigram))
 
 pub lay_ids-requires-clause-older_rise : goal.lay_ids-requires-clause-older_rise
 lay_ids-requires-clause-older_rise c =

@@ -113,3 +113,44 @@ fn all_small_indexes_are_joined_as_they_are_rebuilt(rt: HostRuntime) -> Result<(
     }
     Ok(())
 }
+
+/// Lets two names of a small index change places, where it has both: they differ in their letter alone.
+fn exchange(index: &mut [u8], one: usize, other: usize) {
+    // where the names begin: the low byte of the second of the five offsets before the trailer of 16 bytes
+    let Some(names) = index.get(index.len().wrapping_sub(29)) else {
+        return;
+    };
+    let first = (*names as usize).wrapping_add(1);
+    let here = first.wrapping_add(one.wrapping_mul(3));
+    let there = first.wrapping_add(other.wrapping_mul(3));
+    if here < index.len()
+        && there < index.len()
+        && index[here].is_ascii_lowercase()
+        && index[there].is_ascii_lowercase()
+    {
+        index.swap(here, there);
+    }
+}
+
+/// A copy of a small index, whose names stand in one of six orders.
+fn reordered(alloc: Global, index: &[u8], order: usize) -> Result<Vec<u8>, Fail> {
+    let mut copy = Vec::from_slice(alloc, index)?;
+    exchange(&mut copy, 0, order % 3);
+    exchange(&mut copy, 1, 1 + order % 2);
+    Ok(copy)
+}
+
+/// Some of these pairs, where the names stand in any order: each index comes in all six.
+#[test]
+fn small_indexes_in_any_order_are_joined_as_they_are_rebuilt(rt: HostRuntime) -> Result<(), Fail> {
+    let indexes = whole_indexes(rt.alloc())?;
+    for choice in 0..1000 {
+        let newer = partial_index(rt.alloc(), digits(choice, 10))?;
+        for at in (choice % 29..729).step_by(29) {
+            let old = reordered(rt.alloc(), indexes.get(at).ok_or("index")?, choice / 29)?;
+            let newer = reordered(rt.alloc(), &newer, at)?;
+            assert!(rt; is_joined(rt.alloc(), &old, &newer)?, "{at} and {choice}");
+        }
+    }
+    Ok(())
+}

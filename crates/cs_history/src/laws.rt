@@ -247,7 +247,7 @@ pub fn shards_join_by_name()
     ensures searched { (p q : Paths) (f g : Files) (query : Query) (keeps : List ℕ → Bool) →
         AreShards p f q g → searched_names query keeps (join_files q f g) ≡
         by_name (searched_names query keeps f ++ searched_names query keeps g) }
-    ensures left { (one other : History) → IsBegun one → IsBegun other → LieBeside (paths_of other) (files_of one) →
-        LieBeside (paths_of one) (files_of other) →
+    ensures left { (one other : History) → IsBegun one → IsBegun other →
+        LieBeside (paths_of other) (files_of one) → LieBeside (paths_of one) (files_of other) →
         AreShards (paths_of one) (files_of one) (paths_of other) (files_of other) }
 {}

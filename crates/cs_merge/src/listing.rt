@@ -216,7 +216,8 @@ fn lay_parts(
     requires above { AllBelow sections.old.lists trigram }
     requires rise { RiseWithin (length sections.old.names) 0 (parts_ids parts.now) }
     requires below { (trigram < closing_trigram) ⊎ (parts_ids parts.now ≡ []) }
-    ensures { OnOk result (IsGiven trigram sections.old sections.new (parts_ids parts.now) [] [] []) }
+    ensures { OnOk result
+        (IsGiven trigram sections.old sections.new (parts_ids parts.now) [] [] []) }
 {
     if parts.is_empty() {
         return Ok(());

@@ -1,20 +1,17 @@
 -- What lists give of each name, before they are in order and after.
-use Rattle.std.proofs.Common.{◌≡◌, ℕ, ◌+◌, ◌<◌, ◌≤◌, Bool, true, false, cond, eqb, ◌||◌, ◌&&◌, List, [], ◌∷◌, ◌++◌, length, map, refl, sym, ap, subst, ◌∙◌, inl, inr, arith}
-use Rattle.std.specs.Prelude.{flat_map}
-use Rattle.cs_index.specs.Rising.{RiseWithin, IsPosting, ArePostings}
+use Rattle.std.proofs.Common.{◌≡◌, ℕ, ◌+◌, ◌<◌, ◌≤◌, Bool, true, false, cond, eqb, ◌||◌, ◌&&◌, List, [], ◌∷◌, ◌++◌, length, refl, sym, ap, subst, ◌∙◌, inl, inr, arith}
+use Rattle.cs_index.specs.Rising.{RiseWithin, IsPosting}
 use Rattle.cs_index.specs.PostingLists.{set_at, entries_of}
 use Rattle.cs_trigram.specs.Trigram.{has, set_of_numbers, Ascends}
-use Rattle.std.proofs.lemmas.Bool.{true≢false, cases_Bool, eqb-true, eq-eqb, ne_eqb, or_left, or_right}
+use Rattle.std.proofs.lemmas.Bool.{true≢false, cases_Bool, eqb-true, eq-eqb, ne_eqb}
 use Rattle.std.specs.List.{AllByRecursion}
 use Rattle.cs_index.specs.Image.{Posting, Entry}
 use Rattle.cs_index.specs.IdStream.{next_after}
 use Rattle.cs_index.specs.Gathering.{keys, ids_of, with_id, ordered_lists, GiveSame}
 use Rattle.cs_index.proofs.TransposeLemmas.{has-set_at, ascends_set_at}
 use Rattle.cs_index.proofs.GatheringLemmas.{ids_new}
-use Rattle.cs_index.proofs.GatheredLemmas.{keys_flat}
-use Rattle.cs_index.proofs.SpellingLemmas.{all_sets}
 use Rattle.std.proofs.Math.Bool.{or-false}
-use Rattle.cs_trigram.proofs.SetLemmas.{ascends_set, has-set_of_numbers, has-append, all_member, ascends_same}
+use Rattle.cs_trigram.proofs.SetLemmas.{ascends_set, has-set_of_numbers, has-append, ascends_same}
 
 -- ---- the ids of a trigram, after one more
 
@@ -166,38 +163,6 @@ entries_added names name lists more gs given =
     entries_push 0 names name (ordered_lists more)
     ∙ (λ i. entries_same 0 names (ordered_lists more) (ordered_lists lists) (λ k h. set_earlier lists more id k gs given (omega (arith, h))) i
     ++ (name, (ap (λ k. set_at k (ordered_lists more)) (let z : 0 + length names ≡ id = omega arith in z) ∙ set_last lists more id gs given) i) ∷ [])
-
--- ---- all lists
-
-members_all : (P : ℕ → Type 0) (ns : List ℕ) → ((n : ℕ) → has ns n ≡ true → P n) → AllByRecursion P ns
-members_all P [] h = tt
-members_all P (n ∷ ns) h = (h n (or_left (eqb n n) _ (eq-eqb n n refl)), members_all P ns (λ m e. h m (or_right (eqb n m) _ e)))
-
-all_pairs : (Q : Posting → Type 0) (f : ℕ → List ℕ) (gs : List ℕ) → AllByRecursion (λ g. Q (g, f g)) gs → AllByRecursion Q (map (λ g. (g, f g)) gs)
-all_pairs Q f [] all = tt
-all_pairs Q f (g ∷ gs) all = (all.0, all_pairs Q f gs all.1)
-
-keys_pairs : (f : ℕ → List ℕ) (gs : List ℕ) → map (λ (p : Posting). p.0) (map (λ g. (g, f g)) gs) ≡ gs
-keys_pairs f [] = refl
-keys_pairs f (g ∷ gs) = ap (λ rest. g ∷ rest) (keys_pairs f gs)
-
-pub keys_in_order : (lists : List Posting) → AllByRecursion (λ g. has (keys lists) g ≡ true) (set_of_numbers (keys lists))
-keys_in_order lists = members_all (λ g. has (keys lists) g ≡ true) (set_of_numbers (keys lists)) (λ g e. sym (has-set_of_numbers g (keys lists)) ∙ e)
-
--- lists in order are as an index has them
-ordered_are : (names : ℕ) (lists : List Posting) → AllByRecursion (IsPosting names) lists → ArePostings names (ordered_lists lists)
-ordered_are names lists all = record {
-  ascend = subst Ascends (sym (keys_pairs (ids_of lists) (set_of_numbers (keys lists)))) (ascends_set (keys lists));
-  each = all_pairs (IsPosting names) (ids_of lists) (set_of_numbers (keys lists)) (members_all (λ g. IsPosting names (g, ids_of lists g)) (set_of_numbers (keys lists)) (λ g e. ids_posting names lists g all (sym (has-set_of_numbers g (keys lists)) ∙ e)));
-}
-
--- where the trigrams of the names are below a number, those of the lists are
-pub ordered_below : (most : ℕ) (names : List (List ℕ)) (lists : List Posting) → AllByRecursion (IsPosting (length names)) lists → AllByRecursion (λ (entry : Entry). AllByRecursion (λ g. g < most) entry.1) (entries_of 0 names (ordered_lists lists)) → AllByRecursion (λ g. g < most) (set_of_numbers (keys lists))
-ordered_below most names lists all sets =
-    members_all (λ g. g < most) (set_of_numbers (keys lists)) (λ g here.
-    all_member (λ h. h < most) (flat_map (λ (entry : Entry). entry.1) (entries_of 0 names (ordered_lists lists))) g
-    (all_sets (λ h. h < most) (entries_of 0 names (ordered_lists lists)) sets)
-    (keys_flat g names (ordered_lists lists) (ordered_are (length names) lists all) (ap (λ ks. has ks g) (keys_pairs (ids_of lists) (set_of_numbers (keys lists))) ∙ here)))
 
 -- ---- one trigram that waited
 

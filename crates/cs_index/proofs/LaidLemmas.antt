@@ -113,7 +113,7 @@ laid_given laid trigram id is begun above named =
 
 -- ---- one list more
 
-ascend_push : (lists : List Posting) (p : Posting) → Ascends (keys lists) → AllBelow lists p.0 →
+pub ascend_push : (lists : List Posting) (p : Posting) → Ascends (keys lists) → AllBelow lists p.0 →
     Ascends (keys (lists ++ p ∷ []))
 ascend_push [] p up all = tt
 ascend_push (q ∷ lists) p up all = ascends_cons q.0 (keys (lists ++ p ∷ []))
@@ -257,3 +257,8 @@ pub postings_more : (laid : Laid) (ps : List Posting) →
 postings_more laid [] = (refl, refl, sym (append-nil laid.lists))
 postings_more laid (p ∷ ps) = let rest = postings_more (with_posting laid p) ps in
     (rest.0, rest.1, rest.2 ∙ append_assoc laid.lists (p ∷ []) ps)
+
+pub postings_append : (laid : Laid) (ps qs : List Posting) →
+    with_postings laid (ps ++ qs) ≡ with_postings (with_postings laid ps) qs
+postings_append laid [] qs = refl
+postings_append laid (p ∷ ps) qs = postings_append (with_posting laid p) ps qs

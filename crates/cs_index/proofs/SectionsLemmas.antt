@@ -20,7 +20,7 @@ use Rattle.cs_index.proofs.StreamLemmas.{decoded-stream_of, stream_from, written
 use Rattle.cs_index.proofs.StretchLemmas.{moved_from, moved_last, moved_stream}
 use Rattle.cs_index.proofs.ListedLemmas.{lists_are}
 use Rattle.cs_index.proofs.WrittenLemmas.{lists_back}
-use Rattle.cs_index.proofs.LaidLemmas.{each_push, laid_begun, laid_given, laid_image, laid_indexable}
+use Rattle.cs_index.proofs.LaidLemmas.{laid_begun, laid_given, laid_image, laid_indexable}
 use Rattle.cs_index.proofs.OnceLemmas.{top_zero}
 use Rattle.cs_index.proofs.GatheringLemmas.{gathered_new}
 
@@ -844,13 +844,3 @@ stream_is bytes count next ids is counted follows up = subst (λ bs. IsStream bs
 pub stream_ids : (bytes : List ℕ) (count : ℕ) (ids : List ℕ) → bytes ≡ stream_of ids → count ≡ length ids →
     RiseWithin most_ids 0 ids → ids_in bytes count ≡ ids
 stream_ids bytes count ids is counted up = (λ i. ids_in (is i) (counted i)) ∙ decoded-stream_of ids up
-
-pub above_more : (lists : List Posting) (p : Posting) (gs : List ℕ) → AllByRecursion (λ g. AllBelow lists g) gs →
-    AllByRecursion (λ g. p.0 < g) gs → AllByRecursion (λ g. AllBelow (lists ++ p ∷ []) g) gs
-above_more lists p [] all more = tt
-above_more lists p (g ∷ gs) all more =
-    (each_push (λ (q : Posting). q.0 < g) lists p all.0 more.0, above_more lists p gs all.1 more.1)
-
-pub none_above : (lists : List Posting) (gs : List ℕ) → lists ≡ [] → AllByRecursion (λ g. AllBelow lists g) gs
-none_above lists [] none = tt
-none_above lists (g ∷ gs) none = (subst (λ ps. AllBelow ps g) (sym none) tt, none_above lists gs none)

@@ -1,16 +1,16 @@
 -- Ids that go from one list into another as they are written.
-use Rattle.std.proofs.Common.{◌≡◌, ℕ, suc, ◌+◌, ◌-◌, ◌*◌, ◌/◌, ◌%◌, ◌^◌, ◌<◌, ◌≤◌, Bool, false, true, cond, ltb, List, [], ◌∷◌, ◌++◌, length, get_or, take, drop, refl, sym, ap, subst, ◌∙◌, arith, append_assoc}
+use Rattle.std.proofs.Common.{◌≡◌, ℕ, suc, ◌+◌, ◌-◌, ◌*◌, ◌/◌, ◌%◌, ◌^◌, ◌<◌, ◌≤◌, Bool, false, cond, ltb, List, [], ◌∷◌, ◌++◌, length, get_or, take, drop, refl, sym, ap, subst, ◌∙◌, arith, append_assoc}
 use Rattle.std.proofs.lemmas.Bool.{lt-ltb, le-ltb, and_from}
 use Rattle.std.proofs.lemmas.List.{append-nil, length-map}
 use Rattle.std.proofs.Math.Seq.{take-add}
 use Rattle.std.specs.List.{AllByRecursion}
-use Rattle.std.specs.Prelude.{flat_map, map}
+use Rattle.std.specs.Prelude.{flat_map, fold, sum}
 use Rattle.cs_index.specs.Image.{varint, varint_within, deltas_from}
-use Rattle.cs_index.specs.IdStream.{most_ids, next_after, stream_of, IsStream}
+use Rattle.cs_index.specs.IdStream.{most_ids, next_after, ids_in, stream_of, IsStream}
 use Rattle.cs_index.specs.PostingLists.{Ids, read_ids, read_varint, after_delta, onto, damaged}
 use Rattle.cs_index.specs.ListRest.{left_of}
 use Rattle.cs_index.specs.Rising.{RiseWithin, moved}
-use Rattle.cs_index.proofs.StreamLemmas.{rise_length, short_varint, stream_more}
+use Rattle.cs_index.proofs.StreamLemmas.{rise_length, short_varint, stream_from, stream_more}
 use Rattle.cs_index.proofs.VarintLemmas.{varint_read}
 
 -- ---- ids that are counted from a number on
@@ -102,18 +102,92 @@ all_below most from end next (id ∷ ids) up h =
     let long = rise_length most (id + 1) ids up.2 in
     (omega (arith, long, h), all_below most from end (id + 1) ids up.2 h)
 
--- ---- one id more at the front of some bytes
+-- ---- more ids at the front of some bytes
 
-pub more_measured : (bytes : List ℕ) (len size count next delta : ℕ) → IsStream (take len bytes) count next → 0 < delta →
-    next + delta ≤ most_ids → take size (drop len bytes) ≡ varint delta →
-    IsStream (take (len + size) bytes) (count + 1) (next + delta)
-more_measured bytes len size count next delta is some few written =
-    let id : ℕ = next + delta - 1 in
-    let at : id + 1 ≡ next + delta = omega (arith, some) in
-    let less : id + 1 - next ≡ delta = omega (arith, some) in
-    let push = stream_more (take len bytes) count next (id ∷ []) is (omega (arith, some), omega (arith, few, some), tt) in
-    let all : take len bytes ++ (varint (id + 1 - next) ++ []) ≡ take (len + size) bytes = ap (λ v. take len bytes ++ v) (append-nil (varint (id + 1 - next))) ∙ ap (λ n. take len bytes ++ varint n) less ∙ ap (λ v. take len bytes ++ v) (sym written) ∙ sym (take-add len size bytes) in
-    subst (λ n. IsStream (take (len + size) bytes) (count + 1) n) at (subst (λ s. IsStream s (count + 1) (id + 1)) all push.is)
+-- a stream behind another
+pub joined : (bytes : List ℕ) (len count next size ids end : ℕ) → IsStream (take len bytes) count next →
+    IsStream (take size (drop len bytes)) ids end → next + end ≤ most_ids →
+    IsStream (take (len + size) bytes) (count + ids) (next + end)
+joined bytes len count next size ids end is more fits =
+    let some : List ℕ = ids_in (take size (drop len bytes)) ids in
+    let rise : RiseWithin most_ids next (moved next some) =
+    moved_from most_ids most_ids next some more.rise (omega (arith, fits, more.follows)) in
+    let push = stream_more (take len bytes) count next (moved next some) is rise in
+    let all : take len bytes ++ flat_map varint (deltas_from next (moved next some)) ≡ take (len + size) bytes =
+    ap (λ s. take len bytes ++ s) (moved_stream next some ∙ sym more.written) ∙ sym (take-add len size bytes) in
+    let many : count + length (moved next some) ≡ count + ids = ap (λ n. count + n) (length-map some (λ id. next + id) ∙ sym more.counted) in
+    let at : next_after next (moved next some) ≡ next + end = moved_last next some ∙ ap (λ n. next + n) (sym more.follows) in
+    subst (IsStream (take (len + size) bytes) (count + ids)) at
+    (subst (λ n. IsStream (take (len + size) bytes) n (next_after next (moved next some))) many
+    (subst (λ s. IsStream s (count + length (moved next some)) (next_after next (moved next some))) all push.is))
+
+-- the stream of one id
+pub one_stream : (bytes : List ℕ) (size delta : ℕ) → 0 < delta → delta ≤ most_ids → take size bytes ≡ varint delta →
+    IsStream (take size bytes) 1 delta
+one_stream bytes size delta some few written =
+    let back : delta - 1 + 1 ≡ delta = omega (arith, some) in
+    let is = stream_from ((delta - 1) ∷ []) (omega arith, omega (arith, some, few), tt) in
+    let same : delta - 1 + 1 - 0 ≡ delta = omega (arith, some) in
+    let bytes_are : stream_of ((delta - 1) ∷ []) ≡ take size bytes = append-nil (varint (delta - 1 + 1 - 0))
+    ∙ ap varint same ∙ sym written in
+    subst (IsStream (take size bytes) 1) back (subst (λ s. IsStream s 1 (delta - 1 + 1)) bytes_are is)
+
+-- ---- deltas of one byte each
+
+fold_more : (n : ℕ) (ns : List ℕ) → fold (λ a b. a + b) n ns ≡ n + sum ns
+fold_more n [] = (let z : n ≡ n + 0 = omega arith in z)
+fold_more n (m ∷ ns) = fold_more (n + m) ns ∙ (let z : n + m + sum ns ≡ n + (m + sum ns) = omega arith in z)
+    ∙ ap (λ s. n + s) (sym (fold_more (0 + m) ns ∙ (let z : 0 + m + sum ns ≡ m + sum ns = omega arith in z)))
+
+sum_more : (m : ℕ) (ns : List ℕ) → sum (m ∷ ns) ≡ m + sum ns
+sum_more m ns = fold_more (0 + m) ns ∙ (let z : 0 + m + sum ns ≡ m + sum ns = omega arith in z)
+
+-- the ids that deltas give, from a number on
+abbrev ids_from : ℕ → List ℕ → List ℕ
+ids_from next [] = []
+ids_from next (delta ∷ deltas) = (next + delta - 1) ∷ ids_from (next + delta) deltas
+
+ids_written : (next : ℕ) (deltas : List ℕ) → AllByRecursion (λ delta. (0 < delta) × (delta < 128)) deltas →
+    flat_map varint (deltas_from next (ids_from next deltas)) ≡ deltas
+ids_written next [] short = refl
+ids_written next (delta ∷ deltas) short =
+    let here : next + delta - 1 + 1 - next ≡ delta = omega (arith, short.0.0) in
+    let on : next + delta - 1 + 1 ≡ next + delta = omega (arith, short.0.0) in
+    (λ i. varint (here i) ++ flat_map varint (deltas_from (on i) (ids_from (next + delta) deltas)))
+    ∙ (λ i. short_varint delta short.0.1 i ++ ids_written (next + delta) deltas short.1 i)
+
+ids_last : (next : ℕ) (deltas : List ℕ) → AllByRecursion (λ delta. (0 < delta) × (delta < 128)) deltas →
+    next_after next (ids_from next deltas) ≡ next + sum deltas
+ids_last next [] short = (let z : next ≡ next + 0 = omega arith in z)
+ids_last next (delta ∷ deltas) short =
+    let on : next + delta - 1 + 1 ≡ next + delta = omega (arith, short.0.0) in
+    ap (λ n. next_after n (ids_from (next + delta) deltas)) on
+    ∙ ids_last (next + delta) deltas short.1
+    ∙ (let z : next + delta + sum deltas ≡ next + sum (delta ∷ deltas) = omega (arith, sum_more delta deltas) in z)
+
+ids_counted : (next : ℕ) (deltas : List ℕ) → length (ids_from next deltas) ≡ length deltas
+ids_counted next [] = refl
+ids_counted next (delta ∷ deltas) = ap suc (ids_counted (next + delta) deltas)
+
+ids_rising : (next : ℕ) (deltas : List ℕ) → AllByRecursion (λ delta. (0 < delta) × (delta < 128)) deltas →
+    next + sum deltas ≤ most_ids → RiseWithin most_ids next (ids_from next deltas)
+ids_rising next [] short fits = tt
+ids_rising next (delta ∷ deltas) short fits =
+    let on : next + delta - 1 + 1 ≡ next + delta = omega (arith, short.0.0) in (
+      omega (arith, short.0.0),
+      omega (arith, short.0.0, fits, sum_more delta deltas),
+      subst (λ n. RiseWithin most_ids n (ids_from (next + delta) deltas)) (sym on)
+          (ids_rising (next + delta) deltas short.1 (omega (arith, fits, sum_more delta deltas))),
+    )
+
+pub deltas_stream : (deltas : List ℕ) → AllByRecursion (λ delta. (0 < delta) × (delta < 128)) deltas →
+    sum deltas ≤ most_ids → IsStream deltas (length deltas) (sum deltas)
+deltas_stream deltas short fits =
+    let is = stream_from (ids_from 0 deltas) (ids_rising 0 deltas short (omega (arith, fits))) in
+    let end : next_after 0 (ids_from 0 deltas) ≡ sum deltas = ids_last 0 deltas short ∙ (let z : 0 + sum deltas ≡ sum deltas = omega arith in z) in
+    subst (IsStream deltas (length deltas)) end
+    (subst (λ n. IsStream deltas n (next_after 0 (ids_from 0 deltas))) (ids_counted 0 deltas)
+    (subst (λ s. IsStream s (length (ids_from 0 deltas)) (next_after 0 (ids_from 0 deltas))) (ids_written 0 deltas short) is))
 
 pub two_bytes : (first second : ℕ) → 128 ≤ first → first < 256 → 0 < second → second < 128 →
     first ∷ second ∷ [] ≡ varint (first - 128 + 128 * second)

@@ -1,7 +1,6 @@
 -- Posting lists while an index is built: one for each trigram that was met, in the order in which they were met.
-use Rattle.std.specs.Prelude.{◌≡◌, ℕ, true, false, nat_eq, List, [], ◌∷◌, ◌++◌, map, if◌then◌else◌}
+use Rattle.std.specs.Prelude.{◌≡◌, ℕ, false, nat_eq, List, [], ◌∷◌, ◌++◌, map, if◌then◌else◌}
 use Rattle.cs_trigram.specs.Trigram.{has, set_of_numbers}
-use Rattle.std.specs.List.{AllByRecursion}
 use Rattle.cs_index.specs.Image.{Posting}
 
 -- the trigrams of lists
@@ -29,10 +28,6 @@ lists_of lists gs = map (λ g. (g, ids_of lists g)) gs
 -- the lists as an index has them
 abbrev pub ordered_lists : List Posting → List Posting
 ordered_lists lists = lists_of lists (set_of_numbers (keys lists))
-
--- each of some trigrams has a list
-abbrev pub HaveLists : List Posting → List ℕ → Type 0
-HaveLists lists gs = AllByRecursion (λ g. has (keys lists) g ≡ true) gs
 
 -- no number stands twice
 abbrev pub AreDistinct : List ℕ → Type 0

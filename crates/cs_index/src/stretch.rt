@@ -1,5 +1,6 @@
 // Ids that go from one list into another as they are written.
-ghost use Rattle.std.specs.Prelude.{◌≡◌, ◌<◌, ◌≤◌, ◌+◌, ◌++◌, [], length, take};
+ghost use Rattle.std.specs.Prelude.{◌≡◌, ◌<◌, ◌≤◌, ◌+◌, ◌++◌, [], length, sum, take};
+ghost use Rattle.std.specs.List.{AllByRecursion};
 ghost use Rattle.cs_index.specs.Image.{varint};
 ghost use Rattle.cs_index.specs.Rising.{RiseWithin};
 ghost use Rattle.cs_index.specs.IdStream.{most_ids, next_after, stream_of, IsStream};
@@ -90,15 +91,53 @@ fn measured(bytes: &[u8], most: u32, room: u32) -> (usize, u32, u32)
     let mut count = 0;
     let mut next = 0;
     'ids: while count < most {
-        let (delta, size) = short_delta(&bytes[len..]);
-        if delta == 0 || delta > room - next {
+        let (size, ids, end) = part(&bytes[len..], most - count, room - next);
+        if ids == 0 {
             return (len, count, next);
         }
         len += size;
-        count += 1;
-        next += delta;
+        count += ids;
+        next += end;
     }
     (len, count, next)
+}
+
+/// The same of eight ids, where each delta is one byte, or else of one id.
+#[inline]
+fn part(bytes: &[u8], most: u32, room: u32) -> (usize, u32, u32)
+    requires { room ≤ most_ids }
+    ensures stream { IsStream (take result.0 bytes.now) result.1 result.2 }
+    ensures within { result.0 ≤ length bytes.now }
+    ensures few { result.1 ≤ most }
+    ensures below { result.2 ≤ room }
+{
+    if bytes.len() >= 8 && most >= 8 {
+        let sum = sum_of_short(&bytes[..8]);
+        if sum > 0 && sum <= room {
+            return (8, 8, sum);
+        }
+    }
+    let (delta, size) = short_delta(bytes);
+    if delta == 0 || delta > room || most == 0 {
+        return (0, 0, 0);
+    }
+    (size, 1, delta)
+}
+
+/// The sum of deltas, or 0 where one of them is none or takes more than a byte.
+#[inline]
+fn sum_of_short(deltas: &[u8]) -> u32
+    requires { length deltas.now ≤ 8 }
+    ensures sum { 0 < result → result ≡ sum deltas.now }
+    ensures short { 0 < result → AllByRecursion (λ delta. (0 < delta) × (delta < 128)) deltas.now }
+{
+    let mut sum = 0;
+    let mut all_short = true;
+    'deltas: for delta in deltas {
+        sum += *delta as u32;
+        all_short &= 0 < *delta && *delta < 128;
+    }
+    if all_short { sum } else { 0 }
 }
 
 /// The delta at the front, and how many bytes it takes, where these are one or two and no more than it

@@ -24,7 +24,10 @@ impl<'a, 'b> Model for Ranked<'a, 'b> {
 
     ghost Value = { Ranked' };
 
-    ghost view = { λ s. record { parts = s.index.now; order = option_map (λ ids. ids.items) s.order } };
+    ghost view = { λ s. record {
+      parts = s.index.now;
+      order = option_map (λ ids. ids.items) s.order;
+    } };
 }
 
 impl<'a, 'b> Ranked<'a, 'b> {

@@ -347,7 +347,8 @@ pub(crate) fn either_affixes(
 
 /// The affix of each text.
 pub(crate) fn any_affix(alloc: Global) -> Result<Vec<Affix>, AllocError>
-    ensures { IfOk result (λ any. (side : Side) (text : List ℕ) → HasSomeAffix side any.items text) }
+    ensures { IfOk result (λ any.
+        (side : Side) (text : List ℕ) → HasSomeAffix side any.items text) }
 {
     let mut affixes = Vec::new(alloc);
     affixes.push(Affix {

@@ -1,20 +1,18 @@
 // The writer of an index.
-ghost use Rattle.std.specs.Prelude.{◌≡◌, ◌≢◌, ◌<◌, ◌≤◌, ◌^◌, ◌⊎◌, ◌↔◌, [], List, ℕ, true, false, length, map, string_bytes, Err, IfOk, IfErr, OnOk, OnErr};
-ghost use Rattle.cs_trigram.specs.Trigram.{set_of_numbers, Ascends, closing_trigram};
+ghost use Rattle.std.specs.Prelude.{◌≡◌, ◌≢◌, ◌<◌, ◌≤◌, ◌^◌, ◌⊎◌, ◌↔◌, [], true, false, length, map, string_bytes, Err, IfOk, IfErr, OnOk, OnErr};
+ghost use Rattle.cs_trigram.specs.Trigram.{set_of_numbers, closing_trigram};
 ghost use Rattle.cs_trigram.specs.Scans.{AreTrigramsOnce};
 ghost use Rattle.std.specs.List.{AllByRecursion};
 ghost use Rattle.cs_index.specs.Image.{image, image_of, names_of};
-ghost use Rattle.cs_index.specs.Gathering.{lists_of, AreDistinct, HaveLists};
-ghost use Rattle.cs_index.specs.Laid.{with_postings};
-ghost use Rattle.cs_index.specs.Rising.{IsPosting};
+ghost use Rattle.cs_index.specs.Gathering.{AreDistinct};
 ghost use Rattle.cs_index.specs.Spelling.{IsIndexable};
 ghost use Rattle.cs_index.specs.Built.{with_name, are_paths, files_of, is_above, is_storable, IsBuilt, IsOneTooMany, IsOutOfOrder, most_names, paths_of};
 
 use crate::fault::BuildFault;
 use crate::writing::batch::Batch;
-use crate::writing::lists::Lists;
 use crate::writing::paths::{are_listed, is_text};
 use crate::writing::sections::Sections;
+use crate::writing::segments::Segments;
 use crate::writing::strings::{Strings, strings_of};
 use std::alloc::{AllocError, Global};
 use std::marker::Model;
@@ -22,15 +20,14 @@ use std::marker::Model;
 /// More names than these are not added.
 const MOST_NAMES: u32 = 1 << 30;
 
-/// The paths and the names of an index that is being built, and for each trigram the ids of the
-/// names that have it. The trigrams of the last names wait in a batch, so that each list is visited
-/// once for many of them.
+/// The paths and the names of an index that is being built, and the ids of the names that have each
+/// trigram. The trigrams of the last names wait in a batch, to be put in order together.
 #[derive(Drop)]
 pub struct Builder {
     alloc: Global,
     paths: Strings,
     names: Strings,
-    lists: Lists,
+    lists: Segments,
     batch: Batch,
 }
 
@@ -64,7 +61,7 @@ impl Builder {
             alloc,
             paths,
             names: Strings::new(alloc),
-            lists: Lists::new(alloc),
+            lists: Segments::new(alloc),
             batch: Batch::new(alloc),
         })
     }
@@ -113,9 +110,8 @@ impl Builder {
     {
         let names = self.names.len() as u32;
         self.batch.flush(&mut self.lists, names)?;
-        let trigrams = self.lists.trigrams()?;
         let mut sections = Sections::of(self.alloc, self.paths, self.names);
-        lay_lists(&mut sections, &self.lists, &trigrams)?;
+        self.lists.lay(&mut sections)?;
         sections.finish_within(most)
     }
 
@@ -180,21 +176,4 @@ impl Builder {
         self.batch.push(trigrams, id);
         Ok(id)
     }
-}
-
-/// Lays the lists of ascending trigrams.
-fn lay_lists(sections: &mut Sections, lists: &Lists, trigrams: &[u32]) -> Result<(), AllocError>
-    requires present { HaveLists lists.now trigrams.now }
-    requires ascending { Ascends trigrams.now }
-    requires below { AllByRecursion (λ g. g < closing_trigram) trigrams.now }
-    requires each { AllByRecursion (IsPosting (length sections.old.names)) lists.now }
-    requires none { sections.old.lists ≡ [] }
-    ensures { OnOk result
-        (sections.new ≡ with_postings sections.old (lists_of lists.now trigrams.now)) }
-{
-    'lists: for trigram in trigrams {
-        let ids = lists.ids(*trigram);
-        sections.begin(*trigram, ids.bytes(), ids.len(), ids.next())?;
-    }
-    Ok(())
 }

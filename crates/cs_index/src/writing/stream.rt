@@ -1,10 +1,12 @@
 // The ids of one trigram, as a stream of varints.
-ghost use Rattle.std.specs.Prelude.{◌≡◌, ◌≤◌, ◌*◌, ◌++◌, [], List, ℕ, length, OnOk, OnErr};
+ghost use Rattle.std.specs.Prelude.{◌≡◌, ◌<◌, ◌+◌, ◌++◌, [], List, ℕ, length, OnOk, OnErr};
+ghost use Rattle.std.specs.List.{AllByRecursion};
 ghost use Rattle.cs_index.specs.Rising.{RiseWithin};
 ghost use Rattle.cs_index.specs.IdStream.{most_ids, next_after, stream_of};
-ghost use Rattle.cs_index.specs.Keys.{ids_of_keys};
+ghost use Rattle.cs_index.specs.Segments.{risen};
 
-use crate::writing::keys::put_deltas;
+use crate::writing::laying::lay_both;
+use crate::writing::varint::groups_of;
 use std::alloc::{AllocError, Global};
 use std::marker::Model;
 
@@ -59,22 +61,40 @@ impl IdStream {
         &self.deltas
     }
 
-    /// Adds the ids of a run of keys. A refusal changes nothing.
-    pub(crate) fn extend(
-        &mut self,
-        base: u32,
-        run: &[u32],
-        room: &mut [u8],
-    ) -> Result<(), AllocError>
-        requires room { 5 * length run.now ≤ length room.old }
-        requires rise { RiseWithin most_ids (next_after 0 self.old) (ids_of_keys base run.now) }
-        ensures ok { OnOk result (self.new ≡ self.old ++ ids_of_keys base run.now) }
+    /// Adds ids that rise from a number on by some gaps. A refusal changes nothing.
+    #[inline]
+    pub(crate) fn extend(&mut self, from: u32, gaps: &[u8]) -> Result<(), AllocError>
+        requires some { 0 < length gaps.now }
+        requires short { AllByRecursion (λ gap. gap < 128) gaps.now }
+        requires rise { RiseWithin most_ids (next_after 0 self.old) (risen from gaps.now) }
+        ensures ok { OnOk result (self.new ≡ self.old ++ risen from gaps.now) }
         ensures err { OnErr result (self.new ≡ self.old) }
     {
-        let (len, next) = put_deltas(room, base, run, self.next);
-        self.deltas.extend_from_slice(&room[..len])?;
-        self.count += run.len() as u32;
-        self.next = next;
+        let (first, len) = groups_of(from + gaps[0] as u32 + 1 - self.next);
+        lay_both(&mut self.deltas, &first[..len], &gaps[1..])?;
+        self.count += gaps.len() as u32;
+        self.next = last_of(from, gaps) + 1;
         Ok(())
     }
+
+    /// Takes all ids away.
+    pub(crate) fn clear(&mut self)
+        ensures { self.new ≡ [] }
+    {
+        self.deltas.clear();
+        self.count = 0;
+        self.next = 0;
+    }
+}
+
+/// The last of some ids that rise from a number on by some gaps, or that number.
+fn last_of(from: u32, gaps: &[u8]) -> u32
+    requires { AllByRecursion (λ id. id < most_ids) (risen from gaps.now) }
+    ensures { result + 1 ≡ next_after (from + 1) (risen from gaps.now) }
+{
+    let mut last = from;
+    'gaps: for gap in gaps {
+        last += *gap as u32;
+    }
+    last
 }

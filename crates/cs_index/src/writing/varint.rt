@@ -34,30 +34,3 @@ pub(crate) fn groups_of(n: u32) -> ([u8; 5], usize)
     bytes[len] = rest as u8;
     (bytes, len + 1)
 }
-
-/// Puts a number at a place of some bytes, in as few as possible, and answers where it ends.
-#[inline]
-pub(crate) fn put_varint(bytes: &mut [u8], at: usize, n: u32) -> usize
-    requires { at + 5 ≤ length bytes.old }
-    ensures put { take result bytes.new ≡ take at bytes.old ++ varint n }
-    ensures within { result ≤ at + 5 }
-{
-    if n < 128 {
-        bytes[at] = n as u8;
-        return at + 1;
-    }
-    put_groups(bytes, at, n)
-}
-
-/// The same of a number of any length.
-fn put_groups(bytes: &mut [u8], at: usize, n: u32) -> usize
-    requires { at + 5 ≤ length bytes.old }
-    ensures put { take result bytes.new ≡ take at bytes.old ++ varint n }
-    ensures within { result ≤ at + 5 }
-{
-    let (groups, len) = groups_of(n);
-    'groups: for k in 0..len {
-        bytes[at + k] = groups[k];
-    }
-    at + len
-}

@@ -23,7 +23,7 @@ fn lists_of(alloc: Global, index: &[u8], files: usize) -> Result<Vec<u8>, Fail> 
 
 #[test]
 fn lists_go_on_in_the_next_batch(rt: HostRuntime) -> Result<(), Fail> {
-    for count in [1usize, 254, 255, 256, 509, 510, 511] {
+    for count in [1usize, 127, 128, 129, 255, 256, 257] {
         let mut builder = builder_of(rt.alloc(), &["/t"])?;
         for file in 0..count {
             let name = format!(in rt.alloc(); "/t/{}", 1000 + file)?;

@@ -1,8 +1,8 @@
-use Rattle.std.proofs.Common.{◌≡◌, ℕ, ◌+◌, ◌-◌, ◌<◌, ◌≤◌, List, [], length, take, drop, sym, ap, ◌∙◌, arith}
+use Rattle.std.proofs.Common.{◌≡◌, ℕ, ◌-◌, List, [], length, take, drop, ap, subst, arith}
 use Rattle.std.proofs.lemmas.List.{length-drop, take_rest}
-use Rattle.cs_index.specs.Image.{varint}
+use Rattle.cs_index.specs.IdStream.{IsStream}
 use Rattle.cs_index.proofs.StreamLemmas.{stream_from}
-use Rattle.cs_index.proofs.StretchLemmas.{more_measured}
+use Rattle.cs_index.proofs.StretchLemmas.{joined}
 use Rattle.cs_index.proofs.stretch.measured.Goals as goal
 
 pub ids-init : goal.ids-init
@@ -12,13 +12,15 @@ pub ids-preserved : goal.ids-preserved
 ids-preserved c =
     let bytes : List ℕ = c.args.bytes.now in
     let rest : take (length bytes - c.ids.len) (drop c.ids.len bytes) ≡ drop c.ids.len bytes = take_rest bytes c.ids.len in
-    let some : 0 < c.short_delta-delta.result.0 = omega (arith, c.if-delta-eq0.false) in
+    let size : ℕ = c.part-size.result.0 in
+    let ids : ℕ = c.part-size.result.1 in
+    let end : ℕ = c.part-size.result.2 in
     let long = ap length rest in
     record {
-      stream = more_measured bytes c.ids.len c.short_delta-delta.result.1 c.ids.count c.ids.next c.short_delta-delta.result.0
-          c.ids.invariant.stream some (omega (arith, c.if-delta-room.false, c.ids.invariant.below, c.requires))
-          (ap (take c.short_delta-delta.result.1) (sym rest) ∙ c.short_delta-delta.ensures.written some);
-      within = (let here = length-drop c.ids.len bytes in omega (arith, c.short_delta-delta.ensures.within, long, here, c.ids.invariant.within));
-      few = omega (arith, c.ids-test.true);
-      below = omega (arith, c.if-delta-room.false, c.ids.invariant.below);
+      stream = joined bytes c.ids.len c.ids.count c.ids.next size ids end c.ids.invariant.stream
+          (subst (λ bs. IsStream (take size bs) ids end) rest c.part-size.ensures.stream)
+          (omega (arith, c.part-size.ensures.below, c.ids.invariant.below, c.requires));
+      within = (let here = length-drop c.ids.len bytes in omega (arith, c.part-size.ensures.within, long, here, c.ids.invariant.within));
+      few = omega (arith, c.part-size.ensures.few, c.ids-test.true);
+      below = omega (arith, c.part-size.ensures.below, c.ids.invariant.below);
     }

@@ -1,4 +1,4 @@
-use Rattle.std.proofs.Common.{◌≡◌, ◌+◌, ◌-◌, ◌≤◌, ap, sym, arith}
+use Rattle.std.proofs.Common.{◌≡◌, ◌+◌, ◌-◌, ap, sym, arith}
 use Rattle.cs_index.specs.PostingLists.{Ids}
 use Rattle.cs_index.specs.IdStream.{most_ids}
 use Rattle.cs_index.specs.ListRest.{left_of}

@@ -1,5 +1,5 @@
-use Rattle.std.proofs.Common.{◌≡◌, ◌∙◌, ◌+◌, ◌-◌, ◌<◌, ◌++◌, ◌∷◌, [], ap, sym, subst, refl, drop, length, List, ℕ, arith}
-use Rattle.std.proofs.lemmas.List.{drop-append-le, length-append, length_push}
+use Rattle.std.proofs.Common.{◌≡◌, ◌∙◌, ◌+◌, ◌-◌, ◌<◌, ◌++◌, ◌∷◌, [], ap, sym, subst, refl, length, List, ℕ, arith}
+use Rattle.std.proofs.lemmas.List.{length_push}
 use Rattle.std.specs.List.{AllByRecursion}
 use Rattle.cs_trigram.specs.Trigram.{set_of_numbers, closing_trigram}
 use Rattle.cs_trigram.proofs.SetLemmas.{ascends_set}
@@ -57,28 +57,24 @@ roomy b now lists batch id is at held same = record {
 
 -- another batch of the same keys
 waits_same : (names : ℕ) (lists : List Posting) (room batch : Batch) → batch.keys.items ≡ room.keys.items →
-    batch.moved ≡ room.moved → batch.base ≡ room.base →
-    AreWaiting names room.base lists (drop room.moved room.keys.items) →
-    AreWaiting names batch.base lists (drop batch.moved batch.keys.items)
-waits_same names lists room batch keys moved base waits =
-    subst (λ n. AreWaiting names n lists (drop batch.moved batch.keys.items)) (sym base)
-    (subst (λ n. AreWaiting names room.base lists (drop n batch.keys.items)) (sym moved)
-    (subst (λ ks. AreWaiting names room.base lists (drop room.moved ks)) (sym keys) waits))
+    batch.base ≡ room.base →
+    AreWaiting names room.base lists room.keys.items → AreWaiting names batch.base lists batch.keys.items
+waits_same names lists room batch keys base waits =
+    subst (λ n. AreWaiting names n lists batch.keys.items) (sym base)
+    (subst (AreWaiting names room.base lists) (sym keys) waits)
 
 same_keys : (b : Inside) (now : Built) (names : List (List ℕ)) (lists : List Posting) (room batch : Batch) →
-    batch.keys.items ≡ room.keys.items → batch.moved ≡ room.moved → batch.base ≡ room.base → names ≡ b.names →
+    batch.keys.items ≡ room.keys.items → batch.base ≡ room.base → names ≡ b.names →
     Hold b now b.names lists room → Hold b now names lists batch
-same_keys b now names lists room batch keys moved base named h = record {
+same_keys b now names lists room batch keys base named h = record {
   held = subst (λ (ns : List (List ℕ)). IsBatch (length ns) lists batch) (sym named) (record {
-    within = let same = ap length keys in omega (arith, same, moved, h.held.within);
     begun = omega (arith, base, h.held.begun);
     few = omega (arith, base, h.held.few);
-    waits = waits_same (length b.names) lists room batch keys moved base h.held.waits;
+    waits = waits_same (length b.names) lists room batch keys base h.held.waits;
   });
   is = (λ i. record {
     paths = b.paths;
-    entries = entries_of 0 (named i) (ordered_lists (with_keys (base i) lists
-        (drop (moved i) (keys i))));
+    entries = entries_of 0 (named i) (ordered_lists (with_keys (base i) lists (keys i)));
   }) ∙ h.is;
 }
 
@@ -86,38 +82,29 @@ same_keys b now names lists room batch keys moved base named h = record {
 added : (b : Inside) (now : Built) (names : List (List ℕ)) (name gs : List ℕ) (lists : List Posting) (room batch :
     Batch) →
     names ≡ b.names ++ name ∷ [] → batch.keys.items ≡ room.keys.items ++ keys_of (length b.names - room.base) gs →
-    batch.moved ≡ room.moved → batch.base ≡ room.base → length b.names < room.base + 255 → AreDistinct gs →
+    batch.base ≡ room.base → length b.names < room.base + 128 → AreDistinct gs →
     AllByRecursion (λ g. g < closing_trigram) gs → Hold b now b.names lists room →
     Hold b (with_name now name (set_of_numbers gs)) names lists batch
-added b now names name gs lists room batch named keys moved base few distinct below h =
+added b now names name gs lists room batch named keys base few distinct below h =
     let n : ℕ = length b.names in
     let place : ℕ = n - room.base in
-    let rest : List ℕ = drop room.moved room.keys.items in
+    let rest : List ℕ = room.keys.items in
     let at : room.base + place ≡ n = omega (arith, h.held.begun) in
     let small : place < 256 = omega (arith, few) in
     let more : length (b.names ++ name ∷ []) ≡ n + 1 = length_push b.names name in
-    let behind : drop batch.moved batch.keys.items ≡ rest ++ keys_of place gs =
-    (λ i. drop (moved i) (keys i)) ∙ drop-append-le room.moved room.keys.items (keys_of place gs) h.held.within in
     let waits : AreWaiting (n + 1) room.base lists (rest ++ keys_of place gs) =
     waiting_added n room.base place lists rest gs h.held.waits small at distinct below in
     record {
       held = subst (λ (ns : List (List ℕ)). IsBatch (length ns) lists batch) (sym named) (subst (λ m. IsBatch m
           lists batch) (sym more) (record {
-            within = let whole = ap length keys ∙ length-append room.keys.items (keys_of place gs) in omega (
-              arith,
-              whole,
-              moved,
-              h.held.within,
-            );
             begun = omega (arith, base, h.held.begun);
             few = omega (arith, base, few);
-            waits = subst (λ m. AreWaiting (n + 1) m lists (drop batch.moved batch.keys.items)) (sym base)
-                (subst (AreWaiting (n + 1) room.base lists) (sym behind) waits);
+            waits = subst (λ m. AreWaiting (n + 1) m lists batch.keys.items) (sym base)
+                (subst (AreWaiting (n + 1) room.base lists) (sym keys) waits);
           }));
       is = (λ i. record {
         paths = b.paths;
-        entries = entries_of 0 (named i) (ordered_lists (with_keys (base i) lists
-            (behind i)));
+        entries = entries_of 0 (named i) (ordered_lists (with_keys (base i) lists (keys i)));
       })
           ∙ ap (λ (es : List Entry). let built : Built = record { paths = b.paths; entries = es } in built)
           (entries_added b.names name (with_keys room.base lists rest) (with_keys room.base lists (rest ++ keys_of
@@ -146,7 +133,7 @@ invariant_of-self-in_err-reserve c =
     let room = roomy b c.args.self.now c.make_room.new.lists c.make_room.new.self c.len-id.result c.self.view_is
     c.len-id.ensures c.make_room.ensures.batch c.make_room.ensures.same in
     let h = same_keys b c.args.self.now b.names c.make_room.new.lists c.make_room.new.self c.reserve.new.self
-    c.reserve.ensures.keys c.reserve.ensures.moved c.reserve.ensures.base refl room in
+    c.reserve.ensures.keys c.reserve.ensures.base refl room in
     record { batch = h.held; built = subst IsBuilt (c.self.view_is ∙ sym h.is) c.self.invariant.built }
 
 pub returns-in_err-reserve-clause-err : goal.returns-in_err-reserve-clause-err
@@ -155,7 +142,7 @@ returns-in_err-reserve-clause-err c =
     let room = roomy b c.args.self.now c.make_room.new.lists c.make_room.new.self c.len-id.result c.self.view_is
     c.len-id.ensures c.make_room.ensures.batch c.make_room.ensures.same in
     let h = same_keys b c.args.self.now b.names c.make_room.new.lists c.make_room.new.self c.reserve.new.self
-    c.reserve.ensures.keys c.reserve.ensures.moved c.reserve.ensures.base refl room in
+    c.reserve.ensures.keys c.reserve.ensures.base refl room in
     any_err c.from_residual-in_err-reserve.result h.is
 
 pub invariant_of-self-in_err-push : goal.invariant_of-self-in_err-push
@@ -164,7 +151,7 @@ invariant_of-self-in_err-push c =
     let room = roomy b c.args.self.now c.make_room.new.lists c.make_room.new.self c.len-id.result c.self.view_is
     c.len-id.ensures c.make_room.ensures.batch c.make_room.ensures.same in
     let h = same_keys b c.args.self.now c.push.new.self c.make_room.new.lists c.make_room.new.self
-    c.reserve.new.self c.reserve.ensures.keys c.reserve.ensures.moved c.reserve.ensures.base
+    c.reserve.new.self c.reserve.ensures.keys c.reserve.ensures.base
     c.in_err-push.ensures.err room in
     record { batch = h.held; built = subst IsBuilt (c.self.view_is ∙ sym h.is) c.self.invariant.built }
 
@@ -174,7 +161,7 @@ returns-in_err-push-clause-err c =
     let room = roomy b c.args.self.now c.make_room.new.lists c.make_room.new.self c.len-id.result c.self.view_is
     c.len-id.ensures c.make_room.ensures.batch c.make_room.ensures.same in
     let h = same_keys b c.args.self.now c.push.new.self c.make_room.new.lists c.make_room.new.self
-    c.reserve.new.self c.reserve.ensures.keys c.reserve.ensures.moved c.reserve.ensures.base
+    c.reserve.new.self c.reserve.ensures.keys c.reserve.ensures.base
     c.in_err-push.ensures.err room in
     any_err c.from_residual-in_err-push.result h.is
 
@@ -183,17 +170,17 @@ more : (b : Inside) (now : Built) (names : List (List ℕ)) (name gs : List ℕ)
     spare batch : Batch) →
     built_of b ≡ now → id ≡ length b.names → IsBatch id lists room →
     GiveSame (lists_with lists room) (complete_lists b) →
-    spare.keys.items ≡ room.keys.items → spare.moved ≡ room.moved → spare.base ≡ room.base → id < room.base + 255 →
+    spare.keys.items ≡ room.keys.items → spare.base ≡ room.base → id < room.base + 128 →
     names ≡ b.names ++ name ∷ [] → batch.keys.items ≡ spare.keys.items ++ keys_of (id - spare.base) gs →
-    batch.moved ≡ spare.moved → batch.base ≡ spare.base → AreDistinct gs →
+    batch.base ≡ spare.base → AreDistinct gs →
     AllByRecursion (λ g. g < closing_trigram) gs →
     Hold b (with_name now name (set_of_numbers gs)) names lists batch
-more b now names name gs lists id room spare batch is at held same keys moved base few named pushed moved' base'
+more b now names name gs lists id room spare batch is at held same keys base few named pushed base'
     distinct below =
     added b now names name gs lists spare batch named (pushed
     ∙ ap (λ n. spare.keys.items ++ keys_of (n - spare.base) gs) at)
-    moved' base' (omega (arith, few, at, base)) distinct below
-    (same_keys b now b.names lists room spare keys moved base refl (roomy b now lists room id is at held same))
+    base' (omega (arith, few, at, base)) distinct below
+    (same_keys b now b.names lists room spare keys base refl (roomy b now lists room id is at held same))
 
 pub invariant_of-self-2 : goal.invariant_of-self-2
 invariant_of-self-2 c =
@@ -201,8 +188,8 @@ invariant_of-self-2 c =
     let h = more b c.args.self.now c.push.new.self c.args.name.now c.args.trigrams.now c.make_room.new.lists
     c.len-id.result c.make_room.new.self c.reserve.new.self c.push-2.new.self
     c.self.view_is c.len-id.ensures c.make_room.ensures.batch c.make_room.ensures.same c.reserve.ensures.keys
-    c.reserve.ensures.moved c.reserve.ensures.base c.in_ok-make_room.ensures.room
-    c.in_ok-push.ensures.ok c.push-2.ensures.keys c.push-2.ensures.moved c.push-2.ensures.base c.requires.distinct
+    c.reserve.ensures.base c.in_ok-make_room.ensures.room
+    c.in_ok-push.ensures.ok c.push-2.ensures.keys c.push-2.ensures.base c.requires.distinct
     c.requires.below in
     record {
       batch = h.held;
@@ -219,8 +206,8 @@ returns-clause-ok c =
     let h = more b c.args.self.now c.push.new.self c.args.name.now c.args.trigrams.now c.make_room.new.lists
     c.len-id.result c.make_room.new.self c.reserve.new.self c.push-2.new.self
     c.self.view_is c.len-id.ensures c.make_room.ensures.batch c.make_room.ensures.same c.reserve.ensures.keys
-    c.reserve.ensures.moved c.reserve.ensures.base c.in_ok-make_room.ensures.room
-    c.in_ok-push.ensures.ok c.push-2.ensures.keys c.push-2.ensures.moved c.push-2.ensures.base c.requires.distinct
+    c.reserve.ensures.base c.in_ok-make_room.ensures.room
+    c.in_ok-push.ensures.ok c.push-2.ensures.keys c.push-2.ensures.base c.requires.distinct
     c.requires.below in
     h.is
 

@@ -12,7 +12,7 @@ use Rattle.cs_index.specs.Rising.{RiseWithin, IsPosting}
 use Rattle.cs_index.specs.Gathering.{ids_of, keys, lists_of, ordered_lists, with_id}
 use Rattle.cs_index.specs.Laid.{AllBelow}
 use Rattle.cs_index.specs.Keys.{trigram_of, id_of, ids_of_keys, with_keys, AreOfTrigram}
-use Rattle.cs_index.specs.Segments.{ids_given, all_given, list_of, listed, with_segments, AreAhead, AreInOrder, Ordered}
+use Rattle.cs_index.specs.Segments.{ids_given, all_given, list_of, listed, with_segments, AreAhead, AreSortedKeys, Ordered}
 use Rattle.cs_index.proofs.BuiltLemmas.{ids_gathered, ids_posting, ids_rise_within}
 use Rattle.cs_index.proofs.GatheringLemmas.{ids_new}
 use Rattle.cs_index.proofs.LaidLemmas.{ascend_push}
@@ -278,7 +278,7 @@ given_set g zero (t ∷ ss) s d same = ap (λ ids. ids ++ all_given ss g) same
 given_set g (suc i) (t ∷ ss) s d same = ap (λ ids. ids_given t g ++ ids) (given_set g i ss s d same)
 
 -- no segment gives ids to a trigram that no file has
-pub none_given : (ss : List Ordered) (g : ℕ) → AllByRecursion (λ (s : Ordered). AreInOrder s.keys) ss →
+pub none_given : (ss : List Ordered) (g : ℕ) → AllByRecursion (λ (s : Ordered). AreSortedKeys s.keys) ss →
     closing_trigram ≤ g → all_given ss g ≡ []
 none_given [] g order past = refl
 none_given (s ∷ ss) g order past =

@@ -9,7 +9,7 @@ use Rattle.cs_index.specs.Image.{deltas_from, varint}
 use Rattle.cs_index.specs.IdStream.{next_after}
 use Rattle.cs_index.specs.Rising.{RiseWithin}
 use Rattle.cs_index.specs.Keys.{trigram_of, ids_of_keys, AreOfTrigram}
-use Rattle.cs_index.specs.Segments.{risen, gaps_of, run_in, keys_in, AreAhead, AreHeads, AreInOrder, ArePacked, BeginsWith}
+use Rattle.cs_index.specs.Segments.{risen, gaps_of, run_in, keys_in, AreAhead, AreHeads, AreSortedKeys, ArePacked, BeginsWith}
 use Rattle.cs_index.proofs.StreamLemmas.{short_varint}
 
 -- ---- numbers that rise by gaps
@@ -189,7 +189,7 @@ all_before P zero xs all = tt
 all_before P (suc n) [] all = tt
 all_before P (suc n) (x ∷ xs) all = (all.0, all_before P n xs all.1)
 
-pub order_behind : (run rest : List ℕ) → AreInOrder (run ++ rest) → AreInOrder rest
+pub order_behind : (run rest : List ℕ) → AreSortedKeys (run ++ rest) → AreSortedKeys rest
 order_behind [] rest order = order
 order_behind (key ∷ run) rest order = order_behind run rest (record {
   ascend = ascends_tail key (run ++ rest) order.ascend;

@@ -33,7 +33,7 @@ AreHeads (head ∷ heads) gaps =
     × AreHeads heads (drop (head % 256) gaps)
 
 -- keys in order, each of a trigram that a file may have
-pub record AreInOrder (keys : List ℕ) : Type 0 where
+pub record AreSortedKeys (keys : List ℕ) : Type 0 where
   pub ascend : Ascends keys
   pub below : AllByRecursion (λ key. trigram_of key < closing_trigram) keys
 
@@ -41,7 +41,7 @@ pub record AreInOrder (keys : List ℕ) : Type 0 where
 pub record ArePacked (heads gaps : List ℕ) : Type 0 where
   pub heads_are : AreHeads heads gaps
   pub short : AllByRecursion (λ gap. gap < 128) gaps
-  pub order : AreInOrder (keys_in heads gaps)
+  pub order : AreSortedKeys (keys_in heads gaps)
 
 -- The keys of a segment, and the id of the first file of its batch.
 pub record Ordered : Type 0 where

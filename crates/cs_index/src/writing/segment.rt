@@ -4,7 +4,7 @@ ghost use Rattle.std.specs.List.{AllByRecursion};
 ghost use Rattle.cs_index.specs.IdStream.{most_ids};
 ghost use Rattle.cs_index.specs.Keys.{trigram_of, AreOfTrigram};
 ghost use Rattle.cs_index.specs.Rising.{RiseWithin};
-ghost use Rattle.cs_index.specs.Segments.{gaps_of, ids_given, keys_in, AreAhead, AreHeads, AreInOrder, BeginsWith};
+ghost use Rattle.cs_index.specs.Segments.{gaps_of, ids_given, keys_in, AreAhead, AreHeads, AreSortedKeys, BeginsWith};
 ghost use Rattle.cs_trigram.specs.Trigram.{Ascends};
 
 use crate::writing::keys::{PLACES, run_of};
@@ -39,7 +39,7 @@ impl Model for Segment {
 impl Segment {
     /// The segment of the keys of a batch.
     pub(crate) fn of(alloc: Global, keys: &[u32], base: u32) -> Result<Segment, AllocError>
-        requires order { AreInOrder keys.now }
+        requires order { AreSortedKeys keys.now }
         requires near { AllByRecursion (λ key. key % 256 < 128) keys.now }
         ensures { IfOk result (λ segment. segment ≡ record { base = base; keys = keys.now }) }
     {

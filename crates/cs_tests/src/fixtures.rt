@@ -1,9 +1,8 @@
 // What tests of several libraries are given.
-use cs_index::Builder;
-use cs_tree::{Item, MemSource, MemTree};
+use cs_index::{BuildFault, Builder};
+use cs_tree::{Item, MemSource, MemTree, PutFault};
 use cs_trigram::{Gathered, Scanner};
 use std::alloc::{AllocError, Global};
-use std::test::Fail;
 
 /// Names with what the files say.
 pub type Files<'a> = &'a [(&'a str, &'a [u8])];
@@ -15,6 +14,17 @@ pub const ROW: &[u8; 122] =
 /// An index whose names do not ascend.
 pub const UNSORTED: &[u8; 115] =
     b"csearch index 1\n/a\0\0/a/b/z\0/a/b-x\0\0abc\x01\x01\0\xff\xff\xff\0\0\0\0\0\0\0\0\x07\0\0\0\x0eabc\0\0\0\x02\0\0\0\0\xff\xff\xff\0\0\0\0\0\0\0\x06\0\0\0\x10\0\0\0\x14\0\0\0\x23\0\0\0\x2d\0\0\0\x39\ncsearch trailr\n";
+
+/// The bytes with others at some places.
+pub fn changed<const N: usize>(bytes: &[u8; N], changes: &[(usize, u8)]) -> [u8; N] {
+    let mut bytes = *bytes;
+    for (place, byte) in changes {
+        if let Some(changed) = bytes.get_mut(*place) {
+            *changed = *byte;
+        }
+    }
+    bytes
+}
 
 /// The bytes of a text.
 pub fn bytes_of(alloc: Global, text: &str) -> Result<Vec<u8>, AllocError> {
@@ -49,7 +59,7 @@ pub fn number(text: &[u8]) -> u32 {
 }
 
 /// Bytes 21 to 7e by chance, each eightieth a newline.
-pub fn by_chance(alloc: Global, count: usize) -> Result<Vec<u8>, Fail> {
+pub fn by_chance(alloc: Global, count: usize) -> Result<Vec<u8>, AllocError> {
     let mut file = Vec::new(alloc);
     let mut state = 1u32;
     for at in 0..count {
@@ -65,34 +75,33 @@ pub fn by_chance(alloc: Global, count: usize) -> Result<Vec<u8>, Fail> {
 }
 
 /// A tree with a folder that has files with these bytes.
-pub fn tree_of(alloc: Global, folder: &str, files: Files<'_>) -> Result<MemTree, Fail> {
+pub fn tree_of(alloc: Global, folder: &str, files: Files<'_>) -> Result<MemTree, PutFault> {
     let mut tree = MemTree::new(alloc, 4)?;
     tree.put(folder, Item::Folder)?;
     for (name, bytes) in files {
-        let file = Item::File(Vec::from_slice(alloc, *bytes)?);
-        tree.put(*name, file)?;
+        tree.put(*name, Item::File(Vec::from_slice(alloc, *bytes)?))?;
     }
     Ok(tree)
 }
 
 /// A builder of an index of the paths.
-pub fn builder_of(alloc: Global, paths: &[&str]) -> Result<Builder, Fail> {
-    Ok(Builder::new(alloc, &strings(alloc, paths)?)?)
+pub fn builder_of(alloc: Global, paths: &[&str]) -> Result<Builder, BuildFault> {
+    Builder::new(alloc, &strings(alloc, paths)?)
 }
 
-/// The index of the paths with these files.
-pub fn index_of(alloc: Global, paths: &[&str], files: Files<'_>) -> Result<Vec<u8>, Fail> {
-    let mut builder = builder_of(alloc, paths)?;
+/// The index of the paths with these files, which have to be text.
+pub fn index_of(alloc: Global, paths: &[&str], files: Files<'_>) -> Option<Vec<u8>> {
+    let mut builder = builder_of(alloc, paths).ok()?;
     add_files(alloc, &mut builder, files)?;
-    Ok(builder.finish()?)
+    builder.finish().ok()
 }
 
-fn add_files(alloc: Global, builder: &mut Builder, files: Files<'_>) -> Result<(), Fail> {
-    let mut scanner = Scanner::new(alloc)?;
+fn add_files(alloc: Global, builder: &mut Builder, files: Files<'_>) -> Option<()> {
+    let mut scanner = Scanner::new(alloc).ok()?;
     for (name, text) in files {
-        add_file(builder, &mut scanner, *name, *text)?;
+        let _id = add_file(builder, &mut scanner, *name, *text)?;
     }
-    Ok(())
+    Some(())
 }
 
 /// Adds a file, which has to be text.
@@ -101,12 +110,9 @@ pub fn add_file(
     scanner: &mut Scanner,
     name: &str,
     text: &[u8],
-) -> Result<(), Fail> {
-    match scanner.gather(&mut MemSource::new(text, 4, false))? {
-        Gathered::Text { trigrams, .. } => {
-            let _id = builder.add(name, trigrams)?;
-            Ok(())
-        }
-        Gathered::Skip(_) => Err(Fail::from("text")),
+) -> Option<u32> {
+    match scanner.gather(&mut MemSource::new(text, 4, false)) {
+        Ok(Gathered::Text { trigrams, .. }) => builder.add(name, trigrams).ok(),
+        _ => None,
     }
 }

@@ -1,7 +1,6 @@
 // What patterns read as, and where they are refused.
 use cs_syntax::{ByteSet, CharSet, Node, PatternError, PatternFault, parse};
 use std::alloc::{AllocError, Global};
-use std::test::Fail;
 
 /// Where and why a text is refused.
 fn refusal(alloc: Global, text: &str) -> Option<PatternError> {
@@ -29,15 +28,9 @@ const FAULTS: &[(&str, PatternFault, usize)] = &[
 #[test]
 fn refuses_at_the_fault(rt: HostRuntime) {
     for (text, fault, at) in FAULTS {
-        let error = refusal(rt.alloc(), text);
-        assert_eq!(rt;
-            error,
-            Some(PatternError {
-                fault: *fault,
-                at: *at
-            }),
-            "at {text}"
-        );
+        let (fault, at) = (*fault, *at);
+        let want = Some(PatternError { fault, at });
+        assert!(rt; refusal(rt.alloc(), text) == want, "at {text}");
     }
 }
 
@@ -93,15 +86,19 @@ const DEEP: PatternError = PatternError {
     at: 200,
 };
 
+/// Whether patterns of the most weight and depth are accepted, and those of more are refused.
+fn accepts_up_to_the_most(alloc: Global) -> Result<bool, AllocError> {
+    Ok(
+        letters_refusal(alloc, 9999)? == None
+            && letters_refusal(alloc, 10000)? == Some(HEAVY)
+            && refusal(alloc, groups(alloc, 200)?.as_str()) == None
+            && refusal(alloc, "(".repeat(alloc, 201)?.as_str()) == Some(DEEP),
+    )
+}
+
 #[test]
-fn accepts_the_largest(rt: HostRuntime) -> Result<(), Fail> {
-    assert_eq!(rt; letters_refusal(rt.alloc(), 9999)?, None);
-    assert_eq!(rt; letters_refusal(rt.alloc(), 10000)?, Some(HEAVY));
-    let text = groups(rt.alloc(), 200)?;
-    assert_eq!(rt; refusal(rt.alloc(), text.as_str()), None);
-    let text = "(".repeat(rt.alloc(), 201)?;
-    assert_eq!(rt; refusal(rt.alloc(), text.as_str()), Some(DEEP));
-    Ok(())
+fn accepts_the_largest(rt: HostRuntime) {
+    assert_eq!(rt; accepts_up_to_the_most(rt.alloc()), Ok(true));
 }
 
 /// The set that is the tree of a pattern.
@@ -115,15 +112,22 @@ fn set_of(alloc: Global, fold: bool) -> Option<ByteSet> {
     }
 }
 
+/// Whether the tree of a letter has both cases where that folds, and the letter alone where it does not.
+fn lends_both(alloc: Global) -> bool {
+    let (Some(both), Some(one)) = (set_of(alloc, true), set_of(alloc, false)) else {
+        return false;
+    };
+    both.contains(b'A')
+        && both.contains(b'a')
+        && !both.contains(b'b')
+        && both.len() == 2
+        && both.single() == None
+        && one.single() == Some(b'a')
+}
+
 #[test]
-fn lends_the_tree(rt: HostRuntime) -> Result<(), Fail> {
-    let set = set_of(rt.alloc(), true).ok_or("set")?;
-    assert!(rt; set.contains(b'A') && set.contains(b'a') && !set.contains(b'b'));
-    assert_eq!(rt; set.len(), 2);
-    assert_eq!(rt; set.single(), None);
-    let set = set_of(rt.alloc(), false).ok_or("set")?;
-    assert_eq!(rt; set.single(), Some(b'a'));
-    Ok(())
+fn lends_the_tree(rt: HostRuntime) {
+    assert!(rt; lends_both(rt.alloc()));
 }
 
 /// Patterns that are one set of bytes, and how many it has.
@@ -182,7 +186,7 @@ fn is_of(set: &CharSet, count: u32, runs: &[(u32, u32)]) -> bool {
 #[test]
 fn reads_sets(rt: HostRuntime) {
     for (text, count) in BYTES {
-        assert_eq!(rt; byte_count(rt.alloc(), text), Some(*count), "at {text}");
+        assert!(rt; byte_count(rt.alloc(), text) == Some(*count), "at {text}");
     }
     for (text, count, runs) in CHARS {
         assert!(rt; has_runs(rt.alloc(), text, *count, *runs), "at {text}");

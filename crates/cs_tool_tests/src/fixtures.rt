@@ -1,8 +1,7 @@
 // What tests of several tools are given.
-use cs_tree::{Item, MemTree};
+use cs_tree::{Item, MemTree, PutFault};
 use cs_words::Style;
 use std::alloc::{AllocError, Global};
-use std::test::Fail;
 
 /// What stands at a path: a folder, or a file with this text.
 pub type Placed<'a> = (&'a str, Option<&'a str>);
@@ -37,15 +36,19 @@ pub fn words_of(alloc: Global, text: &str, mark: char) -> Result<Vec<String>, Al
     Ok(words)
 }
 
+/// A folder, or a file with this text.
+pub fn item_of(alloc: Global, text: Option<&str>) -> Result<Item, AllocError> {
+    match text {
+        Some(text) => Ok(Item::File(text.as_bytes().to_vec(alloc)?)),
+        None => Ok(Item::Folder),
+    }
+}
+
 /// A tree with these things in it.
-pub fn tree_of(alloc: Global, placed: &[Placed<'_>]) -> Result<MemTree, Fail> {
+pub fn tree_of(alloc: Global, placed: &[Placed<'_>]) -> Result<MemTree, PutFault> {
     let mut tree = MemTree::new(alloc, 2)?;
     for (path, text) in placed {
-        let item = match text {
-            Some(text) => Item::File(text.as_bytes().to_vec(alloc)?),
-            None => Item::Folder,
-        };
-        tree.put(*path, item)?;
+        tree.put(*path, item_of(alloc, *text)?)?;
     }
     Ok(tree)
 }

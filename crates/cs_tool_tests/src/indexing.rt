@@ -3,15 +3,14 @@ ghost use Rattle.std.specs.Prelude.{◌≡◌, ◌∷◌, [], true, string_bytes
 ghost use Rattle.cs_tree.specs.Cover.{begins, slash};
 
 use cs_words::IndexJob;
-use std::alloc::Global;
-use std::test::Fail;
+use std::alloc::{AllocError, Global};
 
 mod files;
 pub mod jobs;
 mod stored;
 
 /// The job of words, of which those that begin with a dash are options.
-pub fn job_of(alloc: Global, words: &[&str]) -> Result<IndexJob, Fail>
+pub fn job_of(alloc: Global, words: &[&str]) -> Result<IndexJob, AllocError>
     ensures { IfOk result (λ job. begins (slash ∷ []) (string_bytes job.cwd) ≡ true) }
 {
     let mut paths = Vec::new(alloc);

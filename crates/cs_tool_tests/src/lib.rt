@@ -1,5 +1,6 @@
 //! The tests of the crates of whole tools, one module for each, and of all calls with memory refused. They call public
-//! functions alone. The libraries below are tested in `cs_tests`, and the whole program in `codesearch`.
+//! functions alone. The libraries below are tested in `cs_tests`, and the whole program in `codesearch`. A test is one
+//! question, put to a function that answers `bool`, since each assert is proved too.
 #![tactic(auto)]
 
 #[cfg(test)]

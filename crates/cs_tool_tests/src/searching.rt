@@ -1,5 +1,5 @@
 // What no clause says of searches, and rows from outside.
 pub mod indexed;
-mod reports;
+pub mod reports;
 mod stored;
 pub mod tools;

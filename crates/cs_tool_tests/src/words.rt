@@ -9,22 +9,18 @@ use cs_words::{
 };
 use std::alloc::{AllocError, Global};
 use std::process::Abort;
-use std::test::Fail;
 
-/// The words, between bars, are read so.
-fn reads(
-    rt: &(impl Abort + AllocGlobal),
-    tool: Tool,
-    text: &str,
-    want: Result<Job, WordFault>,
-) -> Result<(), Fail> {
-    let words = words_of(rt.alloc(), text, '|')?;
-    assert_eq!(rt;
-        read_words(rt.alloc(), tool, "/w", &words),
-        want,
-        "at {text:?}"
-    );
-    Ok(())
+/// Whether the words, between bars, are read so.
+fn are_read(alloc: Global, tool: Tool, text: &str, want: Result<Job, WordFault>) -> bool {
+    match words_of(alloc, text, '|') {
+        Ok(words) => read_words(alloc, tool, "/w", &words) == want,
+        Err(AllocError) => false,
+    }
+}
+
+/// The words are read so.
+fn reads(rt: &(impl Abort + AllocGlobal), tool: Tool, text: &str, want: Result<Job, WordFault>) {
+    assert!(rt; are_read(rt.alloc(), tool, text, want), "at {text:?}");
 }
 
 const FAULTS: &[(Tool, &str, WordFault)] = &[
@@ -42,16 +38,12 @@ const FAULTS: &[(Tool, &str, WordFault)] = &[
 ];
 
 #[test]
-fn refuses_words(rt: HostRuntime) -> Result<(), Fail> {
+fn refuses_words(rt: HostRuntime) {
     for (tool, text, fault) in FAULTS {
-        reads(&rt, *tool, text, Err(*fault))?;
+        reads(&rt, *tool, text, Err(*fault));
     }
-    let none = Vec::new(rt.alloc());
-    assert_eq!(rt;
-        read_words(rt.alloc(), Tool::Cgrep, "/w", &none),
-        Err(WordFault::NoPattern)
-    );
-    Ok(())
+    let none = read_words(rt.alloc(), Tool::Cgrep, "/w", &[]);
+    assert!(rt; none == Err(WordFault::NoPattern));
 }
 
 /// A job of cgrep on files, or where there are none on standard input.
@@ -60,7 +52,7 @@ fn grep_job(
     number: bool,
     pattern: &str,
     files: Option<&str>,
-) -> Result<Job, AllocError> {
+) -> Result<Job, WordFault> {
     let standard = files.is_none();
     let files = match files {
         Some(files) => words_of(alloc, files, '|')?,
@@ -84,16 +76,15 @@ const GREPS: &[(&str, bool, &str, Option<&str>)] = &[
 ];
 
 #[test]
-fn reads_words_of_cgrep(rt: HostRuntime) -> Result<(), Fail> {
+fn reads_words_of_cgrep(rt: HostRuntime) {
     for (text, number, pattern, files) in GREPS {
-        let want = grep_job(rt.alloc(), *number, pattern, *files)?;
-        reads(&rt, Tool::Cgrep, text, Ok(want))?;
+        let want = grep_job(rt.alloc(), *number, pattern, *files);
+        reads(&rt, Tool::Cgrep, text, want);
     }
-    Ok(())
 }
 
 /// A job of csearch for `x`.
-fn search_job(alloc: Global, brute: bool, file: Option<&str>) -> Result<Job, AllocError> {
+fn search_job(alloc: Global, brute: bool, file: Option<&str>) -> Result<Job, WordFault> {
     let file = match file {
         Some(file) => Some(String::from_str(alloc, file)?),
         None => None,
@@ -116,16 +107,15 @@ const SEARCHES: &[(&str, bool, Option<&str>)] = &[
 ];
 
 #[test]
-fn reads_words_of_csearch(rt: HostRuntime) -> Result<(), Fail> {
+fn reads_words_of_csearch(rt: HostRuntime) {
     for (text, brute, file) in SEARCHES {
-        let want = search_job(rt.alloc(), *brute, *file)?;
-        reads(&rt, Tool::Csearch, text, Ok(want))?;
+        let want = search_job(rt.alloc(), *brute, *file);
+        reads(&rt, Tool::Csearch, text, want);
     }
-    Ok(())
 }
 
 /// A job of cindex that walks the paths, which stand between bars.
-fn index_job(alloc: Global, reset: bool, log_skip: bool, paths: &str) -> Result<Job, AllocError> {
+fn index_job(alloc: Global, reset: bool, log_skip: bool, paths: &str) -> Result<Job, WordFault> {
     let paths = words_of(alloc, paths, '|')?;
     let cwd = String::from_str(alloc, "/w")?;
     Ok(Job::Index(IndexJob {
@@ -143,12 +133,11 @@ const INDEXES: &[(&str, bool, bool, &str)] = &[
 ];
 
 #[test]
-fn reads_words_of_cindex(rt: HostRuntime) -> Result<(), Fail> {
+fn reads_words_of_cindex(rt: HostRuntime) {
     for (text, reset, log_skip, paths) in INDEXES {
-        let want = index_job(rt.alloc(), *reset, *log_skip, paths)?;
-        reads(&rt, Tool::Cindex, text, Ok(want))?;
+        let want = index_job(rt.alloc(), *reset, *log_skip, paths);
+        reads(&rt, Tool::Cindex, text, want);
     }
-    Ok(())
 }
 
 const DEEP: PatternError = PatternError {
@@ -212,23 +201,28 @@ const REFUSALS: &[(Tool, Refusal, &str, &str)] = &[
     ),
 ];
 
-#[test]
-fn prints_refusals(rt: HostRuntime) -> Result<(), Fail> {
-    for (tool, refusal, word, line) in REFUSALS {
-        assert_eq!(rt;
-            message(rt.alloc(), *tool, refusal, word)?.as_str(),
-            *line,
-            "at {refusal:?}"
-        );
+/// Whether a line is made, and is this.
+fn is(line: Result<String, AllocError>, want: &str) -> bool {
+    match line {
+        Ok(line) => line.as_str() == want,
+        Err(AllocError) => false,
     }
-    Ok(())
 }
 
 #[test]
-fn prints_what_is_left_out(rt: HostRuntime) -> Result<(), Fail> {
-    let gone = fault_line(rt.alloc(), Tool::Cindex, "/v", FileFault::Missing)?;
-    assert_eq!(rt; gone.as_str(), "cindex: /v: no such file\n");
-    let skipped = skip_line(rt.alloc(), "/s/n", Reason::Nul)?;
-    assert_eq!(rt; skipped.as_str(), "cindex: /s/n: not indexed: NUL byte\n");
-    Ok(())
+fn prints_refusals(rt: HostRuntime) {
+    for (tool, refusal, word, line) in REFUSALS {
+        let is_so = is(message(rt.alloc(), *tool, refusal, word), line);
+        assert!(rt; is_so, "at {refusal:?}");
+    }
+}
+
+#[test]
+fn prints_what_is_left_out(rt: HostRuntime) {
+    let gone = fault_line(rt.alloc(), Tool::Cindex, "/v", FileFault::Missing);
+    let skipped = skip_line(rt.alloc(), "/s/n", Reason::Nul);
+    assert!(rt;
+        is(gone, "cindex: /v: no such file\n")
+            && is(skipped, "cindex: /s/n: not indexed: NUL byte\n")
+    );
 }

@@ -1,9 +1,9 @@
 // A tree and an index, over which the tools are called one after another.
 use crate::storage::After;
 use crate::tests::{ends, runs_over};
-use cs_tree::{Item, MemSource, MemTree};
+use cs_tree::{Item, MemSource, MemTree, PutFault};
+use std::alloc::{AllocError, Global};
 use std::process::Abort;
-use std::test::Fail;
 
 /// What is put into the tree or taken away, what is called, and what is wanted then.
 #[derive(Clone, Copy, Drop)]
@@ -28,13 +28,20 @@ pub enum Step<'a> {
     Left(Option<&'a [u8]>),
 }
 
-/// Takes these steps, from an empty tree and no index.
-pub fn tells(rt: &(impl Abort + AllocGlobal), steps: &[Step<'_>]) -> Result<(), Fail> {
-    let mut desk = Desk::new(rt)?;
-    for step in steps {
-        desk.takes_step(rt, step)?;
+/// Each step is as wanted, from an empty tree and no index.
+pub fn tells(rt: &(impl Abort + AllocGlobal), steps: &[Step<'_>]) {
+    assert_eq!(rt; wrong_step(rt.alloc(), steps), Ok(None));
+}
+
+/// The place of the step that is not as wanted, where there is one.
+fn wrong_step(alloc: Global, steps: &[Step<'_>]) -> Result<Option<usize>, PutFault> {
+    let mut desk = Desk::new(alloc)?;
+    for (place, step) in steps.iter().enumerate() {
+        if !desk.takes_step(alloc, step)? {
+            return Ok(Some(place));
+        }
     }
-    Ok(())
+    Ok(None)
 }
 
 #[derive(Drop)]
@@ -45,76 +52,53 @@ pub struct Desk {
 
 impl Desk {
     /// An empty tree, and no index.
-    pub fn new(rt: &impl AllocGlobal) -> Result<Desk, Fail> {
+    pub fn new(alloc: Global) -> Result<Desk, AllocError> {
         Ok(Desk {
-            tree: MemTree::new(rt.alloc(), 7)?,
+            tree: MemTree::new(alloc, 7)?,
             index: None,
         })
     }
 
-    fn takes_step(&mut self, rt: &(impl Abort + AllocGlobal), step: &Step<'_>) -> Result<(), Fail> {
-        match step {
-            Step::Folder(path) => self.folder(path),
-            Step::File(path, text) => self.file(rt, path, text),
-            Step::Cut(path, text) => self.cut(rt, path, text),
-            Step::Denied(path) => self.item(path, Item::Denied),
-            Step::Other(path) => self.item(path, Item::Other),
+    /// Takes a step, and answers whether it is as wanted.
+    fn takes_step(&mut self, alloc: Global, step: &Step<'_>) -> Result<bool, PutFault> {
+        match *step {
+            Step::Folder(path) => self.tree.put(path, Item::Folder)?,
+            Step::File(path, text) => self.file(alloc, path, text)?,
+            Step::Cut(path, text) => self.tree.put(path, Item::Cut(text.to_vec(alloc)?))?,
+            Step::Denied(path) => self.tree.put(path, Item::Denied)?,
+            Step::Other(path) => self.tree.put(path, Item::Other)?,
             Step::Remove(path) => {
                 self.tree.remove(path);
-                Ok(())
             }
-            Step::Index(bytes) => self.set_index(rt, *bytes),
-            Step::Call(words, status, out, err) => self.call(rt, words, *status, out, err),
-            Step::Left(bytes) => {
-                assert_eq!(rt; self.index.as_deref(), *bytes);
-                Ok(())
+            Step::Index(bytes) => self.index = copied(alloc, bytes)?,
+            Step::Call(words, status, out, err) => {
+                return Ok(self.calls(alloc, words, status, out, err)?);
             }
+            Step::Left(bytes) => return Ok(self.index.as_deref() == bytes),
         }
-    }
-
-    /// Puts an item into the tree.
-    fn item(&mut self, path: &str, item: Item) -> Result<(), Fail> {
-        self.tree.put(path, item).ok().ok_or("no item")?;
-        Ok(())
-    }
-
-    /// Puts a folder into the tree.
-    pub fn folder(&mut self, path: &str) -> Result<(), Fail> {
-        self.item(path, Item::Folder)
+        Ok(true)
     }
 
     /// Puts a file into the tree.
-    pub fn file(&mut self, rt: &impl AllocGlobal, path: &str, text: &[u8]) -> Result<(), Fail> {
-        let bytes = text.to_vec(rt.alloc())?;
-        self.item(path, Item::File(bytes))
+    pub fn file(&mut self, alloc: Global, path: &str, text: &[u8]) -> Result<(), PutFault> {
+        self.tree.put(path, Item::File(text.to_vec(alloc)?))
     }
 
-    /// Puts a file into the tree whose reads fail after the text.
-    fn cut(&mut self, rt: &impl AllocGlobal, path: &str, text: &[u8]) -> Result<(), Fail> {
-        let bytes = text.to_vec(rt.alloc())?;
-        self.item(path, Item::Cut(bytes))
-    }
-
-    fn set_index(&mut self, rt: &impl AllocGlobal, bytes: Option<&[u8]>) -> Result<(), Fail> {
-        self.index = copied(rt, bytes)?;
-        Ok(())
-    }
-
-    /// Calls a tool, and does with the index what it asks.
-    fn call(
+    /// Calls a tool, does with the index what it asks, and answers whether the outputs are as wanted.
+    fn calls(
         &mut self,
-        rt: &(impl Abort + AllocGlobal),
+        alloc: Global,
         words: &[&str],
         status: u8,
         out: &str,
         err: &str,
-    ) -> Result<(), Fail> {
+    ) -> Result<bool, AllocError> {
         let mut nothing = MemSource::new(b"", 1, false);
         let want = ends(status, out, err);
         let index = self.index.as_deref();
-        let after = runs_over(rt, &mut self.tree, index, words, &mut nothing, want)?;
+        let (is_so, after) = runs_over(alloc, &mut self.tree, index, words, &mut nothing, want)?;
         self.takes(after);
-        Ok(())
+        Ok(is_so)
     }
 
     /// Does with the index what a run asks.
@@ -128,9 +112,9 @@ impl Desk {
 }
 
 /// A copy of the bytes, where there are some.
-fn copied(rt: &impl AllocGlobal, bytes: Option<&[u8]>) -> Result<Option<Vec<u8>>, Fail> {
+fn copied(alloc: Global, bytes: Option<&[u8]>) -> Result<Option<Vec<u8>>, AllocError> {
     match bytes {
-        Some(bytes) => Ok(Some(bytes.to_vec(rt.alloc())?)),
+        Some(bytes) => Ok(Some(bytes.to_vec(alloc)?)),
         None => Ok(None),
     }
 }

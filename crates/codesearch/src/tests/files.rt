@@ -1,9 +1,5 @@
 // Searches of files, in every style.
-use crate::tests::{Search, searches, tree_of};
-use cs_tree::Item;
-use std::test::Fail;
-
-const ONES: (&str, &str) = ("/t/p", "one\ntwo\none\n");
+use crate::tests::{Search, searches};
 
 const STYLES: &[Search<'static>] = &[
     (&["cgrep", "-c", "one", "/t/p"], 0, "/t/p: 2\n", ""),
@@ -20,9 +16,8 @@ const STYLES: &[Search<'static>] = &[
 ];
 
 #[test]
-fn styles(rt: HostRuntime) -> Result<(), Fail> {
-    let mut tree = tree_of(&rt, &[ONES])?;
-    searches(&rt, &mut tree, STYLES)
+fn styles(rt: HostRuntime) {
+    searches(&rt, STYLES);
 }
 
 const A_FILE_THAT_CANNOT_BE_READ_LEAVES_THE_OTHERS: &[Search<'static>] = &[
@@ -42,10 +37,6 @@ const A_FILE_THAT_CANNOT_BE_READ_LEAVES_THE_OTHERS: &[Search<'static>] = &[
 ];
 
 #[test]
-fn a_file_that_cannot_be_read_leaves_the_others(rt: HostRuntime) -> Result<(), Fail> {
-    let mut tree = tree_of(&rt, &[ONES])?;
-    let cut = b"one\ntwo\non".to_vec(rt.alloc())?;
-    tree.put("/t/c", Item::Cut(cut)).ok().ok_or("no file")?;
-    tree.put("/t/d", Item::Denied).ok().ok_or("no file")?;
-    searches(&rt, &mut tree, A_FILE_THAT_CANNOT_BE_READ_LEAVES_THE_OTHERS)
+fn a_file_that_cannot_be_read_leaves_the_others(rt: HostRuntime) {
+    searches(&rt, A_FILE_THAT_CANNOT_BE_READ_LEAVES_THE_OTHERS);
 }

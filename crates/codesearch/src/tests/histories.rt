@@ -1,7 +1,6 @@
 // Jobs of cindex one after another.
 use crate::tests::desk::Step::{Call, File, Folder, Left, Remove};
 use crate::tests::desk::{Step, tells};
-use std::test::Fail;
 
 /// `/a/b/f` read again, and `/a/bc/y` as it was first read.
 const NEIGHBOURS: &[u8; 160] =
@@ -33,8 +32,8 @@ const NEIGHBOURS_OF_A_PATH: &[Step<'static>] = &[
 ];
 
 #[test]
-fn neighbours_of_a_path(rt: HostRuntime) -> Result<(), Fail> {
-    tells(&rt, NEIGHBOURS_OF_A_PATH)
+fn neighbours_of_a_path(rt: HostRuntime) {
+    tells(&rt, NEIGHBOURS_OF_A_PATH);
 }
 
 const A_FILE_AND_A_FOLDER_IN_TURN: &[Step<'static>] = &[
@@ -54,8 +53,8 @@ const A_FILE_AND_A_FOLDER_IN_TURN: &[Step<'static>] = &[
 ];
 
 #[test]
-fn a_file_and_a_folder_in_turn(rt: HostRuntime) -> Result<(), Fail> {
-    tells(&rt, A_FILE_AND_A_FOLDER_IN_TURN)
+fn a_file_and_a_folder_in_turn(rt: HostRuntime) {
+    tells(&rt, A_FILE_AND_A_FOLDER_IN_TURN);
 }
 
 const A_PART_OF_A_PATH: &[Step<'static>] = &[
@@ -76,8 +75,8 @@ const A_PART_OF_A_PATH: &[Step<'static>] = &[
 ];
 
 #[test]
-fn a_part_of_a_path(rt: HostRuntime) -> Result<(), Fail> {
-    tells(&rt, A_PART_OF_A_PATH)
+fn a_part_of_a_path(rt: HostRuntime) {
+    tells(&rt, A_PART_OF_A_PATH);
 }
 
 const LINE: &str = "cindex: /v: no such file\n";
@@ -98,8 +97,8 @@ const A_PATH_THAT_VANISHES: &[Step<'static>] = &[
 ];
 
 #[test]
-fn a_path_that_vanishes(rt: HostRuntime) -> Result<(), Fail> {
-    tells(&rt, A_PATH_THAT_VANISHES)
+fn a_path_that_vanishes(rt: HostRuntime) {
+    tells(&rt, A_PATH_THAT_VANISHES);
 }
 
 const WORDS_OF_CINDEX: &[Step<'static>] = &[
@@ -120,6 +119,6 @@ const WORDS_OF_CINDEX: &[Step<'static>] = &[
 ];
 
 #[test]
-fn words_of_cindex(rt: HostRuntime) -> Result<(), Fail> {
-    tells(&rt, WORDS_OF_CINDEX)
+fn words_of_cindex(rt: HostRuntime) {
+    tells(&rt, WORDS_OF_CINDEX);
 }

@@ -2,7 +2,6 @@
 use crate::tests::desk::Step::{Call, Cut, Denied, File, Folder, Index, Remove};
 use crate::tests::desk::{Step, tells};
 use crate::tests::indexes::ONE_FILE;
-use std::test::Fail;
 
 const ONE_FILE_STEPS: &[Step<'static>] = &[
     Folder("/a"),
@@ -13,8 +12,8 @@ const ONE_FILE_STEPS: &[Step<'static>] = &[
 ];
 
 #[test]
-fn one_file(rt: HostRuntime) -> Result<(), Fail> {
-    tells(&rt, ONE_FILE_STEPS)
+fn one_file(rt: HostRuntime) {
+    tells(&rt, ONE_FILE_STEPS);
 }
 
 const FILES_THAT_HAVE_CHANGED: &[Step<'static>] = &[
@@ -43,8 +42,8 @@ const FILES_THAT_HAVE_CHANGED: &[Step<'static>] = &[
 ];
 
 #[test]
-fn files_that_have_changed(rt: HostRuntime) -> Result<(), Fail> {
-    tells(&rt, FILES_THAT_HAVE_CHANGED)
+fn files_that_have_changed(rt: HostRuntime) {
+    tells(&rt, FILES_THAT_HAVE_CHANGED);
 }
 
 const REPEAT: &str = "csearch: pattern at 2: stacked repeat\n";
@@ -63,8 +62,8 @@ const REFUSALS: &[Step<'static>] = &[
 ];
 
 #[test]
-fn refusals(rt: HostRuntime) -> Result<(), Fail> {
-    tells(&rt, REFUSALS)
+fn refusals(rt: HostRuntime) {
+    tells(&rt, REFUSALS);
 }
 
 const FOUND: &str = "/g/1:Google Search\n";
@@ -87,6 +86,6 @@ const PATTERNS_FOR_NAMES: &[Step<'static>] = &[
 ];
 
 #[test]
-fn patterns_for_names(rt: HostRuntime) -> Result<(), Fail> {
-    tells(&rt, PATTERNS_FOR_NAMES)
+fn patterns_for_names(rt: HostRuntime) {
+    tells(&rt, PATTERNS_FOR_NAMES);
 }

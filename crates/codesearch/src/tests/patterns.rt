@@ -1,59 +1,41 @@
 // Lines that patterns find, and lines that they don't.
-use crate::tests::runs;
-use std::process::Abort;
-use std::test::Fail;
+use crate::tests::is_right;
+use std::alloc::{AllocError, Global};
 
 /// A pattern, the lines of the input, and those that it finds.
 type Found<'a> = (&'a str, &'a str, &'a str);
 
-/// The lines of the input that each pattern finds.
-fn find(rt: &(impl Abort + AllocGlobal), each: &[Found<'_>]) -> Result<(), Fail> {
-    for (pattern, lines, found) in each {
-        let status = if found.is_empty() { 1 } else { 0 };
-        runs(rt, &[(&["cgrep", "-h", pattern], lines, status, found, "")])?;
-    }
-    Ok(())
+/// Whether the pattern finds these lines of the input.
+fn finds(alloc: Global, row: &Found<'_>) -> Result<bool, AllocError> {
+    let (pattern, lines, found) = *row;
+    let status = if found.is_empty() { 1 } else { 0 };
+    is_right(
+        alloc,
+        &(&["cgrep", "-h", pattern], lines, status, found, ""),
+    )
 }
 
-const REPEATS: &[Found<'static>] = &[
+const PATTERNS: &[Found<'static>] = &[
+    // Repeats.
     ("^a{2,3}$", "a\naa\naaa\naaaa\n", "aa\naaa\n"),
     ("a{,2}", "aa\na{,2}\n", "a{,2}\n"),
     ("", "a\n\n", "a\n\n"),
-];
-
-#[test]
-fn repeats(rt: HostRuntime) -> Result<(), Fail> {
-    find(&rt, REPEATS)
-}
-
-const FLAGS_AND_GROUPS: &[Found<'static>] = &[
+    // Flags and groups.
     ("(?i:a)b", "Ab\naB\n", "Ab\n"),
     ("a(?i)b|c", "aB\nC\nAb\n", "aB\nC\n"),
     ("(?P<n>a)(?<n>b)", "ab\nba\n", "ab\n"),
-];
-
-#[test]
-fn flags_and_groups(rt: HostRuntime) -> Result<(), Fail> {
-    find(&rt, FLAGS_AND_GROUPS)
-}
-
-const CLASSES: &[Found<'static>] = &[
+    // Classes.
     (r"\bfoo\b", "a foo\nfoo1\n", "a foo\n"),
     ("^[[:^digit:]]$", "x\n5\n", "x\n"),
     ("^[[:a]$", "[\n:\na\nb\n", "[\n:\na\n"),
-];
-
-#[test]
-fn classes(rt: HostRuntime) -> Result<(), Fail> {
-    find(&rt, CLASSES)
-}
-
-const CHARACTERS_BY_NUMBER: &[Found<'static>] = &[
+    // Characters by number.
     (r"^\xe9$", "é\ne\n", "é\n"),
     (r"^\101\08$", "A\u{0}8\nA8\n", "A\u{0}8\n"),
 ];
 
 #[test]
-fn characters_by_number(rt: HostRuntime) -> Result<(), Fail> {
-    find(&rt, CHARACTERS_BY_NUMBER)
+fn lines_are_found(rt: HostRuntime) {
+    for row in PATTERNS {
+        assert!(rt; finds(rt.alloc(), row) == Ok(true), "{:?}", row.0);
+    }
 }

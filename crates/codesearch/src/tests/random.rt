@@ -4,10 +4,8 @@ ghost use Rattle.std.specs.Prelude.{◌<◌};
 
 use crate::tests::desk::Desk;
 use crate::tests::run_in_memory;
-use cs_tree::{MemSink, MemSource};
-use std::alloc::Global;
-use std::process::Abort;
-use std::test::Fail;
+use cs_tree::{Item, MemSink, MemSource, PutFault};
+use std::alloc::{AllocError, Global};
 
 const NAMES: [&str; 3] = ["/a/b/f", "/a/b-x", "/a/g"];
 
@@ -71,14 +69,8 @@ impl Model {
     }
 
     /// The texts, in the order of their names.
-    fn texts(&self, alloc: Global) -> Result<Vec<&'static str>, Fail> {
-        let mut texts = Vec::new(alloc);
-        for at in BY_NAME {
-            if let Some(text) = self.kept[at] {
-                texts.push(text)?;
-            }
-        }
-        Ok(texts)
+    fn texts(&self) -> [Option<&'static str>; 3] {
+        [self.kept[1], self.kept[0], self.kept[2]]
     }
 
     /// Takes one of `JOBS`, and answers its status.
@@ -135,109 +127,119 @@ struct Laid {
     bytes: Vec<u8>,
     /// Where its sections begin.
     starts: Vec<usize>,
+    /// Where each of its names begins, and the end of them.
+    names: Vec<usize>,
+    /// The entries of its lists.
+    entries: Vec<u8>,
 }
 
 impl Laid {
-    fn new(alloc: Global) -> Result<Laid, Fail> {
-        Ok(Laid {
-            bytes: b"csearch index 1\n".to_vec(alloc)?,
+    fn new(alloc: Global) -> Laid {
+        Laid {
+            bytes: Vec::new(alloc),
             starts: Vec::new(alloc),
-        })
+            names: Vec::new(alloc),
+            entries: Vec::new(alloc),
+        }
     }
 
     /// Begins a section, and answers where.
-    fn begin(&mut self) -> Result<usize, Fail> {
+    fn begin(&mut self) -> Result<usize, AllocError> {
         let start = self.bytes.len();
         self.starts.push(start)?;
         Ok(start)
     }
 
     /// How many bytes are laid from a place on.
-    fn since(&self, start: usize) -> Result<usize, Fail> {
-        Ok(self.bytes.len().checked_sub(start).ok_or("offset")?)
+    fn since(&self, start: usize) -> usize {
+        self.bytes.len().saturating_sub(start)
     }
 
-    fn lay_paths(&mut self, model: &Model) -> Result<(), Fail> {
+    fn lay_paths(&mut self, model: &Model) -> Result<(), AllocError> {
         let _start = self.begin()?;
         for (path, remains) in PATHS.iter().zip(model.paths()) {
             if remains {
                 string(&mut self.bytes, path)?;
             }
         }
-        self.bytes.push(0)?;
-        Ok(())
+        Ok(self.bytes.push(0)?)
     }
 
-    /// Lays the names, and answers where each of them begins, and the end.
-    fn lay_names(&mut self, alloc: Global, model: &Model) -> Result<Vec<usize>, Fail> {
+    fn lay_names(&mut self, model: &Model) -> Result<(), AllocError> {
         let start = self.begin()?;
-        let mut offsets = Vec::new(alloc);
         for at in BY_NAME {
             if model.kept[at].is_some() {
-                offsets.push(self.since(start)?)?;
+                let name = self.since(start);
+                self.names.push(name)?;
                 string(&mut self.bytes, NAMES[at])?;
             }
         }
-        offsets.push(self.since(start)?)?;
-        self.bytes.push(0)?;
-        Ok(offsets)
+        let end = self.since(start);
+        self.names.push(end)?;
+        Ok(self.bytes.push(0)?)
     }
 
-    /// Lays the lists, and answers their entries.
-    fn lay_lists(&mut self, alloc: Global, texts: &[&str]) -> Result<Vec<u8>, Fail> {
+    fn lay_lists(
+        &mut self,
+        trigrams: &[[u8; 3]],
+        texts: &[Option<&str>; 3],
+    ) -> Result<(), AllocError> {
         let start = self.begin()?;
-        let mut entries = Vec::new(alloc);
-        for trigram in trigrams(alloc, texts)? {
-            let at = self.since(start)?;
-            let count = list(&mut self.bytes, &trigram, texts)?;
-            entries.extend_from_slice(&trigram)?;
-            numbers(&mut entries, &[count, at])?;
+        for trigram in trigrams {
+            let at = self.since(start);
+            let count = list(&mut self.bytes, trigram, texts)?;
+            self.entries.extend_from_slice(trigram)?;
+            numbers(&mut self.entries, &[count, at])?;
         }
-        self.bytes.extend_from_slice(b"\xff\xff\xff\0")?;
-        Ok(entries)
+        self.bytes.extend_from_slice(b"\xff\xff\xff\0")
     }
 
     /// Lays what follows the lists.
-    fn close(&mut self, offsets: &[usize], entries: &[u8]) -> Result<(), Fail> {
+    fn close(&mut self) -> Result<(), AllocError> {
         let _start = self.begin()?;
-        numbers(&mut self.bytes, offsets)?;
+        numbers(&mut self.bytes, &self.names)?;
         let _start = self.begin()?;
-        self.bytes.extend_from_slice(entries)?;
+        self.bytes.extend_from_slice(&self.entries)?;
         numbers(&mut self.bytes, &self.starts)?;
-        self.bytes.extend_from_slice(b"\ncsearch trailr\n")?;
-        Ok(())
+        self.bytes.extend_from_slice(b"\ncsearch trailr\n")
+    }
+
+    /// Lays the index of a model, whose texts have these trigrams.
+    fn lay(&mut self, model: &Model, trigrams: &[[u8; 3]]) -> Result<(), AllocError> {
+        self.bytes.extend_from_slice(b"csearch index 1\n")?;
+        self.lay_paths(model)?;
+        self.lay_names(model)?;
+        self.lay_lists(trigrams, &model.texts())?;
+        self.close()
     }
 }
 
 /// The index of a model.
-fn image(alloc: Global, model: &Model) -> Result<Vec<u8>, Fail> {
-    let mut laid = Laid::new(alloc)?;
-    laid.lay_paths(model)?;
-    let offsets = laid.lay_names(alloc, model)?;
-    let entries = laid.lay_lists(alloc, &model.texts(alloc)?)?;
-    laid.close(&offsets, &entries)?;
+fn image(alloc: Global, model: &Model) -> Result<Vec<u8>, AllocError> {
+    let trigrams = trigrams(alloc, &model.texts())?;
+    let mut laid = Laid::new(alloc);
+    laid.lay(model, &trigrams)?;
     Ok(laid.bytes)
 }
 
-fn string(bytes: &mut Vec<u8>, text: &str) -> Result<(), Fail> {
+fn string(bytes: &mut Vec<u8>, text: &str) -> Result<(), AllocError> {
     bytes.extend_from_slice(text.as_bytes())?;
-    bytes.push(0)?;
-    Ok(())
+    Ok(bytes.push(0)?)
 }
 
-fn numbers(bytes: &mut Vec<u8>, values: &[usize]) -> Result<(), Fail> {
+fn numbers(bytes: &mut Vec<u8>, values: &[usize]) -> Result<(), AllocError> {
     for value in values {
-        let value = u32::try_from(*value).ok().ok_or("large")?;
+        let value = u32::try_from(*value).unwrap_or(u32::MAX);
         bytes.extend_from_slice(&value.to_be_bytes())?;
     }
     Ok(())
 }
 
 /// The trigrams of all texts, ascending.
-fn trigrams(alloc: Global, texts: &[&str]) -> Result<Vec<[u8; 3]>, Fail> {
+fn trigrams(alloc: Global, texts: &[Option<&str>; 3]) -> Result<Vec<[u8; 3]>, AllocError> {
     let mut all = Vec::new(alloc);
     for text in texts {
-        for window in text.as_bytes().windows(3) {
+        for window in text.unwrap_or("").as_bytes().windows(3) {
             if let [a, b, c] = window {
                 all.push([*a, *b, *c])?;
             }
@@ -249,11 +251,18 @@ fn trigrams(alloc: Global, texts: &[&str]) -> Result<Vec<[u8; 3]>, Fail> {
 }
 
 /// Lays the list of a trigram, and answers how many texts have it.
-fn list(bytes: &mut Vec<u8>, trigram: &[u8; 3], texts: &[&str]) -> Result<usize, Fail> {
+fn list(
+    bytes: &mut Vec<u8>,
+    trigram: &[u8; 3],
+    texts: &[Option<&str>; 3],
+) -> Result<usize, AllocError> {
     bytes.extend_from_slice(trigram)?;
     let mut count = 0usize;
     let mut delta = 0u8;
     for text in texts {
+        let Some(text) = text else {
+            continue;
+        };
         delta = delta.saturating_add(1);
         if has(text, trigram) {
             bytes.push(delta)?;
@@ -272,13 +281,13 @@ fn has(text: &str, trigram: &[u8; 3]) -> bool {
 
 /// Puts texts into the tree, and takes away the files that have none.
 fn set_files(
-    rt: &impl AllocGlobal,
+    alloc: Global,
     desk: &mut Desk,
     texts: &[Option<&'static str>; 3],
-) -> Result<(), Fail> {
+) -> Result<(), PutFault> {
     for at in 0..3 {
         match texts[at] {
-            Some(text) => desk.file(rt, NAMES[at], text.as_bytes())?,
+            Some(text) => desk.file(alloc, NAMES[at], text.as_bytes())?,
             None => {
                 desk.tree.remove(NAMES[at]);
             }
@@ -288,77 +297,72 @@ fn set_files(
 }
 
 /// Calls cindex, and answers its status; what it prints is not looked at.
-fn indexes(rt: &impl AllocGlobal, desk: &mut Desk, words: &[&str]) -> Result<u8, Fail> {
-    let alloc = rt.alloc();
-    let mut owned: Vec<String> = Vec::new(alloc);
-    for word in words {
-        owned.push(String::from_str(alloc, word)?)?;
-    }
+fn indexes(alloc: Global, desk: &mut Desk, words: &[&str]) -> Result<u8, AllocError> {
     let mut input = MemSource::new(b"", 1, false);
     let mut out = MemSink::new(alloc, 1000);
     let mut err = MemSink::new(alloc, 1000);
     let ran = run_in_memory(
         alloc,
-        &owned,
+        words,
         desk.index.as_deref(),
         &mut desk.tree,
         &mut input,
         &mut out,
         &mut err,
-    );
+    )?;
     desk.takes(ran.index);
     Ok(ran.status)
 }
 
-/// One job over new texts, at the desk and in the model.
-fn job(
-    rt: &(impl Abort + AllocGlobal),
+/// Whether the index is that of the model, where the model has one.
+fn is_wanted(alloc: Global, index: Option<&[u8]>, model: &Model) -> Result<bool, AllocError> {
+    if model.is_empty() {
+        return Ok(index.is_none());
+    }
+    let wanted = image(alloc, model)?;
+    Ok(index == Some(wanted.as_slice()))
+}
+
+/// One job over new texts: whether it is at the desk what it is in the model.
+fn job_agrees(
+    alloc: Global,
     chance: &mut Chance,
     desk: &mut Desk,
     model: &mut Model,
-) -> Result<(), Fail> {
+) -> Result<bool, PutFault> {
     let texts = [
         TEXTS[chance.below(4)],
         TEXTS[chance.below(4)],
         TEXTS[chance.below(4)],
     ];
-    set_files(rt, desk, &texts)?;
+    set_files(alloc, desk, &texts)?;
     let job = chance.below(5);
-    let status = indexes(rt, desk, JOBS[job])?;
-    assert_eq!(rt; status, model.takes(job, &texts));
-    let wanted = wanted(rt.alloc(), model)?;
-    assert_eq!(rt; desk.index.as_deref(), wanted.as_deref());
-    Ok(())
+    let status = indexes(alloc, desk, JOBS[job])?;
+    Ok(status == model.takes(job, &texts) && is_wanted(alloc, desk.index.as_deref(), model)?)
 }
 
-/// The index of a model, where it has one.
-fn wanted(alloc: Global, model: &Model) -> Result<Option<Vec<u8>>, Fail> {
-    if model.is_empty() {
-        return Ok(None);
-    }
-    Ok(Some(image(alloc, model)?))
-}
-
-/// Three jobs over trees that change.
-fn history(rt: &(impl Abort + AllocGlobal), chance: &mut Chance) -> Result<(), Fail> {
-    let mut desk = Desk::new(rt)?;
-    desk.folder("/a")?;
-    desk.folder("/a/b")?;
+/// Whether three jobs over trees that change agree with the model.
+fn history_agrees(alloc: Global, chance: &mut Chance) -> Result<bool, PutFault> {
+    let mut desk = Desk::new(alloc)?;
+    desk.tree.put("/a", Item::Folder)?;
+    desk.tree.put("/a/b", Item::Folder)?;
     let mut model = Model {
         given: [false; 3],
         kept: [None; 3],
     };
     for _ in 0..3 {
-        job(rt, chance, &mut desk, &mut model)?;
+        if !job_agrees(alloc, chance, &mut desk, &mut model)? {
+            return Ok(false);
+        }
     }
-    Ok(())
+    Ok(true)
 }
 
 #[test]
-fn a_thousand_histories(rt: HostRuntime) -> Result<(), Fail> {
+fn a_thousand_histories(rt: HostRuntime) {
     let mut chance = Chance { state: 2012 };
-    for _ in 0..1000 {
-        history(&rt, &mut chance)?;
+    for at in 0..1000 {
+        let agrees = history_agrees(rt.alloc(), &mut chance) == Ok(true);
+        assert!(rt; agrees, "history {at}");
     }
-    Ok(())
 }

@@ -1,32 +1,8 @@
 // What is refused, with its line and status 2.
-use crate::tests::{Run, runs};
-use std::process::Abort;
-use std::test::Fail;
+use crate::tests::{Run, is_right, runs};
+use std::alloc::{AllocError, Global};
 
 const FIRST: &str = "codesearch: first word must be cindex, csearch or cgrep\n";
-
-/// A pattern that is refused, and the words that say why.
-fn refuses(rt: &(impl Abort + AllocGlobal), pattern: &str, why: &str) -> Result<(), Fail> {
-    let line = format!(in rt.alloc(); "cgrep: pattern at {why}\n")?;
-    runs(rt, &[(&["cgrep", pattern], "a\n", 2, "", line.as_str())])
-}
-
-/// The same for each of these.
-fn each_is_refused(rt: &(impl Abort + AllocGlobal), rows: &[(&str, &str)]) -> Result<(), Fail> {
-    for (pattern, why) in rows {
-        refuses(rt, pattern, why)?;
-    }
-    Ok(())
-}
-
-/// A text so many times over.
-fn times(rt: &(impl Abort + AllocGlobal), text: &str, n: usize) -> Result<String, Fail> {
-    let mut all = String::new(rt.alloc());
-    for _i in 0..n {
-        all.push_str(text)?;
-    }
-    Ok(all)
-}
 
 const THE_FIRST_WORD: &[Run<'static>] = &[
     (&["grep", "x"], "x\n", 2, "", FIRST),
@@ -35,11 +11,18 @@ const THE_FIRST_WORD: &[Run<'static>] = &[
 ];
 
 #[test]
-fn the_first_word(rt: HostRuntime) -> Result<(), Fail> {
-    runs(&rt, THE_FIRST_WORD)
+fn the_first_word(rt: HostRuntime) {
+    runs(&rt, THE_FIRST_WORD);
 }
 
-const FAULTS_OF_ITEMS: &[(&str, &str)] = &[
+/// Whether a pattern is refused with these words, which say where and why.
+fn is_refused(alloc: Global, pattern: &str, why: &str) -> Result<bool, AllocError> {
+    let line = format!(in alloc; "cgrep: pattern at {why}\n")?;
+    is_right(alloc, &(&["cgrep", pattern], "a\n", 2, "", line.as_str()))
+}
+
+const FAULTS: &[(&str, &str)] = &[
+    // Of items.
     ("a**", "2: stacked repeat"),
     ("*a", "0: nothing to repeat"),
     ("(*a)", "1: nothing to repeat"),
@@ -48,14 +31,7 @@ const FAULTS_OF_ITEMS: &[(&str, &str)] = &[
     ("(a", "0: group not closed"),
     ("a)", "1: unexpected )"),
     ("(?z)", "0: bad group"),
-];
-
-#[test]
-fn faults_of_items(rt: HostRuntime) -> Result<(), Fail> {
-    each_is_refused(&rt, FAULTS_OF_ITEMS)
-}
-
-const FAULTS_OF_CLASSES_AND_ESCAPES: &[(&str, &str)] = &[
+    // Of classes and escapes.
     ("[a", "0: class not closed"),
     ("[b-a]", "1: bad range"),
     (r"\8", "0: bad escape"),
@@ -65,19 +41,48 @@ const FAULTS_OF_CLASSES_AND_ESCAPES: &[(&str, &str)] = &[
 ];
 
 #[test]
-fn faults_of_classes_and_escapes(rt: HostRuntime) -> Result<(), Fail> {
-    each_is_refused(&rt, FAULTS_OF_CLASSES_AND_ESCAPES)
+fn faults_of_patterns(rt: HostRuntime) {
+    for (pattern, why) in FAULTS {
+        assert!(rt;
+            is_refused(rt.alloc(), pattern, why) == Ok(true),
+            "{pattern:?}"
+        );
+    }
 }
 
-#[test]
-fn faults_of_size(rt: HostRuntime) -> Result<(), Fail> {
-    for (text, n, why) in [
-        ("(", 201, "200: nested too deep"),
-        ("(a{1000}){20}", 1, "0: pattern too large"),
-        ("a", 10000, "0: pattern too large"),
-    ] {
-        refuses(&rt, times(&rt, text, n)?.as_str(), why)?;
+/// A text so many times over.
+fn times(alloc: Global, text: &str, n: usize) -> Result<String, AllocError> {
+    let mut all = String::new(alloc);
+    for _ in 0..n {
+        all.push_str(text)?;
     }
-    let pattern = times(&rt, "a", 9999)?;
-    runs(&rt, &[(&["cgrep", pattern.as_str()], "a\n", 1, "", "")])
+    Ok(all)
+}
+
+/// Whether the text so many times over is refused as a pattern.
+fn is_too_much(alloc: Global, text: &str, n: usize, why: &str) -> Result<bool, AllocError> {
+    is_refused(alloc, times(alloc, text, n)?.as_str(), why)
+}
+
+/// Whether the largest pattern of one letter is taken.
+fn takes_the_largest(alloc: Global) -> Result<bool, AllocError> {
+    let pattern = times(alloc, "a", 9999)?;
+    is_right(alloc, &(&["cgrep", pattern.as_str()], "a\n", 1, "", ""))
+}
+
+const SIZES: [(&str, usize, &str); 3] = [
+    ("(", 201, "200: nested too deep"),
+    ("(a{1000}){20}", 1, "0: pattern too large"),
+    ("a", 10000, "0: pattern too large"),
+];
+
+#[test]
+fn faults_of_size(rt: HostRuntime) {
+    for (text, n, why) in SIZES {
+        assert!(rt;
+            is_too_much(rt.alloc(), text, n, why) == Ok(true),
+            "{n} times {text:?}"
+        );
+    }
+    assert!(rt; takes_the_largest(rt.alloc()) == Ok(true));
 }

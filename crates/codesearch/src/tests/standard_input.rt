@@ -1,7 +1,7 @@
 // Searches of standard input.
 use crate::tests::{Run, ends, runs, runs_in};
 use cs_tree::{MemSource, MemTree};
-use std::test::Fail;
+use std::alloc::{AllocError, Global};
 
 const LINES: &str = "ab\nxacb\nabd";
 
@@ -26,38 +26,42 @@ const LINES_THAT_MATCH: &[Run<'static>] = &[
     (&["cgrep", "zzz"], LINES, 1, "", ""),
     (&["cgrep", ""], "", 1, "", ""),
     (&["cgrep", "^$"], "a\n\nb\n", 0, "<standard input>:\n", ""),
+    // Letters past ASCII are not folded.
+    (
+        &["cgrep", "-i", "éa"],
+        "ÉA\néA\n",
+        0,
+        "<standard input>:éA\n",
+        "",
+    ),
 ];
 
 #[test]
-fn lines_that_match(rt: HostRuntime) -> Result<(), Fail> {
-    runs(&rt, LINES_THAT_MATCH)
+fn lines_that_match(rt: HostRuntime) {
+    runs(&rt, LINES_THAT_MATCH);
 }
 
-const LETTERS_PAST_ASCII_ARE_NOT_FOLDED: &[Run<'static>] = &[(
-    &["cgrep", "-i", "éa"],
-    "ÉA\néA\n",
-    0,
-    "<standard input>:éA\n",
-    "",
-)];
-
-#[test]
-fn letters_past_ascii_are_not_folded(rt: HostRuntime) -> Result<(), Fail> {
-    runs(&rt, LETTERS_PAST_ASCII_ARE_NOT_FOLDED)
+/// Whether such a search of an input whose reads fail within a line matches, and prints this.
+fn prints(alloc: Global, words: &[&str], out: &str, err: &str) -> Result<bool, AllocError> {
+    let mut tree = MemTree::new(alloc, 1)?;
+    let mut input = MemSource::new(b"one\ntwo\non", 4, true);
+    runs_in(alloc, &mut tree, words, &mut input, ends(0, out, err))
 }
 
+const FAILED: &str = "cgrep: <standard input>: cannot be read\n";
+
+const A_FAILED_READ: [(&[&str], &str, &str); 3] = [
+    (&["cgrep", "on"], "<standard input>:one\n", FAILED),
+    (&["cgrep", "-c", "on"], "", FAILED),
+    (&["cgrep", "-l", "on"], "<standard input>\n", ""),
+];
+
 #[test]
-fn a_failed_read_leaves_the_unfinished_line(rt: HostRuntime) -> Result<(), Fail> {
-    let mut tree = MemTree::new(rt.alloc(), 1)?;
-    let failed = "cgrep: <standard input>: cannot be read\n";
-    let rows: [(&[&str], &str, &str); 3] = [
-        (&["cgrep", "on"], "<standard input>:one\n", failed),
-        (&["cgrep", "-c", "on"], "", failed),
-        (&["cgrep", "-l", "on"], "<standard input>\n", ""),
-    ];
-    for (words, out, err) in rows {
-        let mut input = MemSource::new(b"one\ntwo\non", 4, true);
-        runs_in(&rt, &mut tree, words, &mut input, ends(0, out, err))?;
+fn a_failed_read_leaves_the_unfinished_line(rt: HostRuntime) {
+    for (words, out, err) in A_FAILED_READ {
+        assert!(rt;
+            prints(rt.alloc(), words, out, err) == Ok(true),
+            "{words:?}"
+        );
     }
-    Ok(())
 }

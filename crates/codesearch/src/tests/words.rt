@@ -1,12 +1,9 @@
 // Words, by the rules of Go's package `flag`.
-use crate::tests::{Run, Search, runs, searches, tree_of};
-use crate::words::{Words, words_of};
+use crate::tests::{ONES, Run, Search, runs, searches};
+use crate::words::words_of;
+use std::alloc::{AllocError, Global};
 use std::env::FillError;
-use std::process::Abort;
 use std::rt::Env;
-use std::test::Fail;
-
-const ONES: &str = "one\ntwo\none\n";
 
 const LINE: &str = "<standard input>:a-x\n";
 
@@ -24,8 +21,8 @@ const OPTIONS: &[Run<'static>] = &[
 ];
 
 #[test]
-fn options(rt: HostRuntime) -> Result<(), Fail> {
-    runs(&rt, OPTIONS)
+fn options(rt: HostRuntime) {
+    runs(&rt, OPTIONS);
 }
 
 const FAULTS: &[Run<'static>] = &[
@@ -47,8 +44,8 @@ const FAULTS: &[Run<'static>] = &[
 ];
 
 #[test]
-fn faults(rt: HostRuntime) -> Result<(), Fail> {
-    runs(&rt, FAULTS)
+fn faults(rt: HostRuntime) {
+    runs(&rt, FAULTS);
 }
 
 const AN_OPTION_BEHIND_THE_PATTERN_IS_A_FILE: &[Search<'static>] = &[(
@@ -59,9 +56,8 @@ const AN_OPTION_BEHIND_THE_PATTERN_IS_A_FILE: &[Search<'static>] = &[(
 )];
 
 #[test]
-fn an_option_behind_the_pattern_is_a_file(rt: HostRuntime) -> Result<(), Fail> {
-    let mut tree = tree_of(&rt, &[("/t/p", ONES)])?;
-    searches(&rt, &mut tree, AN_OPTION_BEHIND_THE_PATTERN_IS_A_FILE)
+fn an_option_behind_the_pattern_is_a_file(rt: HostRuntime) {
+    searches(&rt, AN_OPTION_BEHIND_THE_PATTERN_IS_A_FILE);
 }
 
 /// Surroundings that have words alone.
@@ -89,40 +85,53 @@ impl Env for Called<'_, '_> {
     }
 }
 
-/// The words of a call that are read, and whether one behind them is no text.
+/// Whether these words of a call are read, and one behind them is no text, or there is none.
 fn reads(
-    rt: &(impl Abort + AllocGlobal),
+    alloc: Global,
     words: &[&[u8]],
     want: &[&str],
-    want_end: bool,
-) -> Result<(), Fail> {
-    let Words { text, ends_early } = words_of(rt.alloc(), &Called { words: &*words })?;
-    assert_eq!(rt; text.len(), want.len(), "of {words:?}");
-    for (word, want) in text.iter().zip(want) {
-        assert_eq!(rt; word.as_str(), *want, "of {words:?}");
+    ends_early: bool,
+) -> Result<bool, AllocError> {
+    let read = words_of(alloc, &Called { words: &*words })?;
+    let text = read.text.iter().map(|word| word.as_str());
+    Ok(text.eq(want.iter().copied()) && read.ends_early == ends_early)
+}
+
+/// The words of a call, those that are read, and whether one behind them is no text.
+const CALLS: [(&[&[u8]], &[&str], bool); 4] = [
+    (&[b"codesearch"], &[], false),
+    (
+        &[b"c", b"cgrep", b"", b"\xc3\xa9"],
+        &["cgrep", "", "\u{e9}"],
+        false,
+    ),
+    (
+        &[b"c", b"cgrep", b"x", b"a\xff", b"y"],
+        &["cgrep", "x"],
+        true,
+    ),
+    (&[b"c", b"\xe9", b"x"], &[], true),
+];
+
+#[test]
+fn words_that_are_no_text(rt: HostRuntime) {
+    for (words, want, ends_early) in CALLS {
+        let is_so = reads(rt.alloc(), words, want, ends_early) == Ok(true);
+        assert!(rt; is_so, "of {words:?}");
     }
-    assert_eq!(rt; ends_early, want_end, "of {words:?}");
-    Ok(())
 }
 
 const LONG: [u8; 1000] = [b'a'; 1000];
 
+/// Whether a long word of a call is read.
+fn reads_long(alloc: Global) -> Result<bool, AllocError> {
+    match str::from_utf8(&LONG) {
+        Ok(long) => reads(alloc, &[b"c", &LONG, b"x"], &[long, "x"], false),
+        Err(_) => Ok(false),
+    }
+}
+
 #[test]
-fn words_that_are_no_text(rt: HostRuntime) -> Result<(), Fail> {
-    reads(&rt, &[b"codesearch"], &[], false)?;
-    reads(
-        &rt,
-        &[b"c", b"cgrep", b"", "\u{e9}".as_bytes()],
-        &["cgrep", "", "\u{e9}"],
-        false,
-    )?;
-    reads(
-        &rt,
-        &[b"c", b"cgrep", b"x", b"a\xff", b"y"],
-        &["cgrep", "x"],
-        true,
-    )?;
-    reads(&rt, &[b"c", b"\xe9", b"x"], &[], true)?;
-    let long = str::from_utf8(&LONG).map_err(|_| "no text")?;
-    reads(&rt, &[b"c", &LONG, b"x"], &[long, "x"], false)
+fn a_long_word(rt: HostRuntime) {
+    assert!(rt; reads_long(rt.alloc()) == Ok(true));
 }

@@ -1,18 +1,27 @@
 // The candidates of queries over worked rows.
-use crate::fixtures::{Files, ROW, index_of, number};
+use crate::fixtures::{Files, ROW, changed, index_of, number};
 use cs_index::{Index, IndexFault};
 use cs_trigram::Query;
-use std::alloc::Global;
+use std::alloc::{AllocError, Global};
 use std::process::Abort;
 use std::test::Fail;
 
-/// A query for each of the trigrams.
-fn tris(alloc: Global, trigrams: &[&str]) -> Result<Vec<Query>, Fail> {
+/// A query for all of the queries, or for some.
+fn joined(all: bool, queries: Vec<Query>) -> Query {
+    if all {
+        Query::And(queries)
+    } else {
+        Query::Or(queries)
+    }
+}
+
+/// The query for all of the trigrams, or for some.
+fn query_of(alloc: Global, all: bool, trigrams: &[&str]) -> Result<Query, AllocError> {
     let mut queries = Vec::new(alloc);
     for trigram in trigrams {
         queries.push(Query::Tri(number(trigram.as_bytes())))?;
     }
-    Ok(queries)
+    Ok(joined(all, queries))
 }
 
 const FILES: Files<'static> = &[
@@ -21,39 +30,25 @@ const FILES: Files<'static> = &[
     ("/g/3", b"Search\n"),
 ];
 
-/// The query has just these candidates in the index.
-fn finds(
-    rt: &impl Abort,
-    alloc: Global,
-    index: &Index<'_>,
-    query: &Query,
-    want: &[u32],
-) -> Result<(), Fail> {
-    let found = index.candidates(alloc, query)?;
-    assert_eq!(rt; found.as_slice(), want);
-    Ok(())
+/// Whether the query has just these candidates in the index.
+fn finds(alloc: Global, index: &Index<'_>, query: &Query, want: &[u32]) -> bool {
+    match index.candidates(alloc, query) {
+        Ok(found) => found.as_slice() == want,
+        Err(_) => false,
+    }
 }
 
-/// The same for the trigrams, all of them or some.
-fn finds_tris(
-    rt: &impl Abort,
-    alloc: Global,
-    index: &Index<'_>,
-    all: bool,
-    trigrams: &[&str],
-    want: &[u32],
-) -> Result<(), Fail> {
-    let members = tris(alloc, trigrams)?;
-    let query = if all {
-        Query::And(members)
-    } else {
-        Query::Or(members)
-    };
-    finds(rt, alloc, index, &query, want)
+/// The same of a query that may be missing.
+fn finds_some(alloc: Global, index: &Index<'_>, query: Option<Query>, want: &[u32]) -> bool {
+    match query {
+        Some(query) => finds(alloc, index, &query, want),
+        None => false,
+    }
 }
 
 const EACH: &[&str] = &["Goo", "oog", "ogl", "gle", "Sea", "ear", "arc", "rch"];
 
+/// Whether all of the trigrams are asked for or some, these, and the candidates.
 const FOUND: &[(bool, &[&str], &[u32])] = &[
     (true, EACH, &[0]),
     (false, &["le\n", "Sea"], &[0, 1, 2]),
@@ -62,70 +57,77 @@ const FOUND: &[(bool, &[&str], &[u32])] = &[
     (true, &[], &[0, 1, 2]),
 ];
 
+/// Whether queries of one trigram, of nothing and of all have their candidates.
+fn finds_alone(alloc: Global, index: &Index<'_>) -> bool {
+    finds(alloc, index, &Query::Tri(number(b"Goo")), &[0, 1])
+        && finds(alloc, index, &Query::Tri(number(b"xyz")), &[])
+        && finds(alloc, index, &Query::Nothing, &[])
+        && finds(alloc, index, &Query::All, &[0, 1, 2])
+}
+
+/// Whether all of some queries are asked for or some, whether all of the trigrams of each are or some, these, and the
+/// candidates.
+const NESTED: &[(bool, bool, &[&[&str]], &[u32])] = &[
+    (true, false, &[&["Goo", "xyz"], &["Sea", "wxy"]], &[0]),
+    (false, true, &[&["Goo", "le\n"], &["Goo", "Sea"]], &[0, 1]),
+];
+
+/// The query for all of the members, or for some, which are queries of trigrams each.
+fn nested(
+    alloc: Global,
+    all: bool,
+    all_of_each: bool,
+    members: &[&[&str]],
+) -> Result<Query, AllocError> {
+    let mut queries = Vec::new(alloc);
+    for trigrams in members {
+        queries.push(query_of(alloc, all_of_each, trigrams)?)?;
+    }
+    Ok(joined(all, queries))
+}
+
+/// The query of each row has its candidates in the index.
+fn finds_rows(rt: &(impl Abort + AllocGlobal), index: &Index<'_>) {
+    for (all, trigrams, want) in FOUND {
+        let query = query_of(rt.alloc(), *all, trigrams).ok();
+        assert!(rt; finds_some(rt.alloc(), index, query, want), "{trigrams:?}");
+    }
+    for (all, all_of_each, members, want) in NESTED {
+        let query = nested(rt.alloc(), *all, *all_of_each, members).ok();
+        assert!(rt; finds_some(rt.alloc(), index, query, want), "{members:?}");
+    }
+}
+
 #[test]
 fn names_are_found(rt: HostRuntime) -> Result<(), Fail> {
-    let alloc = rt.alloc();
-    let bytes = index_of(alloc, &["/g"], FILES)?;
+    let bytes = index_of(rt.alloc(), &["/g"], FILES).ok_or("index")?;
     let index = Index::open(&bytes)?;
-    for (all, trigrams, want) in FOUND {
-        finds_tris(&rt, alloc, &index, *all, trigrams, want)?;
-    }
-    for (trigram, want) in [(b"Goo", [0, 1].as_slice()), (b"xyz", &[])] {
-        finds(&rt, alloc, &index, &Query::Tri(number(trigram)), want)?;
-    }
-    finds(&rt, alloc, &index, &Query::Nothing, &[])?;
-    finds(&rt, alloc, &index, &Query::All, &[0, 1, 2])
+    finds_rows(&rt, &index);
+    assert!(rt; finds_alone(rt.alloc(), &index));
+    Ok(())
 }
 
-/// Two queries of two trigrams each.
-fn two_of(alloc: Global, first: Query, second: Query) -> Result<Vec<Query>, Fail> {
-    let mut members = Vec::new(alloc);
-    members.push(first)?;
-    members.push(second)?;
-    Ok(members)
+/// Whether the list of the query is told as damaged.
+fn is_damaged(alloc: Global, index: &Index<'_>, query: &Query) -> bool {
+    index.candidates(alloc, query).err() == Some(IndexFault::BadList)
 }
 
-#[test]
-fn members_are_queries(rt: HostRuntime) -> Result<(), Fail> {
-    let alloc = rt.alloc();
-    let bytes = index_of(alloc, &["/g"], FILES)?;
-    let index = Index::open(&bytes)?;
-    let goo = Query::Or(tris(alloc, &["Goo", "xyz"])?);
-    let sea = Query::Or(tris(alloc, &["Sea", "wxy"])?);
-    finds(
-        &rt,
-        alloc,
-        &index,
-        &Query::And(two_of(alloc, goo, sea)?),
-        &[0],
-    )?;
-    let end = Query::And(tris(alloc, &["Goo", "le\n"])?);
-    let both = Query::And(tris(alloc, &["Goo", "Sea"])?);
-    finds(
-        &rt,
-        alloc,
-        &index,
-        &Query::Or(two_of(alloc, end, both)?),
-        &[0, 1],
+/// Whether each query of a damaged list tells so, and one of another list does not.
+fn tells_damage(alloc: Global, index: &Index<'_>) -> Result<bool, AllocError> {
+    let behind = query_of(alloc, true, &["xyz", "abc"])?;
+    let beside = query_of(alloc, false, &["bcd", "abc"])?;
+    Ok(
+        is_damaged(alloc, index, &Query::Tri(number(b"abc")))
+            && is_damaged(alloc, index, &behind)
+            && is_damaged(alloc, index, &beside)
+            && finds(alloc, index, &Query::Tri(number(b"bcd")), &[0]),
     )
-}
-
-/// The fault of a query.
-fn fault(alloc: Global, index: &Index<'_>, query: &Query) -> Option<IndexFault> {
-    index.candidates(alloc, query).err()
 }
 
 #[test]
 fn damage_is_found(rt: HostRuntime) -> Result<(), Fail> {
-    let alloc = rt.alloc();
-    let mut bytes = *ROW;
-    bytes[59] = 0x02;
+    let bytes = changed(ROW, &[(59, 0x02)]);
     let index = Index::open(&bytes)?;
-    let bad = Some(IndexFault::BadList);
-    assert_eq!(rt; fault(alloc, &index, &Query::Tri(number(b"abc"))), bad);
-    let behind = Query::And(tris(alloc, &["xyz", "abc"])?);
-    assert_eq!(rt; fault(alloc, &index, &behind), bad);
-    let beside = Query::Or(tris(alloc, &["bcd", "abc"])?);
-    assert_eq!(rt; fault(alloc, &index, &beside), bad);
-    finds(&rt, alloc, &index, &Query::Tri(number(b"bcd")), &[0])
+    assert!(rt; tells_damage(rt.alloc(), &index) == Ok(true));
+    Ok(())
 }

@@ -1,39 +1,28 @@
 // The order of names.
-use crate::fixtures::{ROW, UNSORTED};
+use crate::fixtures::{ROW, UNSORTED, changed};
 use cs_index::Index;
 use std::alloc::Global;
-use std::test::Fail;
 
-/// The ids in the order of their names.
-fn order_of(alloc: Global, bytes: &[u8]) -> Result<Option<Vec<u32>>, Fail> {
-    match Index::open(bytes) {
-        Ok(index) => Ok(index.order(alloc)?),
-        Err(_) => Err(Fail::from("index")),
-    }
-}
-
-/// Whether these are the ids in the order of their names.
-fn has_order(alloc: Global, bytes: &[u8], want: &[u32]) -> Result<bool, Fail> {
-    match order_of(alloc, bytes)? {
-        Some(ids) => Ok(ids.as_slice() == want),
-        None => Ok(false),
+/// Whether these are the ids in the order of their names, or there is no such order.
+fn has_order(alloc: Global, bytes: &[u8], want: Option<&[u32]>) -> bool {
+    let Ok(index) = Index::open(bytes) else {
+        return false;
+    };
+    match (index.order(alloc), want) {
+        (Ok(Some(ids)), Some(want)) => ids.as_slice() == want,
+        (Ok(None), None) => true,
+        _ => false,
     }
 }
 
 #[test]
-fn ids_by_names(rt: HostRuntime) -> Result<(), Fail> {
-    let one = has_order(rt.alloc(), ROW, &[0])?;
-    let two = has_order(rt.alloc(), UNSORTED, &[1, 0])?;
-    assert!(rt; one && two);
-    Ok(())
+fn ids_by_names(rt: HostRuntime) {
+    assert!(rt; has_order(rt.alloc(), ROW, Some(&[0])));
+    assert!(rt; has_order(rt.alloc(), UNSORTED, Some(&[1, 0])));
 }
 
 #[test]
-fn a_name_that_is_held_twice(rt: HostRuntime) -> Result<(), Fail> {
-    let mut bytes = *UNSORTED;
-    bytes[31] = b'/';
-    bytes[32] = b'z';
-    let order = order_of(rt.alloc(), &bytes)?;
-    assert!(rt; order.is_none());
-    Ok(())
+fn a_name_that_is_held_twice(rt: HostRuntime) {
+    let twice = changed(UNSORTED, &[(31, b'/'), (32, b'z')]);
+    assert!(rt; has_order(rt.alloc(), &twice, None));
 }

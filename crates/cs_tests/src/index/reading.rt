@@ -1,7 +1,5 @@
 // The reader over worked rows.
-ghost use Rattle.std.specs.Prelude.{◌<◌};
-
-use crate::fixtures::{ROW, UNSORTED};
+use crate::fixtures::{ROW, UNSORTED, changed};
 use cs_index::{Index, IndexFault, Postings, Texts};
 
 /// The path `/a` and no name.
@@ -115,36 +113,27 @@ fn opens_so(bytes: &[u8], want: &Wanted) -> bool {
     }
 }
 
-const CHANGES: &[(usize, u8, Option<IndexFault>)] = &[
-    (0, 0x00, Some(IndexFault::BadMagic)),
-    (121, 0x00, Some(IndexFault::BadTrailer)),
-    (89, 0x11, Some(IndexFault::BadOffsets)),
-    (16, 0x00, Some(IndexFault::BadPaths)),
-    (20, 0xff, Some(IndexFault::BadNames)),
-    (48, 0x01, Some(IndexFault::BadNameIndex)),
-    (53, 0xff, Some(IndexFault::BadListIndex)),
-    (63, 0x10, Some(IndexFault::BadListIndex)),
-    (63, 0x0f, None),
-    (59, 0x02, None),
+/// Bytes of `ROW` that are changed, and why it is refused then. Paths come before names.
+const CHANGES: &[(&[(usize, u8)], Option<IndexFault>)] = &[
+    (&[(0, 0x00)], Some(IndexFault::BadMagic)),
+    (&[(121, 0x00)], Some(IndexFault::BadTrailer)),
+    (&[(89, 0x11)], Some(IndexFault::BadOffsets)),
+    (&[(16, 0x00)], Some(IndexFault::BadPaths)),
+    (&[(20, 0xff)], Some(IndexFault::BadNames)),
+    (&[(48, 0x01)], Some(IndexFault::BadNameIndex)),
+    (&[(53, 0xff)], Some(IndexFault::BadListIndex)),
+    (&[(63, 0x10)], Some(IndexFault::BadListIndex)),
+    (&[(63, 0x0f)], None),
+    (&[(59, 0x02)], None),
+    (&[(16, 0x00), (20, 0xff)], Some(IndexFault::BadPaths)),
 ];
 
 #[test]
 fn changed_bytes_are_refused(rt: HostRuntime) {
-    for (place, byte, want) in CHANGES {
-        let mut bytes = *ROW;
-        if let Some(changed) = bytes.get_mut(*place) {
-            *changed = *byte;
-        }
-        assert_eq!(rt; Index::open(&bytes).err(), *want, "at {place}");
+    for (changes, want) in CHANGES {
+        let bytes = changed(ROW, changes);
+        assert!(rt; Index::open(&bytes).err() == *want, "at {changes:?}");
     }
-}
-
-#[test]
-fn paths_come_before_names(rt: HostRuntime) {
-    let mut bytes = *ROW;
-    bytes[16] = 0x00;
-    bytes[20] = 0xff;
-    assert_eq!(rt; Index::open(&bytes).err(), Some(IndexFault::BadPaths));
 }
 
 /// What `ROW` answers.
@@ -160,10 +149,7 @@ const ONE_FILE: Wanted<'static> = Wanted {
 fn some_bytes_may_be_anything(rt: HostRuntime) {
     for place in [41, 52] {
         for byte in 0..=255 {
-            let mut bytes = *ROW;
-            if let Some(changed) = bytes.get_mut(place) {
-                *changed = byte;
-            }
+            let bytes = changed(ROW, &[(place, byte)]);
             assert!(rt; opens_so(&bytes, &ONE_FILE), "{byte} at {place}");
         }
     }
@@ -180,13 +166,11 @@ const TWO_FILES: Wanted<'static> = Wanted {
 /// The last offset may be any four bytes, and the NUL behind the names may be missing.
 #[test]
 fn other_writers_are_read(rt: HostRuntime) {
-    for last in [*b"\0\0\0\x0e", *b"wxyz"] {
-        let mut closed = *UNSORTED;
-        closed[53..57].copy_from_slice(&last);
-        assert!(rt; opens_so(&closed, &TWO_FILES), "with {last:?}");
-        let mut unclosed = *UNCLOSED;
-        unclosed[52..56].copy_from_slice(&last);
-        assert!(rt; opens_so(&unclosed, &TWO_FILES), "with {last:?} and no NUL");
+    for [a, b, c, d] in [*b"\0\0\0\x0e", *b"wxyz"] {
+        let closed = changed(UNSORTED, &[(53, a), (54, b), (55, c), (56, d)]);
+        assert!(rt; opens_so(&closed, &TWO_FILES), "with {a}");
+        let unclosed = changed(UNCLOSED, &[(52, a), (53, b), (54, c), (55, d)]);
+        assert!(rt; opens_so(&unclosed, &TWO_FILES), "with {a} and no NUL");
     }
 }
 
@@ -210,11 +194,8 @@ fn first_three(ids: Postings) -> [Option<Result<u32, IndexFault>>; 3] {
 }
 
 /// The first three answers of the list of `abc` in `ROW`, with another byte at the place.
-fn damaged(place: usize, byte: u8) -> Option<[Option<Result<u32, IndexFault>>; 3]>
-    requires { place < 122 }
-{
-    let mut bytes = *ROW;
-    bytes[place] = byte;
+fn damaged(place: usize, byte: u8) -> Option<[Option<Result<u32, IndexFault>>; 3]> {
+    let bytes = changed(ROW, &[(place, byte)]);
     let index = Index::open(&bytes).ok()?;
     Some(first_three(index.postings(0x616263)?))
 }
@@ -222,8 +203,8 @@ fn damaged(place: usize, byte: u8) -> Option<[Option<Result<u32, IndexFault>>; 3
 #[test]
 fn damage_is_told(rt: HostRuntime) {
     let bad = Some(Err(IndexFault::BadList));
-    assert_eq!(rt; damaged(63, 0x0f), Some([bad, None, None]));
-    assert_eq!(rt; damaged(59, 0x02), Some([Some(Ok(0)), bad, None]));
+    assert!(rt; damaged(63, 0x0f) == Some([bad, None, None]));
+    assert!(rt; damaged(59, 0x02) == Some([Some(Ok(0)), bad, None]));
 }
 
 #[test]
@@ -267,9 +248,8 @@ const VARINTS: &[(&[u8], Read, Option<Read>)] = &[
 fn varints_are_read(rt: HostRuntime) {
     for (bytes, first, second) in VARINTS {
         let ids = Postings::new(bytes, 1, 1);
-        assert_eq!(rt;
-            first_three(ids),
-            [Some(*first), *second, None],
+        assert!(rt;
+            first_three(ids) == [Some(*first), *second, None],
             "of {bytes:?}"
         );
     }

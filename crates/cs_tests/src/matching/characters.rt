@@ -2,8 +2,6 @@
 use crate::matching::plain::is_found;
 use cs_syntax::{CharSet, Node, lower};
 use std::alloc::{AllocError, Global};
-use std::process::Abort;
-use std::test::Fail;
 
 /// The line, from its start to its end, as the tree has it.
 fn whole(alloc: Global, tree: Node) -> Result<Node, AllocError> {
@@ -47,22 +45,22 @@ const ROWS: &[(&[(u32, u32)], &[u8], bool)] = &[
     (ACCENTED, b"e", false),
 ];
 
-fn takes(rt: &impl Abort, alloc: Global, row: &(&[(u32, u32)], &[u8], bool)) -> Result<(), Fail> {
-    let (ranges, line, want) = *row;
+/// Whether the line is one character of the ranges, as the lowered tree has it and as the set itself.
+fn takes(alloc: Global, ranges: &[(u32, u32)], line: &[u8]) -> Result<[bool; 2], AllocError> {
     let set = CharSet::from_ranges(alloc, ranges)?;
-    let lowered = whole(alloc, lower(alloc, &set)?)?;
-    assert_eq!(rt; is_found(&lowered, line), want, "lowered, at {line:?}");
-    let plain = whole(alloc, Node::Chars(set))?;
-    assert_eq!(rt; is_found(&plain, line), want, "at {line:?}");
-    Ok(())
+    let lowered = is_found(&whole(alloc, lower(alloc, &set)?)?, line);
+    let plain = is_found(&whole(alloc, Node::Chars(set))?, line);
+    Ok([lowered, plain])
 }
 
 #[test]
-fn takes_one_character(rt: HostRuntime) -> Result<(), Fail> {
-    for row in ROWS {
-        takes(&rt, rt.alloc(), row)?;
+fn takes_one_character(rt: HostRuntime) {
+    for (ranges, line, want) in ROWS {
+        assert!(rt;
+            takes(rt.alloc(), ranges, line) == Ok([*want; 2]),
+            "at {line:?}"
+        );
     }
-    Ok(())
 }
 
 const APART: &[(u32, u32)] = &[(0xE000, 0xE010), (97, 122), (0xD7F0, 0xDFFF)];
@@ -71,15 +69,23 @@ const JOINED: &[(u32, u32)] = &[(97, 122), (0xD7F0, 0xE010)];
 
 const OTHERS: &[(u32, u32)] = &[(0, 96), (123, 0xD7EF), (0xE011, 0x10_FFFF)];
 
+/// Whether the sets of the ranges, of all others, and of both have their runs and members.
+fn have_runs(alloc: Global) -> Result<bool, AllocError> {
+    let set = CharSet::from_ranges(alloc, APART)?;
+    let others = set.complement(alloc)?;
+    let all = others.union(alloc, &set)?;
+    Ok(
+        set.runs() == JOINED
+            && set.len() == 26 + 16 + 17
+            && others.runs() == OTHERS
+            && all.len() == 1_112_064
+            && all.contains(0xE000)
+            && !all.contains(0xD800)
+            && !all.contains(0x11_0000),
+    )
+}
+
 #[test]
-fn runs_are_maximal(rt: HostRuntime) -> Result<(), Fail> {
-    let set = CharSet::from_ranges(rt.alloc(), APART)?;
-    assert_eq!(rt; set.runs(), JOINED);
-    assert_eq!(rt; set.len(), 26 + 16 + 17);
-    let others = set.complement(rt.alloc())?;
-    assert_eq!(rt; others.runs(), OTHERS);
-    let all = others.union(rt.alloc(), &set)?;
-    assert_eq!(rt; all.len(), 1_112_064);
-    assert!(rt; all.contains(0xE000) && !all.contains(0xD800) && !all.contains(0x11_0000));
-    Ok(())
+fn runs_are_maximal(rt: HostRuntime) {
+    assert_eq!(rt; have_runs(rt.alloc()), Ok(true));
 }

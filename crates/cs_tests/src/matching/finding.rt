@@ -2,18 +2,29 @@
 use cs_match::{Matcher, Program, laws};
 use cs_syntax::parse;
 use std::alloc::{AllocError, Global};
-use std::process::Abort;
 use std::test::Fail;
 
-fn program_of(alloc: Global, pattern: &str) -> Result<Program, Fail> {
-    let pattern = parse(alloc, pattern, false).ok().ok_or("pattern")?;
-    Ok(Program::compile(alloc, &pattern)?)
+/// The program of a pattern.
+pub fn program_of(alloc: Global, pattern: &str) -> Option<Program> {
+    let pattern = parse(alloc, pattern, false).ok()?;
+    Program::compile(alloc, &pattern).ok()
 }
 
-fn found(alloc: Global, pattern: &str, line: &[u8]) -> Result<bool, Fail> {
+/// Whether a matcher of the pattern finds something in each line where that is wanted, and nothing in the others.
+fn finds(alloc: Global, pattern: &str, lines: &[(&[u8], bool)]) -> Option<bool> {
     let program = program_of(alloc, pattern)?;
-    let mut matcher = Matcher::new(alloc, &program)?;
-    Ok(matcher.is_match(line))
+    let mut matcher = Matcher::new(alloc, &program).ok()?;
+    Some(answers(&mut matcher, lines))
+}
+
+/// The same of a matcher.
+fn answers(matcher: &mut Matcher<'_>, lines: &[(&[u8], bool)]) -> bool {
+    for (line, want) in lines {
+        if matcher.is_match(line) != *want {
+            return false;
+        }
+    }
+    true
 }
 
 const ROWS: &[(&str, &str, bool)] = &[
@@ -67,16 +78,14 @@ const ROWS: &[(&str, &str, bool)] = &[
 ];
 
 #[test]
-fn rows_of_patterns_and_lines(rt: HostRuntime) -> Result<(), Fail> {
+fn rows_of_patterns_and_lines(rt: HostRuntime) {
     laws::finding_is_decided();
     for (pattern, line, want) in ROWS {
-        assert_eq!(rt;
-            found(rt.alloc(), pattern, line.as_bytes())?,
-            *want,
+        assert!(rt;
+            finds(rt.alloc(), pattern, &[(line.as_bytes(), *want)]) == Some(true),
             "{pattern} in {line}"
         );
     }
-    Ok(())
 }
 
 /// Patterns, lines of bytes, and whether something is found.
@@ -101,40 +110,33 @@ const ROWS_OF_BYTES: &[(&str, &[u8], bool)] = &[
 ];
 
 #[test]
-fn rows_of_patterns_and_bytes(rt: HostRuntime) -> Result<(), Fail> {
+fn rows_of_patterns_and_bytes(rt: HostRuntime) {
     for (pattern, line, want) in ROWS_OF_BYTES {
-        assert_eq!(rt;
-            found(rt.alloc(), pattern, line)?,
-            *want,
+        assert!(rt;
+            finds(rt.alloc(), pattern, &[(*line, *want)]) == Some(true),
             "{pattern} in {line:?}"
         );
     }
-    Ok(())
 }
 
-const LINES: &[(&str, bool)] = &[
-    ("ab", false),
-    ("c", false),
-    ("abbcx", true),
-    ("bc", false),
-    ("", false),
-    ("ac", true),
+const LINES: &[(&[u8], bool)] = &[
+    (b"ab", false),
+    (b"c", false),
+    (b"abbcx", true),
+    (b"bc", false),
+    (b"", false),
+    (b"ac", true),
 ];
-
-/// The matcher finds something in each line where that is wanted, and nothing in the others.
-fn finds_each(rt: &impl Abort, matcher: &mut Matcher<'_>, lines: &[(&str, bool)]) {
-    for (line, want) in lines {
-        assert_eq!(rt; matcher.is_match(line.as_bytes()), *want, "{line}");
-    }
-}
 
 /// One matcher answers for each line alone.
 #[test]
-fn lines_one_after_another(rt: HostRuntime) -> Result<(), Fail> {
-    let program = program_of(rt.alloc(), "^ab*c")?;
-    let mut matcher = Matcher::new(rt.alloc(), &program)?;
-    finds_each(&rt, &mut matcher, LINES);
-    Ok(())
+fn lines_one_after_another(rt: HostRuntime) {
+    for count in 1..7 {
+        assert!(rt;
+            finds(rt.alloc(), "^ab*c", &LINES[..count]) == Some(true),
+            "{count} lines"
+        );
+    }
 }
 
 /// Eleven letters, each of them `a` or `b`.
@@ -148,64 +150,64 @@ fn letters(number: usize) -> [u8; 11] {
     line
 }
 
-/// Of lines of such letters those are found whose second letter is the first one.
-fn finds_letters(rt: &impl Abort, matcher: &mut Matcher<'_>) {
+/// The first of such lines that is answered wrongly, or by one set of states alone: found are those whose second is `a`.
+fn wrong_line(matcher: &mut Matcher<'_>) -> Option<usize> {
     for i in 0..4096usize {
         let line = letters(if i < 2048 { i } else { 4095 - i });
-        assert_eq!(rt; matcher.is_match(&line), line[1] == b'a', "line {i}");
-        assert!(rt; matcher.state_sets() > 1);
+        if matcher.is_match(&line) != (line[1] == b'a') || matcher.state_sets() <= 1 {
+            return Some(i);
+        }
     }
+    None
 }
 
 /// More sets than the table has rows for, in ascending order and in descending order.
 #[test]
 fn more_sets_than_rows(rt: HostRuntime) -> Result<(), Fail> {
-    let program = program_of(rt.alloc(), "a(a|b){9}$")?;
+    let program = program_of(rt.alloc(), "a(a|b){9}$").ok_or("program")?;
     let mut matcher = Matcher::new(rt.alloc(), &program)?;
-    finds_letters(&rt, &mut matcher);
+    let wrong = wrong_line(&mut matcher);
+    assert!(rt; wrong.is_none(), "{wrong:?}");
     Ok(())
 }
 
-/// A text between so many of another before it and behind it.
-fn repeated(
-    alloc: Global,
-    before: &str,
-    n: usize,
-    middle: &str,
-    after: &str,
-) -> Result<String, AllocError> {
+/// So many of a text, another text, and as many of a third.
+type Repeated<'a> = (&'a str, usize, &'a str, &'a str);
+
+/// The whole text.
+fn text_of(alloc: Global, parts: &Repeated<'_>) -> Result<String, AllocError> {
+    let (before, n, middle, after) = *parts;
     let before = before.repeat(alloc, n)?;
     let after = after.repeat(alloc, n)?;
     format!(in alloc; "{before}{middle}{after}")
 }
 
+/// Whether something is found in the line, as that is wanted.
+fn finds_in(
+    alloc: Global,
+    pattern: &Repeated<'_>,
+    line: &Repeated<'_>,
+    want: bool,
+) -> Option<bool> {
+    let pattern = text_of(alloc, pattern).ok()?;
+    let line = text_of(alloc, line).ok()?;
+    finds(alloc, pattern.as_str(), &[(line.as_bytes(), want)])
+}
+
 /// Loops in one another to the parser's depth, a pattern of nearly the greatest weight, and many
 /// loops that stay open.
+const LARGE: &[(Repeated<'static>, Repeated<'static>, bool)] = &[
+    (("(", 200, "a", ")*b"), ("a", 100, "", "b"), true),
+    (("a", 9998, "", ""), ("a", 100, "", ""), false),
+    (("(a|b)*c", 20, "x", ""), ("ab", 200, "", "cc"), false),
+];
+
 #[test]
-fn large_patterns(rt: HostRuntime) -> Result<(), Fail> {
-    let nested = repeated(rt.alloc(), "(", 200, "a", ")*b")?;
-    assert!(rt;
-        found(
-            rt.alloc(),
-            nested.as_str(),
-            repeated(rt.alloc(), "a", 100, "", "b")?.as_bytes()
-        )?
-    );
-    let long = repeated(rt.alloc(), "a", 9998, "", "")?;
-    assert!(rt;
-        !found(
-            rt.alloc(),
-            long.as_str(),
-            repeated(rt.alloc(), "a", 100, "", "")?.as_bytes()
-        )?
-    );
-    let many = repeated(rt.alloc(), "(a|b)*c", 20, "x", "")?;
-    assert!(rt;
-        !found(
-            rt.alloc(),
-            many.as_str(),
-            repeated(rt.alloc(), "ab", 200, "", "cc")?.as_bytes()
-        )?
-    );
-    Ok(())
+fn large_patterns(rt: HostRuntime) {
+    for (pattern, line, want) in LARGE {
+        assert!(rt;
+            finds_in(rt.alloc(), pattern, line, *want) == Some(true),
+            "{pattern:?} in {line:?}"
+        );
+    }
 }

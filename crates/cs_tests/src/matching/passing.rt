@@ -2,12 +2,10 @@
 ghost use Rattle.std.specs.Prelude.{◌≤◌, length, drop};
 ghost use Rattle.cs_match.specs.Skipping.{AreWhole};
 
-use cs_match::{Matcher, Program};
-use cs_syntax::parse;
+use crate::matching::finding::program_of;
+use cs_match::Matcher;
 use memchr::{memchr, memrchr};
 use std::alloc::{AllocError, Global};
-use std::process::Abort;
-use std::test::Fail;
 
 /// The lines that end in the text.
 fn whole(text: &[u8]) -> &[u8]
@@ -57,33 +55,40 @@ fn hits(matcher: &mut Matcher<'_>, block: &[u8], passes: bool) -> usize
     sum
 }
 
-fn program_of(alloc: Global, pattern: &str) -> Result<Program, Fail> {
-    let pattern = parse(alloc, pattern, false).ok().ok_or("pattern")?;
-    Ok(Program::compile(alloc, &pattern)?)
+/// How a block is gone through: each line is looked at, lines are passed over, or this only to the first stop.
+#[derive(Clone, Copy)]
+enum Way {
+    Look,
+    Pass,
+    Stop,
 }
 
-/// What is found in a block, where lines are passed over or each is looked at.
-fn found(alloc: Global, pattern: &str, block: &[u8], passes: bool) -> Result<usize, Fail> {
+/// What is found in a block, as one number, or where passing stops.
+fn found(alloc: Global, pattern: &str, block: &[u8], way: Way) -> Option<usize> {
     let program = program_of(alloc, pattern)?;
-    let mut matcher = Matcher::new(alloc, &program)?;
-    Ok(hits(&mut matcher, whole(block), passes))
+    let mut matcher = Matcher::new(alloc, &program).ok()?;
+    let block = whole(block);
+    Some(match way {
+        Way::Look => hits(&mut matcher, block, false),
+        Way::Pass => hits(&mut matcher, block, true),
+        Way::Stop => matcher.skip(block, 0),
+    })
 }
 
-/// The pattern, or a branch that no line has.
-fn or_newlines(alloc: Global, pattern: &str, newlines: &str) -> Result<String, AllocError> {
-    format!(in alloc; "({pattern})|{newlines}")
+/// What is found where lines are passed over, where the pattern has a branch more, of newlines, which no line has.
+fn found_beside(alloc: Global, pattern: &str, newlines: &str, block: &[u8]) -> Option<usize> {
+    let pattern = format!(in alloc; "({pattern})|{newlines}").ok()?;
+    found(alloc, pattern.as_str(), block, Way::Pass)
 }
 
 /// What is found where each line is looked at, where lines are passed over by what the pattern has, where it has a
 /// branch without its word, and where it has one without any windows.
-pub fn each_way(alloc: Global, pattern: &str, block: &[u8]) -> Result<[usize; 4], Fail> {
-    let no_word = or_newlines(alloc, pattern, "\\n\\n\\n")?;
-    let no_windows = or_newlines(alloc, pattern, "\\n")?;
-    Ok([
-        found(alloc, pattern, block, false)?,
-        found(alloc, pattern, block, true)?,
-        found(alloc, no_word.as_str(), block, true)?,
-        found(alloc, no_windows.as_str(), block, true)?,
+pub fn each_way(alloc: Global, pattern: &str, block: &[u8]) -> Option<[usize; 4]> {
+    Some([
+        found(alloc, pattern, block, Way::Look)?,
+        found(alloc, pattern, block, Way::Pass)?,
+        found_beside(alloc, pattern, "\\n\\n\\n", block)?,
+        found_beside(alloc, pattern, "\\n", block)?,
     ])
 }
 
@@ -116,39 +121,33 @@ const LENGTHS: &[usize] = &[
     0, 1, 29, 30, 31, 62, 63, 64, 65, 66, 67, 68, 69, 70, 510, 511, 512, 513, 514,
 ];
 
-/// What is found in such lines is the same each way.
-fn finds_each_way(rt: &(impl Abort + AllocGlobal), pattern: &str, part: &str) -> Result<(), Fail> {
-    for len in LENGTHS {
-        let text = lines_with(rt.alloc(), part, *len)?;
-        let found = each_way(rt.alloc(), pattern, text.as_bytes())?;
-        assert_eq!(rt; found, [found[0]; 4], "{pattern} in lines of {len} bytes");
-    }
-    Ok(())
+/// Whether what is found in such lines is the same each way.
+fn is_same_each_way(alloc: Global, pattern: &str, part: &str, len: usize) -> Option<bool> {
+    let text = lines_with(alloc, part, len).ok()?;
+    let found = each_way(alloc, pattern, text.as_bytes())?;
+    Some(found == [found[0]; 4])
 }
 
 #[test]
-fn ways_to_pass_lines(rt: HostRuntime) -> Result<(), Fail> {
+fn ways_to_pass_lines(rt: HostRuntime) {
     for (pattern, part) in PARTS {
-        finds_each_way(&rt, pattern, part)?;
+        for len in LENGTHS {
+            assert!(rt;
+                is_same_each_way(rt.alloc(), pattern, part, *len) == Some(true),
+                "{pattern} in lines of {len} bytes"
+            );
+        }
     }
-    Ok(())
-}
-
-/// Where passing stops in a text.
-fn passed(alloc: Global, pattern: &str, text: &[u8]) -> Result<usize, Fail> {
-    let program = program_of(alloc, pattern)?;
-    let mut matcher = Matcher::new(alloc, &program)?;
-    Ok(matcher.skip(whole(text), 0))
 }
 
 /// The number of the line at which passing stops, of two lines in which nothing is found.
-fn stop(alloc: Global, pattern: &str, first: &str, second: &str) -> Result<usize, Fail> {
-    let text = format!(in alloc; "{first}\n{second}\n")?;
-    let at = passed(alloc, pattern, text.as_bytes())?;
+fn stop(alloc: Global, pattern: &str, first: &str, second: &str) -> Option<usize> {
+    let text = format!(in alloc; "{first}\n{second}\n").ok()?;
+    let at = found(alloc, pattern, text.as_bytes(), Way::Stop)?;
     if at == text.len() {
-        return Ok(2);
+        return Some(2);
     }
-    Ok(if at > first.len() { 1 } else { 0 })
+    Some(if at > first.len() { 1 } else { 0 })
 }
 
 const PASSED: &[(&str, &str, &str)] = &[
@@ -179,15 +178,13 @@ const PASSED: &[(&str, &str, &str)] = &[
 
 // No clause says by what lines are passed: that shows where a line has the word or a window, and nothing is found.
 #[test]
-fn what_lines_are_passed_by(rt: HostRuntime) -> Result<(), Fail> {
+fn what_lines_are_passed_by(rt: HostRuntime) {
     for (pattern, passed, stopped) in PASSED {
-        let line = stop(rt.alloc(), pattern, passed, stopped)?;
-        assert_eq!(rt; line, 1, "{pattern:?} over {passed:?} and {stopped:?}");
+        assert!(rt;
+            stop(rt.alloc(), pattern, passed, stopped) == Some(1),
+            "{pattern:?} over {passed:?} and {stopped:?}"
+        );
     }
     // The table.
-    assert_eq!(rt;
-        stop(rt.alloc(), "(static.*struct)|\\n", "static", "struct")?,
-        2
-    );
-    Ok(())
+    assert!(rt; stop(rt.alloc(), "(static.*struct)|\\n", "static", "struct") == Some(2));
 }

@@ -20,25 +20,25 @@ fn bit_of(trigram: u32) -> usize {
 }
 
 /// Gives the trigram to the files that have the ids.
-fn give(files: &mut [File<'_>], trigram: u32, ids: Postings<'_>) -> Result<(), Fail> {
+fn give(files: &mut [File<'_>], trigram: u32, ids: Postings<'_>) -> Option<()> {
     for id in ids {
-        let file = files.get_mut(id? as usize).ok_or("id")?;
+        let file = files.get_mut(id.ok()? as usize)?;
         file.1 |= bit_of(trigram);
     }
-    Ok(())
+    Some(())
 }
 
 /// The files of an index, in the order of their ids.
-fn files_of<'a>(alloc: Global, index: &Index<'a>) -> Result<Vec<File<'a>>, Fail> {
+fn files_of<'a>(alloc: Global, index: &Index<'a>) -> Option<Vec<File<'a>>> {
     let mut files = Vec::new(alloc);
     for name in index.names() {
-        files.push((name, 0))?;
+        files.push((name, 0)).ok()?;
     }
     for place in 0..index.lists() {
-        let (trigram, ids) = index.list_at(place).ok_or("list")?;
+        let (trigram, ids) = index.list_at(place)?;
         give(&mut files, trigram, ids)?;
     }
-    Ok(files)
+    Some(files)
 }
 
 /// Whether one of the paths covers the name.
@@ -52,63 +52,60 @@ fn is_covered(paths: Texts<'_>, name: &str) -> bool {
 }
 
 /// The files of both: all newer ones, and the old ones that no newer path covers.
-fn files_of_both<'a>(
-    alloc: Global,
-    old: &Index<'a>,
-    newer: &Index<'a>,
-) -> Result<Vec<File<'a>>, Fail> {
-    let mut files = files_of(alloc, old)?;
-    files.retain(|file| !is_covered(newer.paths(), file.0));
-    for file in files_of(alloc, newer)? {
-        files.push(file)?;
+fn files_of_both<'a>(alloc: Global, old: &Index<'a>, newer: &Index<'a>) -> Option<Vec<File<'a>>> {
+    let mut files = files_of(alloc, newer)?;
+    for file in files_of(alloc, old)? {
+        if !is_covered(newer.paths(), file.0) {
+            files.push(file).ok()?;
+        }
     }
     files.sort_unstable_by(|a, b| a.0.cmp(b.0));
-    Ok(files)
+    Some(files)
 }
 
 /// The paths of both, each once.
-fn paths_of_both<'a>(
-    alloc: Global,
-    old: &Index<'a>,
-    newer: &Index<'a>,
-) -> Result<Vec<&'a str>, Fail> {
+fn paths_of_both<'a>(alloc: Global, old: &Index<'a>, newer: &Index<'a>) -> Option<Vec<&'a str>> {
     let mut paths = Vec::new(alloc);
     for path in old.paths() {
-        paths.push(path)?;
+        paths.push(path).ok()?;
     }
     for path in newer.paths() {
         if !is_covered(old.paths(), path) {
-            paths.push(path)?;
+            paths.push(path).ok()?;
         }
     }
     paths.sort_unstable_by(|a, b| a.cmp(b));
-    Ok(paths)
+    Some(paths)
 }
 
 /// The index of the files of both.
-fn rebuilt(alloc: Global, old: &Index<'_>, newer: &Index<'_>) -> Result<Vec<u8>, Fail> {
-    let mut builder = builder_of(alloc, &paths_of_both(alloc, old, newer)?)?;
+fn rebuilt(alloc: Global, old: &Index<'_>, newer: &Index<'_>) -> Option<Vec<u8>> {
+    let mut builder = builder_of(alloc, &paths_of_both(alloc, old, newer)?).ok()?;
     for file in &files_of_both(alloc, old, newer)? {
-        let _id = add_chosen(&mut builder, file.0, file.1)?;
+        let _id = add_chosen(&mut builder, file.0, file.1).ok()?;
     }
-    Ok(builder.finish()?)
+    builder.finish().ok()
 }
 
 /// Whether two indexes are joined as they are rebuilt.
-fn is_joined(alloc: Global, old: &[u8], newer: &[u8]) -> Result<bool, Fail> {
-    let old = Index::open(old)?;
-    let newer = Index::open(newer)?;
-    Ok(merge(alloc, &old, &newer)? == rebuilt(alloc, &old, &newer)?)
+fn is_joined(alloc: Global, old: &[u8], newer: &[u8]) -> Option<bool> {
+    let old = Index::open(old).ok()?;
+    let newer = Index::open(newer).ok()?;
+    let joined = merge(alloc, &old, &newer).ok()?;
+    Some(joined == rebuilt(alloc, &old, &newer)?)
 }
 
 /// All pairs of indexes of up to three files and three trigrams, where the newer one has some of the paths.
 #[test]
 fn all_small_indexes_are_joined_as_they_are_rebuilt(rt: HostRuntime) -> Result<(), Fail> {
-    let indexes = whole_indexes(rt.alloc())?;
+    let indexes = whole_indexes(rt.alloc()).ok_or("indexes")?;
     for choice in 0..1000 {
-        let newer = partial_index(rt.alloc(), digits(choice, 10))?;
+        let newer = partial_index(rt.alloc(), digits(choice, 10)).ok_or("newer")?;
         for old in &indexes {
-            assert!(rt; is_joined(rt.alloc(), old, &newer)?, "{choice}");
+            assert!(rt;
+                is_joined(rt.alloc(), old, &newer) == Some(true),
+                "{choice}"
+            );
         }
     }
     Ok(())
@@ -143,13 +140,16 @@ fn reordered(alloc: Global, index: &[u8], order: usize) -> Result<Vec<u8>, Fail>
 /// Some of these pairs, where the names stand in any order: each index comes in all six.
 #[test]
 fn small_indexes_in_any_order_are_joined_as_they_are_rebuilt(rt: HostRuntime) -> Result<(), Fail> {
-    let indexes = whole_indexes(rt.alloc())?;
+    let indexes = whole_indexes(rt.alloc()).ok_or("indexes")?;
     for choice in 0..1000 {
-        let newer = partial_index(rt.alloc(), digits(choice, 10))?;
+        let newer = partial_index(rt.alloc(), digits(choice, 10)).ok_or("newer")?;
         for at in (choice % 29..729).step_by(29) {
             let old = reordered(rt.alloc(), indexes.get(at).ok_or("index")?, choice / 29)?;
             let newer = reordered(rt.alloc(), &newer, at)?;
-            assert!(rt; is_joined(rt.alloc(), &old, &newer)?, "{at} and {choice}");
+            assert!(rt;
+                is_joined(rt.alloc(), &old, &newer) == Some(true),
+                "{at} and {choice}"
+            );
         }
     }
     Ok(())

@@ -2,7 +2,7 @@
 ghost use Rattle.std.specs.Prelude.{◌≡◌, ◌∷◌, [], true};
 ghost use Rattle.cs_tree.specs.Cover.{begins, slash};
 
-use crate::fixtures::{bytes_of, spaced, strings};
+use crate::fixtures::{bytes_of, spaced, strings, tree_of};
 use cs_tree::{
     DiskTree, IoFault, Item, Kind, MemSink, MemSource, MemTree, PathFault, PutFault, Sink, Source,
     StdSink, StdSource, Tree, TreeFault, TreeReader, clean, covers, is_settled, read_all, reduce,
@@ -11,66 +11,56 @@ use cs_tree::{
 use std::alloc::{AllocError, Global};
 use std::io::{Read, Write};
 use std::os::unix::fs::symlink;
-use std::process::Abort;
 use std::test::*;
 use std::{fs, io};
 
-/// A source gives four bytes at most a read, and so on, and then the last answer each time.
-fn gives_pieces(rt: &impl Abort, cut: bool, last: Result<usize, IoFault>) {
+/// Whether a source gives four bytes at most a read, and so on, and then the last answer each time.
+fn gives_pieces(cut: bool, last: Result<usize, IoFault>) -> bool {
     let mut source = MemSource::new(b"one\ntwo\n", 4, cut);
     let mut buf = [0u8; 8];
-    assert_eq!(rt; source.read(&mut buf), Ok(4), "cut: {cut}");
-    assert_eq!(rt; &buf[..4], b"one\n".as_slice(), "cut: {cut}");
-    assert_eq!(rt; source.read(&mut buf[..3]), Ok(3), "cut: {cut}");
-    assert_eq!(rt; source.read(&mut buf), Ok(1), "cut: {cut}");
-    assert_eq!(rt; source.read(&mut buf), last, "cut: {cut}");
-    assert_eq!(rt; source.read(&mut buf), last, "cut: {cut}");
-    assert_eq!(rt; source.failures(), if cut { 2 } else { 0 }, "cut: {cut}");
+    source.read(&mut buf) == Ok(4)
+        && &buf[..4] == b"one\n".as_slice()
+        && source.read(&mut buf[..3]) == Ok(3)
+        && source.read(&mut buf) == Ok(1)
+        && source.read(&mut buf) == last
+        && source.read(&mut buf) == last
+        && source.failures() == if cut { 2 } else { 0 }
 }
 
-#[test]
-fn sources_in_memory(rt: HostRuntime) {
-    gives_pieces(&rt, false, Ok(0));
-    gives_pieces(&rt, true, Err(IoFault::Failed));
+/// Whether each reading of all of a cut source fails.
+fn fails_where_cut(alloc: Global) -> bool {
+    let mut cut = MemSource::new(b"abc", 2, true);
+    let failed = Some(IoFault::Failed);
+    read_all(alloc, &mut cut, 3).err() == failed
+        && read_all(alloc, &mut cut, 3).err() == failed
+        && cut.failures() == 2
 }
 
-#[test]
-fn sinks_in_memory(rt: HostRuntime) {
-    let mut sink = MemSink::new(rt.alloc(), 3);
-    assert_eq!(rt; sink.write(b"ab"), Ok(2));
-    assert_eq!(rt; sink.write(b"cd"), Ok(1));
-    assert_eq!(rt; sink.write(b"d"), Err(IoFault::Failed));
-    assert_eq!(rt; sink.write(b""), Ok(0));
-    assert_eq!(rt; sink.flush(), Ok(()));
-    assert_eq!(rt; sink.bytes(), b"abc".as_slice());
-    assert_eq!(rt; sink.failures(), 1);
+/// Whether a sink takes three bytes, and no more.
+fn takes_three(alloc: Global) -> bool {
+    let mut sink = MemSink::new(alloc, 3);
+    sink.write(b"ab") == Ok(2)
+        && sink.write(b"cd") == Ok(1)
+        && sink.write(b"d") == Err(IoFault::Failed)
+        && sink.write(b"") == Ok(0)
+        && sink.flush() == Ok(())
+        && sink.bytes() == b"abc".as_slice()
+        && sink.failures() == 1
 }
 
-/// A sink with so much room answers so, and has taken these bytes.
-fn takes_four(
-    rt: &(impl Abort + AllocGlobal),
-    room: usize,
-    answer: Result<(), IoFault>,
-    taken: &[u8],
-) {
-    let mut sink = MemSink::new(rt.alloc(), room);
-    assert_eq!(rt; write_all(&mut sink, b"abcd"), answer, "room: {room}");
-    assert_eq!(rt; sink.bytes(), taken, "room: {room}");
+/// Whether a sink with so much room answers so to four bytes, and has taken these.
+fn takes(alloc: Global, room: usize, answer: Result<(), IoFault>, taken: &[u8]) -> bool {
+    let mut sink = MemSink::new(alloc, room);
+    write_all(&mut sink, b"abcd") == answer && sink.bytes() == taken
 }
 
-#[test]
-fn all_is_written_or_a_front(rt: HostRuntime) {
-    takes_four(&rt, 4, Ok(()), b"abcd");
-    takes_four(&rt, 3, Err(IoFault::Failed), b"abc");
-}
-
-/// What is read of eight bytes to a limit.
-fn read_to(alloc: Global, limit: u16) -> Result<Vec<u8>, IoFault> {
-    read_all(
-        alloc,
-        &mut MemSource::new(b"abcdefgh", 3, false),
-        limit as usize,
-    )
+/// Whether this is read of eight bytes to a limit.
+fn is_read(alloc: Global, limit: u16, want: &[u8]) -> bool {
+    let mut source = MemSource::new(b"abcdefgh", 3, false);
+    match read_all(alloc, &mut source, limit as usize) {
+        Ok(all) => all.as_slice() == want,
+        Err(_) => false,
+    }
 }
 
 const LIMITS: &[(u16, &[u8])] = &[
@@ -81,21 +71,15 @@ const LIMITS: &[(u16, &[u8])] = &[
 ];
 
 #[test]
-fn all_is_read_to_the_limit(rt: HostRuntime) -> Result<(), Fail> {
+fn memory_is_read_and_written(rt: HostRuntime) {
+    assert!(rt; gives_pieces(false, Ok(0)) && gives_pieces(true, Err(IoFault::Failed)));
     for (limit, want) in LIMITS {
-        let all = read_to(rt.alloc(), *limit)?;
-        assert_eq!(rt; all.as_slice(), *want, "limit: {limit}");
+        assert!(rt; is_read(rt.alloc(), *limit, *want), "limit: {limit}");
     }
-    Ok(())
-}
-
-#[test]
-fn a_cut_source_is_read(rt: HostRuntime) {
-    let mut cut = MemSource::new(b"abc", 2, true);
-    let failed = Some(IoFault::Failed);
-    assert_eq!(rt; read_all(rt.alloc(), &mut cut, 3).err(), failed);
-    assert_eq!(rt; read_all(rt.alloc(), &mut cut, 3).err(), failed);
-    assert_eq!(rt; cut.failures(), 2);
+    assert!(rt; fails_where_cut(rt.alloc()));
+    assert!(rt; takes_three(rt.alloc()));
+    assert!(rt; takes(rt.alloc(), 4, Ok(()), b"abcd"));
+    assert!(rt; takes(rt.alloc(), 3, Err(IoFault::Failed), b"abc"));
 }
 
 /// A reader and writer that fails at its second call, and at its third does nothing.
@@ -134,25 +118,281 @@ impl Write for Flaky {
     }
 }
 
-#[test]
-fn a_reader_fails_in_mid_stream(rt: HostRuntime) {
+/// Whether a source tells that a read failed in mid-stream, and goes on.
+fn tells_a_failed_read() -> bool {
     let mut source = StdSource::new(Flaky { calls: 0 });
     let mut buf = [0u8; 2];
-    assert_eq!(rt; source.read(&mut buf), Ok(1));
-    assert_eq!(rt; source.read(&mut buf), Err(IoFault::Failed));
-    assert_eq!(rt; source.read(&mut buf), Ok(0));
-    assert_eq!(rt; source.failures(), 1);
+    source.read(&mut buf) == Ok(1)
+        && source.read(&mut buf) == Err(IoFault::Failed)
+        && source.read(&mut buf) == Ok(0)
+        && source.failures() == 1
+}
+
+/// Whether a sink tells that a flush and a write failed in mid-stream, and goes on.
+fn tells_failed_writes() -> bool {
+    let mut sink = StdSink::new(Flaky { calls: 0 });
+    sink.write(b"ab") == Ok(1)
+        && sink.flush() == Err(IoFault::Failed)
+        && sink.write(b"ab") == Err(IoFault::Failed)
+        && sink.write(b"") == Ok(0)
+        && sink.flush() == Ok(())
+        && sink.failures() == 2
 }
 
 #[test]
-fn a_writer_fails_in_mid_stream(rt: HostRuntime) {
-    let mut sink = StdSink::new(Flaky { calls: 0 });
-    assert_eq!(rt; sink.write(b"ab"), Ok(1));
-    assert_eq!(rt; sink.flush(), Err(IoFault::Failed));
-    assert_eq!(rt; sink.write(b"ab"), Err(IoFault::Failed));
-    assert_eq!(rt; sink.write(b""), Ok(0));
-    assert_eq!(rt; sink.flush(), Ok(()));
-    assert_eq!(rt; sink.failures(), 2);
+fn failures_in_mid_stream(rt: HostRuntime) {
+    assert!(rt; tells_a_failed_read());
+    assert!(rt; tells_failed_writes());
+}
+
+/// Reads the open file to its end, by a reader over the tree.
+fn rest_of<T: Tree>(alloc: Global, tree: &mut T) -> Result<Vec<u8>, IoFault> {
+    let mut reader = TreeReader::new(tree);
+    read_all(alloc, &mut reader, 100)
+}
+
+/// Whether the open file has these bytes behind what was read of it.
+fn has_rest<T: Tree>(alloc: Global, tree: &mut T, want: &[u8]) -> bool {
+    match rest_of(alloc, tree) {
+        Ok(rest) => rest.as_slice() == want,
+        Err(_) => false,
+    }
+}
+
+/// Whether the folder has just these names, each with a space behind it.
+fn has_names<T: Tree>(alloc: Global, tree: &mut T, path: &str, want: &str) -> bool {
+    match tree.entries(alloc, path) {
+        Ok(listing) => are_names(alloc, listing.names, want) == Ok(true),
+        Err(_) => false,
+    }
+}
+
+/// Whether these are the names in ascending order, each with a space behind it.
+fn are_names(alloc: Global, names: Vec<String>, want: &str) -> Result<bool, AllocError> {
+    let mut names = names;
+    names.sort()?;
+    Ok(spaced(alloc, &names)?.as_str() == want)
+}
+
+/// Paths, and what putting a folder there, or an item that is neither file nor folder, answers.
+const PUTS: &[(&str, Kind, Result<(), PutFault>)] = &[
+    ("/b/c", Kind::Folder, Err(PutFault::NoFolder)),
+    ("a", Kind::Folder, Err(PutFault::BadPath)),
+    ("/", Kind::Folder, Err(PutFault::BadPath)),
+    ("/a/", Kind::Folder, Err(PutFault::BadPath)),
+    ("/a/../b", Kind::Folder, Err(PutFault::BadPath)),
+    ("/a", Kind::Folder, Ok(())),
+    ("/a\0", Kind::Other, Err(PutFault::BadPath)),
+    ("/a", Kind::Other, Err(PutFault::HasEntries)),
+    ("/a/x/y", Kind::Other, Err(PutFault::NoFolder)),
+    ("/o", Kind::Other, Ok(())),
+];
+
+/// A folder, or an item that is neither file nor folder.
+fn item_of(kind: Kind) -> Item {
+    match kind {
+        Kind::Folder => Item::Folder,
+        _ => Item::Other,
+    }
+}
+
+#[test]
+fn items_are_put_and_removed(rt: HostRuntime) -> Result<(), Fail> {
+    let mut tree = tree_of(rt.alloc(), "/a", &[("/a/x", b"one\n")])?;
+    for (path, kind, answer) in PUTS {
+        assert!(rt;
+            tree.put(*path, item_of(*kind)) == *answer,
+            "{kind:?} at {path}"
+        );
+    }
+    assert!(rt; tree.put("/d", Item::Denied) == Ok(()));
+    assert!(rt; has_items(rt.alloc(), &mut tree));
+    assert!(rt; removes_items(rt.alloc(), &mut tree));
+    Ok(())
+}
+
+/// Whether the tree has the items that were put.
+fn has_items(alloc: Global, tree: &mut MemTree) -> bool {
+    has_names(alloc, tree, "/a", "x ")
+        && has_names(alloc, tree, "/", "a d o ")
+        && tree.entries(alloc, "/b").err() == Some(TreeFault::Missing)
+        && tree.kind("/a") == Ok(Kind::Folder)
+        && tree.kind("/a/x") == Ok(Kind::File)
+        && tree.kind("/o") == Ok(Kind::Other)
+        && tree.kind("/d") == Err(TreeFault::Denied)
+        && tree.failures() == 2
+}
+
+/// Whether an item goes with all below it.
+fn removes_items(alloc: Global, tree: &mut MemTree) -> bool {
+    tree.remove("/a")
+        && !tree.remove("/a")
+        && tree.kind("/a/x") == Err(TreeFault::Missing)
+        && has_names(alloc, tree, "/", "d o ")
+        && tree.remove("/")
+        && has_names(alloc, tree, "/", "")
+}
+
+/// A file, and one that is cut.
+fn two_files(alloc: Global) -> Result<MemTree, PutFault> {
+    let mut tree = MemTree::new(alloc, 3)?;
+    tree.put("/f", Item::File(bytes_of(alloc, "one\n")?))?;
+    tree.put("/c", Item::Cut(bytes_of(alloc, "two\n")?))?;
+    Ok(tree)
+}
+
+/// Whether a file is read, and then the cut one, whose last read fails.
+fn reads_both<T: Tree>(alloc: Global, tree: &mut T) -> bool {
+    let mut buf = [0u8; 8];
+    tree.read(&mut buf) == Err(TreeFault::Failed)
+        && tree.open("/f") == Ok(())
+        && has_rest(alloc, tree, b"one\n")
+        && tree.open("/c") == Ok(())
+        && tree.read(&mut buf) == Ok(3)
+        && tree.kind("/f") == Ok(Kind::File)
+        && tree.read(&mut buf) == Ok(1)
+        && &buf[..1] == b"\n".as_slice()
+        && rest_of(alloc, tree).err() == Some(IoFault::Failed)
+}
+
+/// Whether nothing is read where a folder could not be opened, or an item was to be removed.
+fn reads_nothing(tree: &mut MemTree) -> bool {
+    let mut buf = [0u8; 8];
+    tree.open("/") == Err(TreeFault::Failed)
+        && tree.read(&mut buf) == Err(TreeFault::Failed)
+        && tree.open("/f") == Ok(())
+        && !tree.remove("/g")
+        && tree.read(&mut buf) == Err(TreeFault::Failed)
+}
+
+#[test]
+fn files_are_read(rt: HostRuntime) -> Result<(), Fail> {
+    let mut tree = two_files(rt.alloc())?;
+    assert!(rt; reads_both(rt.alloc(), &mut tree) && reads_nothing(&mut tree));
+    Ok(())
+}
+
+/// Makes a folder of the real disk anew, with a file.
+fn make_folder(rt: &HostRuntime, folder: &str, file: &str, text: &str) -> Result<(), Fail> {
+    let _absent = fs::remove_dir_all(rt, folder);
+    fs::create_dir(rt, folder)?;
+    fs::write(rt, file, text)?;
+    Ok(())
+}
+
+#[test]
+fn the_real_disk(rt: HostRuntime) -> Result<(), Fail> {
+    make_folder(&rt, "cs_tree_disk_test", "cs_tree_disk_test/x", "abcd\n")?;
+    fs::create_dir(&rt, "cs_tree_disk_test/d")?;
+    assert!(rt; answers_from_the_disk(&rt)?);
+    fs::remove_dir_all(&rt, "cs_tree_disk_test")?;
+    Ok(())
+}
+
+/// Whether a tree of the disk tells of what is there, and of what is not.
+fn answers_from_the_disk(rt: &HostRuntime) -> Result<bool, Fail> {
+    let mut tree = DiskTree::new(rt.clone()?);
+    Ok(reads_the_disk(rt.alloc(), &mut tree) && fails_on_the_disk(&mut tree))
+}
+
+/// Whether what is there is read.
+fn reads_the_disk<T: Tree>(alloc: Global, tree: &mut T) -> bool {
+    tree.kind("cs_tree_disk_test") == Ok(Kind::Folder)
+        && tree.kind("cs_tree_disk_test/x") == Ok(Kind::File)
+        && has_names(alloc, tree, "cs_tree_disk_test", "d x ")
+        && tree.open("cs_tree_disk_test/x") == Ok(())
+        && has_rest(alloc, tree, b"abcd\n")
+        && tree.failures() == 0
+}
+
+/// Whether the failures for what is not there, and for a folder, are told.
+fn fails_on_the_disk<T: Tree>(tree: &mut T) -> bool {
+    tree.kind("cs_tree_disk_test/y") == Err(TreeFault::Missing)
+        && tree.kind("cs_tree_disk_test/x/y") == Err(TreeFault::Missing)
+        && tree.open("cs_tree_disk_test/y") == Err(TreeFault::Missing)
+        && tree.open("cs_tree_disk_test") == Err(TreeFault::Failed)
+        && tree.failures() == 4
+}
+
+/// What a link leads to, and where it stands.
+const LINKS: &[(&str, &str)] = &[
+    ("x", "cs_tree_link_test/file"),
+    (".", "cs_tree_link_test/circle"),
+    ("none", "cs_tree_link_test/broken"),
+    ("itself", "cs_tree_link_test/itself"),
+];
+
+#[test]
+fn links_are_neither_files_nor_folders(rt: HostRuntime) -> Result<(), Fail> {
+    make_folder(&rt, "cs_tree_link_test", "cs_tree_link_test/x", "ab\n")?;
+    for (target, path) in LINKS {
+        symlink(&rt, *target, *path)?;
+    }
+    assert_eq!(rt; answers_from_links(&rt)?, (None, true));
+    fs::remove_dir_all(&rt, "cs_tree_link_test")?;
+    Ok(())
+}
+
+/// What link a tree of the disk tells as something else, and whether it follows links.
+fn answers_from_links(rt: &HostRuntime) -> Result<(Option<&'static str>, bool), Fail> {
+    let mut tree = DiskTree::new(rt.clone()?);
+    Ok((wrong_link(&mut tree), follows_links(rt.alloc(), &mut tree)))
+}
+
+/// A link that the tree tells as something else, if there is one.
+fn wrong_link<T: Tree>(tree: &mut T) -> Option<&'static str> {
+    for (_target, path) in LINKS {
+        if tree.kind(path) != Ok(Kind::Other) {
+            return Some(*path);
+        }
+    }
+    None
+}
+
+/// Whether what is opened by its name is read through a link.
+fn follows_links<T: Tree>(alloc: Global, tree: &mut T) -> bool {
+    has_names(
+        alloc,
+        tree,
+        "cs_tree_link_test",
+        "broken circle file itself x ",
+    ) && tree.open("cs_tree_link_test/file") == Ok(())
+        && has_rest(alloc, tree, b"ab\n")
+        && tree.open("cs_tree_link_test/broken") == Err(TreeFault::Missing)
+        && tree.open("cs_tree_link_test/itself") == Err(TreeFault::Failed)
+        && tree.failures() == 2
+}
+
+/// Whether the path is cleaned so.
+fn is_cleaned(alloc: Global, folder: &str, text: &str, want: Result<&str, PathFault>) -> bool
+    requires { begins (slash ∷ []) folder.now ≡ true }
+{
+    match (clean(alloc, folder, text), want) {
+        (Ok(path), Ok(want)) => path.as_str() == want,
+        (Err(fault), Err(want)) => fault == want,
+        _ => false,
+    }
+}
+
+const CLEANED: &[(&str, &str, Result<&str, PathFault>)] = &[
+    ("/w", "a/./b/../c/", Ok("/w/a/c")),
+    ("/w", "../..", Ok("/")),
+    ("/w", "/t//x", Ok("/t/x")),
+    ("/", "a", Ok("/a")),
+    ("/w", "", Err(PathFault::Empty)),
+    ("/w", "a\0", Err(PathFault::Nul)),
+    ("/w\0", "a", Err(PathFault::Nul)),
+    ("/w\0", "/a", Ok("/a")),
+];
+
+#[test]
+fn paths_are_cleaned(rt: HostRuntime) {
+    for (folder, text, want) in CLEANED {
+        assert!(rt;
+            is_cleaned(rt.alloc(), folder, text, *want),
+            "{folder} and {text}"
+        );
+    }
 }
 
 const COVERED: &[(&str, &str, bool)] = &[
@@ -167,278 +407,14 @@ const COVERED: &[(&str, &str, bool)] = &[
 #[test]
 fn covered_names(rt: HostRuntime) {
     for (path, name, want) in COVERED {
-        assert_eq!(rt; covers(path, name), *want, "{path} and {name}");
+        assert!(rt; covers(path, name) == *want, "{path} and {name}");
     }
 }
 
-/// Reads the open file to its end, by a reader over the tree.
-fn rest_of<T: Tree>(alloc: Global, tree: &mut T) -> Result<Vec<u8>, IoFault> {
-    let mut reader = TreeReader::new(tree);
-    read_all(alloc, &mut reader, 100)
-}
-
-/// A path, and what putting a folder there, or another item, answers.
-type Put = (&'static str, Result<(), PutFault>);
-
-const FOLDERS: &[Put] = &[
-    ("/b/c", Err(PutFault::NoFolder)),
-    ("a", Err(PutFault::BadPath)),
-    ("/", Err(PutFault::BadPath)),
-    ("/a/", Err(PutFault::BadPath)),
-    ("/a/../b", Err(PutFault::BadPath)),
-    ("/a", Ok(())),
-];
-
-const OTHERS: &[Put] = &[
-    ("/a\0", Err(PutFault::BadPath)),
-    ("/a", Err(PutFault::HasEntries)),
-    ("/a/x/y", Err(PutFault::NoFolder)),
-    ("/o", Ok(())),
-];
-
-/// Puts a file.
-fn put_file(alloc: Global, tree: &mut MemTree, path: &str, text: &str) -> Result<(), Fail> {
-    tree.put(path, Item::File(bytes_of(alloc, text)?))?;
-    Ok(())
-}
-
-/// Puts items, of which some are refused.
-fn put_items(rt: &(impl Abort + AllocGlobal), tree: &mut MemTree) -> Result<(), Fail> {
-    assert_eq!(rt; tree.put("/a", Item::Folder), Ok(()));
-    put_file(rt.alloc(), tree, "/a/x", "one\n")?;
-    for (path, answer) in FOLDERS {
-        assert_eq!(rt; tree.put(path, Item::Folder), *answer, "folder {path}");
-    }
-    for (path, answer) in OTHERS {
-        assert_eq!(rt; tree.put(path, Item::Other), *answer, "other {path}");
-    }
-    assert_eq!(rt; tree.put("/d", Item::Denied), Ok(()));
-    Ok(())
-}
-
-/// The folder has just these names, each with a space behind it.
-fn has_names<T: Tree>(
-    rt: &(impl Abort + AllocGlobal),
-    tree: &mut T,
-    path: &str,
-    want: &str,
-) -> Result<(), Fail> {
-    assert_eq!(rt; names_in(rt, tree, path)?.as_str(), want, "{path}");
-    Ok(())
-}
-
-fn has_kind<T: Tree>(rt: &impl Abort, tree: &mut T, path: &str, want: Result<Kind, TreeFault>) {
-    assert_eq!(rt; tree.kind(path), want, "{path}");
-}
-
-#[test]
-fn items_are_put_and_removed(rt: HostRuntime) -> Result<(), Fail> {
-    let mut tree = MemTree::new(rt.alloc(), 1)?;
-    put_items(&rt, &mut tree)?;
-    has_items(&rt, &mut tree)?;
-    removes_items(&rt, &mut tree)
-}
-
-/// The tree has the items that were put.
-fn has_items(rt: &(impl Abort + AllocGlobal), tree: &mut MemTree) -> Result<(), Fail> {
-    has_names(rt, tree, "/a", "x ")?;
-    has_names(rt, tree, "/", "a d o ")?;
-    let missing = tree.entries(rt.alloc(), "/b").err();
-    assert_eq!(rt; missing, Some(TreeFault::Missing));
-    has_kind(rt, tree, "/a", Ok(Kind::Folder));
-    has_kind(rt, tree, "/a/x", Ok(Kind::File));
-    has_kind(rt, tree, "/o", Ok(Kind::Other));
-    has_kind(rt, tree, "/d", Err(TreeFault::Denied));
-    assert_eq!(rt; tree.failures(), 2);
-    Ok(())
-}
-
-/// An item goes with all below it.
-fn removes_items(rt: &(impl Abort + AllocGlobal), tree: &mut MemTree) -> Result<(), Fail> {
-    assert!(rt; tree.remove("/a"));
-    assert!(rt; !tree.remove("/a"));
-    has_kind(rt, tree, "/a/x", Err(TreeFault::Missing));
-    has_names(rt, tree, "/", "d o ")?;
-    assert!(rt; tree.remove("/"));
-    has_names(rt, tree, "/", "")
-}
-
-fn names_in<T: Tree>(rt: &impl AllocGlobal, tree: &mut T, path: &str) -> Result<String, Fail> {
-    let listing = tree
-        .entries(rt.alloc(), path)
-        .map_err(|_| "entries was refused")?;
-    Ok(in_order(rt.alloc(), listing.names)?)
-}
-
-/// The names in ascending order, each with a space behind it.
-fn in_order(alloc: Global, names: Vec<String>) -> Result<String, AllocError> {
-    let mut names = names;
-    names.sort()?;
-    spaced(alloc, &names)
-}
-
-/// A file, and one that is cut.
-fn two_files(alloc: Global) -> Result<MemTree, Fail> {
-    let mut tree = MemTree::new(alloc, 3)?;
-    put_file(alloc, &mut tree, "/f", "one\n")?;
-    put_cut(alloc, &mut tree, "/c", "two\n")?;
-    Ok(tree)
-}
-
-/// Puts a file whose reads fail at its end.
-fn put_cut(alloc: Global, tree: &mut MemTree, path: &str, text: &str) -> Result<(), Fail> {
-    tree.put(path, Item::Cut(bytes_of(alloc, text)?))?;
-    Ok(())
-}
-
-/// The open file has these bytes behind what was read of it.
-fn has_rest<T: Tree>(
-    rt: &(impl Abort + AllocGlobal),
-    tree: &mut T,
-    want: &[u8],
-) -> Result<(), Fail> {
-    assert_eq!(rt; rest_of(rt.alloc(), tree)?.as_slice(), want);
-    Ok(())
-}
-
-fn opens<T: Tree>(rt: &impl Abort, tree: &mut T, path: &str, want: Result<(), TreeFault>) {
-    assert_eq!(rt; tree.open(path), want, "{path}");
-}
-
-#[test]
-fn files_are_read(rt: HostRuntime) -> Result<(), Fail> {
-    let mut tree = two_files(rt.alloc())?;
-    let mut buf = [0u8; 8];
-    assert_eq!(rt; tree.read(&mut buf), Err(TreeFault::Failed));
-    opens(&rt, &mut tree, "/f", Ok(()));
-    has_rest(&rt, &mut tree, b"one\n")?;
-    opens(&rt, &mut tree, "/c", Ok(()));
-    assert_eq!(rt; tree.read(&mut buf), Ok(3));
-    has_kind(&rt, &mut tree, "/f", Ok(Kind::File));
-    assert_eq!(rt; tree.read(&mut buf), Ok(1));
-    assert_eq!(rt; &buf[..1], b"\n".as_slice());
-    assert_eq!(rt; rest_of(rt.alloc(), &mut tree).err(), Some(IoFault::Failed));
-    opens(&rt, &mut tree, "/", Err(TreeFault::Failed));
-    assert_eq!(rt; tree.read(&mut buf), Err(TreeFault::Failed));
-    opens(&rt, &mut tree, "/f", Ok(()));
-    assert!(rt; !tree.remove("/g"));
-    assert_eq!(rt; tree.read(&mut buf), Err(TreeFault::Failed));
-    Ok(())
-}
-
-/// A tree of the real disk, with a folder that is made anew.
-fn disk_with(rt: &HostRuntime, folder: &str) -> Result<DiskTree<HostRuntime>, Fail> {
-    let _absent = fs::remove_dir_all(rt, folder);
-    fs::create_dir(rt, folder)?;
-    Ok(DiskTree::new(rt.clone()?))
-}
-
-#[test]
-fn the_real_disk(rt: HostRuntime) -> Result<(), Fail> {
-    let mut tree = disk_with(&rt, "cs_tree_disk_test")?;
-    fs::create_dir(&rt, "cs_tree_disk_test/d")?;
-    fs::write(&rt, "cs_tree_disk_test/x", "abcd\n")?;
-    reads_the_disk(&rt, &mut tree)?;
-    fails_on_the_disk(&rt, &mut tree);
-    fs::remove_dir_all(&rt, "cs_tree_disk_test")?;
-    Ok(())
-}
-
-fn reads_the_disk<T: Tree>(rt: &(impl Abort + AllocGlobal), tree: &mut T) -> Result<(), Fail> {
-    has_kind(rt, tree, "cs_tree_disk_test", Ok(Kind::Folder));
-    has_kind(rt, tree, "cs_tree_disk_test/x", Ok(Kind::File));
-    has_names(rt, tree, "cs_tree_disk_test", "d x ")?;
-    opens(rt, tree, "cs_tree_disk_test/x", Ok(()));
-    has_rest(rt, tree, b"abcd\n")?;
-    assert_eq!(rt; tree.failures(), 0);
-    Ok(())
-}
-
-fn fails_on_the_disk<T: Tree>(rt: &impl Abort, tree: &mut T) {
-    let missing = TreeFault::Missing;
-    has_kind(rt, tree, "cs_tree_disk_test/y", Err(missing));
-    has_kind(rt, tree, "cs_tree_disk_test/x/y", Err(missing));
-    opens(rt, tree, "cs_tree_disk_test/y", Err(missing));
-    opens(rt, tree, "cs_tree_disk_test", Err(TreeFault::Failed));
-    assert_eq!(rt; tree.failures(), 4);
-}
-
-/// What a link leads to, and where it stands.
-const LINKS: &[(&str, &str)] = &[
-    ("x", "cs_tree_link_test/file"),
-    (".", "cs_tree_link_test/circle"),
-    ("none", "cs_tree_link_test/broken"),
-    ("itself", "cs_tree_link_test/itself"),
-];
-
-#[test]
-fn links_are_neither_files_nor_folders(rt: HostRuntime) -> Result<(), Fail> {
-    let folder = "cs_tree_link_test";
-    let mut tree = disk_with(&rt, folder)?;
-    fs::write(&rt, "cs_tree_link_test/x", "ab\n")?;
-    for (target, path) in LINKS {
-        symlink(&rt, *target, *path)?;
-        has_kind(&rt, &mut tree, path, Ok(Kind::Other));
-    }
-    follows_links(&rt, &mut tree)?;
-    fs::remove_dir_all(&rt, folder)?;
-    Ok(())
-}
-
-/// What is opened by its name is read through a link.
-fn follows_links<T: Tree>(rt: &(impl Abort + AllocGlobal), tree: &mut T) -> Result<(), Fail> {
-    has_names(
-        rt,
-        tree,
-        "cs_tree_link_test",
-        "broken circle file itself x ",
-    )?;
-    opens(rt, tree, "cs_tree_link_test/file", Ok(()));
-    has_rest(rt, tree, b"ab\n")?;
-    opens(
-        rt,
-        tree,
-        "cs_tree_link_test/broken",
-        Err(TreeFault::Missing),
-    );
-    opens(rt, tree, "cs_tree_link_test/itself", Err(TreeFault::Failed));
-    assert_eq!(rt; tree.failures(), 2);
-    Ok(())
-}
-
-/// Whether the path is cleaned so.
-fn is_cleaned(alloc: Global, folder: &str, text: &str, want: Result<&str, PathFault>) -> bool
-    requires { begins (slash ∷ []) folder.now ≡ true }
-{
-    match (clean(alloc, folder, text), want) {
-        (Ok(path), Ok(want)) => path.as_str() == want,
-        (Err(fault), Err(want)) => fault == want,
-        _ => false,
-    }
-}
-
-#[test]
-fn paths_are_cleaned(rt: HostRuntime) {
-    for (folder, text, want) in [
-        ("/w", "a/./b/../c/", Ok("/w/a/c")),
-        ("/w", "../..", Ok("/")),
-        ("/w", "/t//x", Ok("/t/x")),
-        ("/", "a", Ok("/a")),
-        ("/w", "", Err(PathFault::Empty)),
-        ("/w", "a\0", Err(PathFault::Nul)),
-        ("/w\0", "a", Err(PathFault::Nul)),
-        ("/w\0", "/a", Ok("/a")),
-    ] {
-        assert!(rt;
-            is_cleaned(rt.alloc(), folder, text, want),
-            "{folder} and {text}"
-        );
-    }
-}
-
-/// What is left of the paths.
-fn reduced(alloc: Global, paths: &[&str]) -> Result<Vec<String>, Fail> {
-    Ok(reduce(alloc, &strings(alloc, paths)?)?)
+/// Whether just these of the paths are left.
+fn are_reduced(alloc: Global, paths: &[&str], want: &[&str]) -> Result<bool, AllocError> {
+    let kept = reduce(alloc, &strings(alloc, paths)?)?;
+    Ok(kept == strings(alloc, want)?)
 }
 
 const REDUCED: &[(&[&str], &[&str])] = &[
@@ -453,12 +429,13 @@ const REDUCED: &[(&[&str], &[&str])] = &[
 ];
 
 #[test]
-fn paths_are_reduced(rt: HostRuntime) -> Result<(), Fail> {
+fn paths_are_reduced(rt: HostRuntime) {
     for (paths, want) in REDUCED {
-        let kept = reduced(rt.alloc(), paths)?;
-        assert_eq!(rt; kept, strings(rt.alloc(), want)?, "{paths:?}");
+        assert!(rt;
+            are_reduced(rt.alloc(), paths, want) == Ok(true),
+            "{paths:?}"
+        );
     }
-    Ok(())
 }
 
 const SETTLED: &[(&str, bool)] = &[
@@ -478,6 +455,6 @@ const SETTLED: &[(&str, bool)] = &[
 #[test]
 fn settled_paths(rt: HostRuntime) {
     for (path, want) in SETTLED {
-        assert_eq!(rt; is_settled(path), *want, "{path:?}");
+        assert!(rt; is_settled(path) == *want, "{path:?}");
     }
 }

@@ -1,38 +1,31 @@
 // What walks find: the rows of the documents, and trees that fail.
 use crate::fixtures::{Files, bytes_of, spaced, strings, tree_of};
-use cs_tree::{Item, Kind, Listing, MemTree, Tree, TreeFault, WalkFault, Walked, walk};
+use cs_tree::{Item, Kind, Listing, MemTree, PutFault, Tree, TreeFault, WalkFault, Walked, walk};
 use std::alloc::{AllocError, Global};
-use std::process::Abort;
 use std::test::*;
 
 fn walk_from<T: Tree>(alloc: Global, tree: &mut T, paths: &[&str]) -> Result<Walked, AllocError> {
     walk(alloc, tree, &strings(alloc, paths)?)
 }
 
-/// A walk from the paths comes to just these names, each with a space behind it, and these faults.
+/// Whether a walk from the paths comes to just these names, each with a space behind it, and these faults.
 fn walks_to<T: Tree>(
-    rt: &(impl Abort + AllocGlobal),
+    alloc: Global,
     tree: &mut T,
     paths: &[&str],
     names: &str,
     faults: &[(&str, WalkFault)],
-) -> Result<(), Fail> {
-    let walked = walk_from(rt.alloc(), tree, paths)?;
-    assert_eq!(rt;
-        spaced(rt.alloc(), &walked.names)?.as_str(),
-        names,
-        "from {paths:?}"
-    );
-    assert!(rt; are_faults(&walked.faults, faults), "from {paths:?}");
-    Ok(())
+) -> Result<bool, AllocError> {
+    let walked = walk_from(alloc, tree, paths)?;
+    Ok(spaced(alloc, &walked.names)?.as_str() == names && are_faults(&walked.faults, faults))
 }
 
 fn are_faults(faults: &[(String, WalkFault)], want: &[(&str, WalkFault)]) -> bool {
     if faults.len() != want.len() {
         return false;
     }
-    for (fault, want) in faults.iter().zip(want) {
-        if fault.0.as_str() != want.0 || fault.1 != want.1 {
+    for at in 0..want.len() {
+        if faults[at].0.as_str() != want[at].0 || faults[at].1 != want[at].1 {
             return false;
         }
     }
@@ -50,45 +43,65 @@ fn names_that_are_left_out(rt: HostRuntime) -> Result<(), Fail> {
     ];
     let mut tree = tree_of(rt.alloc(), "/t", files)?;
     tree.put("/t/o", Item::Other)?;
-    walks_to(&rt, &mut tree, &["/t"], "/t/e ", &[])
+    assert!(rt; walks_to(rt.alloc(), &mut tree, &["/t"], "/t/e ", &[]) == Ok(true));
+    Ok(())
+}
+
+/// Whether walks leave out what an element that begins with a dot names, and not what stands below it.
+fn tests_the_last_element(alloc: Global, tree: &mut MemTree) -> Result<bool, AllocError> {
+    Ok(
+        walks_to(alloc, tree, &["/.x"], "", &[])?
+            && walks_to(alloc, tree, &["/.x/y"], "/.x/y ", &[])?
+            && walks_to(alloc, tree, &["/"], "", &[])?,
+    )
 }
 
 #[test]
 fn only_the_last_element_is_tested(rt: HostRuntime) -> Result<(), Fail> {
     let mut nothing = MemTree::new(rt.alloc(), 4)?;
-    walks_to(&rt, &mut nothing, &["/.x"], "", &[])?;
+    assert!(rt; walks_to(rt.alloc(), &mut nothing, &["/.x"], "", &[]) == Ok(true));
     let mut tree = tree_of(rt.alloc(), "/.x", &[("/.x/y", b"abcd\n")])?;
-    walks_to(&rt, &mut tree, &["/.x"], "", &[])?;
-    walks_to(&rt, &mut tree, &["/.x/y"], "/.x/y ", &[])?;
-    walks_to(&rt, &mut tree, &["/"], "", &[])
+    assert!(rt; tests_the_last_element(rt.alloc(), &mut tree) == Ok(true));
+    Ok(())
+}
+
+/// Whether a walk comes to a file, and to a fault where its folder is removed.
+fn loses_its_path(alloc: Global, tree: &mut MemTree) -> Result<bool, AllocError> {
+    let missing = ("/v", WalkFault::Tree(TreeFault::Missing));
+    Ok(
+        walks_to(alloc, tree, &["/v"], "/v/f ", &[])?
+            && tree.remove("/v")
+            && walks_to(alloc, tree, &["/v"], "", &[missing])?
+            && tree.failures() == 1,
+    )
 }
 
 #[test]
 fn a_path_that_has_vanished(rt: HostRuntime) -> Result<(), Fail> {
     let mut tree = tree_of(rt.alloc(), "/v", &[("/v/f", b"one\n")])?;
-    walks_to(&rt, &mut tree, &["/v"], "/v/f ", &[])?;
-    assert!(rt; tree.remove("/v"));
-    let missing = ("/v", WalkFault::Tree(TreeFault::Missing));
-    walks_to(&rt, &mut tree, &["/v"], "", &[missing])?;
-    assert_eq!(rt; tree.failures(), 1);
+    assert!(rt; loses_its_path(rt.alloc(), &mut tree) == Ok(true));
     Ok(())
 }
 
 /// Puts a folder with a file that fails and one that may not be read.
-fn put_failing(alloc: Global, tree: &mut MemTree, names: [&str; 3]) -> Result<(), Fail> {
-    let [folder, cut, denied] = names;
+fn put_failing(
+    alloc: Global,
+    tree: &mut MemTree,
+    folder: &str,
+    cut: &str,
+    denied: &str,
+) -> Result<(), PutFault> {
     tree.put(folder, Item::Folder)?;
     tree.put(cut, Item::Cut(bytes_of(alloc, "one\n")?))?;
-    tree.put(denied, Item::Denied)?;
-    Ok(())
+    tree.put(denied, Item::Denied)
 }
 
 /// Three such folders.
-fn failing_files(alloc: Global) -> Result<MemTree, Fail> {
+fn failing_files(alloc: Global) -> Result<MemTree, PutFault> {
     let mut tree = MemTree::new(alloc, 4)?;
-    put_failing(alloc, &mut tree, ["/a", "/a/g", "/a/z"])?;
-    put_failing(alloc, &mut tree, ["/a/b", "/a/b/f", "/a/b/d"])?;
-    put_failing(alloc, &mut tree, ["/a/b-x", "/a/b-x/f", "/a/b-x/d"])?;
+    put_failing(alloc, &mut tree, "/a", "/a/g", "/a/z")?;
+    put_failing(alloc, &mut tree, "/a/b", "/a/b/f", "/a/b/d")?;
+    put_failing(alloc, &mut tree, "/a/b-x", "/a/b-x/f", "/a/b-x/d")?;
     Ok(tree)
 }
 
@@ -96,9 +109,11 @@ fn failing_files(alloc: Global) -> Result<MemTree, Fail> {
 fn names_and_faults_are_in_order(rt: HostRuntime) -> Result<(), Fail> {
     let mut tree = failing_files(rt.alloc())?;
     let denied = WalkFault::Tree(TreeFault::Denied);
+    let paths = ["/a/b", "/a", "/a"];
     let names = "/a/b-x/f /a/b/f /a/g ";
     let faults = [("/a/b-x/d", denied), ("/a/b/d", denied), ("/a/z", denied)];
-    walks_to(&rt, &mut tree, &["/a/b", "/a", "/a"], names, &faults)
+    assert!(rt; walks_to(rt.alloc(), &mut tree, &paths, names, &faults) == Ok(true));
+    Ok(())
 }
 
 /// A tree in which every path is a folder that lists `a`.
@@ -136,26 +151,32 @@ impl Tree for Endless {
     }
 }
 
-#[test]
-fn a_path_of_4096_bytes_is_left(rt: HostRuntime) -> Result<(), Fail> {
-    let mut tree = Endless { unnamed: false };
-    let walked = walk_from(rt.alloc(), &mut tree, &["/r"])?;
-    assert!(rt; walked.names.is_empty());
-    assert_eq!(rt; walked.faults.len(), 1);
-    assert_eq!(rt; walked.faults[0].0.len(), 4096);
-    assert_eq!(rt; walked.faults[0].1, WalkFault::TooLong);
-    Ok(())
+/// Whether a walk of an endless tree comes to no name, and to one path of 4096 bytes.
+fn leaves_a_long_path(alloc: Global) -> Result<bool, AllocError> {
+    let walked = walk_from(alloc, &mut Endless { unnamed: false }, &["/r"])?;
+    Ok(
+        walked.names.is_empty()
+            && walked.faults.len() == 1
+            && walked.faults[0].0.len() == 4096
+            && walked.faults[0].1 == WalkFault::TooLong,
+    )
+}
+
+/// Whether it comes to each folder above that path too, where each has a name that is no text.
+fn faults_folders(alloc: Global) -> Result<bool, AllocError> {
+    let walked = walk_from(alloc, &mut Endless { unnamed: true }, &["/r"])?;
+    Ok(
+        walked.names.is_empty()
+            && walked.faults.len() == 2048
+            && walked.faults[0].0.as_str() == "/r"
+            && walked.faults[0].1 == WalkFault::Unnamed
+            && walked.faults[2046].1 == WalkFault::Unnamed
+            && walked.faults[2047].1 == WalkFault::TooLong,
+    )
 }
 
 #[test]
-fn a_name_that_is_no_text_is_its_folders_fault(rt: HostRuntime) -> Result<(), Fail> {
-    let mut tree = Endless { unnamed: true };
-    let walked = walk_from(rt.alloc(), &mut tree, &["/r"])?;
-    assert!(rt; walked.names.is_empty());
-    assert_eq!(rt; walked.faults.len(), 2048);
-    assert_eq!(rt; walked.faults[0].0.as_str(), "/r");
-    assert_eq!(rt; walked.faults[0].1, WalkFault::Unnamed);
-    assert_eq!(rt; walked.faults[2046].1, WalkFault::Unnamed);
-    assert_eq!(rt; walked.faults[2047].1, WalkFault::TooLong);
-    Ok(())
+fn a_path_of_4096_bytes_is_left(rt: HostRuntime) {
+    assert!(rt; leaves_a_long_path(rt.alloc()) == Ok(true));
+    assert!(rt; faults_folders(rt.alloc()) == Ok(true));
 }

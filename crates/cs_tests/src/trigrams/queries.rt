@@ -2,9 +2,8 @@
 use crate::fixtures::number;
 use cs_syntax::parse;
 use cs_trigram::{Query, query};
-use std::alloc::Global;
+use std::alloc::{AllocError, Global};
 use std::process::Abort;
-use std::test::Fail;
 
 /// Whether the query holds of the set of these trigrams, which stand one after another with a blank
 /// between two.
@@ -39,23 +38,27 @@ fn some_holds(queries: &[Query], set: &str) -> bool {
     false
 }
 
-fn query_holds(alloc: Global, pattern: &str, fold: bool, set: &str) -> Result<bool, Fail> {
-    let pattern = parse(alloc, pattern, fold).ok().ok_or("pattern")?;
-    Ok(holds(&query(alloc, &pattern)?, set))
+/// The query of a pattern, in both cases or as it is written.
+fn query_of(alloc: Global, pattern: &str, fold: bool) -> Option<Query> {
+    let pattern = parse(alloc, pattern, fold).ok()?;
+    query(alloc, &pattern).ok()
+}
+
+fn query_holds(alloc: Global, pattern: &str, fold: bool, set: &str) -> Option<bool> {
+    Some(holds(&query_of(alloc, pattern, fold)?, set))
 }
 
 /// A pattern, the trigrams of a text, and whether the query of the pattern holds of them.
 type Row<'a> = (&'a str, &'a str, bool);
 
-fn hold(rt: &(impl Abort + AllocGlobal), rows: &[Row<'_>]) -> Result<(), Fail> {
+/// The queries of patterns, in both cases or as they are written, hold of the rows in which that is wanted alone.
+fn hold(rt: &(impl Abort + AllocGlobal), fold: bool, rows: &[Row<'_>]) {
     for (pattern, set, want) in rows {
-        assert_eq!(rt;
-            query_holds(rt.alloc(), pattern, false, set)?,
-            *want,
+        assert!(rt;
+            query_holds(rt.alloc(), pattern, fold, set) == Some(*want),
             "{pattern} of {set}"
         );
     }
-    Ok(())
 }
 
 const QUERIES_OF_WORDS: &[Row<'static>] = &[
@@ -79,11 +82,6 @@ const QUERIES_OF_WORDS: &[Row<'static>] = &[
     ("abc$", "abc", true),
     ("\\bab\\b|abc", "", true),
 ];
-
-#[test]
-fn queries_of_words(rt: HostRuntime) -> Result<(), Fail> {
-    hold(&rt, QUERIES_OF_WORDS)
-}
 
 const QUERIES_OF_REPEATS: &[Row<'static>] = &[
     ("(abc)*", "", true),
@@ -110,11 +108,6 @@ const QUERIES_OF_REPEATS: &[Row<'static>] = &[
     ("foo(bar|baz)+qux", "foo oob oba bar qux", false),
 ];
 
-#[test]
-fn queries_of_repeats(rt: HostRuntime) -> Result<(), Fail> {
-    hold(&rt, QUERIES_OF_REPEATS)
-}
-
 const QUERIES_OF_CLASSES: &[Row<'static>] = &[
     ("a[bc]d", "", false),
     ("a[bc]d", "acd", true),
@@ -138,47 +131,32 @@ const QUERIES_OF_CLASSES: &[Row<'static>] = &[
     ("[a-i]bc", "", false),
 ];
 
-#[test]
-fn queries_of_classes(rt: HostRuntime) -> Result<(), Fail> {
-    hold(&rt, QUERIES_OF_CLASSES)
-}
-
-#[test]
-fn query_in_both_cases(rt: HostRuntime) -> Result<(), Fail> {
-    for (set, want) in [("abc", true), ("aBC", true), ("abd", false)] {
-        assert_eq!(rt;
-            query_holds(rt.alloc(), "abc", true, set)?,
-            want,
-            "of {set}"
-        );
-    }
-    Ok(())
-}
-
-const SETS: &[(&str, bool)] = &[
-    ("Goo oog ogl gle Sea ear arc rch", true),
-    ("oog ogl gle Sea ear arc rch", false),
-    ("Goo ogl gle Sea ear arc rch", false),
-    ("Goo oog gle Sea ear arc rch", false),
-    ("Goo oog ogl Sea ear arc rch", false),
-    ("Goo oog ogl gle ear arc rch", false),
-    ("Goo oog ogl gle Sea arc rch", false),
-    ("Goo oog ogl gle Sea ear rch", false),
-    ("Goo oog ogl gle Sea ear arc", false),
+const QUERIES_IN_BOTH_CASES: &[Row<'static>] = &[
+    ("abc", "abc", true),
+    ("abc", "aBC", true),
+    ("abc", "abd", false),
 ];
 
 /// Each trigram of two words with anything between them is asked for.
+const QUERIES_OF_WORDS_APART: &[Row<'static>] = &[
+    ("Google.*Search", "Goo oog ogl gle Sea ear arc rch", true),
+    ("Google.*Search", "oog ogl gle Sea ear arc rch", false),
+    ("Google.*Search", "Goo ogl gle Sea ear arc rch", false),
+    ("Google.*Search", "Goo oog gle Sea ear arc rch", false),
+    ("Google.*Search", "Goo oog ogl Sea ear arc rch", false),
+    ("Google.*Search", "Goo oog ogl gle ear arc rch", false),
+    ("Google.*Search", "Goo oog ogl gle Sea arc rch", false),
+    ("Google.*Search", "Goo oog ogl gle Sea ear rch", false),
+    ("Google.*Search", "Goo oog ogl gle Sea ear arc", false),
+];
+
 #[test]
-fn query_of_two_words_apart(rt: HostRuntime) -> Result<(), Fail> {
-    let pattern = "Google.*Search";
-    for (set, want) in SETS {
-        assert_eq!(rt;
-            query_holds(rt.alloc(), pattern, false, set)?,
-            *want,
-            "of {set}"
-        );
-    }
-    Ok(())
+fn queries_of_patterns(rt: HostRuntime) {
+    hold(&rt, false, QUERIES_OF_WORDS);
+    hold(&rt, false, QUERIES_OF_REPEATS);
+    hold(&rt, false, QUERIES_OF_CLASSES);
+    hold(&rt, false, QUERIES_OF_WORDS_APART);
+    hold(&rt, true, QUERIES_IN_BOTH_CASES);
 }
 
 /// How many trigrams the query asks for, where it asks for nothing else and for all of them.
@@ -203,26 +181,33 @@ const COUNTS: &[(&str, Option<usize>)] = &[
     ("abc|abd", None),
 ];
 
+/// The same of a pattern.
+fn trigram_count(alloc: Global, pattern: &str) -> Option<Option<usize>> {
+    Some(count_trigrams(&query_of(alloc, pattern, false)?))
+}
+
 /// The index narrows by the rarest of the trigrams first, where they stand side by side, and reads
 /// each list once, where each stands once.
 #[test]
-fn trigrams_stand_side_by_side(rt: HostRuntime) -> Result<(), Fail> {
+fn trigrams_stand_side_by_side(rt: HostRuntime) {
     for (pattern, want) in COUNTS {
-        let parsed = parse(rt.alloc(), pattern, false).ok().ok_or("pattern")?;
-        let query = query(rt.alloc(), &parsed)?;
-        assert_eq!(rt; count_trigrams(&query), *want, "of {pattern}");
+        assert!(rt;
+            trigram_count(rt.alloc(), pattern) == Some(*want),
+            "of {pattern}"
+        );
     }
-    Ok(())
 }
 
-/// A word of the greatest weight.
+/// Whether the query of a word of the greatest weight asks for each of its trigrams.
+fn asks_for_a_long_word(alloc: Global) -> Result<bool, AllocError> {
+    let text = "abc".repeat(alloc, 3000)?;
+    Ok(
+        query_holds(alloc, text.as_str(), false, "abc bca cab") == Some(true)
+            && query_holds(alloc, text.as_str(), false, "abc bca") == Some(false),
+    )
+}
+
 #[test]
-fn query_of_a_long_word(rt: HostRuntime) -> Result<(), Fail> {
-    let mut text = String::new(rt.alloc());
-    for _i in 0..3000 {
-        text.push_str("abc")?;
-    }
-    assert!(rt; query_holds(rt.alloc(), text.as_str(), false, "abc bca cab")?);
-    assert!(rt; !query_holds(rt.alloc(), text.as_str(), false, "abc bca")?);
-    Ok(())
+fn query_of_a_long_word(rt: HostRuntime) {
+    assert_eq!(rt; asks_for_a_long_word(rt.alloc()), Ok(true));
 }

@@ -2,7 +2,7 @@
 use crate::fixtures::{by_chance, number};
 use cs_tree::MemSource;
 use cs_trigram::{BoundedScanner, Limits, Reason, Scan, ScanFault, Scanner};
-use std::process::Abort;
+use std::alloc::{AllocError, Global};
 use std::test::Fail;
 
 /// What a scan is to answer: the trigrams and how many bytes, or why the file is left out.
@@ -23,33 +23,25 @@ fn are_numbers(trigrams: &[u32], parts: &[&[u8; 3]]) -> bool {
     if trigrams.len() != parts.len() {
         return false;
     }
-    for (trigram, part) in trigrams.iter().zip(parts) {
-        if *trigram != number(part.as_slice()) {
+    for at in 0..parts.len() {
+        if trigrams[at] != number(parts[at].as_slice()) {
             return false;
         }
     }
     true
 }
 
-/// A scan of the file, so many bytes at a time, answers so.
-fn scans(
-    rt: &(impl Abort + AllocGlobal),
-    scanner: &mut Scanner,
-    file: &[u8],
-    step: usize,
-    want: Want<'_>,
-) -> Result<(), Fail> {
-    let scan = scanner.scan(&mut MemSource::new(file, step.max(1), false))?;
-    assert!(rt;
-        is_so(&scan, want),
-        "{scan:?} at {file:?}, {step} at a time"
-    );
-    Ok(())
+/// Whether a scan of the file, so many bytes at a time, answers so.
+fn scans(scanner: &mut Scanner, file: &[u8], step: usize, want: Want<'_>) -> bool {
+    match scanner.scan(&mut MemSource::new(file, step.max(1), false)) {
+        Ok(scan) => is_so(&scan, want),
+        Err(_) => false,
+    }
 }
 
 /// A file of so many of one byte, and then some others.
-fn many(rt: &HostRuntime, count: usize, byte: u8, others: &[u8]) -> Result<Vec<u8>, Fail> {
-    let mut file = vec![in rt.alloc(); byte; count]?;
+fn many(alloc: Global, count: usize, byte: u8, others: &[u8]) -> Result<Vec<u8>, AllocError> {
+    let mut file = vec![in alloc; byte; count]?;
     file.extend_from_slice(others)?;
     Ok(file)
 }
@@ -71,7 +63,7 @@ const ROWS: &[(&[u8], Want<'static>)] = &[
 fn rows(rt: HostRuntime) -> Result<(), Fail> {
     let mut scanner = Scanner::new(rt.alloc())?;
     for (file, want) in ROWS {
-        scans(&rt, &mut scanner, file, 65_536, *want)?;
+        assert!(rt; scans(&mut scanner, file, 65_536, *want), "at {file:?}");
     }
     Ok(())
 }
@@ -88,25 +80,28 @@ const LINES: &[(usize, &[u8], Want<'static>)] = &[
 fn lines(rt: HostRuntime) -> Result<(), Fail> {
     let mut scanner = Scanner::new(rt.alloc())?;
     for (count, others, want) in LINES {
-        let file = many(&rt, *count, b'a', others)?;
+        let file = many(rt.alloc(), *count, b'a', others)?;
         for step in [1, 1999, 2000, 2001, 65_536] {
-            scans(&rt, &mut scanner, &file, step, *want)?;
+            assert!(rt;
+                scans(&mut scanner, &file, step, *want),
+                "{count} and {others:?}, {step} at a time"
+            );
         }
     }
     Ok(())
 }
 
-/// How many trigrams a scan answers, their sum, and how many bytes.
-fn sums(scan: &Scan) -> Option<(usize, u64, u64)> {
-    match scan {
-        Scan::Text { trigrams, bytes } => {
+/// How many trigrams a scan of the file, so many bytes at a time, answers, their sum, and how many bytes.
+fn sums(scanner: &mut Scanner, file: &[u8], step: usize) -> Option<(usize, u64, u64)> {
+    match scanner.scan(&mut MemSource::new(file, step.max(1), false)) {
+        Ok(Scan::Text { trigrams, bytes }) => {
             let mut sum = 0u64;
-            for trigram in trigrams {
+            for trigram in &trigrams {
                 sum = sum.wrapping_add(u64::from(*trigram));
             }
-            Some((trigrams.len(), sum, *bytes))
+            Some((trigrams.len(), sum, bytes))
         }
-        Scan::Skip(_) => None,
+        _ => None,
     }
 }
 
@@ -114,20 +109,26 @@ fn sums(scan: &Scan) -> Option<(usize, u64, u64)> {
 fn most_trigrams(rt: HostRuntime) -> Result<(), Fail> {
     let mut scanner = Scanner::new(rt.alloc())?;
     let file = by_chance(rt.alloc(), 20_243)?;
+    let want = Some((20_000, 103_197_885_365, 20_243));
     for step in [1, 1000, 65_536] {
-        let scan = scanner.scan(&mut MemSource::new(&file, step, false))?;
-        assert_eq!(rt;
-            sums(&scan),
-            Some((20_000, 103_197_885_365, 20_243)),
+        assert!(rt; sums(&mut scanner, &file, step) == want, "{step} at a time");
+    }
+    Ok(())
+}
+
+#[test]
+fn more_trigrams(rt: HostRuntime) -> Result<(), Fail> {
+    let mut scanner = Scanner::new(rt.alloc())?;
+    let mut file = by_chance(rt.alloc(), 20_244)?;
+    for step in [1, 1000, 65_536] {
+        assert!(rt;
+            scans(&mut scanner, &file, step, Err(Reason::ManyTrigrams)),
             "{step} at a time"
         );
     }
-    let mut file = by_chance(rt.alloc(), 20_244)?;
-    for step in [1, 1000, 65_536] {
-        scans(&rt, &mut scanner, &file, step, Err(Reason::ManyTrigrams))?;
-    }
     file.push(0xff)?;
-    scans(&rt, &mut scanner, &file, 65_536, Err(Reason::Utf8))
+    assert!(rt; scans(&mut scanner, &file, 65_536, Err(Reason::Utf8)));
+    Ok(())
 }
 
 const BCD: Want<'static> = Ok((&[b"bcd"], 3));
@@ -139,50 +140,47 @@ const TWICE: &[(&[u8], Want<'static>)] = &[
     (b"abcd", Ok((&[b"abc", b"bcd"], 4))),
 ];
 
-#[test]
-fn used_again(rt: HostRuntime) -> Result<(), Fail> {
-    let mut scanner = Scanner::new(rt.alloc())?;
-    for (file, want) in TWICE {
-        scans(&rt, &mut scanner, file, 2, *want)?;
-        scans(&rt, &mut scanner, b"bcd", 2, BCD)?;
-    }
-    fails(&rt, &mut scanner, b"abc");
-    scans(&rt, &mut scanner, b"bcd", 2, BCD)?;
-    let file = by_chance(rt.alloc(), 60_000)?;
-    scans(&rt, &mut scanner, &file, 65_536, Err(Reason::ManyTrigrams))?;
-    scans(&rt, &mut scanner, b"bcd", 2, BCD)
+/// Whether a scan of the file answers so, and one of three bytes behind it as ever.
+fn goes_on(scanner: &mut Scanner, file: &[u8], step: usize, want: Want<'_>) -> bool {
+    scans(scanner, file, step, want) && scans(scanner, b"bcd", 2, BCD)
 }
 
-/// A scan of a file whose reads fail after these bytes tells that a read failed.
-fn fails(rt: &(impl Abort + AllocGlobal), scanner: &mut Scanner, file: &[u8]) {
-    let scan = scanner.scan(&mut MemSource::new(file, 2, true));
-    assert_eq!(rt; scan, Err(ScanFault::Read), "at {file:?}");
+#[test]
+fn used_again(rt: HostRuntime) -> Result<(), Fail> {
+    let many = by_chance(rt.alloc(), 60_000)?;
+    let mut scanner = Scanner::new(rt.alloc())?;
+    for (file, want) in TWICE {
+        assert!(rt; goes_on(&mut scanner, file, 2, *want), "at {file:?}");
+    }
+    assert!(rt; fails(&mut scanner, b"abc") && scans(&mut scanner, b"bcd", 2, BCD));
+    assert!(rt; goes_on(&mut scanner, &many, 65_536, Err(Reason::ManyTrigrams)));
+    Ok(())
+}
+
+/// Whether a scan of a file whose reads fail after these bytes tells that a read failed.
+fn fails(scanner: &mut Scanner, file: &[u8]) -> bool {
+    scanner.scan(&mut MemSource::new(file, 2, true)) == Err(ScanFault::Read)
+}
+
+/// Whether a scan tells of a NUL that stands before the read that fails.
+fn finds_a_nul(scanner: &mut Scanner) -> bool {
+    scanner.scan(&mut MemSource::new(b"ab\x00c", 2, true)) == Ok(Scan::Skip(Reason::Nul))
 }
 
 #[test]
 fn failing_reads(rt: HostRuntime) -> Result<(), Fail> {
     let mut scanner = Scanner::new(rt.alloc())?;
-    fails(&rt, &mut scanner, b"");
-    fails(&rt, &mut scanner, b"abc");
-    let scan = scanner.scan(&mut MemSource::new(b"ab\x00c", 2, true));
-    assert_eq!(rt; scan, Ok(Scan::Skip(Reason::Nul)));
+    assert!(rt; fails(&mut scanner, b"") && fails(&mut scanner, b"abc"));
+    assert!(rt; finds_a_nul(&mut scanner));
     Ok(())
 }
 
-/// A scan within small limits, so many bytes at a time, answers so.
-fn scans_within(
-    rt: &(impl Abort + AllocGlobal),
-    scanner: &mut BoundedScanner,
-    file: &[u8],
-    step: usize,
-    want: Want<'_>,
-) -> Result<(), Fail> {
-    let scan = scanner.scan(&mut MemSource::new(file, step.max(1), false))?;
-    assert!(rt;
-        is_so(&scan, want),
-        "{scan:?} at {file:?}, {step} at a time"
-    );
-    Ok(())
+/// Whether a scan within small limits, so many bytes at a time, answers so.
+fn scans_within(scanner: &mut BoundedScanner, file: &[u8], step: usize, want: Want<'_>) -> bool {
+    match scanner.scan(&mut MemSource::new(file, step.max(1), false)) {
+        Ok(scan) => is_so(&scan, want),
+        Err(_) => false,
+    }
 }
 
 const SMALL: &[(&[u8], Want<'static>)] = &[
@@ -210,15 +208,23 @@ fn small_limits(rt: HostRuntime) -> Result<(), Fail> {
     let mut scanner = BoundedScanner::new(rt.alloc(), limits)?;
     for (file, want) in SMALL {
         for step in 1..21 {
-            scans_within(&rt, &mut scanner, file, step, *want)?;
+            assert!(rt;
+                scans_within(&mut scanner, file, step, *want),
+                "{file:?}, {step} at a time"
+            );
         }
     }
     Ok(())
 }
 
 /// Some bytes, then a letter of two bytes so many times, and then some others.
-fn letters(rt: &HostRuntime, front: &[u8], count: usize, others: &[u8]) -> Result<Vec<u8>, Fail> {
-    let mut file = Vec::from_slice(rt.alloc(), front)?;
+fn letters(
+    alloc: Global,
+    front: &[u8],
+    count: usize,
+    others: &[u8],
+) -> Result<Vec<u8>, AllocError> {
+    let mut file = Vec::from_slice(alloc, front)?;
     for _letter in 0..count {
         file.extend_from_slice(b"\xc3\xa9")?;
     }
@@ -245,24 +251,28 @@ const LETTERS: &[(&[u8], usize, &[u8], Want<'static>)] = &[
 fn letters_past_ascii(rt: HostRuntime) -> Result<(), Fail> {
     let mut scanner = Scanner::new(rt.alloc())?;
     for (front, count, others, want) in LETTERS {
-        let file = letters(&rt, front, *count, others)?;
+        let file = letters(rt.alloc(), front, *count, others)?;
         for step in [1, 1023, 1024, 65_536] {
-            scans(&rt, &mut scanner, &file, step, *want)?;
+            assert!(rt;
+                scans(&mut scanner, &file, step, *want),
+                "{front:?}, {count} letters and {others:?}, {step} at a time"
+            );
         }
     }
     Ok(())
 }
 
+const MANY_LINES: Want<'static> = Ok((&[b"\nab", b"abc", b"bcd", b"cd\n", b"d\na"], 100_000));
+
 #[test]
 fn larger_than_a_block(rt: HostRuntime) -> Result<(), Fail> {
-    let mut file = Vec::new(rt.alloc());
-    for _line in 0..20_000 {
-        file.extend_from_slice(b"abcd\n")?;
-    }
-    let parts: &[&[u8; 3]] = &[b"\nab", b"abc", b"bcd", b"cd\n", b"d\na"];
+    let file = "abcd\n".repeat(rt.alloc(), 20_000)?;
     let mut scanner = Scanner::new(rt.alloc())?;
     for step in [7, 65_536, 1_000_000] {
-        scans(&rt, &mut scanner, &file, step, Ok((parts, 100_000)))?;
+        assert!(rt;
+            scans(&mut scanner, file.as_bytes(), step, MANY_LINES),
+            "{step} at a time"
+        );
     }
     Ok(())
 }

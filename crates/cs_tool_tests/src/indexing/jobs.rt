@@ -5,11 +5,10 @@ ghost use Rattle.cs_cindex.specs.Refusals.{HasAbsoluteFolder};
 use crate::fixtures::{Placed, UNSORTED, tree_of};
 use crate::indexing::job_of;
 use cs_cindex::cindex;
-use cs_index::{Index, IndexFault, Postings, Texts};
-use cs_tree::{MemSink, MemTree, Sink};
+use cs_index::{Index, IndexFault};
+use cs_tree::{MemSink, MemTree, PutFault};
 use cs_words::{CindexFault, IndexJob, Reply};
-use std::alloc::Global;
-use std::process::Abort;
+use std::alloc::{AllocError, Global};
 use std::test::Fail;
 
 /// What a job gives.
@@ -92,7 +91,7 @@ pub fn run_three(alloc: Global, words: [&[&str]; 3], placed: &[Placed<'_>]) -> R
     })
 }
 
-fn jobs_of(alloc: Global, words: [&[&str]; 3]) -> Result<[IndexJob; 3], Fail>
+fn jobs_of(alloc: Global, words: [&[&str]; 3]) -> Result<[IndexJob; 3], AllocError>
     ensures { IfOk result (All HasAbsoluteFolder) }
 {
     let first = job_of(alloc, words[0])?;
@@ -101,54 +100,48 @@ fn jobs_of(alloc: Global, words: [&[&str]; 3]) -> Result<[IndexJob; 3], Fail>
     Ok([first, second, third])
 }
 
-fn three_trees(alloc: Global, placed: &[Placed<'_>]) -> Result<[MemTree; 3], Fail> {
+fn three_trees(alloc: Global, placed: &[Placed<'_>]) -> Result<[MemTree; 3], PutFault> {
     let first = tree_of(alloc, placed)?;
     let second = tree_of(alloc, placed)?;
     let third = tree_of(alloc, placed)?;
     Ok([first, second, third])
 }
 
-/// The index has this length and these paths, and the names with the trigrams of these texts.
-fn check(
-    rt: &impl Abort,
-    index: &Option<Vec<u8>>,
-    length: usize,
-    paths: &[&str],
-    names: &[&str],
-    lists: &[(u32, &[u32])],
-) -> Result<(), Fail> {
-    let bytes = index.as_ref().ok_or("no index")?;
-    assert_eq!(rt; bytes.len(), length);
-    let index = Index::open(bytes)?;
-    are_texts(rt, index.paths(), paths);
-    are_texts(rt, index.names(), names);
-    assert_eq!(rt; index.lists() as usize, lists.len());
+/// What an index has: its length, its paths, its names, and the trigrams with the names of each.
+#[derive(Clone, Copy, Drop)]
+struct Content<'a> {
+    len: usize,
+    paths: &'a [&'a str],
+    names: &'a [&'a str],
+    lists: &'a [(u32, &'a [u32])],
+}
+
+/// Whether the bytes are an index that has this.
+fn has(bytes: Option<&[u8]>, content: &Content<'_>) -> bool {
+    let bytes = bytes.unwrap_or(b"");
+    match Index::open(bytes) {
+        Ok(index) => {
+            bytes.len() == content.len
+                && index.paths().eq(content.paths.iter().copied())
+                && index.names().eq(content.names.iter().copied())
+                && index.lists() as usize == content.lists.len()
+                && have_names(&index, content.lists)
+        }
+        Err(_) => false,
+    }
+}
+
+/// Whether each of the trigrams has these names.
+fn have_names(index: &Index<'_>, lists: &[(u32, &[u32])]) -> bool {
     for (trigram, ids) in lists {
-        let found = index.postings(*trigram).ok_or("no list")?;
-        are_ids(rt, found, ids)?;
+        let Some(found) = index.postings(*trigram) else {
+            return false;
+        };
+        if !found.eq(ids.iter().map(|id| Ok(*id))) {
+            return false;
+        }
     }
-    Ok(())
-}
-
-/// The texts are these.
-fn are_texts(rt: &impl Abort, texts: Texts<'_>, want: &[&str]) {
-    let mut place = 0;
-    for text in texts {
-        assert_eq!(rt; want.get(place), Some(&text));
-        place += 1;
-    }
-    assert_eq!(rt; place, want.len());
-}
-
-/// The ids are these.
-fn are_ids(rt: &impl Abort, ids: Postings<'_>, want: &[u32]) -> Result<(), Fail> {
-    let mut at = 0;
-    for id in ids {
-        assert_eq!(rt; Some(&id?), want.get(at));
-        at += 1;
-    }
-    assert_eq!(rt; at, want.len());
-    Ok(())
+    true
 }
 
 const ONE: u32 = 0x6f6e65;
@@ -166,57 +159,86 @@ const FOLDERS: &[Placed<'static>] = &[
     ("/b/g", Some("two\n")),
 ];
 
+const BOTH_FOLDERS: Content<'static> = Content {
+    len: 150,
+    paths: &["/a", "/b"],
+    names: &["/a/f", "/b/g"],
+    lists: &[(ONE, &[0]), (NE, &[0]), (TWO, &[1]), (WO, &[1])],
+};
+
+impl Three {
+    /// Whether the replies are these, and the last job of the three has listed `/a` alone.
+    fn lists_one(&self, replies: [Reply; 3]) -> bool {
+        self.replies == replies
+            && self.out.bytes() == b"/a\n".as_slice()
+            && self.err.bytes().is_empty()
+    }
+}
+
+/// Whether a list between two jobs has the path of the first.
+fn list_between(alloc: Global) -> Result<bool, Fail> {
+    let three = run_three(alloc, [&["/a"], &["-list"], &["/b"]], FOLDERS)?;
+    Ok(three.lists_one([Reply::Done; 3]) && has(three.index.as_deref(), &BOTH_FOLDERS))
+}
+
 #[test]
 fn a_list_sees_the_jobs_before_it(rt: HostRuntime) -> Result<(), Fail> {
-    let three = run_three(rt.alloc(), [&["/a"], &["-list"], &["/b"]], FOLDERS)?;
-    assert_eq!(rt; three.replies, [Reply::Done, Reply::Done, Reply::Done]);
-    assert_eq!(rt; three.out.bytes(), b"/a\n".as_slice());
-    assert!(rt; three.err.bytes().is_empty());
-    check(
-        &rt,
-        &three.index,
-        150,
-        &["/a", "/b"],
-        &["/a/f", "/b/g"],
-        &[(ONE, &[0]), (NE, &[0]), (TWO, &[1]), (WO, &[1])],
+    assert!(rt; list_between(rt.alloc())?);
+    Ok(())
+}
+
+/// Whether a refused job between two others leaves no trace.
+fn refused_between(alloc: Global) -> Result<bool, Fail> {
+    let refused = Reply::Refused(CindexFault::BadPath(1));
+    let alone = index_of(alloc, "/a", FOLDERS)?;
+    let three = run_three(alloc, [&["/a"], &["/b", ""], &["-list"]], FOLDERS)?;
+    Ok(
+        three.lists_one([Reply::Done, refused, Reply::Done])
+            && three.index.as_deref() == Some(alone.as_slice()),
     )
 }
 
 #[test]
 fn a_refused_job_between_others(rt: HostRuntime) -> Result<(), Fail> {
-    let three = run_three(rt.alloc(), [&["/a"], &["/b", ""], &["-list"]], FOLDERS)?;
-    let refused = Reply::Refused(CindexFault::BadPath(1));
-    assert_eq!(rt; three.replies, [Reply::Done, refused, Reply::Done]);
-    assert_eq!(rt; three.out.bytes(), b"/a\n".as_slice());
-    assert!(rt; three.err.bytes().is_empty());
-    let alone = run(rt.alloc(), None, &["/a"], FOLDERS)?;
-    assert!(rt; alone.index.is_some());
-    assert_eq!(rt; three.index.as_deref(), alone.index.as_deref());
+    assert!(rt; refused_between(rt.alloc())?);
     Ok(())
 }
 
 /// A job on the bytes of an index, over no files.
 fn run_on(alloc: Global, old: &[u8], words: &[&str]) -> Result<Done, Fail> {
-    run(alloc, Some(Vec::from_slice(alloc, old)?), words, &[])
+    run(alloc, Some(old.to_vec(alloc)?), words, &[])
+}
+
+/// Whether a job on the index is refused for this fault and leaves it as it was.
+fn refuses(alloc: Global, old: &[u8], fault: CindexFault) -> Result<bool, Fail> {
+    let done = run_on(alloc, old, &["/a"])?;
+    Ok(done.reply == Reply::Refused(fault) && done.index.as_deref() == Some(old))
+}
+
+/// Whether a job on the index begins anew where it is asked to.
+fn resets(alloc: Global, old: &[u8]) -> Result<bool, Fail> {
+    Ok(run_on(alloc, old, &["-reset", "/a"])?.reply == Reply::Done)
+}
+
+/// Whether the path of the index is listed.
+fn lists(alloc: Global, old: &[u8]) -> Result<bool, Fail> {
+    let done = run_on(alloc, old, &["-list"])?;
+    Ok(done.out.bytes() == b"/a\n".as_slice())
 }
 
 #[test]
 fn an_index_that_no_job_left(rt: HostRuntime) -> Result<(), Fail> {
+    let alloc = rt.alloc();
     let mut twice = *UNSORTED;
     twice[24] = b'-';
     twice[25] = b'x';
-    let unsorted = run_on(rt.alloc(), &twice, &["/a"])?;
-    assert_eq!(rt; unsorted.reply, Reply::Refused(CindexFault::Unsorted));
-    assert_eq!(rt; unsorted.index.as_deref(), Some(twice.as_slice()));
-    let reset = run_on(rt.alloc(), &twice, &["-reset", "/a"])?;
-    assert_eq!(rt; reset.reply, Reply::Done);
-    let listed = run_on(rt.alloc(), UNSORTED, &["-list"])?;
-    assert_eq!(rt; listed.out.bytes(), b"/a\n".as_slice());
-    let cut = &UNSORTED[..114];
-    let bad = run_on(rt.alloc(), cut, &["/a"])?;
-    let fault = CindexFault::BadIndex(IndexFault::BadTrailer);
-    assert_eq!(rt; bad.reply, Reply::Refused(fault));
-    assert_eq!(rt; bad.index.as_deref(), Some(cut));
+    let cut = CindexFault::BadIndex(IndexFault::BadTrailer);
+    assert!(rt;
+        refuses(alloc, &twice, CindexFault::Unsorted)?
+            && resets(alloc, &twice)?
+            && lists(alloc, UNSORTED)?
+            && refuses(alloc, &UNSORTED[..114], cut)?
+    );
     Ok(())
 }
 
@@ -231,32 +253,58 @@ const ABCS: &[Placed<'static>] = &[
     ("/c", None),
 ];
 
-/// What a job makes of the index whose names stand so.
-fn after(alloc: Global, words: &[&str]) -> Result<Option<Vec<u8>>, Fail> {
-    let old = Vec::from_slice(alloc, UNSORTED)?;
-    Ok(run(alloc, Some(old), words, ABCS)?.index)
+const IN_ORDER: Content<'static> = Content {
+    len: 104,
+    paths: &["/a"],
+    names: &["/a/b-x", "/a/b/z"],
+    lists: &[(ABC, &[0, 1])],
+};
+
+const WITH_ANOTHER_PATH: Content<'static> = Content {
+    len: 107,
+    paths: &["/a", "/c"],
+    ..IN_ORDER
+};
+
+/// Whether a job on the index whose names stand so leaves this.
+fn leaves(alloc: Global, words: &[&str], content: &Content<'_>) -> Result<bool, Fail> {
+    let done = run(alloc, Some(UNSORTED.to_vec(alloc)?), words, ABCS)?;
+    Ok(has(done.index.as_deref(), content))
 }
-
-const IN_ORDER: &[&str] = &["/a/b-x", "/a/b/z"];
-
-const BOTH: &[(u32, &[u32])] = &[(ABC, &[0, 1])];
 
 #[test]
 fn names_in_the_order_of_a_walk(rt: HostRuntime) -> Result<(), Fail> {
-    let again = after(rt.alloc(), &[])?;
-    check(&rt, &again, 104, &["/a"], IN_ORDER, BOTH)?;
-    let other = after(rt.alloc(), &["/c"])?;
-    check(&rt, &other, 107, &["/a", "/c"], IN_ORDER, BOTH)
+    let alloc = rt.alloc();
+    assert!(rt; leaves(alloc, &[], &IN_ORDER)? && leaves(alloc, &["/c"], &WITH_ANOTHER_PATH)?);
+    Ok(())
+}
+
+const ODD: &[Placed<'static>] = &[("/s", None), ("/s/n", Some("a\0"))];
+
+const NO_FILE: Content<'static> = Content {
+    len: 65,
+    paths: &["/s"],
+    names: &[],
+    lists: &[],
+};
+
+/// Whether a file that is no text is left out, with a line.
+fn leaves_out(alloc: Global) -> Result<bool, Fail> {
+    let done = run(alloc, None, &["-logskip", "/s"], ODD)?;
+    Ok(
+        done.err.bytes() == b"cindex: /s/n: not indexed: NUL byte\n".as_slice()
+            && has(done.index.as_deref(), &NO_FILE),
+    )
+}
+
+/// Whether a job with an empty path is refused.
+fn refuses_no_path(alloc: Global) -> Result<bool, Fail> {
+    let done = run(alloc, None, &["/s", ""], &[])?;
+    Ok(done.reply == Reply::Refused(CindexFault::BadPath(1)))
 }
 
 #[test]
 fn what_is_left_out(rt: HostRuntime) -> Result<(), Fail> {
-    let odd: &[Placed<'_>] = &[("/s", None), ("/s/n", Some("a\0"))];
-    let skipped = run(rt.alloc(), None, &["-logskip", "/s"], odd)?;
-    let line = b"cindex: /s/n: not indexed: NUL byte\n";
-    assert_eq!(rt; skipped.err.bytes(), line.as_slice());
-    check(&rt, &skipped.index, 65, &["/s"], &[], &[])?;
-    let empty = run(rt.alloc(), None, &["/s", ""], &[])?;
-    assert_eq!(rt; empty.reply, Reply::Refused(CindexFault::BadPath(1)));
+    assert!(rt; leaves_out(rt.alloc())? && refuses_no_path(rt.alloc())?);
     Ok(())
 }

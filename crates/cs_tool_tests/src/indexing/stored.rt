@@ -2,15 +2,14 @@
 // job of `-list` over the bytes.
 ghost use Rattle.std.specs.Prelude.{◌<◌};
 
-use crate::fixtures::{UNSORTED, tree_of};
+use crate::fixtures::tree_of;
 use crate::indexing::job_of;
-use crate::stores::{EMPTY, ROW, row_until};
+use crate::stores::{INDEXES, ROW, row_until};
 use cs_cindex::{cindex, list_stored};
 use cs_index::StoredIndex;
 use cs_tree::{IoFault, MemSink, MemStore, Store};
 use cs_words::Reply;
 use std::alloc::Global;
-use std::process::Abort;
 use std::slice;
 use std::test::Fail;
 
@@ -18,11 +17,12 @@ use std::test::Fail;
 fn list(alloc: Global, index: &[u8], out: &mut MemSink) -> Result<Reply, Fail> {
     let job = job_of(alloc, &["-list"])?;
     let mut tree = tree_of(alloc, &[])?;
+    let index = index.to_vec(alloc)?;
     let mut err = MemSink::new(alloc, 1000);
     let mut reply = Reply::Done;
     let _ = cindex(
         alloc,
-        Some(Vec::from_slice(alloc, index)?),
+        Some(index),
         slice::from_ref(&job),
         slice::from_mut(&mut tree),
         slice::from_mut(&mut reply),
@@ -39,25 +39,27 @@ fn list_by<S: Store>(alloc: Global, store: &mut S, out: &mut MemSink) -> Result<
     Ok(list_stored(opened, out, &mut err))
 }
 
-/// The reply by a store in memory, of which a read gives at most so many bytes, is the reply by the bytes.
-fn agrees(rt: &impl Abort, alloc: Global, index: &[u8], step: usize) -> Result<(), Fail>
+/// Whether the reply by a store in memory, of which a read gives at most so many bytes, is the reply by the bytes.
+fn agrees(alloc: Global, index: &[u8], step: usize) -> Result<bool, Fail>
     requires { 0 < step }
 {
     let mut want = MemSink::new(alloc, 1000);
     let mut out = MemSink::new(alloc, 1000);
     let wanted = list(alloc, index, &mut want)?;
     let reply = list_by(alloc, &mut MemStore::new(index, step), &mut out);
-    assert_eq!(rt; reply, Ok(wanted), "of {index:?} by {step}");
-    assert_eq!(rt; out.bytes(), want.bytes(), "of {index:?} by {step}");
-    Ok(())
+    Ok(reply == Ok(wanted) && out.bytes() == want.bytes())
 }
 
 #[test]
 fn short_reads(rt: HostRuntime) -> Result<(), Fail> {
     for step in 1..130 {
-        agrees(&rt, rt.alloc(), ROW, step)?;
-        agrees(&rt, rt.alloc(), UNSORTED, step)?;
-        agrees(&rt, rt.alloc(), EMPTY, step)?;
+        for index in INDEXES {
+            assert!(rt;
+                agrees(rt.alloc(), index, step)?,
+                "{} bytes by {step}",
+                index.len()
+            );
+        }
     }
     Ok(())
 }
@@ -65,7 +67,7 @@ fn short_reads(rt: HostRuntime) -> Result<(), Fail> {
 #[test]
 fn fronts_of_an_index(rt: HostRuntime) -> Result<(), Fail> {
     for len in 0..ROW.len() {
-        agrees(&rt, rt.alloc(), &ROW[..len], 7)?;
+        assert!(rt; agrees(rt.alloc(), &ROW[..len], 7)?, "{len} bytes");
     }
     Ok(())
 }
@@ -76,7 +78,7 @@ fn altered_bytes(rt: HostRuntime) -> Result<(), Fail> {
         for byte in [0x00, 0x01, 0x80, 0xff] {
             let mut bytes = *ROW;
             bytes[place] = byte;
-            agrees(&rt, rt.alloc(), &bytes, 50)?;
+            assert!(rt; agrees(rt.alloc(), &bytes, 50)?, "{byte} at {place}");
         }
     }
     Ok(())
@@ -85,24 +87,30 @@ fn altered_bytes(rt: HostRuntime) -> Result<(), Fail> {
 /// How many reads a listing of `ROW` makes: none is of a list.
 const READS: usize = 6;
 
-#[test]
-fn reads_that_fail(rt: HostRuntime) -> Result<(), Fail> {
-    for reads in 0..READS {
-        let mut out = MemSink::new(rt.alloc(), 1000);
-        let mut store = row_until(reads, None);
-        let reply = list_by(rt.alloc(), &mut store, &mut out);
-        assert_eq!(rt; reply, Err(IoFault::Failed), "after {reads}");
-        assert_eq!(rt; out.bytes(), b"".as_slice(), "after {reads}");
-    }
-    Ok(())
+/// Whether a listing whose reads fail after so many gives this reply, prints this and has met so many failures.
+fn lists(
+    alloc: Global,
+    reads: usize,
+    reply: Result<Reply, IoFault>,
+    printed: &str,
+    failures: u64,
+) -> bool {
+    let mut out = MemSink::new(alloc, 1000);
+    let mut store = row_until(reads, None);
+    list_by(alloc, &mut store, &mut out) == reply
+        && out.bytes() == printed.as_bytes()
+        && store.failures() == failures
 }
 
 #[test]
-fn enough_reads(rt: HostRuntime) -> Result<(), Fail> {
-    let mut out = MemSink::new(rt.alloc(), 1000);
-    let mut store = row_until(READS, None);
-    assert_eq!(rt; list_by(rt.alloc(), &mut store, &mut out), Ok(Reply::Done));
-    assert_eq!(rt; out.bytes(), b"/a\n".as_slice());
-    assert_eq!(rt; store.failures(), 0);
-    Ok(())
+fn reads_that_fail(rt: HostRuntime) {
+    for reads in 0..READS {
+        let fails = lists(rt.alloc(), reads, Err(IoFault::Failed), "", 1);
+        assert!(rt; fails, "after {reads}");
+    }
+}
+
+#[test]
+fn enough_reads(rt: HostRuntime) {
+    assert!(rt; lists(rt.alloc(), READS, Ok(Reply::Done), "/a\n", 0));
 }

@@ -1,12 +1,11 @@
 // Paths, trees, sources, sinks and stores.
-use crate::fixtures::strings;
+use crate::fixtures::{Placed, item_of, strings};
 use crate::refusals::{Came, at_most_one_is_refused};
 use cs_tree::{
-    DiskTree, IoFault, Item, Kind, MemSink, MemSource, MemStore, MemTree, PathFault, PutFault,
-    Sink, Tree, TreeFault, clean, read_all, read_part, reduce, walk,
+    DiskTree, IoFault, Kind, MemSink, MemSource, MemStore, MemTree, PathFault, PutFault, Sink,
+    Tree, TreeFault, clean, read_all, read_part, reduce, walk,
 };
 use std::alloc::{AllocError, Global};
-use std::process::Abort;
 use std::test::Fail;
 
 fn cleaned(alloc: Global) -> Came {
@@ -18,10 +17,7 @@ fn cleaned(alloc: Global) -> Came {
 }
 
 fn reduced(alloc: Global) -> Came {
-    match are_reduced(alloc) {
-        Ok(is_so) => Came::of(is_so),
-        Err(AllocError) => Came::Refused,
-    }
+    Came::of_answer(are_reduced(alloc))
 }
 
 fn are_reduced(alloc: Global) -> Result<bool, AllocError> {
@@ -29,74 +25,83 @@ fn are_reduced(alloc: Global) -> Result<bool, AllocError> {
     Ok(kept == strings(alloc, &["/a", "/b"])?)
 }
 
-fn read_to_the_end(alloc: Global) -> Came {
-    match read_all(alloc, &mut MemSource::new(b"abcdefgh", 3, false), 9) {
-        Ok(bytes) => Came::of(bytes.as_slice() == b"abcdefgh".as_slice()),
+/// What all bytes of a source, or some of a store, come to.
+fn bytes_came(bytes: Result<Vec<u8>, IoFault>, want: &[u8]) -> Came {
+    match bytes {
+        Ok(bytes) => Came::of(bytes.as_slice() == want),
         Err(IoFault::Memory) => Came::Refused,
         Err(IoFault::Failed) => Came::Otherwise,
     }
 }
 
+fn read_to_the_end(alloc: Global) -> Came {
+    let bytes = read_all(alloc, &mut MemSource::new(b"abcdefgh", 3, false), 9);
+    bytes_came(bytes, b"abcdefgh")
+}
+
 fn part_is_read(alloc: Global) -> Came {
-    match read_part(alloc, &mut MemStore::new(b"abcdefgh", 2), 2, 5) {
-        Ok(bytes) => Came::of(bytes.as_slice() == b"cdefg".as_slice()),
-        Err(IoFault::Memory) => Came::Refused,
-        Err(IoFault::Failed) => Came::Otherwise,
-    }
+    let bytes = read_part(alloc, &mut MemStore::new(b"abcdefgh", 2), 2, 5);
+    bytes_came(bytes, b"cdefg")
 }
 
 #[test]
 fn paths_and_parts(rt: HostRuntime) -> Result<(), Fail> {
     let alloc = rt.alloc();
-    at_most_one_is_refused(&rt, &[cleaned(alloc), cleaned(alloc)])?;
-    at_most_one_is_refused(&rt, &[reduced(alloc), reduced(alloc)])?;
-    at_most_one_is_refused(&rt, &[read_to_the_end(alloc), read_to_the_end(alloc)])?;
-    at_most_one_is_refused(&rt, &[part_is_read(alloc), part_is_read(alloc)])
+    let calls = [
+        cleaned(alloc),
+        cleaned(alloc),
+        reduced(alloc),
+        reduced(alloc),
+        read_to_the_end(alloc),
+        read_to_the_end(alloc),
+        part_is_read(alloc),
+        part_is_read(alloc),
+    ];
+    at_most_one_is_refused(&rt, &calls)
 }
 
-/// Puts an item, once more where that is refused.
-fn put(alloc: Global, tree: &mut MemTree, path: &str, text: Option<&str>) -> Result<(), Fail> {
-    for _ in 0..2 {
-        let item = match text {
-            Some(text) => Item::File(text.as_bytes().to_vec(alloc)?),
-            None => Item::Folder,
-        };
-        match tree.put(path, item) {
-            Err(PutFault::Memory) => {}
-            answer => return Ok(answer?),
-        }
-    }
-    Err(Fail::new("twice"))
-}
-
-/// The names that a walk finds.
-fn walked(alloc: Global, tree: &mut MemTree) -> Came {
-    match walks(alloc, tree) {
-        Ok(is_so) => Came::of(is_so),
-        Err(AllocError) => Came::Refused,
+/// Whether an item is put, once more where that is refused.
+fn is_put(
+    alloc: Global,
+    tree: &mut MemTree,
+    path: &str,
+    text: Option<&str>,
+) -> Result<bool, AllocError> {
+    match tree.put(path, item_of(alloc, text)?) {
+        Err(PutFault::Memory) => Ok(tree.put(path, item_of(alloc, text)?) == Ok(())),
+        answer => Ok(answer == Ok(())),
     }
 }
 
+const PLACED: [Placed<'static>; 4] = [
+    ("/b", None),
+    ("/b/y", Some("one\n")),
+    ("/b/x", Some("two\n")),
+    ("/b/y", Some("six\n")),
+];
+
+/// Whether a walk finds the names.
 fn walks(alloc: Global, tree: &mut MemTree) -> Result<bool, AllocError> {
     let walked = walk(alloc, tree, &strings(alloc, &["/b", "/c"])?)?;
     Ok(walked.names == strings(alloc, &["/b/x", "/b/y"])? && walked.faults.len() == 1)
 }
 
+/// The puts of a tree, and two walks of it.
+fn put_and_walked(alloc: Global) -> Result<[Came; 3], AllocError> {
+    let mut tree = MemTree::new(alloc, 3)?;
+    let mut are_put = true;
+    for (path, text) in PLACED {
+        are_put = is_put(alloc, &mut tree, path, text)? && are_put;
+    }
+    let first = Came::of_answer(walks(alloc, &mut tree));
+    let second = Came::of_answer(walks(alloc, &mut tree));
+    Ok([Came::of(are_put), first, second])
+}
+
 #[test]
 fn trees_in_memory(rt: HostRuntime) -> Result<(), Fail> {
-    let alloc = rt.alloc();
-    let mut tree = MemTree::new(alloc, 3)?;
-    for (path, text) in [
-        ("/b", None),
-        ("/b/y", Some("one\n")),
-        ("/b/x", Some("two\n")),
-        ("/b/y", Some("six\n")),
-    ] {
-        put(alloc, &mut tree, path, text)?;
-    }
-    let first = walked(alloc, &mut tree);
-    let second = walked(alloc, &mut tree);
-    at_most_one_is_refused(&rt, &[first, second])
+    let came = put_and_walked(rt.alloc())?;
+    at_most_one_is_refused(&rt, &came)
 }
 
 /// A piece is written, once more where that is refused: then nothing of it was taken before.
@@ -112,18 +117,20 @@ fn is_written(sink: &mut MemSink, piece: &[u8]) -> bool {
 
 const PIECES: &[&[u8]] = &[b"one", b" and two", b" and many more letters"];
 
-/// Want of memory is no failure of a sink.
+/// Whether a sink takes the pieces. Want of memory is no failure of it.
+fn takes_pieces(alloc: Global) -> bool {
+    let mut sink = MemSink::new(alloc, 100);
+    for piece in PIECES {
+        if !is_written(&mut sink, piece) {
+            return false;
+        }
+    }
+    sink.bytes() == b"one and two and many more letters".as_slice() && sink.failures() == 0
+}
+
 #[test]
 fn sinks_in_memory(rt: HostRuntime) {
-    let mut sink = MemSink::new(rt.alloc(), 100);
-    for piece in PIECES {
-        assert!(rt; is_written(&mut sink, piece));
-    }
-    assert_eq!(rt;
-        sink.bytes(),
-        b"one and two and many more letters".as_slice()
-    );
-    assert_eq!(rt; sink.failures(), 0);
+    assert!(rt; takes_pieces(rt.alloc()));
 }
 
 fn has_kind<T: Tree>(tree: &mut T, path: &str) -> Came {
@@ -150,8 +157,8 @@ fn is_opened<T: Tree>(tree: &mut T, path: &str) -> Came {
     }
 }
 
-/// The calls on a tree that has a folder and a file.
-fn asked<T: Tree>(alloc: Global, tree: &mut T) -> [Came; 6] {
+/// The calls on a tree that has a folder and a file. Want of memory is no failure of it.
+fn asked<T: Tree>(alloc: Global, tree: &mut T) -> [Came; 7] {
     [
         has_kind(tree, "."),
         has_kind(tree, "."),
@@ -159,14 +166,16 @@ fn asked<T: Tree>(alloc: Global, tree: &mut T) -> [Came; 6] {
         has_entries(alloc, tree, "."),
         is_opened(tree, "/dev/null"),
         is_opened(tree, "/dev/null"),
+        Came::of(tree.failures() == 0),
     ]
 }
 
-/// Want of memory is no failure of the disk.
+fn asked_of_the_disk(rt: &HostRuntime) -> Result<[Came; 7], AllocError> {
+    Ok(asked(rt.alloc(), &mut DiskTree::new(rt.clone()?)))
+}
+
 #[test]
 fn the_real_disk(rt: HostRuntime) -> Result<(), Fail> {
-    let mut tree = DiskTree::new(rt.clone()?);
-    let came = asked(rt.alloc(), &mut tree);
-    assert_eq!(rt; tree.failures(), 0);
+    let came = asked_of_the_disk(&rt)?;
     at_most_one_is_refused(&rt, &came)
 }

@@ -49,13 +49,16 @@ fn has_many(bytes: &[u8]) -> bool {
     }
 }
 
+/// Whether an index of many names is made.
+fn indexes_many(alloc: Global) -> Result<bool, Fail> {
+    let mut builder = Builder::new(alloc, &strings(alloc, &["/a"])?)?;
+    Ok(add_many(alloc, &mut builder)? && has_many(&builder.finish()?))
+}
+
 /// A refused name is not in the index, also where several batches are put in order.
 #[test]
 fn many_names(rt: HostRuntime) -> Result<(), Fail> {
-    let mut builder = Builder::new(rt.alloc(), &strings(rt.alloc(), &["/a"])?)?;
-    assert!(rt; add_many(rt.alloc(), &mut builder)?);
-    let bytes = builder.finish()?;
-    assert!(rt; has_many(&bytes));
+    assert!(rt; indexes_many(rt.alloc())?);
     Ok(())
 }
 
@@ -71,12 +74,12 @@ const SECOND: Names<'static> = &[("/g/2", false)];
 const JOINED: Names<'static> = &[("/g/1", false), ("/g/2", false), ("/g/3", false)];
 
 /// The index of a path with these files.
-fn index_of(alloc: Global, path: &str, names: Names<'_>) -> Result<Vec<u8>, Fail> {
+fn index_of(alloc: Global, path: &str, names: Names<'_>) -> Result<Vec<u8>, BuildFault> {
     let mut builder = Builder::new(alloc, &strings(alloc, &[path])?)?;
     for (name, both) in names {
         let _id = add(&mut builder, *name, *both)?;
     }
-    Ok(builder.finish()?)
+    builder.finish()
 }
 
 /// The ids of files that have two trigrams.
@@ -89,21 +92,24 @@ fn asked(alloc: Global, index: &Index<'_>, query: &Query) -> Came {
 }
 
 /// A query for two trigrams.
-fn both(alloc: Global) -> Result<Query, Fail> {
+fn both(alloc: Global) -> Result<Query, AllocError> {
     let mut members = Vec::new(alloc);
     members.push(Query::Tri(ABC))?;
     members.push(Query::Tri(BCD))?;
     Ok(Query::And(members))
 }
 
+fn asked_twice(alloc: Global) -> Result<[Came; 2], Fail> {
+    let bytes = index_of(alloc, "/g", FILES)?;
+    let query = both(alloc)?;
+    let index = Index::open(&bytes)?;
+    Ok([asked(alloc, &index, &query), asked(alloc, &index, &query)])
+}
+
 #[test]
 fn candidates(rt: HostRuntime) -> Result<(), Fail> {
-    let bytes = index_of(rt.alloc(), "/g", FILES)?;
-    let query = both(rt.alloc())?;
-    let index = Index::open(&bytes)?;
-    let first = asked(rt.alloc(), &index, &query);
-    let second = asked(rt.alloc(), &index, &query);
-    at_most_one_is_refused(&rt, &[first, second])
+    let came = asked_twice(rt.alloc())?;
+    at_most_one_is_refused(&rt, &came)
 }
 
 /// The same by way of a store.
@@ -121,13 +127,17 @@ fn asked_of_a_store(alloc: Global, bytes: &[u8], query: &Query) -> Came {
     }
 }
 
+fn store_asked_twice(alloc: Global) -> Result<[Came; 2], Fail> {
+    let bytes = index_of(alloc, "/g", FILES)?;
+    let query = both(alloc)?;
+    let first = asked_of_a_store(alloc, &bytes, &query);
+    Ok([first, asked_of_a_store(alloc, &bytes, &query)])
+}
+
 #[test]
 fn candidates_of_a_store(rt: HostRuntime) -> Result<(), Fail> {
-    let bytes = index_of(rt.alloc(), "/g", FILES)?;
-    let query = both(rt.alloc())?;
-    let first = asked_of_a_store(rt.alloc(), &bytes, &query);
-    let second = asked_of_a_store(rt.alloc(), &bytes, &query);
-    at_most_one_is_refused(&rt, &[first, second])
+    let came = store_asked_twice(rt.alloc())?;
+    at_most_one_is_refused(&rt, &came)
 }
 
 /// Joining two indexes gives this one.
@@ -139,15 +149,19 @@ fn joined(alloc: Global, old: &Index<'_>, newer: &Index<'_>, want: &[u8]) -> Cam
     }
 }
 
+fn joined_twice(alloc: Global) -> Result<[Came; 2], Fail> {
+    let old = index_of(alloc, "/g", FILES)?;
+    let part = index_of(alloc, "/g/2", SECOND)?;
+    let want = index_of(alloc, "/g", JOINED)?;
+    let (old, part) = (Index::open(&old)?, Index::open(&part)?);
+    let first = joined(alloc, &old, &part, &want);
+    Ok([first, joined(alloc, &old, &part, &want)])
+}
+
 #[test]
 fn joins(rt: HostRuntime) -> Result<(), Fail> {
-    let old = index_of(rt.alloc(), "/g", FILES)?;
-    let part = index_of(rt.alloc(), "/g/2", SECOND)?;
-    let want = index_of(rt.alloc(), "/g", JOINED)?;
-    let (old, part) = (Index::open(&old)?, Index::open(&part)?);
-    let first = joined(rt.alloc(), &old, &part, &want);
-    let second = joined(rt.alloc(), &old, &part, &want);
-    at_most_one_is_refused(&rt, &[first, second])
+    let came = joined_twice(rt.alloc())?;
+    at_most_one_is_refused(&rt, &came)
 }
 
 /// The ids of names that do not ascend, in the order of the names.
@@ -161,8 +175,7 @@ fn ordered(alloc: Global, index: &Index<'_>) -> Came {
 
 #[test]
 fn orders(rt: HostRuntime) -> Result<(), Fail> {
+    let alloc = rt.alloc();
     let index = Index::open(UNSORTED)?;
-    let first = ordered(rt.alloc(), &index);
-    let second = ordered(rt.alloc(), &index);
-    at_most_one_is_refused(&rt, &[first, second])
+    at_most_one_is_refused(&rt, &[ordered(alloc, &index), ordered(alloc, &index)])
 }

@@ -21,14 +21,6 @@ fn asks(alloc: Global, pattern: &Pattern) -> Result<bool, AllocError> {
     }
 }
 
-/// What a call on a pattern comes to.
-fn came(answer: Result<bool, AllocError>) -> Came {
-    match answer {
-        Ok(is_so) => Came::of(is_so),
-        Err(AllocError) => Came::Refused,
-    }
-}
-
 /// Whether sets of characters are put together and lowered as ever.
 fn lowers(alloc: Global) -> Result<bool, AllocError> {
     let set = CharSet::from_ranges(alloc, &[(0xE000, 0xE010), (0x61, 0x7A)])?;
@@ -41,8 +33,8 @@ fn lowers(alloc: Global) -> Result<bool, AllocError> {
 
 fn read(alloc: Global, asked: bool) -> Came {
     match parse(alloc, "hel+o$|(ab|cd)x[0-9]{2}y*", false) {
-        Ok(pattern) if asked => came(asks(alloc, &pattern)),
-        Ok(pattern) => came(finds(alloc, &pattern)),
+        Ok(pattern) if asked => Came::of_answer(asks(alloc, &pattern)),
+        Ok(pattern) => Came::of_answer(finds(alloc, &pattern)),
         Err(error) => Came::refused_pattern(error, PatternFault::Memory),
     }
 }
@@ -86,5 +78,9 @@ fn faults_are_told(rt: HostRuntime) -> Result<(), Fail> {
 #[test]
 fn characters_are_lowered(rt: HostRuntime) -> Result<(), Fail> {
     let alloc = rt.alloc();
-    at_most_one_is_refused(&rt, &[came(lowers(alloc)), came(lowers(alloc))])
+    let calls = [
+        Came::of_answer(lowers(alloc)),
+        Came::of_answer(lowers(alloc)),
+    ];
+    at_most_one_is_refused(&rt, &calls)
 }

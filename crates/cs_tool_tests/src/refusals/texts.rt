@@ -31,16 +31,22 @@ fn gathered(scanner: &mut Scanner) -> Came {
     }
 }
 
+fn scanned_twice(alloc: Global) -> Result<[Came; 6], AllocError> {
+    let mut scanner = Scanner::new(alloc)?;
+    Ok([
+        scanned(&mut scanner, b"abcd"),
+        scanned(&mut scanner, b"xyz\0"),
+        gathered(&mut scanner),
+        scanned(&mut scanner, b"abcd"),
+        scanned(&mut scanner, b"xyz\0"),
+        gathered(&mut scanner),
+    ])
+}
+
 /// A scanner is as new after a refused scan.
 #[test]
 fn scanners(rt: HostRuntime) -> Result<(), Fail> {
-    let mut scanner = Scanner::new(rt.alloc())?;
-    let mut came = [Came::AsEver; 6];
-    for turn in 0..2 {
-        came[turn] = scanned(&mut scanner, b"abcd");
-        came[turn + 2] = scanned(&mut scanner, b"xyz\0");
-        came[turn + 4] = gathered(&mut scanner);
-    }
+    let came = scanned_twice(rt.alloc())?;
     at_most_one_is_refused(&rt, &came)
 }
 
@@ -100,7 +106,13 @@ fn skip_told(alloc: Global) -> Came {
 #[test]
 fn lines(rt: HostRuntime) -> Result<(), Fail> {
     let alloc = rt.alloc();
-    at_most_one_is_refused(&rt, &[refusal_told(alloc), refusal_told(alloc)])?;
-    at_most_one_is_refused(&rt, &[fault_told(alloc), fault_told(alloc)])?;
-    at_most_one_is_refused(&rt, &[skip_told(alloc), skip_told(alloc)])
+    let calls = [
+        refusal_told(alloc),
+        refusal_told(alloc),
+        fault_told(alloc),
+        fault_told(alloc),
+        skip_told(alloc),
+        skip_told(alloc),
+    ];
+    at_most_one_is_refused(&rt, &calls)
 }

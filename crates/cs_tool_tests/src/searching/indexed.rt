@@ -2,14 +2,10 @@
 use crate::fixtures::{Placed, tree_of, words_of};
 use crate::indexing::jobs::index_of;
 use cs_search::{Status, csearch};
-use cs_tree::{MemSink, MemTree, Sink};
+use cs_tree::{MemSink, MemTree};
 use cs_words::{Job, SearchJob, Tool, ToolFault, read_words};
 use std::alloc::Global;
-use std::process::Abort;
 use std::test::Fail;
-
-/// What is printed on both outputs, and the answer.
-type Wanted<'a> = (&'a str, &'a str, Result<Status, ToolFault>);
 
 /// Three files, of which one has a line that matches `Google.*Search`.
 pub const GOOGLE: &[Placed<'static>] = &[
@@ -66,48 +62,53 @@ pub fn search(
     Ok(csearch(alloc, &job, Some(index), tree, out, err))
 }
 
-/// What an output has taken.
-fn has_taken(rt: &impl Abort, words: &str, output: &MemSink, want: &str) {
-    assert_eq!(rt; output.bytes(), want.as_bytes(), "of {words:?}");
-}
+/// Files that an index is made of, those that are there when it is searched, the words, and what is printed on both
+/// outputs.
+type Row<'a> = (
+    &'a [Placed<'a>],
+    &'a [Placed<'a>],
+    &'a str,
+    &'a str,
+    &'a str,
+);
 
-/// What such a search prints and answers.
-fn run(
-    rt: &impl Abort,
-    alloc: Global,
-    words: &str,
-    index: &[u8],
-    tree: &mut MemTree,
-    wanted: Wanted<'_>,
-) -> Result<(), Fail> {
+const ROWS: &[Row<'static>] = &[
+    (GOOGLE, FIRST, "Google.*Search", "/g/1:Google Search\n", ""),
+    (
+        GOOGLE,
+        FIRST,
+        "-brute Google.*Search",
+        "/g/1:Google Search\n",
+        "csearch: /g/2: no such file\ncsearch: /g/3: no such file\n",
+    ),
+    (
+        LACKING,
+        HAVING,
+        "Google.*Search",
+        "/g/0:Google Search\n",
+        "",
+    ),
+];
+
+/// Whether such a search matches and prints this.
+fn prints(alloc: Global, row: &Row<'_>) -> Result<bool, Fail> {
+    let (indexed, there, words, lines, faults) = *row;
+    let index = index_of(alloc, "/g", indexed)?;
+    let mut tree = tree_of(alloc, there)?;
     let mut out = MemSink::new(alloc, 1000);
     let mut err = MemSink::new(alloc, 1000);
-    let status = search(alloc, words, index, tree, &mut out, &mut err)?;
-    has_taken(rt, words, &out, wanted.0);
-    has_taken(rt, words, &err, wanted.1);
-    assert_eq!(rt; status, wanted.2, "of {words:?}");
-    Ok(())
+    let status = search(alloc, words, &index, &mut tree, &mut out, &mut err)?;
+    Ok(
+        status == Ok(Status::Matched)
+            && out.bytes() == lines.as_bytes()
+            && err.bytes() == faults.as_bytes(),
+    )
 }
 
 #[test]
 fn only_candidates_are_opened(rt: HostRuntime) -> Result<(), Fail> {
-    let alloc = rt.alloc();
-    let matched = Ok(Status::Matched);
-    let index = index_of(alloc, "/g", GOOGLE)?;
-    let tree = &mut tree_of(alloc, FIRST)?;
-    let found = "/g/1:Google Search\n";
-    let words = "Google.*Search";
-    run(&rt, alloc, words, &index, tree, (found, "", matched))?;
-    let missing = "csearch: /g/2: no such file\ncsearch: /g/3: no such file\n";
-    let words = "-brute Google.*Search";
-    run(&rt, alloc, words, &index, tree, (found, missing, matched))
-}
-
-#[test]
-fn candidates_have_each_trigram(rt: HostRuntime) -> Result<(), Fail> {
-    let alloc = rt.alloc();
-    let index = index_of(alloc, "/g", LACKING)?;
-    let tree = &mut tree_of(alloc, HAVING)?;
-    let found = ("/g/0:Google Search\n", "", Ok(Status::Matched));
-    run(&rt, alloc, "Google.*Search", &index, tree, found)
+    for row in ROWS {
+        assert!(rt; prints(rt.alloc(), row)?, "{} for {:?}", row.2, row.3);
+    }
+    Ok(())
 }

@@ -1,13 +1,12 @@
 // Searches at small limits and in small buffers.
 use crate::fixtures::PLAIN;
 use cs_match::{Matcher, Program};
-use cs_search::{Form, Grepped, LineBuffer, ReadFault, grep, grep_within};
+use cs_search::{Form, GrepFault, Grepped, LineBuffer, ReadFault, grep, grep_within};
 use cs_syntax::parse;
 use cs_tree::{MemSink, MemSource, Source};
-use cs_words::Style;
+use cs_words::{Style, ToolFault};
 use std::alloc::Global;
 use std::process::Abort;
-use std::test::Fail;
 
 /// An input: its bytes, whether it fails after them, and how many of them are searched.
 #[derive(Clone, Copy)]
@@ -27,72 +26,88 @@ struct Sizes {
     size: usize,
 }
 
-fn program_of(alloc: Global, pattern: &str) -> Result<Program, Fail> {
-    let pattern = parse(alloc, pattern, false).ok().ok_or("pattern")?;
+pub fn program_of(alloc: Global, pattern: &str) -> Result<Program, ToolFault> {
+    let pattern = parse(alloc, pattern, false)?;
     Ok(Program::compile(alloc, &pattern)?)
 }
 
-/// What a search answers.
-fn answer_of(
+/// What a search of the first `most` bytes answers, by way of a buffer that begins with `size` bytes.
+fn answer_by<R: Source>(
     alloc: Global,
-    program: &Program,
-    given: Given<'_>,
-    sizes: Sizes,
+    matcher: &mut Matcher<'_>,
+    input: &mut R,
+    most: usize,
+    size: usize,
     style: Style,
     out: &mut MemSink,
-) -> Result<Grepped, Fail> {
-    let mut matcher = Matcher::new(alloc, program)?;
-    let mut buffer = LineBuffer::of_size(alloc, sizes.size.max(1))?;
-    let mut input = MemSource::new(given.text, sizes.step.max(1), given.cut);
+) -> Result<Grepped, GrepFault> {
+    let mut buffer = LineBuffer::of_size(alloc, size.max(1))?;
     let form = Form { name: "t", style };
-    let most = given.most.min(1000);
-    Ok(grep_within(&form, &mut input, most, &mut buffer, &mut matcher, out)?)
+    grep_within(&form, input, most.min(1000), &mut buffer, matcher, out)
 }
 
-/// One search.
-fn search_by(
-    rt: &impl Abort,
+/// The same by a matcher of the program.
+pub fn answer_within<R: Source>(
     alloc: Global,
     program: &Program,
-    given: Given<'_>,
-    sizes: Sizes,
+    input: &mut R,
+    most: usize,
+    size: usize,
     style: Style,
-    wanted: Wanted<'_>,
-) -> Result<(), Fail> {
-    let mut out = MemSink::new(alloc, 1000);
-    let answer = answer_of(alloc, program, given, sizes, style, &mut out)?;
-    assert_eq!(rt; out.bytes(), wanted.0.as_bytes(), "by {sizes:?}, {style:?}");
-    assert_eq!(rt; answer.matched, wanted.1, "by {sizes:?}, {style:?}");
-    assert_eq!(rt; answer.fault, wanted.2, "by {sizes:?}, {style:?}");
-    Ok(())
-}
-
-/// The same search at several steps and sizes.
-fn search(
-    rt: &impl Abort,
-    alloc: Global,
-    pattern: &str,
-    given: Given<'_>,
-    style: Style,
-    wanted: Wanted<'_>,
-) -> Result<(), Fail> {
-    let program = program_of(alloc, pattern)?;
-    for step in [1, 2, 3, 7, 100] {
-        for size in [1, 2, 5, 64] {
-            let sizes = Sizes { step, size };
-            search_by(rt, alloc, &program, given, sizes, style, wanted)?;
-        }
-    }
-    Ok(())
+    out: &mut MemSink,
+) -> Result<Grepped, GrepFault> {
+    let mut matcher = Matcher::new(alloc, program)?;
+    answer_by(alloc, &mut matcher, input, most, size, style, out)
 }
 
 /// A pattern, what is searched for it, how it is printed, and what is wanted.
 type Row<'a> = (&'a str, Given<'a>, Style, Wanted<'a>);
 
-/// The same for each of these.
-fn searches(rt: &impl Abort, alloc: Global, rows: &[Row<'_>]) -> Result<(), Fail> {
-    for (pattern, given, style, wanted) in rows {
-        search(rt, alloc, pattern, *given, *style, *wanted)?;
+/// Whether a search by such sizes prints and answers what is wanted.
+fn is_right(
+    alloc: Global,
+    program: &Program,
+    row: &Row<'_>,
+    sizes: Sizes,
+) -> Result<bool, GrepFault> {
+    let (_, given, style, (lines, matched, fault)) = *row;
+    let Sizes { step, size } = sizes;
+    let mut input = MemSource::new(given.text, step.max(1), given.cut);
+    let mut out = MemSink::new(alloc, 1000);
+    let answer = answer_within(
+        alloc, program, &mut input, given.most, size, style, &mut out,
+    )?;
+    Ok(out.bytes() == lines.as_bytes() && answer.matched == matched && answer.fault == fault)
+}
+
+/// The sizes by which a search is not right, of several.
+fn wrong_sizes_by(
+    alloc: Global,
+    program: &Program,
+    row: &Row<'_>,
+) -> Result<Option<Sizes>, GrepFault> {
+    for step in [1, 2, 3, 7, 100] {
+        for size in [1, 2, 5, 64] {
+            let sizes = Sizes { step, size };
+            if !is_right(alloc, program, row, sizes)? {
+                return Ok(Some(sizes));
+            }
+        }
+    }
+    Ok(None)
+}
+
+/// The same of a search for the pattern of the row.
+fn wrong_sizes(alloc: Global, row: &Row<'_>) -> Result<Option<Sizes>, ToolFault> {
+    let program = program_of(alloc, row.0)?;
+    Ok(wrong_sizes_by(alloc, &program, row)?)
+}
+
+/// No search of these is wrong.
+fn searches(rt: &impl Abort, alloc: Global, rows: &[Row<'_>]) -> Result<(), ToolFault> {
+    for row in rows {
+        let wrong = wrong_sizes(alloc, row)?;
+        assert!(rt; wrong.is_none(), "{:?} by {wrong:?}, {:?}", row.0, row.2);
     }
     Ok(())
 }
@@ -163,7 +178,7 @@ const LINES: &[Row<'static>] = &[
 ];
 
 #[test]
-fn lines_with_numbers_and_names(rt: HostRuntime) -> Result<(), Fail> {
+fn lines_with_numbers_and_names(rt: HostRuntime) -> Result<(), ToolFault> {
     searches(&rt, rt.alloc(), LINES)
 }
 
@@ -208,7 +223,7 @@ const COUNTS: &[Row<'static>] = &[
 ];
 
 #[test]
-fn counts_and_lists(rt: HostRuntime) -> Result<(), Fail> {
+fn counts_and_lists(rt: HostRuntime) -> Result<(), ToolFault> {
     searches(&rt, rt.alloc(), COUNTS)
 }
 
@@ -228,7 +243,7 @@ const FAILING: &[Row<'static>] = &[
 ];
 
 #[test]
-fn inputs_that_fail(rt: HostRuntime) -> Result<(), Fail> {
+fn inputs_that_fail(rt: HostRuntime) -> Result<(), ToolFault> {
     searches(&rt, rt.alloc(), FAILING)
 }
 
@@ -256,29 +271,37 @@ const LONG_ONES: &[Row<'static>] = &[
 ];
 
 #[test]
-fn inputs_that_are_too_long(rt: HostRuntime) -> Result<(), Fail> {
+fn inputs_that_are_too_long(rt: HostRuntime) -> Result<(), ToolFault> {
     searches(&rt, rt.alloc(), LONG_ONES)
 }
 
-/// The answer of a search for `one` under `-l`.
-fn listed(alloc: Global, input: &mut MemSource<'_>) -> Result<Grepped, Fail> {
-    let program = program_of(alloc, "one")?;
-    let mut matcher = Matcher::new(alloc, &program)?;
+/// What a search under `-l` answers.
+fn listed(
+    alloc: Global,
+    program: &Program,
+    input: &mut MemSource<'_>,
+    out: &mut MemSink,
+) -> Result<Grepped, GrepFault> {
+    let mut matcher = Matcher::new(alloc, program)?;
+    grep(alloc, "t", input, &mut matcher, LIST, out)
+}
+
+/// Whether the input is read no further than to the block of the first hit.
+fn stops_at_its_hit(alloc: Global, program: &Program) -> Result<bool, GrepFault> {
+    let mut input = MemSource::new(b"one\ntwo\n", 4, false);
     let mut out = MemSink::new(alloc, 1000);
-    let list = Style {
-        list: true,
-        ..PLAIN
-    };
-    Ok(grep(alloc, "t", input, &mut matcher, list, &mut out)?)
+    let answer = listed(alloc, program, &mut input, &mut out)?;
+    let mut next = [0u8; 10];
+    Ok(answer.matched && input.read(&mut next) == Ok(4) && next.starts_with(b"two\n"))
+}
+
+/// The same of a search for `one`.
+fn one_stops_at_its_hit(alloc: Global) -> Result<bool, ToolFault> {
+    let program = program_of(alloc, "one")?;
+    Ok(stops_at_its_hit(alloc, &program)?)
 }
 
 #[test]
-fn a_list_reads_no_further_than_its_hit(rt: HostRuntime) -> Result<(), Fail> {
-    let mut input = MemSource::new(b"one\ntwo\n", 4, false);
-    let answer = listed(rt.alloc(), &mut input)?;
-    assert!(rt; answer.matched);
-    let mut next = [0u8; 10];
-    assert_eq!(rt; input.read(&mut next), Ok(4));
-    assert_eq!(rt; next[..4], b"two\n"[..]);
-    Ok(())
+fn a_list_reads_no_further_than_its_hit(rt: HostRuntime) {
+    assert!(rt; one_stops_at_its_hit(rt.alloc()) == Ok(true));
 }

@@ -3,13 +3,12 @@
 ghost use Rattle.std.specs.Prelude.{◌<◌};
 
 use crate::fixtures::{UNSORTED, tree_of, words_of};
-use crate::stores::{EMPTY, ROW, row_until};
+use crate::stores::{INDEXES, ROW, row_until};
 use cs_index::{IndexFault, StoredIndex};
 use cs_search::{Status, csearch, csearch_stored};
-use cs_tree::{IoFault, MemSink, MemStore, MemTree, Store};
+use cs_tree::{IoFault, MemSink, MemStore, MemTree, PutFault, Store};
 use cs_words::{Job, SearchJob, Tool, ToolFault, read_words};
 use std::alloc::Global;
-use std::process::Abort;
 use std::test::Fail;
 
 /// What a search answers.
@@ -27,15 +26,16 @@ fn job_of(alloc: Global, text: &str) -> Result<SearchJob, Fail> {
 }
 
 /// A tree with the file of `ROW`.
-fn tree(alloc: Global) -> Result<MemTree, Fail> {
+fn tree(alloc: Global) -> Result<MemTree, PutFault> {
     tree_of(alloc, &[("/a", None), ("/a/x", Some("abcd\n"))])
 }
 
 /// A search by the bytes.
 fn search(alloc: Global, words: &str, index: &[u8], out: &mut MemSink) -> Result<Answer, Fail> {
     let job = job_of(alloc, words)?;
+    let mut tree = tree(alloc)?;
     let mut err = MemSink::new(alloc, 1000);
-    Ok(csearch(alloc, &job, Some(index), &mut tree(alloc)?, out, &mut err))
+    Ok(csearch(alloc, &job, Some(index), &mut tree, out, &mut err))
 }
 
 /// What is printed and answered by a store.
@@ -63,33 +63,25 @@ fn search_stored<S: Store>(
     Ok(run(alloc, &job, store, &mut tree, out))
 }
 
-/// The search by a store in memory, of which a read gives at most so many bytes, is the search by the bytes.
-fn agrees(
-    rt: &impl Abort,
-    alloc: Global,
-    words: &str,
-    index: &[u8],
-    step: usize,
-) -> Result<(), Fail>
+/// Whether the search by a store in memory, of which a read gives at most so many bytes, is the search by the bytes.
+fn agrees(alloc: Global, words: &str, index: &[u8], step: usize) -> Result<bool, Fail>
     requires { 0 < step }
 {
     let mut want = MemSink::new(alloc, 1000);
     let mut out = MemSink::new(alloc, 1000);
     let wanted = search(alloc, words, index, &mut want)?;
-    let mut store = MemStore::new(index, step);
-    let answer = search_stored(alloc, words, &mut store, &mut out)?;
-    assert_eq!(rt; answer, Ok(wanted), "of {words:?} by {step}");
-    assert_eq!(rt; out.bytes(), want.bytes(), "of {words:?} by {step}");
-    Ok(())
+    let answer = search_stored(alloc, words, &mut MemStore::new(index, step), &mut out)?;
+    Ok(answer == Ok(wanted) && out.bytes() == want.bytes())
 }
 
 #[test]
 fn short_reads(rt: HostRuntime) -> Result<(), Fail> {
     for words in WORDS {
         for step in 1..130 {
-            agrees(&rt, rt.alloc(), words, ROW, step)?;
-            agrees(&rt, rt.alloc(), words, UNSORTED, step)?;
-            agrees(&rt, rt.alloc(), words, EMPTY, step)?;
+            for index in INDEXES {
+                let is_so = agrees(rt.alloc(), words, index, step)?;
+                assert!(rt; is_so, "{words:?} of {} bytes by {step}", index.len());
+            }
         }
     }
     Ok(())
@@ -98,7 +90,7 @@ fn short_reads(rt: HostRuntime) -> Result<(), Fail> {
 #[test]
 fn fronts_of_an_index(rt: HostRuntime) -> Result<(), Fail> {
     for len in 0..ROW.len() {
-        agrees(&rt, rt.alloc(), "abc", &ROW[..len], 7)?;
+        assert!(rt; agrees(rt.alloc(), "abc", &ROW[..len], 7)?, "{len} bytes");
     }
     Ok(())
 }
@@ -109,7 +101,10 @@ fn altered_bytes(rt: HostRuntime) -> Result<(), Fail> {
         for byte in [0x00, 0x01, 0x80, 0xff] {
             let mut bytes = *ROW;
             bytes[place] = byte;
-            agrees(&rt, rt.alloc(), "abc|bcd", &bytes, 50)?;
+            assert!(rt;
+                agrees(rt.alloc(), "abc|bcd", &bytes, 50)?,
+                "{byte} at {place}"
+            );
         }
     }
     Ok(())
@@ -118,67 +113,83 @@ fn altered_bytes(rt: HostRuntime) -> Result<(), Fail> {
 /// How many reads a search of `ROW` for one trigram makes.
 const READS: usize = 7;
 
+/// Whether a search that reads fail after so many is refused, prints nothing and has met one failure.
+fn fails(alloc: Global, reads: usize) -> Result<bool, Fail> {
+    let mut out = MemSink::new(alloc, 1000);
+    let mut store = row_until(reads, None);
+    let answer = search_stored(alloc, "abc", &mut store, &mut out)?;
+    Ok(answer == Err(IoFault::Failed) && out.bytes().is_empty() && store.failures() == 1)
+}
+
 #[test]
 fn reads_that_fail(rt: HostRuntime) -> Result<(), Fail> {
     for reads in 0..READS {
-        let mut out = MemSink::new(rt.alloc(), 1000);
-        let mut store = row_until(reads, None);
-        let answer = search_stored(rt.alloc(), "abc", &mut store, &mut out)?;
-        assert_eq!(rt; answer, Err(IoFault::Failed), "after {reads}");
-        assert_eq!(rt; out.bytes(), b"".as_slice(), "after {reads}");
-        assert_eq!(rt; store.failures(), 1, "after {reads}");
+        assert!(rt; fails(rt.alloc(), reads)?, "after {reads}");
     }
     Ok(())
 }
 
-#[test]
-fn enough_reads(rt: HostRuntime) -> Result<(), Fail> {
-    let mut out = MemSink::new(rt.alloc(), 1000);
-    let mut store = row_until(READS, None);
-    let answer = search_stored(rt.alloc(), "abc", &mut store, &mut out)?;
-    assert_eq!(rt; answer, Ok(Ok(Status::Matched)));
-    assert_eq!(rt; out.bytes(), b"/a/x:abcd\n".as_slice());
-    Ok(())
+/// Whether a search that may make so many reads prints the line of `ROW`, and has met no failure.
+fn matches_within(alloc: Global, reads: usize, words: &str) -> Result<bool, Fail> {
+    let mut out = MemSink::new(alloc, 1000);
+    let mut store = row_until(reads, None);
+    let answer = search_stored(alloc, words, &mut store, &mut out)?;
+    Ok(
+        answer == Ok(Ok(Status::Matched))
+            && out.bytes() == b"/a/x:abcd\n".as_slice()
+            && store.failures() == 0,
+    )
 }
 
 /// By `-brute` no list is read.
 #[test]
-fn no_list_is_read(rt: HostRuntime) -> Result<(), Fail> {
-    let mut out = MemSink::new(rt.alloc(), 1000);
-    let mut store = row_until(READS - 1, None);
-    let answer = search_stored(rt.alloc(), "-brute bcd", &mut store, &mut out)?;
-    assert_eq!(rt; answer, Ok(Ok(Status::Matched)));
-    assert_eq!(rt; store.failures(), 0);
+fn enough_reads(rt: HostRuntime) -> Result<(), Fail> {
+    let alloc = rt.alloc();
+    assert!(rt;
+        matches_within(alloc, READS, "abc")? && matches_within(alloc, READS - 1, "-brute bcd")?
+    );
     Ok(())
 }
 
-/// A store that has shrunk, or has other bytes, is searched to an end.
+/// Whether a store that has other bytes after so many reads is searched to an end.
+fn ends(alloc: Global, reads: usize, then: &[u8]) -> Result<bool, Fail> {
+    let mut out = MemSink::new(alloc, 1000);
+    let mut store = row_until(reads, Some(then));
+    Ok(search_stored(alloc, "abc", &mut store, &mut out)?.is_ok())
+}
+
+/// A store that has shrunk, or has another index.
 #[test]
 fn bytes_that_change(rt: HostRuntime) -> Result<(), Fail> {
     for reads in 0..READS {
         for len in 0..ROW.len() {
-            let mut out = MemSink::new(rt.alloc(), 1000);
-            let mut store = row_until(reads, Some(&ROW[..len]));
-            let answer = search_stored(rt.alloc(), "abc", &mut store, &mut out)?;
-            assert!(rt; answer.is_ok(), "{len} bytes after {reads}");
+            assert!(rt;
+                ends(rt.alloc(), reads, &ROW[..len])?,
+                "{len} bytes after {reads}"
+            );
         }
-        let mut out = MemSink::new(rt.alloc(), 1000);
-        let mut store = row_until(reads, Some(UNSORTED));
-        let answer = search_stored(rt.alloc(), "abc", &mut store, &mut out)?;
-        assert!(rt; answer.is_ok(), "another index after {reads}");
+        assert!(rt;
+            ends(rt.alloc(), reads, UNSORTED)?,
+            "another index after {reads}"
+        );
     }
     Ok(())
+}
+
+/// What a search of no bytes answers.
+fn search_nothing(alloc: Global, words: &str) -> Result<Result<Answer, IoFault>, Fail> {
+    let mut out = MemSink::new(alloc, 1000);
+    search_stored(alloc, words, &mut MemStore::new(b"", 1), &mut out)
 }
 
 /// The pattern is refused before the index, and a bad index before a list is read.
 #[test]
 fn refusals_in_their_order(rt: HostRuntime) -> Result<(), Fail> {
-    let mut out = MemSink::new(rt.alloc(), 1000);
-    let mut store = MemStore::new(b"", 1);
-    let answer = search_stored(rt.alloc(), "abc", &mut store, &mut out)?;
+    let alloc = rt.alloc();
     let bad = ToolFault::BadIndex(IndexFault::BadMagic);
-    assert_eq!(rt; answer, Ok(Err(bad)));
-    let answer = search_stored(rt.alloc(), "(", &mut store, &mut out)?;
-    assert!(rt; matches!(answer, Ok(Err(ToolFault::Pattern(_)))));
+    assert!(rt;
+        search_nothing(alloc, "abc")? == Ok(Err(bad))
+            && matches!(search_nothing(alloc, "(")?, Ok(Err(ToolFault::Pattern(_))))
+    );
     Ok(())
 }

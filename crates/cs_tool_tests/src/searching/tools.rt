@@ -1,7 +1,7 @@
 // A run of cgrep over a tree in memory, and runs whose outputs fail.
 use crate::fixtures::words_of;
 use cs_search::{Status, cgrep};
-use cs_tree::{IoFault, Item, MemSink, MemSource, MemTree, Sink};
+use cs_tree::{IoFault, Item, MemSink, MemSource, MemTree, PutFault, Sink};
 use cs_words::{GrepJob, Job, Tool, ToolFault, read_words};
 use std::alloc::Global;
 use std::test::Fail;
@@ -15,13 +15,11 @@ fn job_of(alloc: Global, text: &str) -> Result<GrepJob, Fail> {
 }
 
 /// A file with three lines, and one that fails after two.
-fn tree_of(alloc: Global) -> Result<MemTree, Fail> {
+fn tree_of(alloc: Global) -> Result<MemTree, PutFault> {
     let mut tree = MemTree::new(alloc, 4)?;
     tree.put("/t", Item::Folder)?;
-    let whole = Vec::from_slice(alloc, b"one\ntwo\none\n")?;
-    tree.put("/t/p", Item::File(whole))?;
-    let cut = Vec::from_slice(alloc, b"one\ntwo\non")?;
-    tree.put("/t/c", Item::Cut(cut))?;
+    tree.put("/t/p", Item::File(b"one\ntwo\none\n".to_vec(alloc)?))?;
+    tree.put("/t/c", Item::Cut(b"one\ntwo\non".to_vec(alloc)?))?;
     Ok(tree)
 }
 
@@ -38,26 +36,39 @@ pub fn run<O: Sink, E: Sink>(
     Ok(cgrep(alloc, &job, &mut tree, &mut input, out, err))
 }
 
+/// Whether a file is searched, and a line names a path where nothing stands.
+fn searches_files(alloc: Global) -> Result<bool, Fail> {
+    let mut out = MemSink::new(alloc, 1000);
+    let mut err = MemSink::new(alloc, 1000);
+    let status = run(alloc, "two /t/x /t/p", &mut out, &mut err)?;
+    Ok(
+        status == Ok(Status::Matched)
+            && out.bytes() == b"/t/p:two\n".as_slice()
+            && err.bytes() == b"cgrep: /t/x: no such file\n".as_slice(),
+    )
+}
+
 #[test]
 fn cgrep_of_files(rt: HostRuntime) -> Result<(), Fail> {
-    let mut out = MemSink::new(rt.alloc(), 1000);
-    let mut err = MemSink::new(rt.alloc(), 1000);
-    let status = run(rt.alloc(), "two /t/x /t/p", &mut out, &mut err)?;
-    assert_eq!(rt; status, Ok(Status::Matched));
-    assert_eq!(rt; out.bytes(), b"/t/p:two\n".as_slice());
-    assert_eq!(rt; err.bytes(), b"cgrep: /t/x: no such file\n".as_slice());
+    assert!(rt; searches_files(rt.alloc())?);
     Ok(())
+}
+
+/// What a search prints that has the room.
+const WHOLE: &[u8] = b"/t/c:one\n/t/p:one\n/t/p:one\n";
+
+/// Whether a search with this much room is refused, and has filled it.
+fn fills(alloc: Global, room: usize) -> Result<bool, Fail> {
+    let mut out = MemSink::new(alloc, room);
+    let mut err = MemSink::new(alloc, 1000);
+    let status = run(alloc, "one /t/c /t/p", &mut out, &mut err)?;
+    Ok(status == Err(ToolFault::Write) && WHOLE.get(..room) == Some(out.bytes()))
 }
 
 #[test]
 fn cgrep_into_little_room(rt: HostRuntime) -> Result<(), Fail> {
-    let whole = b"/t/c:one\n/t/p:one\n/t/p:one\n";
-    for room in 0..whole.len() {
-        let mut out = MemSink::new(rt.alloc(), room);
-        let mut err = MemSink::new(rt.alloc(), 1000);
-        let status = run(rt.alloc(), "one /t/c /t/p", &mut out, &mut err)?;
-        assert_eq!(rt; status, Err(ToolFault::Write), "with room for {room} bytes");
-        assert_eq!(rt; out.bytes(), &whole[..room], "with room for {room} bytes");
+    for room in 0..WHOLE.len() {
+        assert!(rt; fills(rt.alloc(), room)?, "with room for {room} bytes");
     }
     Ok(())
 }
@@ -97,22 +108,27 @@ fn unflushed(alloc: Global) -> Stuck {
     }
 }
 
-#[test]
-fn cgrep_whose_output_is_not_flushed(rt: HostRuntime) -> Result<(), Fail> {
-    let mut out = unflushed(rt.alloc());
-    let mut err = MemSink::new(rt.alloc(), 1000);
-    let status = run(rt.alloc(), "one /t/p", &mut out, &mut err)?;
-    assert_eq!(rt; status, Err(ToolFault::Write));
-    assert_eq!(rt; out.taken.as_slice(), b"/t/p:one\n/t/p:one\n".as_slice());
-    Ok(())
+/// The lines of a search that is refused at a flush.
+const LINES: &[u8] = b"/t/p:one\n/t/p:one\n";
+
+/// Whether a search is refused whose output is not flushed.
+fn needs_its_output(alloc: Global) -> Result<bool, Fail> {
+    let mut out = unflushed(alloc);
+    let mut err = MemSink::new(alloc, 1000);
+    let status = run(alloc, "one /t/p", &mut out, &mut err)?;
+    Ok(status == Err(ToolFault::Write) && out.taken.as_slice() == LINES)
+}
+
+/// Whether a search is refused whose fault lines are not flushed.
+fn needs_its_fault_lines(alloc: Global) -> Result<bool, Fail> {
+    let mut out = MemSink::new(alloc, 1000);
+    let mut err = unflushed(alloc);
+    let status = run(alloc, "one /t/p", &mut out, &mut err)?;
+    Ok(status == Err(ToolFault::Write) && out.bytes() == LINES)
 }
 
 #[test]
-fn cgrep_whose_fault_lines_are_not_flushed(rt: HostRuntime) -> Result<(), Fail> {
-    let mut out = MemSink::new(rt.alloc(), 1000);
-    let mut err = unflushed(rt.alloc());
-    let status = run(rt.alloc(), "one /t/p", &mut out, &mut err)?;
-    assert_eq!(rt; status, Err(ToolFault::Write));
-    assert_eq!(rt; out.bytes(), b"/t/p:one\n/t/p:one\n".as_slice());
+fn cgrep_whose_outputs_are_not_flushed(rt: HostRuntime) -> Result<(), Fail> {
+    assert!(rt; needs_its_output(rt.alloc())? && needs_its_fault_lines(rt.alloc())?);
     Ok(())
 }

@@ -73,6 +73,10 @@ pub same_count : (a b : List ℕ) (m n : ℕ) (xs ys : List Bool) → marks_of a
 same_count a b m n xs ys of-a of-b same =
     sym (length-marks_of a m) ∙ ap length of-a ∙ same ∙ sym (ap length of-b) ∙ length-marks_of b n
 
+-- as many marks have as many words
+pub same_length : (a b : List ℕ) (m n : ℕ) (xs ys : List Bool) → AreMarks a m → AreMarks b n → marks_of a m ≡ xs → marks_of b n ≡ ys → length xs ≡ length ys → length a ≡ length b
+same_length a b m n xs ys are-a are-b of-a of-b same = omega (arith, same_count a b m n xs ys of-a of-b same, are-a.enough, are-b.enough)
+
 -- two bits are equal where the tests for 1 are
 same_bit : (a b : ℕ) → a < 2 → b < 2 → eqb a 1 ≡ eqb b 1 → a ≡ b
 same_bit a b low-a low-b e =

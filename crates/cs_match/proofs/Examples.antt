@@ -6,8 +6,9 @@ use Rattle.cs_syntax.specs.Matching.{Tree, one_of, cat, rep, none, more, word_ed
 use Rattle.cs_syntax.specs.Lowering.{lowered}
 use Rattle.cs_match.specs.declared.around.Around.{Around}
 use Rattle.cs_match.specs.Lines.{lines, ended_lines}
-use Rattle.cs_match.specs.Marks.{marks_of}
+use Rattle.cs_match.specs.Marks.{marks_of, shifted, meet}
 use Rattle.cs_match.specs.Places.{places, repeats, round_ends}
+use Rattle.cs_match.specs.Shifts.{lasts_by}
 use Rattle.cs_match.specs.Skipping.{AreWhole}
 use Rattle.cs_match.specs.Standings.{standing, is_left_before}
 use Rattle.cs_match.specs.Table.{blank_cell}
@@ -37,6 +38,16 @@ unfinished_is_no_ended_line = refl
 five_marks_the_first_and_the_third : marks_of (5 ∷ []) 3 ≡ true ∷ false ∷ true ∷ []
 unfolding marks_of
 five_marks_the_first_and_the_third = refl
+
+-- strings of two places and of one: the first mark goes on, and the third place does not take the byte
+marks_go_on : shifted false (true ∷ false ∷ true ∷ []) (true ∷ true ∷ false ∷ []) (true ∷ false ∷ true ∷ []) ≡ true ∷ true ∷ false ∷ []
+marks_go_on = refl
+
+a_string_ends_where_the_next_begins : lasts_by (true ∷ false ∷ true ∷ []) ≡ false ∷ true ∷ true ∷ []
+a_string_ends_where_the_next_begins = refl
+
+a_mark_at_a_last_place : meet (true ∷ true ∷ false ∷ []) (false ∷ true ∷ true ∷ []) ≡ true
+a_mark_at_a_last_place = refl
 
 -- `(a*b)+`
 abbrev nested : Tree

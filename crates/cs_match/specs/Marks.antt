@@ -1,5 +1,5 @@
 -- Marks of places, kept as the bits of words.
-use Rattle.std.specs.Prelude.{◌≡◌, ℕ, ◌+◌, ◌/◌, ◌^◌, ◌<◌, ◌≤◌, All, Bool, false, List, length, map}
+use Rattle.std.specs.Prelude.{◌≡◌, ℕ, ◌+◌, ◌/◌, ◌^◌, ◌<◌, ◌≤◌, All, Bool, false, ◌&&◌, ◌||◌, List, [], ◌∷◌, length, map}
 use Rattle.std.specs.List.{range_with_len}
 use Rattle.cs_syntax.specs.Bits.{has_bit}
 
@@ -12,3 +12,17 @@ pub record AreMarks (words : List ℕ) (count : ℕ) : Type 0 where
   pub enough : length words ≡ (count + 63) / 64
   pub fit : All (λ word. word < 2 ^ 64) words
   pub no_other : (at : ℕ) → count ≤ at → has_bit words at ≡ false
+
+-- each mark goes on to the next place, or one of the first places is marked there; it stays where the place is a taker
+abbrev pub shifted : Bool → List Bool → List Bool → List Bool → List Bool
+shifted before [] takers marks = []
+shifted before (first ∷ firsts) [] marks = []
+shifted before (first ∷ firsts) (taker ∷ takers) [] = []
+shifted before (first ∷ firsts) (taker ∷ takers) (mark ∷ marks) =
+    ((before || first) && taker) ∷ shifted mark firsts takers marks
+
+-- some place has both marks
+abbrev pub meet : List Bool → List Bool → Bool
+meet [] others = false
+meet (mark ∷ marks) [] = false
+meet (mark ∷ marks) (other ∷ others) = (mark && other) || meet marks others

@@ -1,10 +1,11 @@
 -- Tables whose rows and cells are right, and what stays so from one to the next.
-use Rattle.std.specs.Prelude.{ℕ, Bool, List, ◌≡◌, length, vec_len}
+use Rattle.std.specs.Prelude.{ℕ, Bool, List, ◌≡◌, length, vec_len, IfSome}
 use Rattle.cs_syntax.specs.Matching.{Tree}
 use Rattle.cs_syntax.specs.Node.{tree_of}
 use Rattle.cs_match.specs.declared.standing.Standing.{Standing}
 use Rattle.cs_match.specs.declared.table.Table.{Table}
 use Rattle.cs_match.specs.Places.{places, repeats, IsLooped}
+use Rattle.cs_match.specs.Shifts.{AreShifts}
 use Rattle.cs_match.specs.Standings.{after, is_left_before}
 use Rattle.cs_match.specs.Table as table
 use Rattle.cs_match.specs.Needle.{IsNeeded}
@@ -13,9 +14,10 @@ use Rattle.cs_match.specs.Needle.{IsNeeded}
 abbrev pub tree_in : Table → Tree
 tree_in table = tree_of table.root.now
 
--- the repeats of the tree are loops, the rows and cells are right, and there is room for a run
+-- the repeats of the tree are loops, its shifts, the rows and the cells are right, and there is room for a run
 pub record IsRight (t : Table) : Type 0 where
   pub looped : IsLooped (tree_in t)
+  pub shifts : IfSome t.shifts (λ shifts. AreShifts (tree_in t) shifts.now)
   pub rows : table.AreRows (tree_in t) t.rows.items t.used
   pub cells : table.AreCells (tree_in t) t.rows.items t.used t.cells.items
   pub room : length t.now.marks ≡ places (tree_in t)

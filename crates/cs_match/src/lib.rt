@@ -3,7 +3,8 @@
 //! takes is said in `specs/Matching.antt` of `cs_syntax`. Read `specs/Finding.antt` first, then
 //! `specs/Lines.antt`, which says what the lines of a text are, and `specs/Skipping.antt`. What goes
 //! on inside is said by `specs/Places.antt`, `specs/Standings.antt`, `specs/Table.antt`,
-//! `specs/Chains.antt`, `specs/Counting.antt`, `specs/Expansion.antt`, `specs/Needle.antt` and `specs/NeededWindows.antt`.
+//! `specs/Shifts.antt`, `specs/Chains.antt`, `specs/Counting.antt`, `specs/Expansion.antt`,
+//! `specs/Needle.antt` and `specs/NeededWindows.antt`.
 #![tactic(auto)]
 
 mod around;
@@ -20,7 +21,9 @@ mod pause;
 mod program;
 mod rarity;
 mod runs;
+mod shifts;
 mod standing;
+mod strings;
 mod table;
 mod trail;
 mod walk;

@@ -1,6 +1,7 @@
 // Marks of the places of a tree.
 ghost use Rattle.std.specs.Prelude.{◌≡◌, ◌≢◌, ◌↔◌, ℕ, ◌+◌, ◌<◌, ◌∷◌, ◌++◌, ◌==◌, false, IsTrue, IfOk, length, take, drop, replicate, slice_index_or};
 ghost use Rattle.std.specs.Int.{bit_at};
+ghost use Rattle.cs_match.specs.Marks.{shifted, meet};
 
 use std::alloc::{AllocError, Global};
 use std::marker::Model;
@@ -33,6 +34,17 @@ impl Marks {
             words,
             count: places,
         })
+    }
+
+    /// A mark at each place whose flag is set.
+    pub(crate) fn of(alloc: Global, flags: &[bool]) -> Result<Marks, AllocError>
+        ensures { IfOk result (λ marks. marks ≡ flags.now) }
+    {
+        let mut marks = Marks::none(alloc, flags.len())?;
+        for at in 0..flags.len() {
+            marks.put(at, flags[at]);
+        }
+        Ok(marks)
     }
 
     /// How many places there are.
@@ -78,6 +90,34 @@ impl Marks {
         ensures { IsTrue result ↔ self.now ≡ other.now }
     {
         self.count == other.count && self.words == other.words
+    }
+
+    /// Each mark goes on to the next place, or one of the first places is marked there, and stays where the place is
+    /// a taker.
+    pub(crate) fn shift(&mut self, firsts: &Marks, takers: &Marks)
+        requires firsts { length firsts.now ≡ length self.old }
+        requires takers { length takers.now ≡ length self.old }
+        ensures { self.new ≡ shifted false firsts.now takers.now self.old }
+    {
+        let mut carried = 0;
+        for at in 0..self.words.len() {
+            let word = self.words[at];
+            self.words[at] = (word << 1 | carried | firsts.words[at]) & takers.words[at];
+            carried = word >> 63;
+        }
+    }
+
+    /// Whether some place has both marks.
+    pub(crate) fn meets(&self, other: &Marks) -> bool
+        requires { length other.now ≡ length self.now }
+        ensures { result ≡ meet self.now other.now }
+    {
+        for at in 0..self.words.len() {
+            if self.words[at] & other.words[at] != 0 {
+                return true;
+            }
+        }
+        false
     }
 
     /// A number that tells most marks from each other: the best bits are the lowest.

@@ -5,9 +5,11 @@ ghost use Rattle.cs_syntax.specs.Node.{tree_of};
 ghost use Rattle.cs_match.specs.Places.{places, repeats, IsLooped};
 ghost use Rattle.cs_match.specs.Needle.{IsNeeded};
 ghost use Rattle.cs_match.specs.NeededWindows.{AreNeeded};
+ghost use Rattle.cs_match.specs.Shifts.{AreShifts};
 
 use crate::compiler::write_out;
 use crate::needle::needle;
+use crate::shifts::{Shifts, shifts_of};
 use crate::walk::{count, count_repeats};
 use crate::windows::sieve;
 use cs_sieve::Sieve;
@@ -24,6 +26,7 @@ pub struct Program {
     repeats: usize,
     needle: Vec<u8>,
     sieve: Option<Sieve>,
+    shifts: Option<Shifts>,
 }
 
 impl Model for Program {
@@ -39,12 +42,14 @@ impl Model for Program {
     ghost use Rattle.cs_match.specs.Places.{IsProgram};
     ghost use Rattle.cs_match.specs.Needle.{IsNeeded};
     ghost use Rattle.cs_match.specs.NeededWindows.{AreNeeded};
+    ghost use Rattle.cs_match.specs.Shifts.{AreShifts};
 
     ghost view = { λ program. tree_of program.root };
 
     ghost invariant = { λ program. IsProgram (tree_of program.root) program.count program.repeats
         × IsNeeded (tree_of program.root) program.needle.items
-        × IfSome program.sieve (AreNeeded (tree_of program.root)) };
+        × IfSome program.sieve (AreNeeded (tree_of program.root))
+        × IfSome program.shifts (AreShifts (tree_of program.root)) };
 }
 
 impl Program {
@@ -60,12 +65,14 @@ impl Program {
         let repeats = count_repeats(&root);
         let needle = needle(alloc, &root)?;
         let sieve = sieve(alloc, &root)?;
+        let shifts = shifts_of(alloc, &root, count)?;
         Ok(Program {
             root,
             count,
             repeats,
             needle,
             sieve,
+            shifts,
         })
     }
 
@@ -105,5 +112,12 @@ impl Program {
         ensures { IfSome result (λ sieve. AreNeeded self.now sieve.now) }
     {
         self.sieve.as_ref()
+    }
+
+    /// How the marks of all places are moved at once, where the program is a choice of strings.
+    pub(crate) fn shifts(&self) -> Option<&Shifts>
+        ensures { IfSome result (λ shifts. AreShifts self.now shifts.now) }
+    {
+        self.shifts.as_ref()
     }
 }

@@ -1,13 +1,14 @@
 // What a run over a line has come to.
-ghost use Rattle.std.specs.Prelude.{◌≡◌, ◌↔◌, IfOk, IsTrue, length, true};
+ghost use Rattle.std.specs.Prelude.{◌≡◌, ◌↔◌, IfOk, IfSome, IsTrue, length, true};
 ghost use Rattle.cs_syntax.specs.Matching.{Found};
 ghost use Rattle.cs_syntax.specs.Node.{tree_of};
 ghost use Rattle.cs_match.specs.Places.{places, repeats, exits, IsLooped};
+ghost use Rattle.cs_match.specs.Shifts.{AreShifts};
 ghost use Rattle.cs_match.specs.Standings.{start, ahead, at_end, moved, after, is_left_before};
 
 use crate::around::{Around, is_word_byte};
 use crate::marks::Marks;
-use crate::walk::{exit, pass};
+use crate::shifts::{Shifts, exit, pass};
 use cs_syntax::Node;
 use std::alloc::{AllocError, Global};
 
@@ -70,7 +71,14 @@ impl Standing {
     }
 
     /// Whether the tree takes some part of the line, byte by byte.
-    pub(crate) fn search(&mut self, root: &Node, loops: &mut [bool], line: &[u8]) -> bool
+    pub(crate) fn search(
+        &mut self,
+        root: &Node,
+        shifts: Option<&Shifts>,
+        loops: &mut [bool],
+        line: &[u8],
+    ) -> bool
+        requires shifts { IfSome shifts (λ shifts. AreShifts (tree_of root.now) shifts.now) }
         requires one_each { length self.old.marks ≡ places (tree_of root.now) }
         requires loops { length loops.old ≡ repeats (tree_of root.now) }
         requires looped { IsLooped (tree_of root.now) }
@@ -80,16 +88,23 @@ impl Standing {
     {
         self.begin();
         for b in line {
-            if self.move_over(root, loops, *b) {
+            if self.move_over(root, shifts, loops, *b) {
                 return true;
             }
         }
-        self.end(root)
+        self.end(root, shifts)
     }
 
     /// Moves over a byte, where the newline stands for the end of the line, and answers whether the
     /// tree could be left before it.
-    pub(crate) fn pass(&mut self, root: &Node, loops: &mut [bool], byte: u8) -> bool
+    pub(crate) fn pass(
+        &mut self,
+        root: &Node,
+        shifts: Option<&Shifts>,
+        loops: &mut [bool],
+        byte: u8,
+    ) -> bool
+        requires shifts { IfSome shifts (λ shifts. AreShifts (tree_of root.now) shifts.now) }
         requires one_each { length self.old.marks ≡ places (tree_of root.now) }
         requires loops { length loops.old ≡ repeats (tree_of root.now) }
         ensures left { result ≡ is_left_before (tree_of root.now) self.old byte }
@@ -97,14 +112,21 @@ impl Standing {
         ensures loops { length loops.new ≡ length loops.old }
     {
         if byte == b'\n' {
-            self.end(root)
+            self.end(root, shifts)
         } else {
-            self.move_over(root, loops, byte)
+            self.move_over(root, shifts, loops, byte)
         }
     }
 
     /// Moves over a byte of the line.
-    fn move_over(&mut self, root: &Node, loops: &mut [bool], byte: u8) -> bool
+    fn move_over(
+        &mut self,
+        root: &Node,
+        shifts: Option<&Shifts>,
+        loops: &mut [bool],
+        byte: u8,
+    ) -> bool
+        requires shifts { IfSome shifts (λ shifts. AreShifts (tree_of root.now) shifts.now) }
         requires one_each { length self.old.marks ≡ places (tree_of root.now) }
         requires loops { length loops.old ≡ repeats (tree_of root.now) }
         ensures left { result ≡ exits (tree_of root.now) true self.old.marks (ahead self.old byte) }
@@ -112,14 +134,15 @@ impl Standing {
         ensures loops { length loops.new ≡ length loops.old }
     {
         let here = self.ahead(byte);
-        let left = pass(root, &mut self.marks, loops, here, byte);
+        let left = pass(root, shifts, &mut self.marks, loops, here, byte);
         self.first = false;
         self.word = is_word_byte(byte);
         left
     }
 
     /// Goes over the end of the line to the start of the next.
-    fn end(&mut self, root: &Node) -> bool
+    fn end(&mut self, root: &Node, shifts: Option<&Shifts>) -> bool
+        requires shifts { IfSome shifts (λ shifts. AreShifts (tree_of root.now) shifts.now) }
         requires one_each { length self.old.marks ≡ places (tree_of root.now) }
         ensures left { result ≡ exits (tree_of root.now) true self.old.marks (at_end self.old) }
         ensures moved { self.new ≡ start (places (tree_of root.now)) }
@@ -129,7 +152,7 @@ impl Standing {
             last: true,
             edge: self.word,
         };
-        let left = exit(root, &self.marks, here);
+        let left = exit(root, shifts, &self.marks, here);
         self.begin();
         left
     }

@@ -1,14 +1,16 @@
 // Remembered standings, and the next one for each byte.
-ghost use Rattle.std.specs.Prelude.{◌≡◌, ◌≢◌, ◌↔◌, ◌+◌, ◌<◌, ◌≤◌, ◌*◌, ◌/◌, ℕ, IfOk, IsTrue, MatchOption, EachIndex, length, vec_len, replicate, slice_index, slice_index_or, slice_set, true, false};
+ghost use Rattle.std.specs.Prelude.{◌≡◌, ◌≢◌, ◌↔◌, ◌+◌, ◌<◌, ◌≤◌, ◌*◌, ◌/◌, ℕ, IfOk, IfSome, IsTrue, MatchOption, EachIndex, length, vec_len, replicate, slice_index, slice_index_or, slice_set, true, false};
 ghost use Rattle.cs_syntax.specs.Node.{tree_of};
 ghost use Rattle.cs_syntax.specs.Matching.{Found};
 ghost use Rattle.cs_match.specs.Places.{places, repeats, IsLooped};
+ghost use Rattle.cs_match.specs.Shifts.{AreShifts};
 ghost use Rattle.cs_match.specs.Standings.{start, after, is_left_before};
 ghost use Rattle.cs_match.specs.Table.{blank_cell};
 ghost use Rattle.cs_match.specs.declared.standing.Standing.{Standing};
 ghost use Rattle.cs_match.specs.Remembering.{IsRight, HasRow, TellsIn, tree_in, standing_in, is_left_from, standing_after};
 
 use crate::program::Program;
+use crate::shifts::Shifts;
 use crate::standing::Standing;
 use cs_syntax::Node;
 use std::alloc::{AllocError, Global};
@@ -24,6 +26,8 @@ const MOST: usize = 254;
 #[derive(Drop)]
 pub(crate) struct Table<'a> {
     pub(crate) root: &'a Node,
+    /// The shifts of the tree, where it has some.
+    pub(crate) shifts: Option<&'a Shifts>,
     /// For each row 256 numbers: what each byte leads to.
     pub(crate) cells: Vec<u16>,
     /// The standing of each row. The first is the start of a line.
@@ -101,7 +105,15 @@ fn put_row(rows: &mut [Standing], row: usize, now: &Standing)
 }
 
 /// Runs from a standing over a byte, and answers whether the tree could be left before it.
-fn pass_from(root: &Node, from: &Standing, now: &mut Standing, loops: &mut [bool], byte: u8) -> bool
+fn pass_from(
+    root: &Node,
+    shifts: Option<&Shifts>,
+    from: &Standing,
+    now: &mut Standing,
+    loops: &mut [bool],
+    byte: u8,
+) -> bool
+    requires shifts { IfSome shifts (λ shifts. AreShifts (tree_of root.now) shifts.now) }
     requires marks { length from.now.marks ≡ places (tree_of root.now) }
     requires room { length now.old.marks ≡ places (tree_of root.now) }
     requires loops { length loops.old ≡ repeats (tree_of root.now) }
@@ -110,7 +122,7 @@ fn pass_from(root: &Node, from: &Standing, now: &mut Standing, loops: &mut [bool
     ensures loops { length loops.new ≡ length loops.old }
 {
     now.copy_from(from);
-    now.pass(root, loops, byte)
+    now.pass(root, shifts, loops, byte)
 }
 
 impl<'a> Table<'a> {
@@ -127,6 +139,7 @@ impl<'a> Table<'a> {
         let cells = blank(alloc)?;
         Ok(Table {
             root: program.root(),
+            shifts: program.shifts(),
             cells,
             rows,
             prints,
@@ -162,7 +175,8 @@ impl<'a> Table<'a> {
         ensures right { IsRight self.new }
         ensures same { tree_in self.new ≡ tree_in self.old }
     {
-        self.now.search(self.root, &mut self.loops, line)
+        self.now
+            .search(self.root, self.shifts, &mut self.loops, line)
     }
 
     /// Whether the tree takes some part of a line, by what is known as far as no newline stands in it.
@@ -198,6 +212,7 @@ impl<'a> Table<'a> {
     {
         if pass_from(
             self.root,
+            self.shifts,
             &self.rows[(from >> 8) as usize],
             &mut self.now,
             &mut self.loops,

@@ -194,12 +194,20 @@ fn finds_in(
     finds(alloc, pattern.as_str(), &[(line.as_bytes(), want)])
 }
 
-/// Loops in one another to the parser's depth, a pattern of nearly the greatest weight, and many
-/// loops that stay open.
+/// Loops in one another to the parser's depth, a pattern of nearly the greatest weight, many loops
+/// that stay open, and strings whose marks take more than one word.
 const LARGE: &[(Repeated<'static>, Repeated<'static>, bool)] = &[
     (("(", 200, "a", ")*b"), ("a", 100, "", "b"), true),
     (("a", 9998, "", ""), ("a", 100, "", ""), false),
     (("(a|b)*c", 20, "x", ""), ("ab", 200, "", "cc"), false),
+    (("a", 63, "b|cd|^e", ""), ("a", 63, "b", ""), true),
+    (("a", 63, "b|cd", ""), ("a", 63, "b", ""), true),
+    (("a", 63, "b|cd", ""), ("a", 62, "bd", ""), false),
+    (("a", 63, "b|cd", ""), ("a", 63, "cd", ""), true),
+    (("a", 64, "b|cd", ""), ("a", 64, "b", ""), true),
+    (("a", 64, "b|cd", ""), ("a", 63, "bcbd", ""), false),
+    (("a", 64, "[b-d]|cé", ""), ("a", 3, "cé", ""), true),
+    (("a", 64, "[b-d]|cé", ""), ("a", 64, "e", "c"), false),
 ];
 
 #[test]

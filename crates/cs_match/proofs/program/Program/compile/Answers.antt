@@ -9,7 +9,7 @@ use Rattle.cs_match.proofs.program.Program.compile.Goals as goal
 
 pub invariant_of-result : goal.invariant_of-result
 invariant_of-result c =
-    ((c.count-count.ensures, c.count_repeats-repeats.ensures, subst IsLooped (sym c.in_ok-root.ensures) (is_looped (tree_of c.tree.result.now))), c.in_ok-needle.ensures, c.in_ok-sieve.ensures)
+    ((c.count-count.ensures, c.count_repeats-repeats.ensures, subst IsLooped (sym c.in_ok-root.ensures) (is_looped (tree_of c.tree.result.now))), c.in_ok-needle.ensures, c.in_ok-sieve.ensures, c.in_ok-shifts.ensures)
 
 pub returns : goal.returns
 returns c = λ line.

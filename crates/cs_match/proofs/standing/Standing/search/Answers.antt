@@ -14,6 +14,7 @@ move_over-requires-clause-one_each c =
 
 pub end-requires : goal.end-requires
 end-requires c = record {
+  shifts = c.requires.shifts;
   one_each = ap (λ (n : Standing). length n.marks) c.loop-b.invariant.here ∙ length-standing (tree_of c.args.root.now) c.args.line.now c.loop-b.b-index (omega arith);
 }
 

@@ -9,6 +9,7 @@ put-requires-clause-right c =
     let s = c.args.self.now in
     record {
       looped = c.requires.right.looped;
+      shifts = c.requires.right.shifts;
       rows = c.requires.right.rows;
       cells = c.requires.right.cells;
       room = ap (λ (n : Standing). length n.marks) c.pass_from.ensures.moved ∙ length-after (tree_in s) c.index.result.now c.args.byte;
@@ -20,6 +21,7 @@ next_row-requires-clause-right c =
     let s = c.args.self.now in
     record {
       looped = c.requires.right.looped;
+      shifts = c.requires.right.shifts;
       rows = c.requires.right.rows;
       cells = c.requires.right.cells;
       room = ap (λ (n : Standing). length n.marks) c.pass_from.ensures.moved ∙ length-after (tree_in s) c.index.result.now c.args.byte;

@@ -14,6 +14,7 @@ returns-clause-right c =
     let P : ℕ → Type 0 = λ k. AreCells (tree_in s) s.rows.items s.used (set s.cells.items k c.args.next) in
     record {
       looped = c.requires.right.looped;
+      shifts = c.requires.right.shifts;
       rows = c.requires.right.rows;
       cells = subst P (sym place)
           (put_cell (tree_in s) s.rows.items s.used s.cells.items c.requires.right.cells (c.args.from / 256) c.args.byte c.args.next c.requires.row.in_use c.requires.right.rows.few (omega arith) c.requires.told);

@@ -1,0 +1,227 @@
+-- Marks kept as the bits of words, shifted by a place, or met with others.
+use Rattle.std.proofs.Common.{◌≡◌, ℕ, zero, suc, ◌+◌, ◌*◌, ◌/◌, ◌%◌, ◌^◌, ◌<◌, Bool, true, false, ◌&&◌, ◌||◌, eqb, List, [], ◌∷◌, length, get_or, bit_and, bit_or, min, max, refl, sym, ◌∙◌, ap, inl, inr, arith, ext_get_or, eq-eqb, w64}
+use Rattle.std.proofs.lemmas.List.{get_or_past}
+use Rattle.std.proofs.lemmas.List.Elements.{All-from_get_or}
+use Rattle.std.proofs.lemmas.Bool.{cases_lt, and_right, and_parts, true≢false}
+use Rattle.std.proofs.lemmas.Nat.{and_le_l, and_le_r}
+use Rattle.std.proofs.lemmas.Nat.Bits.{bit_at-lt, bit_at-suc, bit_at-zero, bit_at_lowest, bit_at_above, bit_at_cat_low, bit_at_and, bit_at_or, bit_at-trailing_zeros}
+use Rattle.std.specs.Int.{bit_at, trailing_zeros}
+use Rattle.cs_syntax.specs.Bits.{has_bit}
+use Rattle.cs_match.specs.Marks.{marks_of, AreMarks, shifted, meet}
+use Rattle.cs_match.proofs.BitsLemmas.{length-marks_of, get_or-marks_of}
+
+-- lists of marks, place by place
+pub length-shifted : (before : Bool) (firsts takers marks : List Bool) → length firsts ≡ length marks → length takers ≡ length marks →
+    length (shifted before firsts takers marks) ≡ length marks
+length-shifted before [] takers marks f t = f
+length-shifted before (first ∷ firsts) [] marks f t = t
+length-shifted before (first ∷ firsts) (taker ∷ takers) [] f t = refl
+length-shifted before (first ∷ firsts) (taker ∷ takers) (mark ∷ marks) f t =
+    ap suc (length-shifted mark firsts takers marks (omega (arith, f)) (omega (arith, t)))
+
+pub get_or-shifted : (before : Bool) (firsts takers marks : List Bool) (k : ℕ) → k < length firsts → k < length takers → k < length marks →
+    get_or (shifted before firsts takers marks) k false ≡ (get_or (before ∷ marks) k false || get_or firsts k false) && get_or takers k false
+get_or-shifted before [] takers marks k f t m = absurd (omega (arith, f))
+get_or-shifted before (first ∷ firsts) [] marks k f t m = absurd (omega (arith, t))
+get_or-shifted before (first ∷ firsts) (taker ∷ takers) [] k f t m = absurd (omega (arith, m))
+get_or-shifted before (first ∷ firsts) (taker ∷ takers) (mark ∷ marks) zero f t m = refl
+get_or-shifted before (first ∷ firsts) (taker ∷ takers) (mark ∷ marks) (suc k) f t m =
+    get_or-shifted mark firsts takers marks k (omega (arith, f)) (omega (arith, t)) (omega (arith, m))
+
+pub meet_at : (marks others : List Bool) (k : ℕ) → get_or marks k false ≡ true → get_or others k false ≡ true → meet marks others ≡ true
+meet_at [] others k a b = (cc)
+meet_at (mark ∷ marks) [] k a b = (cc)
+meet_at (mark ∷ marks) (other ∷ others) zero a b = rw (a, b) refl
+meet_at (mark ∷ marks) (other ∷ others) (suc k) a b =
+    ap (λ rest. (mark && other) || rest) (meet_at marks others k a b) ∙ or-true (mark && other)
+  where
+    or-true : (x : Bool) → x || true ≡ true
+    or-true true = refl
+    or-true false = refl
+
+pub meet_nowhere : (marks others : List Bool) → ((k : ℕ) → get_or marks k false && get_or others k false ≡ false) → meet marks others ≡ false
+meet_nowhere [] others h = refl
+meet_nowhere (mark ∷ marks) [] h = refl
+meet_nowhere (mark ∷ marks) (other ∷ others) h =
+    ap (λ x. x || meet marks others) (h zero) ∙ meet_nowhere marks others (λ k. h (suc k))
+
+-- what goes on into a word from the one before
+abbrev pub carry : List ℕ → ℕ → ℕ
+carry words zero = 0
+carry words (suc at) = get_or words at 0 / 9223372036854775808
+
+-- a word of marks that go on
+abbrev pub next_word : ℕ → ℕ → ℕ → ℕ → ℕ
+next_word word carried first taker = bit_and (bit_or (bit_or (word * 2 % 18446744073709551616) carried) first) taker
+
+-- the mark of the place before
+abbrev pub previous : List ℕ → ℕ → Bool
+previous words zero = false
+previous words (suc at) = has_bit words at
+
+-- a bit as a test
+both : (a b : ℕ) → a < 2 → b < 2 → eqb (min a b) 1 ≡ eqb a 1 && eqb b 1
+both zero zero p q = refl
+both zero (suc zero) p q = refl
+both zero (suc (suc b)) p q = absurd (omega (arith, q))
+both (suc zero) zero p q = refl
+both (suc zero) (suc zero) p q = refl
+both (suc zero) (suc (suc b)) p q = absurd (omega (arith, q))
+both (suc (suc a)) b p q = absurd (omega (arith, p))
+
+either : (a b : ℕ) → a < 2 → b < 2 → eqb (max a b) 1 ≡ eqb a 1 || eqb b 1
+either zero zero p q = refl
+either zero (suc zero) p q = refl
+either zero (suc (suc b)) p q = absurd (omega (arith, q))
+either (suc zero) zero p q = refl
+either (suc zero) (suc zero) p q = refl
+either (suc zero) (suc (suc b)) p q = absurd (omega (arith, q))
+either (suc (suc a)) b p q = absurd (omega (arith, p))
+
+bit-and : (a b i : ℕ) → eqb (bit_at (bit_and a b) i) 1 ≡ eqb (bit_at a i) 1 && eqb (bit_at b i) 1
+bit-and a b i = ap (λ x. eqb x 1) (bit_at_and a b i) ∙ both (bit_at a i) (bit_at b i) (bit_at-lt a i) (bit_at-lt b i)
+
+bit-or : (a b i : ℕ) → eqb (bit_at (bit_or a b) i) 1 ≡ eqb (bit_at a i) 1 || eqb (bit_at b i) 1
+bit-or a b i = ap (λ x. eqb x 1) (bit_at_or a b i) ∙ either (bit_at a i) (bit_at b i) (bit_at-lt a i) (bit_at-lt b i)
+
+-- a word that is shifted up has no lowest bit, and the others are one place higher
+shl-lowest : (word : ℕ) → eqb (bit_at (word * 2 % 18446744073709551616) 0) 1 ≡ false
+shl-lowest word = ap (λ x. eqb x 1) (bit_at_lowest (word * 2 % 18446744073709551616) ∙ even)
+  where
+    even : word * 2 % 18446744073709551616 % 2 ≡ 0
+    even = omega arith
+
+shl-others : (word i : ℕ) → i < 63 → bit_at (word * 2 % 18446744073709551616) (suc i) ≡ bit_at word i
+shl-others word i h =
+    bit_at-suc (word * 2 % 18446744073709551616) i
+    ∙ ap (λ x. bit_at x i) half
+    ∙ sym (ap (λ x. bit_at x i) whole ∙ bit_at_cat_low (word / 9223372036854775808) 63 (word % 9223372036854775808) i h)
+  where
+    half : word * 2 % 18446744073709551616 / 2 ≡ word % 9223372036854775808
+    half = omega arith
+
+    whole : word ≡ word / 9223372036854775808 * 9223372036854775808 + word % 9223372036854775808
+    whole = omega arith
+
+-- a word's bits, where those of the word before it go on into it
+module _ (word carried first taker : ℕ) (low : carried < 2) where
+  next-lowest : eqb (bit_at (next_word word carried first taker) 0) 1 ≡ (eqb carried 1 || eqb (bit_at first 0) 1) && eqb (bit_at taker 0) 1
+  next-lowest =
+      bit-and _ taker 0 ∙ ap (λ x. x && eqb (bit_at taker 0) 1)
+      (bit-or _ first 0 ∙ ap (λ x. x || eqb (bit_at first 0) 1)
+      (bit-or _ carried 0 ∙ ap (λ x. x || eqb (bit_at carried 0) 1) (shl-lowest word) ∙ ap (λ x. eqb x 1) (bit_at_lowest carried ∙ small)))
+    where
+      small : carried % 2 ≡ carried
+      small = omega arith
+
+  next-others : (i : ℕ) → i < 63 →
+      eqb (bit_at (next_word word carried first taker) (suc i)) 1 ≡ (eqb (bit_at word i) 1 || eqb (bit_at first (suc i)) 1) && eqb (bit_at taker (suc i)) 1
+  next-others i h =
+      bit-and _ taker (suc i) ∙ ap (λ x. x && eqb (bit_at taker (suc i)) 1)
+      (bit-or _ first (suc i) ∙ ap (λ x. x || eqb (bit_at first (suc i)) 1)
+      (bit-or _ carried (suc i) ∙ ap (λ x. eqb (bit_at (word * 2 % 18446744073709551616) (suc i)) 1 || eqb x 1) (bit_at_above carried 1 (suc i) low (omega arith))
+      ∙ or-false (eqb (bit_at (word * 2 % 18446744073709551616) (suc i)) 1) ∙ ap (λ x. eqb x 1) (shl-others word i h)))
+    where
+      or-false : (x : Bool) → x || false ≡ x
+      or-false true = refl
+      or-false false = refl
+
+-- a bit of the words, by its word
+has_bit-at : (words : List ℕ) (q r : ℕ) → r < 64 → has_bit words (q * 64 + r) ≡ eqb (bit_at (get_or words q 0) r) 1
+has_bit-at words q r h =
+    let row : (q * 64 + r) / 64 ≡ q = omega arith in
+    let rest : (q * 64 + r) % 64 ≡ r = omega arith in
+    ap (λ (n : ℕ). eqb (bit_at (get_or words n 0) ((q * 64 + r) % 64)) 1) row ∙ ap (λ (n : ℕ). eqb (bit_at (get_or words q 0) n) 1) rest
+
+-- the words that were shifted
+module _ (new old firsts takers : List ℕ) (count : ℕ) (old-are : AreMarks old count) (firsts-are : AreMarks firsts count) (takers-are : AreMarks takers count) (size : length new ≡ length old) (each : (k : ℕ) → k < length old → get_or new k 0 ≡ next_word (get_or old k 0) (carry old k) (get_or firsts k 0) (get_or takers k 0)) where
+  carry-lt : (k : ℕ) → k < length old → carry old k < 2
+  carry-lt zero h = omega arith
+  carry-lt (suc k) h = omega (arith, old-are.fit k 0 (omega (arith, h)))
+
+  carry-previous : (q : ℕ) → q < length old → eqb (carry old q) 1 ≡ previous old (q * 64 + 0)
+  carry-previous zero h = refl
+  carry-previous (suc q) h =
+      let place : suc (q * 64 + 63) ≡ suc q * 64 + 0 = omega arith in
+      let fits : get_or old q 0 < 18446744073709551616 = old-are.fit q 0 (omega (arith, h)) in
+      let highest : get_or old q 0 / 9223372036854775808 ≡ get_or old q 0 / 9223372036854775808 % 2 = omega arith in
+      ap (λ x. eqb x 1) highest ∙ sym (has_bit-at old q 63 (omega arith)) ∙ ap (previous old) place
+
+  in-word : (q r : ℕ) → r < 64 → q < length old →
+      eqb (bit_at (get_or new q 0) r) 1 ≡ (previous old (q * 64 + r) || eqb (bit_at (get_or firsts q 0) r) 1) && eqb (bit_at (get_or takers q 0) r) 1
+  in-word q zero low h =
+      ap (λ x. eqb (bit_at x 0) 1) (each q h) ∙ next-lowest (get_or old q 0) (carry old q) (get_or firsts q 0) (get_or takers q 0) (carry-lt q h)
+      ∙ ap (λ x. (x || eqb (bit_at (get_or firsts q 0) 0) 1) && eqb (bit_at (get_or takers q 0) 0) 1) (carry-previous q h)
+  in-word q (suc r) low h =
+      let place : suc (q * 64 + r) ≡ q * 64 + suc r = omega arith in
+      ap (λ x. eqb (bit_at x (suc r)) 1) (each q h) ∙ next-others (get_or old q 0) (carry old q) (get_or firsts q 0) (get_or takers q 0) (carry-lt q h) r (omega (arith, low))
+      ∙ ap (λ x. (x || eqb (bit_at (get_or firsts q 0) (suc r)) 1) && eqb (bit_at (get_or takers q 0) (suc r)) 1) (sym (has_bit-at old q r (omega (arith, low))) ∙ ap (previous old) place)
+
+  at-place : (k : ℕ) → k / 64 < length old → has_bit new k ≡ (previous old k || has_bit firsts k) && has_bit takers k
+  at-place k h =
+      let place : k / 64 * 64 + k % 64 ≡ k = omega arith in
+      in-word (k / 64) (k % 64) (omega arith) h ∙ ap (λ x. (previous old x || has_bit firsts k) && has_bit takers k) place
+
+  pub AreMarks-shifted : AreMarks new count
+  AreMarks-shifted = record {
+    enough = size ∙ old-are.enough;
+    fit = All-from_get_or (λ word. word < 2 ^ 64) new 0 (λ k h.
+        let within : k < length old = omega (arith, size) in
+        let fits : get_or takers k 0 < 18446744073709551616 = takers-are.fit k 0 (omega (arith, within, old-are.enough, takers-are.enough)) in
+        rw (each k within) (omega (arith, fits, and_le_r (bit_or (bit_or (get_or old k 0 * 2 % 18446744073709551616) (carry old k)) (get_or firsts k 0)) (get_or takers k 0))));
+    no_other = λ k past. elim (cases_lt (k / 64) (length old)) [
+      | inl within ↦ at-place k within ∙ and_right _ _ (takers-are.no_other k past)
+      | inr beyond ↦ ap (λ x. eqb (bit_at x (k % 64)) 1) (get_or_past new (k / 64) 0 (omega (arith, size, beyond))) ∙ ap (λ x. eqb x 1) (bit_at-zero (k % 64))
+    ];
+  }
+
+  previous-mark : (k : ℕ) → k < count → get_or (false ∷ marks_of old count) k false ≡ previous old k
+  previous-mark zero h = refl
+  previous-mark (suc k) h = get_or-marks_of old count k (omega (arith, h))
+
+  pub marks_of-shifted : marks_of new count ≡ shifted false (marks_of firsts count) (marks_of takers count) (marks_of old count)
+  marks_of-shifted =
+      let n = length-marks_of new count in
+      let o = length-marks_of old count in
+      let f = length-marks_of firsts count in
+      let t = length-marks_of takers count in
+      ext_get_or false _ _ (n ∙ sym (length-shifted false (marks_of firsts count) (marks_of takers count) (marks_of old count) (f ∙ sym o) (t ∙ sym o) ∙ o)) (λ k h.
+      let within : k < count = omega (arith, h, n) in
+      get_or-marks_of new count k within
+      ∙ at-place k (omega (arith, within, old-are.enough))
+      ∙ sym (get_or-shifted false (marks_of firsts count) (marks_of takers count) (marks_of old count) k (omega (arith, within, f)) (omega (arith, within, t)) (omega (arith, within, o))
+      ∙ ap (λ x. (x || get_or (marks_of firsts count) k false) && get_or (marks_of takers count) k false) (previous-mark k within)
+      ∙ ap (λ x. (previous old k || x) && get_or (marks_of takers count) k false) (get_or-marks_of firsts count k within)
+      ∙ ap (λ x. (previous old k || has_bit firsts k) && x) (get_or-marks_of takers count k within)))
+
+-- a bit that two words have in common
+common-bit : (x y : ℕ) → x < 2 ^ 64 → (bit_and x y ≡ 0 → ⊥) → (i : ℕ) × (i < 64) × (eqb (bit_at x i) 1 ≡ true) × (eqb (bit_at y i) 1 ≡ true)
+common-bit x y fits some =
+    let low = and_le_l x y in
+    let found = bit_at-trailing_zeros w64 (bit_and x y) (omega (arith, some)) (omega (arith, fits, low)) in
+    let parts = and_parts _ _ (sym (bit-and x y (trailing_zeros w64 (bit_and x y))) ∙ eq-eqb _ 1 found.1) in
+    (trailing_zeros w64 (bit_and x y), found.0, parts.0, parts.1)
+
+-- words that have a bit in common, or none
+module _ (a b : List ℕ) (count : ℕ) (a-are : AreMarks a count) (b-are : AreMarks b count) where
+  pub meet-word : (k : ℕ) → k < length a → (bit_and (get_or a k 0) (get_or b k 0) ≡ 0 → ⊥) → meet (marks_of a count) (marks_of b count) ≡ true
+  meet-word k h some =
+      let common = common-bit (get_or a k 0) (get_or b k 0) (a-are.fit k 0 h) some in
+      let at : ℕ = k * 64 + common.0 in
+      let in-a : has_bit a at ≡ true = has_bit-at a k common.0 common.1 ∙ common.2 in
+      let in-b : has_bit b at ≡ true = has_bit-at b k common.0 common.1 ∙ common.3 in
+      elim (cases_lt at count) [
+        | inl within ↦ meet_at (marks_of a count) (marks_of b count) at (get_or-marks_of a count at within ∙ in-a) (get_or-marks_of b count at within ∙ in-b)
+        | inr past ↦ absurd (true≢false (sym in-a ∙ a-are.no_other at past))
+      ]
+
+  pub meet-no_word : ((k : ℕ) → k < length a → bit_and (get_or a k 0) (get_or b k 0) ≡ 0) → meet (marks_of a count) (marks_of b count) ≡ false
+  meet-no_word none = meet_nowhere (marks_of a count) (marks_of b count) (λ k. elim (cases_lt k count) [
+    | inl within ↦
+        ap (λ x. x && get_or (marks_of b count) k false) (get_or-marks_of a count k within)
+        ∙ ap (λ x. has_bit a k && x) (get_or-marks_of b count k within)
+        ∙ sym (bit-and (get_or a (k / 64) 0) (get_or b (k / 64) 0) (k % 64))
+        ∙ ap (λ x. eqb (bit_at x (k % 64)) 1) (none (k / 64) (omega (arith, within, a-are.enough)))
+        ∙ ap (λ x. eqb x 1) (bit_at-zero (k % 64))
+    | inr past ↦ ap (λ x. x && get_or (marks_of b count) k false) (get_or_past (marks_of a count) k false (omega (arith, length-marks_of a count, past)))
+  ])

@@ -1,0 +1,330 @@
+-- The marks of a choice of strings move by its shifts, and tell by them whether it can be left.
+use Rattle.std.proofs.Common.{◌≡◌, ℕ, zero, suc, ◌+◌, ◌-◌, ◌<◌, ◌≤◌, Bool, true, false, ◌&&◌, ◌||◌, List, [], ◌∷◌, ◌++◌, take, drop, length, replicate, refl, sym, ◌∙◌, ap, subst, arith, length-append, length-drop, append_assoc}
+use Rattle.std.proofs.Math.Bool.{or-false}
+use Rattle.std.proofs.lemmas.Bool.{and_parts}
+use Rattle.std.proofs.lemmas.List.{take-append-drop, take_all, append-nil, length-take, length-map, length-replicate, replicate-append-replicate, map-append}
+use Rattle.cs_syntax.specs.Matching.{Tree, Trees, empty, one_of, one_char, cat, alt, rep, line_start, line_end, word_edge, not_word_edge, none, more, member}
+use Rattle.cs_match.specs.declared.around.Around.{Around}
+use Rattle.cs_match.specs.declared.shifts.Shifts.{Shifts}
+use Rattle.cs_match.specs.declared.strings.Strings.{Strings}
+use Rattle.cs_match.specs.Places.{places, places_of, nullable, nullable_all, nullable_some, leaves, leaves_all, leaves_some, exits, step, step_all, step_each}
+use Rattle.cs_match.specs.Marks.{shifted, meet}
+use Rattle.cs_match.specs.Shifts.{is_string, are_strings, sets, sets_of, first_of, firsts_of, AreStrings, branches, lasts_by, takers_by, takers_of, AreShifts}
+use Rattle.cs_match.specs.Strings.{IsSpelled, AreAdded, IsChoice, AreShiftsOf}
+use Rattle.cs_match.proofs.MarksLemmas.{cat_bools, alt_bools}
+
+-- the last mark, or what stands before them where there is none
+abbrev last_or : Bool → List Bool → Bool
+last_or before [] = before
+last_or before (m ∷ ms) = last_or m ms
+
+last_or-append : (before : Bool) (xs ys : List Bool) → last_or before (xs ++ ys) ≡ last_or (last_or before xs) ys
+last_or-append before [] ys = refl
+last_or-append before (x ∷ xs) ys = last_or-append x xs ys
+
+-- marks are shifted part by part
+shifted-append : (before : Bool) (fs gs ts us xs ys : List Bool) → length fs ≡ length xs → length ts ≡ length xs →
+    shifted before (fs ++ gs) (ts ++ us) (xs ++ ys) ≡ shifted before fs ts xs ++ shifted (last_or before xs) gs us ys
+shifted-append before [] gs [] us [] ys f t = refl
+shifted-append before [] gs [] us (x ∷ xs) ys f t = absurd (omega arith)
+shifted-append before [] gs (u ∷ ts) us [] ys f t = absurd (omega arith)
+shifted-append before [] gs (u ∷ ts) us (x ∷ xs) ys f t = absurd (omega arith)
+shifted-append before (g ∷ fs) gs [] us [] ys f t = absurd (omega arith)
+shifted-append before (g ∷ fs) gs [] us (x ∷ xs) ys f t = absurd (omega arith)
+shifted-append before (g ∷ fs) gs (u ∷ ts) us [] ys f t = absurd (omega arith)
+shifted-append before (g ∷ fs) gs (u ∷ ts) us (x ∷ xs) ys f t =
+    ap (λ rest. ((before || g) && u) ∷ rest) (shifted-append x fs gs ts us xs ys (omega arith) (omega arith))
+
+meet-append : (xs ys us vs : List Bool) → length xs ≡ length us → meet (xs ++ ys) (us ++ vs) ≡ (meet xs us || meet ys vs)
+meet-append [] ys [] vs e = refl
+meet-append [] ys (u ∷ us) vs e = absurd (omega arith)
+meet-append (x ∷ xs) ys [] vs e = absurd (omega arith)
+meet-append (x ∷ xs) ys (u ∷ us) vs e = rw (meet-append xs ys us vs (omega arith)) (or_assoc' (x && u) (meet xs us) (meet ys vs))
+  where
+    or_assoc' : (a b c : Bool) → (a || (b || c)) ≡ ((a || b) || c)
+    or_assoc' true b c = refl
+    or_assoc' false b c = refl
+
+-- the first marks and the others
+length-first : (ms : List Bool) (n k : ℕ) → length ms ≡ n + k → length (take n ms) ≡ n
+length-first ms n k e = omega (arith, length-take n ms)
+
+length-others : (ms : List Bool) (n k : ℕ) → length ms ≡ n + k → length (drop n ms) ≡ k
+length-others ms n k e = omega (arith, length-drop n ms)
+
+or-true : (b : Bool) → (b || true) ≡ true
+or-true true = refl
+or-true false = refl
+
+-- a string has a set for each place
+mutual
+  pub length-sets : (t : Tree) → is_string t ≡ true → length (sets t) ≡ places t
+  length-sets empty h = refl
+  length-sets (one_of set) h = refl
+  length-sets (one_char runs) h = refl
+  length-sets (cat ts) h = length-sets_of ts h
+  length-sets (alt ts) h = absurd (cc)
+  length-sets (rep x n m) h = absurd (cc)
+  length-sets line_start h = refl
+  length-sets line_end h = refl
+  length-sets word_edge h = refl
+  length-sets not_word_edge h = refl
+
+  pub length-sets_of : (ts : Trees) → are_strings ts ≡ true → length (sets_of ts) ≡ places_of ts
+  length-sets_of none h = refl
+  length-sets_of (more t ts) h =
+      let p = and_parts (is_string t) (are_strings ts) h in
+      omega (arith, length-append {A = List Bool}, length-sets t p.0, length-sets_of ts p.1)
+
+-- of a string's marks each goes on to the next place, and the first place is entered
+record Moves (t : Tree) (a : Around) (b : ℕ) : Type 0 where
+  moves : (enter : Bool) (ms : List Bool) → length ms ≡ places t →
+      step t enter ms a b ≡ shifted enter (replicate (places t) false) (takers_by (sets t) b) ms
+  left : (enter : Bool) (ms : List Bool) → length ms ≡ places t → exits t enter ms a ≡ last_or enter ms
+
+record MoveAll (ts : Trees) (a : Around) (b : ℕ) : Type 0 where
+  moves : (enter : Bool) (ms : List Bool) → length ms ≡ places_of ts →
+      step_all ts enter ms a b ≡ shifted enter (replicate (places_of ts) false) (takers_by (sets_of ts) b) ms
+  left : (enter : Bool) (ms : List Bool) → length ms ≡ places_of ts → exits (cat ts) enter ms a ≡ last_or enter ms
+
+one_moves : (set : List Bool) (a : Around) (b : ℕ) → Moves (one_of set) a b
+one_moves set a b = record { moves = moves'; left = left' }
+  where
+    moves' : (enter : Bool) (ms : List Bool) → length ms ≡ 1 → step (one_of set) enter ms a b ≡ shifted enter (false ∷ []) (member set b ∷ []) ms
+    moves' enter [] e = absurd (omega arith)
+    moves' enter (m ∷ ms) e = ap (λ x. (x && member set b) ∷ []) (sym (or-false enter))
+
+    left' : (enter : Bool) (ms : List Bool) → length ms ≡ 1 → exits (one_of set) enter ms a ≡ last_or enter ms
+    left' enter [] e = absurd (omega arith)
+    left' true (true ∷ []) e = refl
+    left' true (false ∷ []) e = refl
+    left' false (true ∷ []) e = refl
+    left' false (false ∷ []) e = refl
+    left' enter (m ∷ n ∷ ms) e = absurd (omega arith)
+
+none_move : (a : Around) (b : ℕ) → MoveAll none a b
+none_move a b = record { moves = moves'; left = left' }
+  where
+    moves' : (enter : Bool) (ms : List Bool) → length ms ≡ 0 → step_all none enter ms a b ≡ shifted enter [] [] ms
+    moves' enter ms e = refl
+
+    left' : (enter : Bool) (ms : List Bool) → length ms ≡ 0 → exits (cat none) enter ms a ≡ last_or enter ms
+    left' true [] e = refl
+    left' false [] e = refl
+    left' enter (m ∷ ms) e = absurd (omega arith)
+
+more_move : (t : Tree) (ts : Trees) (a : Around) (b : ℕ) → is_string t ≡ true → Moves t a b → MoveAll ts a b → MoveAll (more t ts) a b
+more_move t ts a b is one others = record { moves = moves'; left = left' }
+  where
+    moves' : (enter : Bool) (ms : List Bool) → length ms ≡ places t + places_of ts →
+        step_all (more t ts) enter ms a b ≡ shifted enter (replicate (places t + places_of ts) false) (takers_by (sets t ++ sets_of ts) b) ms
+    moves' enter ms e =
+        let xs = take (places t) ms in
+        let ys = drop (places t) ms in
+        let of-t : length xs ≡ places t = length-first ms (places t) (places_of ts) e in
+        let of-ts : length ys ≡ places_of ts = length-others ms (places t) (places_of ts) e in
+        let fs = replicate (places t) false in
+        let gs = replicate (places_of ts) false in
+        let us = takers_by (sets t) b in
+        let vs = takers_by (sets_of ts) b in
+        rw (one.moves enter xs of-t, one.left enter xs of-t, others.moves (last_or enter xs) ys of-ts)
+        (sym (shifted-append enter fs gs us vs xs ys (length-replicate (places t) false ∙ sym of-t) (length-map (sets t) (λ set. member set b) ∙ length-sets t is ∙ sym of-t))
+        ∙ ap (λ hs. shifted enter hs (us ++ vs) (xs ++ ys)) (replicate-append-replicate (places t) (places_of ts) false)
+        ∙ ap (λ ws. shifted enter (replicate (places t + places_of ts) false) ws (xs ++ ys)) (sym (map-append (λ set. member set b) (sets t) (sets_of ts)))
+        ∙ ap (λ zs. shifted enter (replicate (places t + places_of ts) false) (takers_by (sets t ++ sets_of ts) b) zs) (take-append-drop (places t) ms))
+
+    left' : (enter : Bool) (ms : List Bool) → length ms ≡ places t + places_of ts → exits (cat (more t ts)) enter ms a ≡ last_or enter ms
+    left' enter ms e =
+        let xs = take (places t) ms in
+        let ys = drop (places t) ms in
+        let of-t : length xs ≡ places t = length-first ms (places t) (places_of ts) e in
+        let of-ts : length ys ≡ places_of ts = length-others ms (places t) (places_of ts) e in
+        cat_bools (leaves t xs a) (nullable_all ts a) (leaves_all ts ys a) enter (nullable t a)
+        ∙ ap (λ left. exits (cat ts) left ys a) (one.left enter xs of-t)
+        ∙ others.left (last_or enter xs) ys of-ts
+        ∙ sym (last_or-append enter xs ys)
+        ∙ ap (last_or enter) (take-append-drop (places t) ms)
+
+mutual
+  string_moves : (t : Tree) (a : Around) (b : ℕ) → is_string t ≡ true → Moves t a b
+  string_moves empty a b h = absurd (cc)
+  string_moves (one_of set) a b h = one_moves set a b
+  string_moves (one_char runs) a b h = absurd (cc)
+  string_moves (cat ts) a b h = let all = strings_move ts a b h in record { moves = all.moves; left = all.left }
+  string_moves (alt ts) a b h = absurd (cc)
+  string_moves (rep x n m) a b h = absurd (cc)
+  string_moves line_start a b h = absurd (cc)
+  string_moves line_end a b h = absurd (cc)
+  string_moves word_edge a b h = absurd (cc)
+  string_moves not_word_edge a b h = absurd (cc)
+
+  strings_move : (ts : Trees) (a : Around) (b : ℕ) → are_strings ts ≡ true → MoveAll ts a b
+  strings_move none a b h = none_move a b
+  strings_move (more t ts) a b h =
+      let p = and_parts (is_string t) (are_strings ts) h in
+      more_move t ts a b p.0 (string_moves t a b p.0) (strings_move ts a b p.1)
+
+-- a string that is entered begins, whatever stands before it
+begun : (n : ℕ) → 0 < n → (before : Bool) (ts xs : List Bool) → shifted true (replicate n false) ts xs ≡ shifted before (first_of n) ts xs
+begun zero h before ts xs = absurd (omega arith)
+begun (suc n) h before ts xs =
+    let e : n ≡ suc n - 1 = omega arith in
+    same ts xs ∙ ap (λ k. shifted before (true ∷ replicate k false) ts xs) e
+  where
+    same : (ts xs : List Bool) → shifted true (false ∷ replicate n false) ts xs ≡ shifted before (true ∷ replicate n false) ts xs
+    same [] xs = refl
+    same (t ∷ ts) [] = refl
+    same (t ∷ ts) (x ∷ xs) = ap (λ b. (b && t) ∷ shifted x (replicate n false) ts xs) (sym (or-true before))
+
+-- of n places the last
+abbrev last_of : ℕ → List Bool
+last_of n = replicate (n - 1) false ++ true ∷ []
+
+abbrev lasts_of : Trees → List Bool
+lasts_of none = []
+lasts_of (more t ts) = last_of (places t) ++ lasts_of ts
+
+length-last_of : (n : ℕ) → 0 < n → length (last_of n) ≡ n
+length-last_of n h = omega (arith, length-append (replicate (n - 1) false) (true ∷ []), length-replicate (n - 1) false)
+
+meet_last : (ms : List Bool) (n : ℕ) (before : Bool) → length ms ≡ n → 0 < n → meet ms (last_of n) ≡ last_or before ms
+meet_last [] n before e h = absurd (omega arith)
+meet_last (m ∷ []) n before e h =
+    let f : n - 1 ≡ 0 = omega arith in
+    ap (λ i. meet (m ∷ []) (replicate i false ++ true ∷ [])) f ∙ with_true m
+  where
+    with_true : (m : Bool) → ((m && true) || false) ≡ m
+    with_true true = refl
+    with_true false = refl
+meet_last (m ∷ k ∷ ms) n before e h =
+    let f : n - 1 ≡ suc (n - 2) = omega arith in
+    let g : n - 2 ≡ n - 1 - 1 = omega arith in
+    ap (λ i. meet (m ∷ k ∷ ms) (replicate i false ++ true ∷ [])) f ∙ with_false m (meet (k ∷ ms) (replicate (n - 2) false ++ true ∷ []))
+    ∙ ap (λ i. meet (k ∷ ms) (replicate i false ++ true ∷ [])) g ∙ meet_last (k ∷ ms) (n - 1) m (omega arith) (omega arith)
+  where
+    with_false : (m x : Bool) → ((m && false) || x) ≡ x
+    with_false true x = refl
+    with_false false x = refl
+
+choice_moves : (ts : Trees) → AreStrings ts → (before : Bool) (ms : List Bool) (a : Around) (b : ℕ) → length ms ≡ places_of ts →
+    step_each ts true ms a b ≡ shifted before (firsts_of ts) (takers_by (sets_of ts) b) ms
+choice_moves none are before ms a b e = refl
+choice_moves (more t ts) are before ms a b e =
+    let xs = take (places t) ms in
+    let ys = drop (places t) ms in
+    let of-t : length xs ≡ places t = length-first ms (places t) (places_of ts) e in
+    let of-ts : length ys ≡ places_of ts = length-others ms (places t) (places_of ts) e in
+    let us = takers_by (sets t) b in
+    let vs = takers_by (sets_of ts) b in
+    rw ((string_moves t a b are.0).moves true xs of-t, begun (places t) are.1 before us xs, choice_moves ts are.2 (last_or before xs) ys a b of-ts)
+    (sym (shifted-append before (first_of (places t)) (firsts_of ts) us vs xs ys (omega (arith, length-replicate (places t - 1) false, are.1, of-t)) (length-map (sets t) (λ set. member set b) ∙ length-sets t are.0 ∙ sym of-t))
+    ∙ ap (λ ws. shifted before (firsts_of (more t ts)) ws (xs ++ ys)) (sym (map-append (λ set. member set b) (sets t) (sets_of ts)))
+    ∙ ap (λ zs. shifted before (firsts_of (more t ts)) (takers_by (sets_of (more t ts)) b) zs) (take-append-drop (places t) ms))
+
+choice_left : (ts : Trees) → AreStrings ts → (ms : List Bool) (a : Around) → length ms ≡ places_of ts → exits (alt ts) true ms a ≡ meet ms (lasts_of ts)
+choice_left none are [] a e = refl
+choice_left none are (m ∷ ms) a e = absurd (omega arith)
+choice_left (more t ts) are ms a e =
+    let xs = take (places t) ms in
+    let ys = drop (places t) ms in
+    let of-t : length xs ≡ places t = length-first ms (places t) (places_of ts) e in
+    let of-ts : length ys ≡ places_of ts = length-others ms (places t) (places_of ts) e in
+    alt_bools (leaves t xs a) (leaves_some ts ys a) true (nullable t a) (nullable_some ts a)
+    ∙ ap (λ x. x || exits (alt ts) true ys a) ((string_moves t a 0 are.0).left true xs of-t ∙ sym (meet_last xs (places t) true of-t are.1))
+    ∙ ap (λ x. meet xs (last_of (places t)) || x) (choice_left ts are.2 ys a of-ts)
+    ∙ sym (meet-append xs ys (last_of (places t)) (lasts_of ts) (of-t ∙ sym (length-last_of (places t) are.1)))
+    ∙ ap (λ zs. meet zs (lasts_of (more t ts))) (take-append-drop (places t) ms)
+
+length-firsts_of : (ts : Trees) → AreStrings ts → length (firsts_of ts) ≡ places_of ts
+length-firsts_of none are = refl
+length-firsts_of (more t ts) are =
+    omega (arith, length-append (replicate (places t - 1) false) (firsts_of ts), length-replicate (places t - 1) false, are.1, length-firsts_of ts are.2)
+
+-- a string ends where the next one begins behind it, or none does
+lasts_by_firsts : (ts : Trees) → AreStrings ts → 0 < length (firsts_of ts) → lasts_by (firsts_of ts) ≡ lasts_of ts
+lasts_by_firsts none are h = absurd (omega arith)
+lasts_by_firsts (more t none) are h =
+    let fs = replicate (places t - 1) false in
+    ap (λ xs. xs ++ true ∷ []) (append-nil fs) ∙ sym (append-nil (fs ++ true ∷ []))
+lasts_by_firsts (more t (more u us)) are h =
+    let fs = replicate (places t - 1) false in
+    let gs = replicate (places u - 1) false ++ firsts_of us in
+    append_assoc fs (true ∷ gs) (true ∷ [])
+    ∙ ap (λ xs. fs ++ true ∷ xs) (lasts_by_firsts (more u us) are.2 (omega arith))
+    ∙ sym (append_assoc fs (true ∷ []) (lasts_of (more u us)))
+
+-- a tree is moved and left as the choice of its branches
+record IsChoiceOf (t : Tree) (ts : Trees) : Type 0 where
+  size : places t ≡ places_of ts
+  same_step : (ms : List Bool) (a : Around) (b : ℕ) → length ms ≡ places t → step t true ms a b ≡ step_each ts true ms a b
+  same_left : (ms : List Bool) (a : Around) → length ms ≡ places t → exits t true ms a ≡ exits (alt ts) true ms a
+
+alone : (t : Tree) → IsChoiceOf t (more t none)
+alone t = record {
+  size = omega arith;
+  same_step = λ ms a b e. sym (append-nil (step t true (take (places t) ms) a b) ∙ ap (λ xs. step t true xs a b) (take_all (places t) ms (omega arith)));
+  same_left = λ ms a e.
+      sym (alt_bools (leaves t (take (places t) ms) a) false true (nullable t a) false ∙ or-false (exits t true (take (places t) ms) a) ∙ ap (λ xs. exits t true xs a) (take_all (places t) ms (omega arith)));
+}
+
+by_branches : (t : Tree) → IsChoiceOf t (branches t)
+by_branches empty = alone empty
+by_branches (one_of set) = alone (one_of set)
+by_branches (one_char runs) = alone (one_char runs)
+by_branches (cat ts) = alone (cat ts)
+by_branches (alt ts) = record { size = refl; same_step = λ ms a b e. refl; same_left = λ ms a e. refl }
+by_branches (rep x n m) = alone (rep x n m)
+by_branches line_start = alone line_start
+by_branches line_end = alone line_end
+by_branches word_edge = alone word_edge
+by_branches not_word_edge = alone not_word_edge
+
+length-takers_by : (ts : Trees) → AreStrings ts → (b : ℕ) → length (takers_by (sets_of ts) b) ≡ places_of ts
+length-takers_by none are b = refl
+length-takers_by (more t ts) are b =
+    ap length (map-append (λ set. member set b) (sets t) (sets_of ts))
+    ∙ omega (arith, length-append {A = Bool}, length-map (sets t) (λ set. member set b), length-sets t are.0, length-takers_by ts are.2 b)
+
+pub are_shifts : (t : Tree) (strings : Strings) (shifts : Shifts) → IsChoice t strings → 0 < length strings.firsts.items → AreShiftsOf strings shifts → AreShifts t shifts
+are_shifts t strings shifts choice some laid =
+    let ts = branches t in
+    let same = by_branches t in
+    let firsts : shifts.firsts ≡ firsts_of ts = laid.firsts ∙ choice.firsts in
+    let nonempty : 0 < length (firsts_of ts) = subst (λ (fs : List Bool). 0 < length fs) choice.firsts some in
+    let lasts : shifts.lasts ≡ lasts_of ts = laid.lasts ∙ ap lasts_by choice.firsts ∙ lasts_by_firsts ts choice.are nonempty in
+    let takers : (b : ℕ) → b < 256 → takers_of shifts b ≡ takers_by (sets_of ts) b = λ b low. laid.takers.each b low ∙ ap (λ all. takers_by all b) choice.sets in
+    let size : length (lasts_of ts) ≡ places_of ts = length-lasts_of ts choice.are in
+    record {
+      firsts = ap length firsts ∙ length-firsts_of ts choice.are ∙ sym same.size;
+      lasts = ap length lasts ∙ size ∙ sym same.size;
+      all = laid.takers.all;
+      takers = λ b low. ap length (takers b low) ∙ length-takers_by ts choice.are b ∙ sym same.size;
+      moves = λ ms a b e low.
+          same.same_step ms a b e ∙ choice_moves ts choice.are false ms a b (e ∙ same.size)
+          ∙ ap (λ fs. shifted false fs (takers_by (sets_of ts) b) ms) (sym firsts) ∙ ap (λ us. shifted false shifts.firsts us ms) (sym (takers b low));
+      left = λ ms a e. same.same_left ms a e ∙ choice_left ts choice.are ms a (e ∙ same.size) ∙ ap (meet ms) (sym lasts);
+    }
+  where
+    length-lasts_of : (ts : Trees) → AreStrings ts → length (lasts_of ts) ≡ places_of ts
+    length-lasts_of none are = refl
+    length-lasts_of (more t ts) are = omega (arith, length-append (last_of (places t)) (lasts_of ts), length-last_of (places t) are.1, length-lasts_of ts are.2)
+
+-- the first of one place more
+pub first_of-more : (n : ℕ) → 1 ≤ n → first_of n ++ false ∷ [] ≡ first_of (n + 1)
+first_of-more n h =
+    let e : n - 1 + 1 ≡ n + 1 - 1 = omega arith in
+    ap (λ fs. true ∷ fs) (replicate-append-replicate (n - 1) 1 false ∙ ap (λ k. replicate k false) e)
+
+pub spelled_more : (t : Tree) (before after : List (List Bool)) → IsSpelled t before after → length before ≤ length after
+spelled_more t before after spelled = omega (arith, ap length spelled.sets, length-append before (sets t))
+
+-- a string is added: its sets, and as many flags
+pub add_one : (t : Tree) (before after : Strings) (n : ℕ) → IsSpelled t before.sets.items after.sets.items →
+    after.firsts.items ≡ before.firsts.items ++ first_of n → length after.sets.items ≡ length before.sets.items + n → 0 < n → AreAdded (more t none) before after
+add_one t before after n spelled firsts count some =
+    let size : n ≡ places t = omega (arith, count, ap length spelled.sets, length-append {A = List Bool}, length-sets t spelled.is) in
+    record {
+      are = (spelled.is, omega (arith, size, some), tt);
+      sets = spelled.sets ∙ ap (λ xs. before.sets.items ++ xs) (sym (append-nil (sets t)));
+      firsts = firsts ∙ ap (λ k. before.firsts.items ++ first_of k) size ∙ ap (λ xs. before.firsts.items ++ xs) (sym (append-nil (first_of (places t))));
+    }

@@ -4,6 +4,7 @@ use Rattle.std.specs.Prelude.{nat_le, nat_lt, All, Some, slice_get, if◌then◌
 use Rattle.std.specs.Char.{scalar_index}
 use Rattle.std.specs.List.{count_by, range_with_len}
 use Rattle.std.proofs.lemmas.List.Sums.{sum_by-cons}
+use Rattle.std.proofs.lemmas.List.Elements.{All-push}
 use Rattle.std.specs.List.Sorted.{IsNonDecreasingBy, IsPermutation}
 use Rattle.std.proofs.lemmas.Bool.Decides.{nat_tests}
 use Rattle.std.proofs.lemmas.List.Folds.{list_any-append}
@@ -64,6 +65,33 @@ cut_away low high c h = grind (arith, nat_tests)
 
 pub cut_run : (low high : ℕ) → char_from low ≤ char_to high → IsRun (char_from low, char_to high)
 cut_run low high h = (h, grind (arith, nat_tests), grind (arith, nat_tests))
+
+-- the runs are what is left of the ranges
+abbrev pub AreCut : List (ℕ × ℕ) → List (ℕ × ℕ) → Type 0
+AreCut runs ranges = All IsRun runs × ((c : ℕ) → has_char runs c ≡ has_char ranges c)
+
+pub AreCut-run : (runs more ranges : List (ℕ × ℕ)) (i low high : ℕ) (range : ℕ × ℕ) → AreCut runs (take i ranges) → i < length ranges → range ≡ get_or ranges i (0, 0)
+    → low ≡ char_from range.0 → high ≡ char_to range.1 → low ≤ high → more ≡ runs ++ (low, high) ∷ [] → AreCut more (take (i + 1) ranges)
+AreCut-run runs more ranges i low high range cut within is low-is high-is le pushed =
+    subst (λ xs. AreCut xs (take (i + 1) ranges)) (sym (pushed ∙ ap₂ (λ a b. runs ++ (a, b) ∷ []) low-is high-is)) (
+      All-push IsRun runs _ cut.0 (cut_run range.0 range.1 (subst (λ a. a ≤ char_to range.1) low-is (subst (λ b. low ≤ b) high-is le))),
+      λ c.
+          has_char-push runs _ c
+          ∙ ap₂ (λ a b. a || b) (cut.1 c) (cut_same range.0 range.1 c ∙ ap (λ r. is_scalar c && is_in r c) is)
+          ∙ sym (has_char-more ranges i c within),
+    )
+
+pub AreCut-none : (runs ranges : List (ℕ × ℕ)) (i low high : ℕ) (range : ℕ × ℕ) → AreCut runs (take i ranges) → i < length ranges → range ≡ get_or ranges i (0, 0)
+    → low ≡ char_from range.0 → high ≡ char_to range.1 → high < low → AreCut runs (take (i + 1) ranges)
+AreCut-none runs ranges i low high range cut within is low-is high-is lt =
+    let none = cut_away range.0 range.1 in (
+      cut.0,
+      λ c.
+          cut.1 c
+          ∙ sym (or-false (has_char (take i ranges) c))
+          ∙ ap (λ b. has_char (take i ranges) c || b) (sym (ap (λ r. is_scalar c && is_in r c) (sym is) ∙ none c (subst (λ a. char_to range.1 < a) low-is (subst (λ b. b < low) high-is lt))))
+          ∙ sym (has_char-more ranges i c within),
+    )
 
 -- the last run and those behind it, where runs that meet are joined
 abbrev pub joined_to : ℕ × ℕ → List (ℕ × ℕ) → List (ℕ × ℕ)

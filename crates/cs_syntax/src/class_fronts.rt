@@ -24,42 +24,34 @@ fn name_length(text: &[u8]) -> Option<usize>
     None
 }
 
+/// The classes that have a name.
+const NAMED: [(&str, NamedClass); 14] = [
+    ("alnum", NamedClass::Alnum),
+    ("alpha", NamedClass::Alpha),
+    ("ascii", NamedClass::Ascii),
+    ("blank", NamedClass::Blank),
+    ("cntrl", NamedClass::Cntrl),
+    ("digit", NamedClass::Digit),
+    ("graph", NamedClass::Graph),
+    ("lower", NamedClass::Lower),
+    ("print", NamedClass::Print),
+    ("punct", NamedClass::Punct),
+    ("space", NamedClass::Space),
+    ("upper", NamedClass::Upper),
+    ("word", NamedClass::Word),
+    ("xdigit", NamedClass::Xdigit),
+];
+
 /// The class of a name.
-#[tactic(auto, unfolding(crate::specs::Classes::class_by_name))]
 fn class_by_name(name: &[u8]) -> Option<NamedClass>
     ensures { result ≡ class_by_name name.now }
 {
-    if name == b"alnum".as_slice() {
-        Some(NamedClass::Alnum)
-    } else if name == b"alpha".as_slice() {
-        Some(NamedClass::Alpha)
-    } else if name == b"ascii".as_slice() {
-        Some(NamedClass::Ascii)
-    } else if name == b"blank".as_slice() {
-        Some(NamedClass::Blank)
-    } else if name == b"cntrl".as_slice() {
-        Some(NamedClass::Cntrl)
-    } else if name == b"digit".as_slice() {
-        Some(NamedClass::Digit)
-    } else if name == b"graph".as_slice() {
-        Some(NamedClass::Graph)
-    } else if name == b"lower".as_slice() {
-        Some(NamedClass::Lower)
-    } else if name == b"print".as_slice() {
-        Some(NamedClass::Print)
-    } else if name == b"punct".as_slice() {
-        Some(NamedClass::Punct)
-    } else if name == b"space".as_slice() {
-        Some(NamedClass::Space)
-    } else if name == b"upper".as_slice() {
-        Some(NamedClass::Upper)
-    } else if name == b"word".as_slice() {
-        Some(NamedClass::Word)
-    } else if name == b"xdigit".as_slice() {
-        Some(NamedClass::Xdigit)
-    } else {
-        None
+    for (word, class) in &NAMED {
+        if name == word.as_bytes() {
+            return Some(*class);
+        }
     }
+    None
 }
 
 /// An item by its name, with its `^`.

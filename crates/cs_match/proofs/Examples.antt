@@ -39,12 +39,12 @@ five_marks_the_first_and_the_third : marks_of (5 ∷ []) 3 ≡ true ∷ false �
 unfolding marks_of
 five_marks_the_first_and_the_third = refl
 
--- strings of two places and of one: the first mark goes on, and the third place does not take the byte
+-- phrases of two places and of one: the first mark goes on, and the third place does not take the byte
 marks_go_on : shifted false (true ∷ false ∷ true ∷ []) (true ∷ true ∷ false ∷ []) (true ∷ false ∷ true ∷ []) ≡ true ∷ true ∷ false ∷ []
 marks_go_on = refl
 
-a_string_ends_where_the_next_begins : lasts_by (true ∷ false ∷ true ∷ []) ≡ false ∷ true ∷ true ∷ []
-a_string_ends_where_the_next_begins = refl
+a_phrase_ends_where_the_next_begins : lasts_by (true ∷ false ∷ true ∷ []) ≡ false ∷ true ∷ true ∷ []
+a_phrase_ends_where_the_next_begins = refl
 
 a_mark_at_a_last_place : meet (true ∷ true ∷ false ∷ []) (false ∷ true ∷ true ∷ []) ≡ true
 a_mark_at_a_last_place = refl

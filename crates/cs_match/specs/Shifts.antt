@@ -1,5 +1,5 @@
--- Choices of strings, over which all marks go on at once, each to the next place of its string. The field's name for it
--- is Shift-And. A string is a set, or strings one after another, so that a mark goes nowhere else.
+-- Choices of phrases, over which all marks go on at once, each to the next place of its phrase. The field's name for it
+-- is Shift-And. A phrase is a set, or phrases one after another, so that a mark goes nowhere else.
 use Rattle.std.specs.Prelude.{ℕ, ◌≡◌, ◌-◌, ◌<◌, Bool, true, false, ◌&&◌, List, [], ◌∷◌, ◌++◌, drop, length, map, replicate, slice_index_or}
 use Rattle.cs_syntax.specs.Matching.{Tree, Trees, empty, one_of, one_char, cat, alt, rep, line_start, line_end, word_edge, not_word_edge, none, more, member}
 use Rattle.cs_match.specs.declared.around.Around.{Around}
@@ -8,53 +8,53 @@ use Rattle.cs_match.specs.Places.{places, step, exits}
 use Rattle.cs_match.specs.Marks.{shifted, meet}
 
 abbrev mutual
-  pub is_string : Tree → Bool
-  is_string empty = false
-  is_string (one_of set) = true
-  is_string (one_char runs) = false
-  is_string (cat ts) = are_strings ts
-  is_string (alt ts) = false
-  is_string (rep x n m) = false
-  is_string line_start = false
-  is_string line_end = false
-  is_string word_edge = false
-  is_string not_word_edge = false
+  pub is_phrase : Tree → Bool
+  is_phrase empty = false
+  is_phrase (one_of set) = true
+  is_phrase (one_char runs) = false
+  is_phrase (cat ts) = are_phrases ts
+  is_phrase (alt ts) = false
+  is_phrase (rep x n m) = false
+  is_phrase line_start = false
+  is_phrase line_end = false
+  is_phrase word_edge = false
+  is_phrase not_word_edge = false
 
-  pub are_strings : Trees → Bool
-  are_strings none = true
-  are_strings (more t ts) = is_string t && are_strings ts
+  pub are_phrases : Trees → Bool
+  are_phrases none = true
+  are_phrases (more t ts) = is_phrase t && are_phrases ts
 
--- the sets of a string, one for each place
+-- the sets of a phrase, one for each place
 abbrev mutual
-  pub sets : Tree → List (List Bool)
-  sets empty = []
-  sets (one_of set) = set ∷ []
-  sets (one_char runs) = []
-  sets (cat ts) = sets_of ts
-  sets (alt ts) = []
-  sets (rep x n m) = []
-  sets line_start = []
-  sets line_end = []
-  sets word_edge = []
-  sets not_word_edge = []
+  pub place_sets : Tree → List (List Bool)
+  place_sets empty = []
+  place_sets (one_of set) = set ∷ []
+  place_sets (one_char runs) = []
+  place_sets (cat ts) = place_sets_of ts
+  place_sets (alt ts) = []
+  place_sets (rep x n m) = []
+  place_sets line_start = []
+  place_sets line_end = []
+  place_sets word_edge = []
+  place_sets not_word_edge = []
 
-  pub sets_of : Trees → List (List Bool)
-  sets_of none = []
-  sets_of (more t ts) = sets t ++ sets_of ts
+  pub place_sets_of : Trees → List (List Bool)
+  place_sets_of none = []
+  place_sets_of (more t ts) = place_sets t ++ place_sets_of ts
 
 -- of n places the first
 abbrev pub first_of : ℕ → List Bool
 first_of n = true ∷ replicate (n - 1) false
 
--- the first places of strings
+-- the first places of phrases
 abbrev pub firsts_of : Trees → List Bool
 firsts_of none = []
 firsts_of (more t ts) = first_of (places t) ++ firsts_of ts
 
--- each tree is a string that has some place
-abbrev pub AreStrings : Trees → Type 0
-AreStrings none = Unit {0}
-AreStrings (more t ts) = (is_string t ≡ true) × (0 < places t) × AreStrings ts
+-- each tree is a phrase that has some place
+abbrev pub ArePhrases : Trees → Type 0
+ArePhrases none = Unit {0}
+ArePhrases (more t ts) = (is_phrase t ≡ true) × (0 < places t) × ArePhrases ts
 
 -- what a tree is a choice of
 abbrev pub branches : Tree → Trees
@@ -69,7 +69,7 @@ branches line_end = more line_end none
 branches word_edge = more word_edge none
 branches not_word_edge = more not_word_edge none
 
--- the last places of strings, by the first places
+-- the last places of phrases, by the first places
 abbrev pub lasts_by : List Bool → List Bool
 lasts_by firsts = drop 1 firsts ++ true ∷ []
 

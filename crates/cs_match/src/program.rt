@@ -114,7 +114,7 @@ impl Program {
         self.sieve.as_ref()
     }
 
-    /// How the marks of all places are moved at once, where the program is a choice of strings.
+    /// How the marks of all places are moved at once, where the program is a choice of phrases.
     pub(crate) fn shifts(&self) -> Option<&Shifts>
         ensures { IfSome result (λ shifts. AreShifts self.now shifts.now) }
     {

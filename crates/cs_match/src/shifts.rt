@@ -1,4 +1,4 @@
-// Choices of strings, of which all marks are moved at once.
+// Choices of phrases, of which all marks are moved at once.
 ghost use Rattle.std.specs.Prelude.{◌≡◌, IfOk, IfSome, length, true, false};
 ghost use Rattle.cs_syntax.specs.Node.{tree_of};
 ghost use Rattle.cs_match.specs.Places.{places, repeats, exits, step};
@@ -7,7 +7,7 @@ ghost use Rattle.cs_match.specs.Shifts.{takers_of, AreShifts};
 
 use crate::around::Around;
 use crate::marks::Marks;
-use crate::strings::Strings;
+use crate::phrases::Phrases;
 use crate::walk;
 use cs_syntax::Node;
 use std::alloc::{AllocError, Global};
@@ -18,7 +18,7 @@ const FEW: usize = 64;
 /// So many are laid out for each byte within milliseconds.
 const MOST: usize = 8192;
 
-/// Of a choice of strings the places where one begins and where one ends, and for each byte the places that take it.
+/// Of a choice of phrases the places where one begins and where one ends, and for each byte the places that take it.
 #[derive(Drop)]
 pub(crate) struct Shifts {
     pub(crate) firsts: Marks,
@@ -26,7 +26,7 @@ pub(crate) struct Shifts {
     pub(crate) takers: Vec<Marks>,
 }
 
-/// The shifts of a tree with so many places, where it is a choice of strings and they pay.
+/// The shifts of a tree with so many places, where it is a choice of phrases and they pay.
 pub(crate) fn shifts_of(
     alloc: Global,
     root: &Node,
@@ -37,16 +37,16 @@ pub(crate) fn shifts_of(
     if places <= FEW || places > MOST {
         return Ok(None);
     }
-    let mut strings = Strings::new(alloc);
-    if !strings.add_choice(root)? || strings.firsts.is_empty() {
+    let mut phrases = Phrases::new(alloc);
+    if !phrases.add_choice(root)? || phrases.firsts.is_empty() {
         return Ok(None);
     }
-    let shifts = strings.shifts(alloc)?;
+    let shifts = phrases.shifts(alloc)?;
     Ok(Some(shifts))
 }
 
 impl Shifts {
-    /// Moves the marks over a byte, and answers whether a string ended before it.
+    /// Moves the marks over a byte, and answers whether a phrase ended before it.
     fn pass(&self, marks: &mut Marks, byte: u8) -> bool
         requires firsts { length self.now.firsts ≡ length marks.old }
         requires lasts { length self.now.lasts ≡ length marks.old }

@@ -195,7 +195,7 @@ fn finds_in(
 }
 
 /// Loops in one another to the parser's depth, a pattern of nearly the greatest weight, many loops
-/// that stay open, and strings whose marks take more than one word.
+/// that stay open, and phrases whose marks take more than one word.
 const LARGE: &[(Repeated<'static>, Repeated<'static>, bool)] = &[
     (("(", 200, "a", ")*b"), ("a", 100, "", "b"), true),
     (("a", 9998, "", ""), ("a", 100, "", ""), false),

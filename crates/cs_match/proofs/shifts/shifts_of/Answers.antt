@@ -6,6 +6,6 @@ use Rattle.cs_match.proofs.shifts.shifts_of.Goals as goal
 
 pub returns : goal.returns
 returns c =
-    let strings = c.add_choice.new.self in
-    let some : 0 < length strings.firsts.items = grind (arith, common_steps) in
-    are_shifts (tree_of c.args.root.now) strings c.in_ok-shifts.shifts (c.in_ok-add_choice.ensures c.if-not-branch.false) some c.in_ok-shifts.ensures
+    let phrases = c.add_choice.new.self in
+    let some : 0 < length phrases.firsts.items = grind (arith, common_steps) in
+    are_shifts (tree_of c.args.root.now) phrases c.in_ok-shifts.shifts (c.in_ok-add_choice.ensures c.if-not-branch.false) some c.in_ok-shifts.ensures

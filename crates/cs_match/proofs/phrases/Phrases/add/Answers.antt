@@ -1,9 +1,9 @@
 use Rattle.std.proofs.Common.{◌≡◌, ◌+◌, ◌-◌, ◌≤◌, ◌++◌, ◌∷◌, [], false, length, ◌∙◌, ap, arith, append_assoc}
 use Rattle.cs_syntax.specs.Node.{tree_of}
 use Rattle.cs_match.specs.Shifts.{first_of}
-use Rattle.cs_match.specs.Strings.{IsSpelled}
+use Rattle.cs_match.specs.Phrases.{IsSpelled}
 use Rattle.cs_match.proofs.ShiftLemmas.{first_of-more, spelled_more, add_one}
-use Rattle.cs_match.proofs.strings.Strings.add.Goals as goal
+use Rattle.cs_match.proofs.phrases.Phrases.add.Goals as goal
 
 pub loop-place-preserved : goal.loop-place-preserved
 loop-place-preserved c =
@@ -16,7 +16,7 @@ loop-place-preserved c =
 
 pub returns : goal.returns
 returns c = λ _.
-    let t = tree_of c.args.string.now in
+    let t = tree_of c.args.phrase.now in
     let before = c.args.self.now in
     let after = c.loop-place.self in
     let place = c.loop-place.place in

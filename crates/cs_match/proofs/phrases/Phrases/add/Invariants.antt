@@ -1,6 +1,6 @@
 use Rattle.std.proofs.Common.{◌≡◌, ◌++◌}
 use Rattle.cs_match.specs.Shifts.{first_of}
-use Rattle.cs_match.proofs.strings.Strings.add.Given as goal
+use Rattle.cs_match.proofs.phrases.Phrases.add.Given as goal
 
 abbrev pub invariant-loop-place : goal.invariant-loop-place
 invariant-loop-place l = record {

@@ -1,6 +1,6 @@
 use Rattle.std.proofs.Common.{◌≡◌, ℕ, ◌<◌, length, get_or, []}
 use Rattle.cs_match.specs.Shifts.{takers_by}
-use Rattle.cs_match.proofs.strings.Strings.takers.Given as goal
+use Rattle.cs_match.proofs.phrases.Phrases.takers.Given as goal
 
 abbrev pub invariant-loop-byte : goal.invariant-loop-byte
 invariant-loop-byte l = record {

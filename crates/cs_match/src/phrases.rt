@@ -1,64 +1,64 @@
-// The strings that a tree is a choice of.
+// The phrases that a tree is a choice of.
 ghost use Rattle.std.specs.Prelude.{◌≡◌, ◌<◌, IfOk, length, true, []};
 ghost use Rattle.cs_syntax.specs.Matching.{none, more};
 ghost use Rattle.cs_syntax.specs.Node.{tree_of, trees_of};
 ghost use Rattle.cs_match.specs.Shifts.{lasts_by, takers_by};
-ghost use Rattle.cs_match.specs.Strings.{IsSpelled, AreSpelled, AreAdded, IsChoice, AreTakers, AreShiftsOf};
+ghost use Rattle.cs_match.specs.Phrases.{IsSpelled, AreSpelled, AreAdded, HasPhrases, AreTakers, AreShiftsOf};
 
 use crate::marks::Marks;
 use crate::shifts::Shifts;
 use cs_syntax::{ByteSet, Node};
 use std::alloc::{AllocError, Global};
 
-/// Strings, one after another: the set of each place, and whether a string begins there.
+/// Phrases, one after another: the set of each place, and whether a phrase begins there.
 #[derive(Drop)]
-pub(crate) struct Strings {
+pub(crate) struct Phrases {
     pub(crate) sets: Vec<ByteSet>,
     pub(crate) firsts: Vec<bool>,
 }
 
-impl Strings {
-    /// No string.
-    pub(crate) fn new(alloc: Global) -> Strings
+impl Phrases {
+    /// No phrase.
+    pub(crate) fn new(alloc: Global) -> Phrases
         ensures sets { result.sets.items ≡ [] }
         ensures firsts { result.firsts.items ≡ [] }
     {
-        Strings {
+        Phrases {
             sets: Vec::new(alloc),
             firsts: Vec::new(alloc),
         }
     }
 
-    /// Adds the strings of a choice, and answers whether the tree is one.
+    /// Adds the phrases of a choice, and answers whether the tree is one.
     pub(crate) fn add_choice(&mut self, root: &Node) -> Result<bool, AllocError>
         requires sets { self.old.sets.items ≡ [] }
         requires firsts { self.old.firsts.items ≡ [] }
-        ensures { IfOk result (λ is. is ≡ true → IsChoice (tree_of root.now) self.new) }
+        ensures { IfOk result (λ is. is ≡ true → HasPhrases (tree_of root.now) self.new) }
     {
         match root {
-            Node::Alt(strings) => self.add_all(strings),
+            Node::Alt(phrases) => self.add_all(phrases),
             _ => self.add(root),
         }
     }
 
-    /// Adds strings, and answers whether all trees are such.
-    fn add_all(&mut self, strings: &[Node]) -> Result<bool, AllocError>
-        ensures { IfOk result (λ are. are ≡ true → AreAdded (trees_of strings.now) self.old self.new) }
+    /// Adds phrases, and answers whether all trees are such.
+    fn add_all(&mut self, phrases: &[Node]) -> Result<bool, AllocError>
+        ensures { IfOk result (λ are. are ≡ true → AreAdded (trees_of phrases.now) self.old self.new) }
     {
-        for string in strings {
-            if !self.add(string)? {
+        for phrase in phrases {
+            if !self.add(phrase)? {
                 return Ok(false);
             }
         }
         Ok(true)
     }
 
-    /// Adds a string, and answers whether the tree is one that has some place.
-    fn add(&mut self, string: &Node) -> Result<bool, AllocError>
-        ensures { IfOk result (λ is. is ≡ true → AreAdded (more (tree_of string.now) none) self.old self.new) }
+    /// Adds a phrase, and answers whether the tree is one that has some place.
+    fn add(&mut self, phrase: &Node) -> Result<bool, AllocError>
+        ensures { IfOk result (λ is. is ≡ true → AreAdded (more (tree_of phrase.now) none) self.old self.new) }
     {
         let from = self.sets.len();
-        if !spell(string, &mut self.sets)? || self.sets.len() == from {
+        if !spell(phrase, &mut self.sets)? || self.sets.len() == from {
             return Ok(false);
         }
         self.firsts.push(true)?;
@@ -68,7 +68,7 @@ impl Strings {
         Ok(true)
     }
 
-    /// The shifts of these strings.
+    /// The shifts of these phrases.
     pub(crate) fn shifts(&self, alloc: Global) -> Result<Shifts, AllocError>
         requires { 0 < length self.now.firsts.items }
         ensures { IfOk result (AreShiftsOf self.now) }
@@ -81,7 +81,7 @@ impl Strings {
         })
     }
 
-    /// Whether a string ends at each place: the next one begins behind it, or none does.
+    /// Whether a phrase ends at each place: the next one begins behind it, or none does.
     fn lasts(&self, alloc: Global) -> Result<Vec<bool>, AllocError>
         requires { 0 < length self.now.firsts.items }
         ensures { IfOk result (λ flags. flags.items ≡ lasts_by self.now.firsts.items) }
@@ -117,7 +117,7 @@ impl Strings {
     }
 }
 
-/// Adds the sets of a string, and answers whether the tree is one.
+/// Adds the sets of a phrase, and answers whether the tree is one.
 #[cycle(spell)]
 fn spell(node: &Node, sets: &mut Vec<ByteSet>) -> Result<bool, AllocError>
     ensures { IfOk result (λ is. is ≡ true → IsSpelled (tree_of node.now) sets.old.items sets.new.items) }

@@ -43,7 +43,8 @@ impl Phrases {
 
     /// Adds phrases, and answers whether all trees are such.
     fn add_all(&mut self, phrases: &[Node]) -> Result<bool, AllocError>
-        ensures { IfOk result (λ are. are ≡ true → AreAdded (trees_of phrases.now) self.old self.new) }
+        ensures { IfOk result (λ are. are ≡ true →
+            AreAdded (trees_of phrases.now) self.old self.new) }
     {
         for phrase in phrases {
             if !self.add(phrase)? {
@@ -55,7 +56,8 @@ impl Phrases {
 
     /// Adds a phrase, and answers whether the tree is one that has some place.
     fn add(&mut self, phrase: &Node) -> Result<bool, AllocError>
-        ensures { IfOk result (λ is. is ≡ true → AreAdded (more (tree_of phrase.now) none) self.old self.new) }
+        ensures { IfOk result (λ is. is ≡ true →
+            AreAdded (more (tree_of phrase.now) none) self.old self.new) }
     {
         let from = self.sets.len();
         if !spell(phrase, &mut self.sets)? || self.sets.len() == from {
@@ -120,7 +122,8 @@ impl Phrases {
 /// Adds the sets of a phrase, and answers whether the tree is one.
 #[cycle(spell)]
 fn spell(node: &Node, sets: &mut Vec<ByteSet>) -> Result<bool, AllocError>
-    ensures { IfOk result (λ is. is ≡ true → IsSpelled (tree_of node.now) sets.old.items sets.new.items) }
+    ensures { IfOk result (λ is. is ≡ true →
+        IsSpelled (tree_of node.now) sets.old.items sets.new.items) }
 {
     match node {
         Node::Set(set) => {
@@ -134,7 +137,8 @@ fn spell(node: &Node, sets: &mut Vec<ByteSet>) -> Result<bool, AllocError>
 
 #[cycle(spell)]
 fn spell_all(parts: &[Node], sets: &mut Vec<ByteSet>) -> Result<bool, AllocError>
-    ensures { IfOk result (λ are. are ≡ true → AreSpelled (trees_of parts.now) sets.old.items sets.new.items) }
+    ensures { IfOk result (λ are. are ≡ true →
+        AreSpelled (trees_of parts.now) sets.old.items sets.new.items) }
 {
     for part in parts {
         if !spell(part, sets)? {

@@ -1,4 +1,4 @@
-use Rattle.std.proofs.Common.{◌+◌, ◌-◌, arith, take, drop, subst, sym, refl, ◌∙◌}
+use Rattle.std.proofs.Common.{◌+◌, ◌-◌, arith, take, drop, subst, sym, refl, ◌∙◌, rules}
 use Rattle.cs_match.specs.Finding.{Decides}
 use Rattle.cs_match.proofs.WholeLemmas.{whole_from}
 use Rattle.cs_match.proofs.ChainLemmas.{passed_none, passed_append, passed_line, not_found}
@@ -22,3 +22,6 @@ lines-preserved c =
           (λ finds decides. not_found c.is_match.result (finds (take (end - at) (drop at part))) c.is_match.ensures.found (subst (Decides finds) (sym c.lines.invariant.same) decides (take (end - at) (drop at part))) c.if-is_match.false));
       same = c.is_match.ensures.same ∙ c.lines.invariant.same;
     }
+
+pub returns-then-is_match-clause-passed : goal.returns-then-is_match-clause-passed
+returns-then-is_match-clause-passed c = search rules

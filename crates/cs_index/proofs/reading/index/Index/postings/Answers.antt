@@ -1,4 +1,4 @@
-use Rattle.std.proofs.Common.{◌≡◌, ◌∙◌, ap, sym, length, arith}
+use Rattle.std.proofs.Common.{◌≡◌, ◌∙◌, ap, sym, length, arith, rules}
 use Rattle.cs_index.specs.Opening.{Parts, texts_of}
 use Rattle.cs_index.specs.Cut.{lent_sections}
 use Rattle.cs_index.proofs.OpenLemmas.{entries_rise, few_read}
@@ -12,3 +12,6 @@ list_of-requires-clause-few c =
     let few = few_read (lent_sections c.self.inside.cut) c.self.invariant in
     let same : c.len.result ≡ length (texts_of c.self.inside.cut.names.now) = c.len.ensures ∙ sym (ap (λ (p : Parts). length p.names) c.self.view_is) in
     omega (arith, few, same)
+
+pub returns : goal.returns
+returns c = search rules

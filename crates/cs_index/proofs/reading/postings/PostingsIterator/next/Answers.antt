@@ -1,4 +1,4 @@
-use Rattle.std.proofs.Common.{◌-◌, ap, ℕ, List, Result, length, take, drop, inl, inr, arith}
+use Rattle.std.proofs.Common.{◌-◌, ap, ℕ, List, Result, length, take, drop, inl, inr, arith, rules}
 use Rattle.std.proofs.lemmas.List.{take_rest}
 use Rattle.cs_index.specs.declared.fault.IndexFault.{IndexFault}
 use Rattle.cs_index.proofs.StepLemmas.{step_ok, step_bad}
@@ -25,3 +25,6 @@ returns-clause-goes c =
     let step = step_ok s.has_ended s.names s.left s.next c.in-Some.delta s.bytes.now (drop c.in-Some.len s.bytes.now) (take (length s.bytes.now - c.in-Some.len) (drop c.in-Some.len s.bytes.now)) c.args.self.now c.if-self.false c.if-self-eq0.false c.self.view_is c.in-Some.ensures.value (take_rest s.bytes.now c.in-Some.len) c.if-delta-eq0-2.false c.if-delta-self.false c.self.invariant.within in
     let less = ap (λ (xs : List (Result ℕ IndexFault)). length xs) step in
     record { on = λ _. (tt, tt, omega (arith, less)); keeps = tt; rests = λ _. tt }
+
+pub returns-in_default-clause-steps : goal.returns-in_default-clause-steps
+returns-in_default-clause-steps c = search rules

@@ -1,3 +1,4 @@
+use Rattle.std.proofs.Common.{rules}
 use Rattle.cs_index.proofs.KeyLemmas.{once_distinct, once_below}
 use Rattle.cs_index.proofs.writing.builder.Builder.add_within.Goals as goal
 
@@ -6,3 +7,15 @@ add_above-requires-clause-distinct c = once_distinct c.args.trigrams.now c.requi
 
 pub add_above-requires-clause-below : goal.add_above-requires-clause-below
 add_above-requires-clause-below c = once_below c.args.trigrams.now c.requires.once
+
+pub add_above-requires-clause-few : goal.add_above-requires-clause-few
+add_above-requires-clause-few c = search rules
+
+pub returns-in_err-add_above-clause-too_large : goal.returns-in_err-add_above-clause-too_large
+returns-in_err-add_above-clause-too_large c = search rules
+
+pub returns-clause-too_large : goal.returns-clause-too_large
+returns-clause-too_large c = search rules
+
+pub returns-clause-id : goal.returns-clause-id
+returns-clause-id c = search rules

@@ -1,4 +1,4 @@
-use Rattle.std.proofs.Common.{arith, ◌∙◌, take}
+use Rattle.std.proofs.Common.{arith, ◌∙◌, take, rules}
 use Rattle.std.proofs.lemmas.Result.{on_ok_weaker}
 use Rattle.cs_index.proofs.SectionsLemmas.{given, at_hand, at_first, one_stream, one_posting}
 use Rattle.cs_index.proofs.writing.sections.Sections.id.Goals as goal
@@ -40,3 +40,9 @@ returns-in-Some-clause-ok c =
     (λ is. is ∙ one_posting c.args.self.now c.in-Some.trigram c.args.id
     (take c.groups_of-len.result.1 c.groups_of-len.result.0) first.begun first.above first.small
     c.groups_of-len.ensures.groups) c.begin.ensures.ok
+
+pub invariant_of-self : goal.invariant_of-self
+invariant_of-self c = search rules
+
+pub returns-in_err-push_varint-in-None-clause-err : goal.returns-in_err-push_varint-in-None-clause-err
+returns-in_err-push_varint-in-None-clause-err c = search rules

@@ -1,4 +1,4 @@
-use Rattle.std.proofs.Common.{◌≡◌, ℕ, ◌++◌, List, length, sym, ap, subst, ◌∙◌, inl, inr, Some, arith}
+use Rattle.std.proofs.Common.{◌≡◌, ℕ, ◌++◌, List, length, sym, ap, subst, ◌∙◌, inl, inr, Some, arith, rules}
 use Rattle.std.proofs.lemmas.Bool.{and_parts}
 use Rattle.std.proofs.lemmas.Result.{err_from_is_err_and}
 use Rattle.cs_index.specs.PostingLists.{Ids}
@@ -98,3 +98,6 @@ returns-clause-newer c =
 pub returns-clause-fault : goal.returns-clause-fault
 returns-clause-fault c =
     all_whole c.args.old.now c.args.newer.now c.args.older_runs.now c.args.newer_runs.now c.args.sections.now c.lists.sections c.lists.older_place c.lists.newer_place c.lists.invariant ((λ i. lower_of (sym c.trigram_at.ensures i) (sym c.trigram_at-in-lists.ensures i)) ∙ sym c.lower.ensures ∙ no_more c.lower.result c.in_default.not-Some)
+
+pub lists-init : goal.lists-init
+lists-init c = search rules

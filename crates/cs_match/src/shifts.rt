@@ -12,7 +12,7 @@ use crate::walk;
 use cs_syntax::Node;
 use std::alloc::{AllocError, Global};
 
-/// So few places are walked over as fast.
+/// So few places are soon walked over.
 const FEW: usize = 64;
 
 /// So many are laid out for each byte within milliseconds.

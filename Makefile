@@ -1,6 +1,7 @@
 # make check     every proof from nothing, the edits that must fail, the tests, the program built two ways,
 #                and then the program from end to end: as a person runs it, as the manual and docs/USE.md say,
 #                with each allocation refused, as of each library's calls, over damaged indexes, and with its system calls failing
+# make wrong     each wrong program by itself, where the gate tries those of a file together; CRATES='NAME..' gives some crates
 # make trusted   what one has to read to believe cindex, cgrep and csearch: the definitions that their contracts rest on
 # make program   the proved program, crates/codesearch/out/codesearch
 # make bench     measures the tools side by side with their peers over a tree of files: make bench TREE=/usr/src
@@ -17,7 +18,7 @@ sources = crates.txt $(shell find crates -type d \( -name out -o -name must-fail
 tools = cindex csearch cgrep
 pages = $(notdir $(wildcard man/*.[157]))
 
-.PHONY: check trusted program bench install uninstall
+.PHONY: check wrong trusted program bench install uninstall
 
 check:
 	rt ci
@@ -29,6 +30,9 @@ check:
 	tests/allocations.py $(program)
 	tests/damage.py $(program)
 	tests/failing.py $(program)
+
+wrong:
+	tests/wrong_programs.py $(CRATES)
 
 trusted:
 	@python3 tests/trusted.py

@@ -7,8 +7,9 @@ use Rattle.cs_tree.specs.Snapshot.{Snapshot}
 use Rattle.cs_words.specs.declared.jobs.IndexJob.{IndexJob}
 use Rattle.cs_words.specs.declared.jobs.Reply.{Reply}
 use Rattle.cs_history.specs.History.{History, index_of}
-use Rattle.cs_history.specs.Jobs.{history_after, snapshot_told, IsFitting}
-use Rattle.cs_history.specs.Headline.{Premises, Indexes}
+use Rattle.cs_history.specs.Jobs.{history_after, IsFitting}
+use Rattle.cs_history.specs.Premises.{snapshot_told, Premises}
+use Rattle.cs_history.specs.Headline.{Indexes}
 use Rattle.cs_history.proofs.FollowingLemmas.{followed-push, later_premises}
 use Rattle.cs_history.proofs.RefusalLemmas.{right_more}
 use Rattle.cs_cindex.specs.Steps.{RightAfter, RightAll, Standing, JobTree, job_tree, job_trees, IsWholeStep, Steps}

@@ -15,7 +15,8 @@ use Rattle.cs_tree.specs.PathSet as set
 use Rattle.cs_tree.specs.Cover.{least}
 use Rattle.cs_tree.specs.Clean.{clean_path}
 use Rattle.cs_index.specs.Image.{Files}
-use Rattle.cs_index.specs.Opening.{Parts, opening}
+use Rattle.cs_index.specs.Opening.{opening}
+use Rattle.cs_index.specs.OpenedParts.{Parts}
 use Rattle.cs_index.specs.declared.fault.IndexFault.{IndexFault}
 use Rattle.cs_merge.proofs.HoldingLemmas.{from_list_all}
 use Rattle.cs_words.specs.declared.jobs.IndexJob.{IndexJob}

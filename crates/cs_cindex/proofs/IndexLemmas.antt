@@ -3,7 +3,8 @@ use Rattle.std.proofs.Common.{◌≡◌, ℕ, suc, ◌+◌, ◌*◌, ◌^◌, �
 use Rattle.cs_history.specs.JobIndex.{tree_index}
 use Rattle.cs_tree.specs.Folders.{IsTree}
 use Rattle.cs_tree.specs.PathSet.{Paths}
-use Rattle.cs_tree.specs.NameOrder.{bytes_cmp, are_ascending}
+use Rattle.cs_tree.specs.NameOrder.{bytes_cmp}
+use Rattle.cs_tree.specs.NamesAscending.{are_ascending}
 use Rattle.std.proofs.lemmas.List.{length-map}
 use Rattle.std.proofs.lemmas.Bool.{true≢false, and_parts, and_from, cases_Bool}
 use Rattle.std.specs.Prelude.{flat_map, nat_le}
@@ -22,7 +23,8 @@ use Rattle.cs_tree.proofs.Sets.{alike, entries_in_order, items_in_order, tied_is
 use Rattle.cs_tree.proofs.Collect.{get-collected}
 use Rattle.cs_tree.proofs.Found.{get-found}
 use Rattle.cs_trigram.specs.Text.{limits, text_trigrams}
-use Rattle.cs_trigram.specs.Trigram.{Ascends, IsTrigramSet, closing_trigram}
+use Rattle.cs_trigram.specs.Trigram.{Ascends, closing_trigram}
+use Rattle.cs_trigram.specs.TrigramSets.{IsTrigramSet}
 use Rattle.cs_merge.specs.Content.{IsContent, LieUnder}
 use Rattle.cs_merge.proofs.HoldingLemmas.{from_list_all}
 use Rattle.cs_index.specs.Image.{Entry, IsString, image, image_of, names_of, concat, with_nul, four_bytes, starts_from, name_offsets, magic, trailer, sections_of, postings_of}

@@ -14,8 +14,8 @@ use Rattle.cs_words.specs.declared.fault.CindexFault.{CindexFault}
 use Rattle.cs_words.specs.declared.fault.CindexFault.TheVariants.{NoIndex, BadIndex, Unsorted, TooLarge, BadPath, Write, Memory}
 use Rattle.cs_history.specs.History.{History, nothing, index_of}
 use Rattle.cs_history.specs.WellFormed.{IsHistory}
-use Rattle.cs_history.specs.Jobs.{given_texts, has_no_path, snapshot_told}
-use Rattle.cs_history.specs.Headline.{IsShort}
+use Rattle.cs_history.specs.Jobs.{given_texts, has_no_path}
+use Rattle.cs_history.specs.Premises.{snapshot_told, IsShort}
 use Rattle.cs_history.specs.Replies.{NeedsIndex, IsFirstBad, IsTooLarge, IsRightReply}
 use Rattle.cs_history.proofs.IndexLemmas.{no_index}
 use Rattle.cs_cindex.specs.Refusals.{JobKind, lists, clears, walks, job_kind, base, first_bad, list_fault, base_fault, early_fault_of, early_fault, IsLateFault, IsDamaged, EarlyOr, HasCause}

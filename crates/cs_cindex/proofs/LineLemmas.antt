@@ -3,7 +3,7 @@ use Rattle.std.proofs.Common.{◌≡◌, ℕ, ◌+◌, ◌<◌, ◌≤◌, ◌�
 use Rattle.cs_words.specs.SkipLines.{skip_line_of}
 use Rattle.cs_tree.specs.PathSet.{Paths}
 use Rattle.cs_words.specs.FileFaults.{fault_line_of}
-use Rattle.cs_tree.specs.Failures.{HasFailed}
+use Rattle.cs_tree.specs.FailureCount.{HasFailed}
 use Rattle.std.proofs.lemmas.List.{take_more, take-append-drop, map-append}
 use Rattle.std.proofs.lemmas.List.Concat.{flat_map-append}
 use Rattle.cs_tree.specs.Snapshot.{Snapshot}

@@ -14,7 +14,8 @@ use Rattle.cs_tree.specs.Cover.{least}
 use Rattle.cs_tree.specs.Clean.{clean_path}
 use Rattle.cs_tree.specs.Snapshot.{Snapshot}
 use Rattle.cs_tree.proofs.Sets.{same_set}
-use Rattle.cs_index.specs.Opening.{Parts, opening}
+use Rattle.cs_index.specs.Opening.{opening}
+use Rattle.cs_index.specs.OpenedParts.{Parts, are_whole}
 use Rattle.cs_index.specs.declared.fault.IndexFault.{IndexFault}
 use Rattle.cs_merge.specs.Content.{paths_in}
 use Rattle.cs_merge.specs.Joinable.{joined_index, AreJoinable}
@@ -24,15 +25,14 @@ use Rattle.cs_words.specs.declared.fault.CindexFault.{CindexFault}
 use Rattle.cs_words.specs.declared.fault.CindexFault.TheVariants.{NoIndex, BadIndex, Unsorted, TooLarge, BadPath, Write, Memory}
 use Rattle.cs_history.specs.History.{History, nothing, ◌⊳◌, Visit, walked_paths, paths_of, index_of}
 use Rattle.cs_history.specs.WellFormed.{IsHistory}
-use Rattle.cs_history.specs.Jobs.{given_texts, given_paths, has_no_path, AreTaken, visit_of, after_done, snapshot_told}
-use Rattle.cs_history.specs.Headline.{IsShort, Premises}
+use Rattle.cs_history.specs.Jobs.{given_texts, given_paths, has_no_path, AreTaken, visit_of, after_done}
+use Rattle.cs_history.specs.Premises.{snapshot_told, IsShort, Premises}
 use Rattle.cs_history.specs.Replies.{IsLong, Walks}
 use Rattle.cs_history.proofs.JobLemmas.{taken_visit}
 use Rattle.cs_history.proofs.FollowingLemmas.{first_premises}
 use Rattle.cs_history.proofs.HistoryLemmas.{walk_content, walk_lies}
 use Rattle.cs_history.proofs.IndexLemmas.{joined_as, first_index, given_some, walked_again, no_index}
 use Rattle.std.specs.Result.{IsOkAnd}
-use Rattle.cs_index.specs.Opening.{are_whole}
 use Rattle.cs_cindex.specs.Joins.{IsSound, JoinsTo, IsJoinRefusal}
 use Rattle.cs_cindex.specs.Next.{opening_paths, base_paths, paths_walked, index_alone, opening_join, next_index, HasWholeLists, IsIndex, IsOwn, IsNextLong, alone, joined, IsNext}
 use Rattle.cs_cindex.specs.Refusals.{base, IsWalkFault}

@@ -1,14 +1,14 @@
 -- The index that some jobs left.
 use Rattle.std.proofs.Common.{◌≡◌, ℕ, ◌<◌, ◌^◌, Bool, true, false, cond, not, List, [], ◌∷◌, length, refl, sym, ap, subst, ◌∙◌, Option, Some, None, Result, Ok, Err}
 use Rattle.cs_tree.specs.PathSet.{Paths}
-use Rattle.cs_tree.specs.NameOrder.{bytes_cmp, are_ascending}
+use Rattle.cs_tree.specs.NameOrder.{bytes_cmp}
+use Rattle.cs_tree.specs.NamesAscending.{are_ascending}
 use Rattle.cs_index.specs.Roundtrip.{parts_written}
 use Rattle.std.specs.Prelude.{is_some, T}
-use Rattle.std.specs.Ordering.{is_lt}
+use Rattle.std.specs.Ordering.{is_lt, eq_by_cmp}
 use Rattle.std.specs.FinMap.Entries.{below_all}
 use Rattle.std.proofs.lemmas.Bool.{true≢false, and_parts, and_from, or_left, or_right}
 use Rattle.std.specs.List.{AllByRecursion, list_any, list_all}
-use Rattle.std.specs.Ordering.{eq_by_cmp}
 use Rattle.std.specs.FinMap as map'
 use Rattle.std.specs.Cmp.Lexicographic.{nat_list_cmp_total}
 use Rattle.cs_tree.specs.PathSet as set
@@ -17,22 +17,22 @@ use Rattle.cs_tree.specs.Folders.{are_distinct}
 use Rattle.cs_tree.proofs.Listed.{ascending_distinct}
 use Rattle.cs_tree.proofs.Sets.{tied_same, entries_in_order}
 use Rattle.cs_index.specs.Image.{Files, Entry, image, names_of}
-use Rattle.cs_index.specs.Spelling.{IsIndexable}
+use Rattle.cs_index.specs.Indexable.{IsIndexable}
 use Rattle.cs_index.proofs.WrittenLemmas.{image_has, image_opens}
-use Rattle.cs_index.specs.Opening.{Parts, opening}
+use Rattle.cs_index.specs.Opening.{opening}
+use Rattle.cs_index.specs.OpenedParts.{Parts, are_whole}
 use Rattle.cs_index.specs.declared.fault.IndexFault.{IndexFault}
 use Rattle.cs_index.specs.declared.fault.IndexFault.TheVariants.{BadPaths}
 use Rattle.cs_words.specs.declared.fault.CindexFault.TheVariants.{BadIndex, Unsorted}
-use Rattle.cs_merge.specs.Content.{IsContent, LieUnder}
+use Rattle.cs_merge.specs.Content.{IsContent, LieUnder, paths_in, files_in}
 use Rattle.cs_merge.proofs.ContentLemmas.{content_indexable, ascending_sets}
 use Rattle.cs_history.specs.History.{History, nothing, handed_in, ◌⊳◌, all_given, paths_of, files_of, index_of}
 use Rattle.cs_history.specs.WellFormed.{AreClean, IsBeginning, IsHistory}
+use Rattle.cs_history.proofs.BeginningLemmas.{begun_opens}
 use Rattle.cs_history.proofs.HistoryLemmas.{history_content, history_lies, is_begun, files_begun, index_is, clean_paths, least_twice}
 use Rattle.cs_tree.specs.Cleaning.{is_settled}
-use Rattle.cs_merge.specs.Content.{paths_in, files_in}
 use Rattle.cs_merge.specs.Joinable.{are_covered}
 use Rattle.std.specs.Result.{IsOkAnd}
-use Rattle.cs_index.specs.Opening.{are_whole}
 use Rattle.cs_cindex.specs.Joins.{IsSound}
 use Rattle.cs_cindex.specs.Refusals.{opening_fault, unfit_parts_fault, IsDamaged}
 use Rattle.cs_cindex.proofs.PathLemmas.{marked_items, set_of_items}
@@ -151,7 +151,7 @@ history_opens nothing bytes is e short = absurd (apart e)
     apart h = cc
 history_opens (handed_in old parts) bytes is e short =
     subst (λ b. OpensFor (handed_in old parts) (opening b)) (same e)
-    (subst (OpensFor (handed_in old parts)) (sym is.opens) (begun_goes old parts is))
+    (subst (OpensFor (handed_in old parts)) (sym (begun_opens old parts is)) (begun_goes old parts is))
   where
     same : Some old ≡ Some bytes → old ≡ bytes
     same h = cc

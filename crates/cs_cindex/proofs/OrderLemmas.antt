@@ -1,7 +1,8 @@
 -- Lists in order: a walk finds one list of names and one of faults.
 use Rattle.std.proofs.Common.{◌≡◌, ℕ, Bool, true, false, cond, ◌&&◌, ◌||◌, List, [], ◌∷◌, map, refl, sym, ap, subst, ◌∙◌, Option, Some, None}
 use Rattle.cs_tree.specs.PathSet.{Paths}
-use Rattle.cs_tree.specs.NameOrder.{bytes_cmp, are_ascending}
+use Rattle.cs_tree.specs.NameOrder.{bytes_cmp}
+use Rattle.cs_tree.specs.NamesAscending.{are_ascending}
 use Rattle.std.proofs.lemmas.Bool.{true≢false, and_from}
 use Rattle.std.specs.Prelude.{T}
 use Rattle.std.specs.Cmp.{both_ways}

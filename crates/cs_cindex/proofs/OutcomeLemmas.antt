@@ -9,8 +9,9 @@ use Rattle.cs_words.specs.declared.jobs.Reply.TheVariants.{Done, Refused}
 use Rattle.cs_words.specs.declared.fault.CindexFault.{CindexFault}
 use Rattle.cs_words.specs.declared.fault.CindexFault.TheVariants.{TooLarge, BadPath}
 use Rattle.cs_history.specs.History.{History, nothing, index_of}
-use Rattle.cs_history.specs.Jobs.{given_texts, has_no_path, AreTaken, snapshot_told}
-use Rattle.cs_history.specs.Headline.{Premises, Indexes}
+use Rattle.cs_history.specs.Jobs.{given_texts, has_no_path, AreTaken}
+use Rattle.cs_history.specs.Premises.{snapshot_told, Premises}
+use Rattle.cs_history.specs.Headline.{Indexes}
 use Rattle.cs_history.specs.Replies.{Walks, IsLong, IsTooLarge}
 use Rattle.cs_cindex.specs.Next.{IsNextLong, IsNext}
 use Rattle.cs_cindex.specs.Refusals.{lists, clears, walks, job_kind, base, first_bad, base_fault, early_walk_fault, early_fault_of, early_fault, IsLateFault, EarlyOr, HasCause}

@@ -17,10 +17,12 @@ use Rattle.cs_words.specs.declared.jobs.Reply.{Reply}
 use Rattle.cs_words.specs.declared.jobs.Reply.TheVariants.{Done, Refused}
 use Rattle.cs_words.specs.declared.fault.CindexFault.{CindexFault}
 use Rattle.cs_history.specs.History.{nothing, ◌⊳◌, index_of}
-use Rattle.cs_history.specs.Jobs.{given_texts, has_no_path, IsTaken, visit_of, snapshot_told}
+use Rattle.cs_history.specs.Jobs.{given_texts, has_no_path, IsTaken, visit_of}
+use Rattle.cs_history.specs.Premises.{snapshot_told}
 use Rattle.cs_history.specs.Headline.{Indexes}
 use Rattle.cs_history.specs.Replies.{Walks}
-use Rattle.cs_cindex.specs.Bytes.{index_bytes, lent_bytes}
+use Rattle.cs_cindex.specs.Bytes.{index_bytes}
+use Rattle.cs_cindex.specs.LentBytes.{lent_bytes}
 use Rattle.cs_tree.specs.Taken.{TakesFront, MayEnd}
 use Rattle.cs_cindex.specs.Next.{IsNext}
 use Rattle.cs_cindex.specs.Output.{TellsBy, WalkPrints, WalkPrintsSome, index_lines, list_lines, is_failed_write}

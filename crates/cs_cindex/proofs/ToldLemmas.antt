@@ -8,7 +8,8 @@ use Rattle.cs_tree.specs.PathSet as set
 use Rattle.cs_tree.specs.Cover.{least}
 use Rattle.cs_tree.specs.Snapshot.{Snapshot}
 use Rattle.cs_tree.specs.Told.{Grows, Taken}
-use Rattle.cs_index.specs.Opening.{Parts, opening}
+use Rattle.cs_index.specs.Opening.{opening}
+use Rattle.cs_index.specs.OpenedParts.{Parts}
 use Rattle.cs_index.specs.declared.fault.IndexFault.{IndexFault}
 use Rattle.cs_words.specs.declared.jobs.IndexJob.{IndexJob}
 use Rattle.cs_words.specs.declared.jobs.Reply.TheVariants.{Done, Refused}

@@ -1,13 +1,7 @@
 -- The bytes of an index.
-use denote.Ref.{Bor}
 use Rattle.std.specs.Prelude.{ℕ, List, Option, option_map, Vec}
-use Rattle.std.specs.Option.{option_copied}
 use Rattle.std.specs.declared.alloc.Global.{Global}
 
 -- of one that is there or not
 abbrev pub index_bytes : Option (Vec ℕ Global) → Option (List ℕ)
 index_bytes index = option_map (λ (bytes : Vec ℕ Global). bytes.items) index
-
--- of one that is lent
-abbrev pub lent_bytes : Option (Bor (List ℕ)) → Option (List ℕ)
-lent_bytes index = option_copied index

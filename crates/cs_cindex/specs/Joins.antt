@@ -2,7 +2,7 @@
 use Rattle.std.specs.Prelude.{◌≡◌, ℕ, true, false, List, Some, Result}
 use Rattle.cs_tree.specs.Folders.{are_distinct}
 use Rattle.std.specs.Result.{IsOkAnd}
-use Rattle.cs_index.specs.Opening.{Parts, are_whole}
+use Rattle.cs_index.specs.OpenedParts.{Parts, are_whole}
 use Rattle.cs_index.specs.declared.fault.IndexFault.{IndexFault}
 use Rattle.cs_index.specs.declared.fault.IndexFault.TheVariants.{BadNames, BadList}
 use Rattle.cs_words.specs.Faults.{index_refusal}

@@ -1,6 +1,9 @@
 -- What public contracts rest on.
 pub use Rattle.cs_history.specs.Headline
+pub use Rattle.cs_history.specs.SearchHeadline
+pub use Rattle.cs_history.specs.Premises
 pub mod Bytes
+pub mod LentBytes
 pub mod Notices
 pub mod Next
 pub mod Refusals

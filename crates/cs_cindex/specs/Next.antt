@@ -9,13 +9,14 @@ use Rattle.cs_tree.specs.PathSet as set
 use Rattle.cs_tree.specs.Cover.{least}
 use Rattle.cs_tree.specs.Snapshot.{Snapshot}
 use Rattle.cs_index.specs.Image.{Files, image}
-use Rattle.cs_index.specs.Opening.{Parts, are_whole, opening}
+use Rattle.cs_index.specs.Opening.{opening}
+use Rattle.cs_index.specs.OpenedParts.{Parts, are_whole}
 use Rattle.cs_index.specs.declared.fault.IndexFault.{IndexFault}
 use Rattle.cs_merge.specs.Content.{IsContent, LieUnder}
 use Rattle.cs_merge.specs.Joinable.{joined_index}
 use Rattle.cs_words.specs.declared.jobs.IndexJob.{IndexJob}
-use Rattle.cs_history.specs.Jobs.{given_paths, has_no_path, snapshot_told}
-use Rattle.cs_history.specs.Headline.{IsShort}
+use Rattle.cs_history.specs.Jobs.{given_paths, has_no_path}
+use Rattle.cs_history.specs.Premises.{snapshot_told, IsShort}
 use Rattle.cs_history.specs.Replies.{IsLong}
 
 -- ---- what a job walks

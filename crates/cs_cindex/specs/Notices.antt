@@ -8,7 +8,7 @@ use Rattle.cs_tree.specs.Folders.{IsTree}
 use Rattle.cs_tree.specs.PathSet.{Paths}
 use Rattle.cs_words.specs.FileFaults.{fault_line_of, file_fault_of}
 use Rattle.cs_trigram.specs.Scans.{Finding, finding, text, left_out, unread}
-use Rattle.cs_tree.specs.Failures.{HasFailed}
+use Rattle.cs_tree.specs.FailureCount.{HasFailed}
 use Rattle.std.specs.List.{AllByRecursion, flat_map}
 use Rattle.cs_tree.specs.Snapshot.{Snapshot, item_at}
 use Rattle.cs_tree.specs.Told.{Told, Grows, Taken}

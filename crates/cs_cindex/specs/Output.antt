@@ -9,7 +9,8 @@ use Rattle.cs_tree.specs.Reached.{files_reached}
 use Rattle.cs_trigram.specs.Text.{limits, text_trigrams}
 use Rattle.cs_index.specs.Built.{most_names}
 use Rattle.std.specs.FinMap as map'
-use Rattle.cs_index.specs.Opening.{Parts, opening}
+use Rattle.cs_index.specs.Opening.{opening}
+use Rattle.cs_index.specs.OpenedParts.{Parts}
 use Rattle.cs_index.specs.declared.fault.IndexFault.{IndexFault}
 use Rattle.cs_words.specs.declared.jobs.IndexJob.{IndexJob}
 use Rattle.cs_words.specs.declared.jobs.Reply.{Reply}

@@ -8,7 +8,8 @@ use Rattle.std.specs.Result.{IsOkAnd}
 use Rattle.cs_tree.specs.Cover.{begins, slash}
 use Rattle.cs_tree.specs.Cleaning.{clean_fault, is_settled}
 use Rattle.cs_tree.specs.Snapshot.{Snapshot}
-use Rattle.cs_index.specs.Opening.{Parts, are_whole, opening}
+use Rattle.cs_index.specs.Opening.{opening}
+use Rattle.cs_index.specs.OpenedParts.{Parts, are_whole}
 use Rattle.cs_index.specs.declared.fault.IndexFault.{IndexFault}
 use Rattle.cs_index.specs.declared.fault.IndexFault.TheVariants.{BadPaths, BadList}
 use Rattle.cs_words.specs.Faults.{index_refusal}

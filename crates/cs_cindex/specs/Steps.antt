@@ -12,8 +12,9 @@ use Rattle.cs_cindex.specs.Next.{IsNext}
 use Rattle.cs_cindex.specs.Refusals.{HasCause, job_kind, base}
 use Rattle.cs_cindex.specs.Output.{TakesBy, TellsBy, list_lines, has_failed_write}
 use Rattle.cs_history.specs.History.{History}
-use Rattle.cs_history.specs.Jobs.{has_no_path, snapshot_told}
-use Rattle.cs_history.specs.Headline.{Indexes, Premises}
+use Rattle.cs_history.specs.Jobs.{has_no_path}
+use Rattle.cs_history.specs.Premises.{snapshot_told, Premises}
+use Rattle.cs_history.specs.Headline.{Indexes}
 use Rattle.cs_history.specs.Replies.{Walks, IsRightReply, AreRightReplies}
 
 -- ---- the index

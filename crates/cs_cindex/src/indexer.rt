@@ -1,7 +1,7 @@
 // The files of a tree, one after the other, put into an index.
 ghost use Rattle.std.specs.Prelude.{◌≡◌, ◌<◌, ◌≤◌, ◌^◌, ◌⊎◌, ◌++◌, true, [], map, string_bytes, length, Some, IfOk, IfErr, OnOk, OnErr};
-ghost use Rattle.cs_tree.specs.NameOrder.{are_ascending};
-ghost use Rattle.cs_tree.specs.Failures.{count_after};
+ghost use Rattle.cs_tree.specs.NamesAscending.{are_ascending};
+ghost use Rattle.cs_tree.specs.FailureCount.{count_after};
 ghost use Rattle.cs_trigram.specs.Trigram.{set_of_numbers};
 ghost use Rattle.cs_trigram.specs.Scans.{AreTrigramsOnce};
 ghost use Rattle.cs_index.specs.Built.{are_paths, is_above, IsBuilt, most_names};

@@ -1,6 +1,6 @@
 // The index of the files below some paths.
 ghost use Rattle.std.specs.Prelude.{◌≡◌, ◌<◌, ◌^◌, ◌⊎◌, true, map, string_bytes, length, IfOk, IfErr};
-ghost use Rattle.cs_tree.specs.Failures.{count_after};
+ghost use Rattle.cs_tree.specs.FailureCount.{count_after};
 ghost use Rattle.cs_tree.specs.PathSet as set;
 ghost use Rattle.cs_index.specs.Built.{are_paths};
 ghost use Rattle.cs_cindex.specs.Output.{AreTooMany, is_failed_write};

@@ -1,6 +1,7 @@
 // One job.
 ghost use Rattle.std.specs.Prelude.{◌≡◌};
-ghost use Rattle.cs_cindex.specs.Bytes.{index_bytes, lent_bytes};
+ghost use Rattle.cs_cindex.specs.Bytes.{index_bytes};
+ghost use Rattle.cs_cindex.specs.LentBytes.{lent_bytes};
 ghost use Rattle.cs_cindex.specs.Outcomes.{IsStepTo, IsWholeStepTo};
 ghost use Rattle.cs_cindex.specs.Refusals.{HasAbsoluteFolder};
 ghost use Rattle.cs_cindex.specs.Steps.{IsWholeStep, RightAfter, job_tree, outputs, standing};

@@ -1,10 +1,10 @@
 // The paths of an index, on lines.
 ghost use Rattle.std.specs.Prelude.{◌≡◌, ◌++◌, ℕ, List, Some, codes, true, IfErr};
-ghost use Rattle.cs_tree.specs.Failures.{count_after};
+ghost use Rattle.cs_tree.specs.FailureCount.{count_after};
 ghost use Rattle.cs_tree.specs.TakenAll.{TakesAll};
 ghost use Rattle.cs_index.specs.Stored.{OpensAs};
 ghost use Rattle.cs_words.specs.declared.jobs.IndexJob.{IndexJob as IndexJob'};
-ghost use Rattle.cs_cindex.specs.Bytes.{lent_bytes};
+ghost use Rattle.cs_cindex.specs.LentBytes.{lent_bytes};
 ghost use Rattle.cs_cindex.specs.Outcomes.{reply_of};
 ghost use Rattle.cs_cindex.specs.Output.{index_lines, path_lines, is_failed_write};
 ghost use Rattle.cs_cindex.specs.Refusals.{AnswersFor, IsOutputFault, list_fault};

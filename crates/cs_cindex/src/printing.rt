@@ -1,6 +1,6 @@
 // The lines for paths and files that are left out.
 ghost use Rattle.std.specs.Prelude.{◌≡◌, [], ◌∷◌, map, IfErr};
-ghost use Rattle.cs_tree.specs.Failures.{count_after};
+ghost use Rattle.cs_tree.specs.FailureCount.{count_after};
 ghost use Rattle.cs_tree.specs.Walks.{left_entry};
 ghost use Rattle.cs_cindex.specs.Output.{is_failed_write};
 ghost use Rattle.cs_cindex.specs.Notices.{faulted, skipped, left_line, walk_fault as walk_fault'};

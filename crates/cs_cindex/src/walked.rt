@@ -1,8 +1,8 @@
 // Jobs that walk.
 ghost use Rattle.std.specs.Prelude.{◌≡◌, ◌<◌, ◌^◌, true, Some, None, map, string_bytes, length, IfOk, IfErr};
 ghost use Rattle.cs_tree.specs.Folders.{are_distinct};
-ghost use Rattle.cs_tree.specs.Failures.{count_after};
-ghost use Rattle.cs_cindex.specs.Bytes.{lent_bytes};
+ghost use Rattle.cs_tree.specs.FailureCount.{count_after};
+ghost use Rattle.cs_cindex.specs.LentBytes.{lent_bytes};
 ghost use Rattle.cs_tree.specs.PathSet as set;
 ghost use Rattle.cs_tree.specs.Cover.{least};
 ghost use Rattle.cs_index.specs.Opening.{opening};

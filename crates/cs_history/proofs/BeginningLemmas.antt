@@ -13,13 +13,16 @@ use Rattle.cs_tree.specs.NameOrder.{bytes_cmp}
 use Rattle.cs_tree.specs.Cover.{is_covered, same}
 use Rattle.cs_tree.specs.Cleaning.{is_settled}
 use Rattle.cs_tree.proofs.Sets.{tied_is}
-use Rattle.cs_trigram.specs.Trigram.{Ascends, IsTrigramSet, closing_trigram}
+use Rattle.cs_trigram.specs.Trigram.{Ascends, closing_trigram}
+use Rattle.cs_trigram.specs.TrigramSets.{IsTrigramSet}
 use Rattle.cs_index.specs.Image.{Entry, ListEntry, Posting, Sections, IsString, magic, trailer_magic, three_bytes}
 use Rattle.cs_index.specs.PostingLists.{damaged, read_ids, set_at, entries_of}
-use Rattle.cs_index.specs.Opening.{Parts, opening, cut_of, cut_before, has_trailer, read_cut, parts_of, texts_of, is_section, is_names_section, is_name_index, is_list_index, is_entry, rises, ids_read, whole_ids, lists_in}
+use Rattle.cs_index.specs.Opening.{opening, cut_of, cut_before, has_trailer, read_cut, parts_of, texts_of, is_section, is_names_section, is_name_index, is_list_index, is_entry, rises}
+use Rattle.cs_index.specs.OpenedParts.{Parts, ids_read, whole_ids, lists_in}
 use Rattle.cs_index.specs.declared.fault.IndexFault.{IndexFault}
 use Rattle.cs_index.specs.declared.fault.IndexFault.TheVariants.{BadMagic, BadTrailer, BadPaths, BadNames, BadNameIndex, BadListIndex}
 use Rattle.cs_index.proofs.OpenLemmas.{entries_rise}
+use Rattle.cs_index.proofs.OpenedLemmas.{opens_spelled}
 use Rattle.cs_index.proofs.PartsLemmas.{entries_fit}
 use Rattle.cs_index.proofs.TextLemmas.{section_read}
 use Rattle.cs_merge.specs.Content.{EachFile, IsContent, LieUnder}
@@ -63,18 +66,6 @@ are_opened bytes parts h = from_cut (cut_of bytes) h
     from_cut : (r : Result Sections IndexFault) → read_cut r ≡ Ok parts → AreOpened parts
     from_cut (Ok s) h = from_sections s parts h
     from_cut (Err fault) h = cc
-
--- 32 bits count the bytes
-pub opened_short : (bytes : List ℕ) (parts : Parts) → opening bytes ≡ Ok parts → length bytes < 2 ^ 32
-unfolding opening cut_of
-opened_short bytes parts h = by_tests (starts_with nat_eq bytes magic) (has_trailer bytes) refl h
-  where
-    by_tests : (m t : Bool) → has_trailer bytes ≡ t → read_cut (cond (not m) (Err BadMagic) (cond (not t) (Err BadTrailer) (cut_before bytes (length bytes - 36)))) ≡ Ok parts → length bytes < 2 ^ 32
-    by_tests true true is h =
-        let long = and_parts (leb 52 (length bytes)) (ltb (length bytes) (2 ^ 32) && ends_with nat_eq bytes trailer_magic) is in
-        ltb-true (length bytes) (2 ^ 32) (and_parts (ltb (length bytes) (2 ^ 32)) (ends_with nat_eq bytes trailer_magic) long.1).0
-    by_tests true false is h = cc
-    by_tests false t is h = cc
 
 -- ---- its sets
 
@@ -150,9 +141,12 @@ all_true test (name ∷ names) h = let both = and_parts (test name) (list_all te
 
 -- ---- an index that a history may begin with
 
+pub begun_opens : (bytes : List ℕ) (parts : Parts) → IsBeginning bytes parts → opening bytes ≡ Ok parts
+begun_opens bytes parts is = opens_spelled bytes parts is.spelled
+
 pub begun_clean : (bytes : List ℕ) (parts : Parts) → IsBeginning bytes parts → AreClean (set.from_list parts.paths)
 begun_clean bytes parts is path member = record {
-  utf8 = ((spelled_content bytes parts is.opens).paths_are path member).2;
+  utf8 = ((spelled_content bytes parts (begun_opens bytes parts is)).paths_are path member).2;
   settled = from_list_all (λ p. is_settled p ≡ true) parts.paths (all_true is_settled parts.paths is.settled) path member;
 }
 

@@ -9,7 +9,7 @@ use Rattle.cs_index.specs.Image.{four_bytes, varint}
 use Rattle.cs_history.specs.History.{paths_of, files_of, index_of}
 use Rattle.cs_merge.specs.Join.{join_files}
 use Rattle.cs_history.specs.Shards.{files_of_both}
-use Rattle.cs_index.specs.Opening.{Parts}
+use Rattle.cs_index.specs.OpenedParts.{Parts}
 use Rattle.cs_history.proofs.RowLemmas.{Job, history_from, history_of, paths_computed, files_computed, index_computed, entries_joined, entries_of_both}
 
 -- ---- what stands in the trees

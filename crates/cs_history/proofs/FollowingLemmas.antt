@@ -4,12 +4,12 @@ use Rattle.cs_tree.specs.Folders.{IsTree, Tells}
 use Rattle.std.proofs.lemmas.List.{take_more, take_more_set, length-take-le, get_or-map, length-map}
 use Rattle.std.specs.List.{AllByRecursion, AllZip}
 use Rattle.cs_tree.specs.Snapshot.{Snapshot}
-use Rattle.cs_index.specs.Opening.{Parts}
+use Rattle.cs_index.specs.OpenedParts.{Parts}
 use Rattle.cs_history.specs.History.{History, nothing, handed_in, index_of}
 use Rattle.cs_history.specs.WellFormed.{IsBeginning, IsHistory}
-use Rattle.cs_history.specs.Jobs.{after, history_after, snapshot_told, IsFitting}
-use Rattle.cs_history.specs.Headline.{Premises, Indexes}
-use Rattle.cs_history.proofs.BeginningLemmas.{opened_short}
+use Rattle.cs_history.specs.Jobs.{after, history_after, IsFitting}
+use Rattle.cs_history.specs.Premises.{snapshot_told, Premises}
+use Rattle.cs_history.specs.Headline.{Indexes}
 use Rattle.cs_history.proofs.JobLemmas.{followed_history}
 use Rattle.cs_words.specs.declared.jobs.IndexJob.{IndexJob}
 use Rattle.cs_words.specs.declared.jobs.Reply.{Reply}
@@ -92,4 +92,4 @@ pub first_premises : (trees : List (Option Snapshot)) → AllByRecursion Tells t
 first_premises trees tell = record { trees_tell = tell; jobs_were = tt; they_left = refl; short = tt }
 
 pub handed_premises : (trees : List (Option Snapshot)) (bytes : List ℕ) (parts : Parts) → AllByRecursion Tells trees → IsBeginning bytes parts → Premises trees (Some bytes) (handed_in bytes parts)
-handed_premises trees bytes parts tell is = record { trees_tell = tell; jobs_were = is; they_left = refl; short = opened_short bytes parts is.opens }
+handed_premises trees bytes parts tell is = record { trees_tell = tell; jobs_were = is; they_left = refl; short = is.spelled.spelled.short }

@@ -11,7 +11,7 @@ use Rattle.cs_tree.specs.Reached.{read_item}
 use Rattle.cs_tree.proofs.Found.{found_under}
 use Rattle.cs_tree.proofs.Sets.{contains-union, contains-empty}
 use Rattle.cs_tree.proofs.Least.{least_says, least_settled, covered-least}
-use Rattle.cs_index.specs.Image.{Files, image}
+use Rattle.cs_index.specs.Image.{Files, image, IsString}
 use Rattle.cs_trigram.specs.Text.{text_trigrams, limits}
 use Rattle.cs_merge.specs.Join.{join_files}
 use Rattle.cs_merge.specs.Content.{IsContent, LieUnder, Holds, paths_in, files_in}
@@ -19,15 +19,15 @@ use Rattle.cs_merge.proofs.OpeningLemmas.{held_opens}
 use Rattle.cs_merge.proofs.JoinLemmas.{newer_at, old_at}
 use Rattle.cs_merge.proofs.ContentLemmas.{content_joined, under_joined}
 use Rattle.cs_merge.proofs.HoldingLemmas.{content_held, held_once, held_names, held_set}
-use Rattle.cs_index.specs.Opening.{Parts, opening, are_whole}
+use Rattle.cs_index.specs.Opening.{opening}
+use Rattle.cs_index.specs.OpenedParts.{Parts, are_whole}
 use Rattle.cs_history.specs.History.{Visit, History, nothing, handed_in, ◌⊳◌, all_given, paths_of, walked_paths, files_spelled, files_of, index_of}
 use Rattle.cs_history.specs.JobIndex.{files_found}
-use Rattle.cs_index.specs.Image.{IsString}
 use Rattle.cs_tree.proofs.SettledLemmas.{settled_filled, settled_no_nul, no_nul_bytes}
 use Rattle.cs_history.specs.WellFormed.{IsClean, AreClean, IsHistory}
 use Rattle.cs_history.specs.Begun.{IsBegun}
-use Rattle.cs_history.specs.Headline.{IsByJobs, indexed_names, StillReads}
-use Rattle.cs_history.proofs.BeginningLemmas.{spelled_content, begun_clean, begun_lies}
+use Rattle.cs_history.specs.SearchHeadline.{IsByJobs, indexed_names, StillReads}
+use Rattle.cs_history.proofs.BeginningLemmas.{spelled_content, begun_clean, begun_lies, begun_opens}
 use Rattle.cs_history.proofs.KeepingLemmas.{join_kept, join_paths_of, kept_spelled, get-kept}
 use Rattle.cs_history.proofs.WalkLemmas.{AreStrings, found_content, found_lies}
 
@@ -98,7 +98,7 @@ history_content nothing is = record {
   sets_are = λ name trigrams h. absurd (nothing_kept name trigrams h);
 }
 history_content (handed_in bytes parts) is =
-    let content = spelled_content bytes parts is.opens in
+    let content = spelled_content bytes parts (begun_opens bytes parts is) in
     subst (λ files. IsContent (paths_of (handed_in bytes parts)) files) (sym (files_begun bytes parts))
     (record { paths_are = clean_strings (paths_of (handed_in bytes parts)) (clean_paths (handed_in bytes parts) is); names_are = content.names_are; sets_are = content.sets_are })
 history_content (visit ⊳ before) is =
@@ -145,7 +145,7 @@ unfolding paths_in files_in
 history_opens nothing bytes is h short = cc
 history_opens (handed_in old parts) bytes is h short = subst (λ b. OpensAs b (handed_in old parts)) (same h) (record {
   parts = parts;
-  opened = is.opens;
+  opened = begun_opens old parts is;
   paths_are = refl;
   files_are = sym (files_begun old parts);
   whole = is.whole;

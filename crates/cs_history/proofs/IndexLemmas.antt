@@ -15,7 +15,8 @@ use Rattle.cs_tree.proofs.Sets.{alike, contains_first, contains-empty}
 use Rattle.cs_tree.proofs.Found.{found_under}
 use Rattle.cs_index.specs.Image.{image, Files}
 use Rattle.cs_trigram.specs.Text.{text_trigrams, limits}
-use Rattle.cs_index.specs.Opening.{Parts, opening}
+use Rattle.cs_index.specs.Opening.{opening}
+use Rattle.cs_index.specs.OpenedParts.{Parts}
 use Rattle.cs_merge.specs.Join.{join_files, join_paths}
 use Rattle.cs_merge.specs.Joinable.{joined_index}
 use Rattle.cs_merge.proofs.OpeningLemmas.{held_opens}
@@ -26,7 +27,7 @@ use Rattle.cs_history.specs.History.{History, nothing, handed_in, ◌⊳◌, Vis
 use Rattle.cs_history.specs.JobIndex.{files_found}
 use Rattle.cs_history.specs.WellFormed.{IsHistory}
 use Rattle.cs_history.specs.Begun.{IsBegun}
-use Rattle.cs_history.specs.Headline.{IsByJobs}
+use Rattle.cs_history.specs.SearchHeadline.{IsByJobs}
 use Rattle.cs_history.specs.Jobs.{given_texts, given_paths, has_no_path, visit_of, after_done}
 use Rattle.cs_words.specs.declared.jobs.IndexJob.{IndexJob}
 use Rattle.cs_history.proofs.KeepingLemmas.{join_kept, join_paths_of, kept_first, paths_first, get-kept, no_paths}

@@ -17,7 +17,7 @@ use Rattle.cs_tree.proofs.Collect.{get-collected}
 use Rattle.cs_tree.proofs.Found.{found_under}
 use Rattle.cs_merge.specs.Join.{join_files, join_paths}
 use Rattle.cs_merge.proofs.JoinLemmas.{get-join_files}
-use Rattle.cs_index.specs.Opening.{Parts}
+use Rattle.cs_index.specs.OpenedParts.{Parts}
 use Rattle.cs_history.specs.History.{Visit, History, nothing, handed_in, ◌⊳◌, all_given, paths_of, walked_paths, kept_at, names_found, kept_files}
 
 list_any-append : (test : List ℕ → Bool) (xs ys : List (List ℕ)) → list_any test (xs ++ ys) ≡ (list_any test xs || list_any test ys)

@@ -19,7 +19,7 @@ use Rattle.cs_trigram.specs.Text.{text_trigrams, limits}
 use Rattle.cs_index.specs.Image.{Entry, image, image_of}
 use Rattle.cs_merge.specs.Join.{join_files}
 use Rattle.cs_history.specs.Shards.{files_of_both}
-use Rattle.cs_index.specs.Opening.{Parts, files_read}
+use Rattle.cs_index.specs.OpenedParts.{Parts, files_read}
 use Rattle.cs_history.specs.History.{Visit, History, nothing, handed_in, ◌⊳◌, all_given, paths_of, walked_paths, kept_at, names_found, kept_files, files_of, index_of}
 
 -- ---- maps

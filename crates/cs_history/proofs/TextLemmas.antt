@@ -1,6 +1,7 @@
 -- The trigrams of a text can be held by an index.
 use Rattle.std.proofs.Common.{◌≡◌, ℕ, List, [], ◌∷◌, refl, subst, Option, Some, None}
-use Rattle.cs_trigram.specs.Trigram.{trigram_sequence, tri, Ascends as Rises, Ascends, IsTrigramSet}
+use Rattle.cs_trigram.specs.Trigram.{trigram_sequence, tri, Ascends as Rises, Ascends}
+use Rattle.cs_trigram.specs.TrigramSets.{IsTrigramSet}
 use Rattle.cs_trigram.specs.Text.{first_broken, too_many, skip, none_skipped, text_trigrams}
 use Rattle.cs_trigram.specs.declared.limits.Limits.{Limits}
 use Rattle.cs_trigram.specs.declared.scan.Reason.{Reason}

@@ -13,9 +13,8 @@ use Rattle.std.specs.FinMap as map
 use Rattle.cs_tree.specs.PathSet as set
 use Rattle.cs_tree.specs.Cover.{slash, same, covers, is_covered}
 use Rattle.cs_tree.specs.Snapshot.{Snapshot, Item, folder, file, cut, other, bad, item_at}
-use Rattle.cs_tree.specs.Clean.{elements}
+use Rattle.cs_tree.specs.Clean.{elements, longest_path}
 use Rattle.cs_tree.specs.Reached.{elements_under, leads, reaches, is_reached, is_left_out, files_reached, read_item}
-use Rattle.cs_tree.specs.Clean.{longest_path}
 use Rattle.cs_tree.proofs.Covering.{covers_says}
 use Rattle.cs_tree.proofs.Sets.{some_member}
 use Rattle.cs_tree.proofs.Found.{get-found, found_under}

@@ -10,7 +10,7 @@ use Rattle.cs_tree.specs.Snapshot.{Snapshot}
 use Rattle.cs_tree.specs.Reached.{files_reached}
 use Rattle.cs_trigram.specs.Text.{text_trigrams, limits}
 use Rattle.cs_index.specs.Image.{Files, image}
-use Rattle.cs_index.specs.Opening.{Parts, files_read}
+use Rattle.cs_index.specs.OpenedParts.{Parts, files_read}
 
 -- a job that walked: the paths that it was given, cleaned, and what stood in the tree then
 pub record Visit : Type 0 where

@@ -1,9 +1,8 @@
 -- What jobs and their replies make of a history.
 -- docs/PROMISES.md, "Histories"; the comment of the command cindex.
-use Rattle.std.specs.Prelude.{◌≡◌, ℕ, Bool, false, nat_eq, if◌then◌else◌, List, [], ◌∷◌, Option, None, unwrap_or, map, string_bytes, length}
+use Rattle.std.specs.Prelude.{◌≡◌, ℕ, Bool, false, nat_eq, if◌then◌else◌, List, [], ◌∷◌, None, map, string_bytes, length}
 use Rattle.cs_tree.specs.PathSet.{Paths}
 use Rattle.std.specs.List.{AllByRecursion}
-use Rattle.std.specs.FinMap as map'
 use Rattle.cs_tree.specs.PathSet as set
 use Rattle.cs_tree.specs.Snapshot.{Snapshot}
 use Rattle.cs_tree.specs.Clean.{clean_path}
@@ -64,7 +63,3 @@ history_after before [] trees replies = before
 history_after before (job ∷ jobs) [] replies = before
 history_after before (job ∷ jobs) (tree ∷ trees) [] = before
 history_after before (job ∷ jobs) (tree ∷ trees) (reply ∷ replies) = history_after (after before job tree reply) jobs trees replies
-
--- the snapshot that a tree tells
-abbrev pub snapshot_told : Option Snapshot → Snapshot
-snapshot_told snapshot = unwrap_or snapshot map'.empty

@@ -1,17 +1,22 @@
 -- What public contracts rest on.
 pub use Rattle.cs_index.specs.PostingLists
+pub use Rattle.cs_index.specs.WholeLists
 pub use Rattle.cs_tree.specs.Folders
 pub use Rattle.cs_tree.specs.PathSet
 pub use Rattle.cs_tree.specs.Cover
+pub use Rattle.cs_tree.specs.LeastPaths
 pub use Rattle.cs_tree.specs.Snapshot
 pub use Rattle.cs_tree.specs.Reached
 pub use Rattle.cs_trigram.specs.Text
 pub use Rattle.cs_index.specs.Image
 pub use Rattle.cs_index.specs.Opening
+pub use Rattle.cs_index.specs.OpenedParts
 pub use Rattle.cs_merge.specs.Join
 pub use Rattle.cs_merge.specs.Joinable
 pub use Rattle.cs_merge.specs.Content
 pub mod Headline
+pub mod SearchHeadline
+pub mod Premises
 pub mod History
 pub mod WellFormed
 pub mod Begun

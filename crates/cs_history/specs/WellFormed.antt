@@ -1,13 +1,14 @@
 -- Which paths and histories are meant: paths are as cleaning gives them, and folders list text.
 -- docs/FORMAT.md, "Paths and names".
-use Rattle.std.specs.Prelude.{◌≡◌, ℕ, true, List, IsUtf8, Ok}
+use Rattle.std.specs.Prelude.{◌≡◌, ℕ, true, List, IsUtf8}
 use Rattle.cs_tree.specs.Folders.{IsTree, are_distinct}
 use Rattle.cs_tree.specs.PathSet.{Paths}
 use Rattle.std.specs.List.{list_all}
 use Rattle.cs_tree.specs.PathSet as set
 use Rattle.cs_tree.specs.Cover.{is_covered}
 use Rattle.cs_tree.specs.Cleaning.{is_settled}
-use Rattle.cs_index.specs.Opening.{Parts, opening, are_whole}
+use Rattle.cs_index.specs.Spelling.{SpellsParts}
+use Rattle.cs_index.specs.OpenedParts.{Parts, are_whole}
 use Rattle.cs_history.specs.History.{Visit, History, nothing, handed_in, ◌⊳◌}
 
 -- ---- paths
@@ -28,10 +29,10 @@ pub record IsVisit (visit : Visit) : Type 0 where
   pub tree_is : IsTree visit.tree
   pub given_are : AreClean visit.given
 
--- An index that a history may begin with, whoever wrote it: the bytes open as these parts, each entry has its
+-- An index that a history may begin with, whoever wrote it: the bytes spell these parts, each entry has its
 -- list, each path is as cleaning gives it, and the names are distinct and lie under the paths.
 pub record IsBeginning (bytes : List ℕ) (parts : Parts) : Type 0 where
-  pub opens : opening bytes ≡ Ok parts
+  pub spelled : SpellsParts bytes parts
   pub whole : are_whole parts ≡ true
   pub settled : list_all is_settled parts.paths ≡ true
   pub distinct : are_distinct parts.names ≡ true

@@ -14,8 +14,10 @@ use Rattle.cs_trigram.specs.declared.queries.Query.{Query, Query-F, fold-roll-Qu
 use Rattle.cs_trigram.specs.declared.queries.Query.TheVariants.{All, Nothing, Tri, And, Or, rolls-All, rolls-Nothing, rolls-Tri, rolls-And, rolls-Or}
 use Rattle.cs_tree.specs.Cover.{same}
 use Rattle.cs_index.specs.Image.{ListEntry, Posting, three_bytes}
-use Rattle.cs_index.specs.Opening.{Parts, ids_read, lists_in, rises, whole_ids}
-use Rattle.cs_index.specs.Candidates.{asks_for, asks_step, candidates_of, is_answerable, meets, names_that}
+use Rattle.cs_index.specs.Opening.{rises}
+use Rattle.cs_index.specs.OpenedParts.{Parts, ids_read, lists_in, whole_ids}
+use Rattle.cs_index.specs.Candidates.{candidates_of, meets, names_that}
+use Rattle.cs_index.specs.Answerable.{asks_for, asks_step, is_answerable}
 use Rattle.cs_index.proofs.OpenedLemmas.{rise_read}
 use Rattle.cs_index.proofs.SiftLemmas.{ascends_filter, ascends_range, below_range, filter_all, filter_filter, filter_within, has-filter, has_below, has_range, read_rise, rise_ascends, rise_below}
 use Rattle.cs_trigram.proofs.SetLemmas.{ascends_tail, ascends_head, below_none, ascends_same}

@@ -9,7 +9,7 @@ use Rattle.std.specs.Ordering.{nat_cmp}
 use Rattle.cs_trigram.specs.Trigram.{has, Ascends}
 use Rattle.cs_trigram.specs.declared.queries.Query.{Query}
 use Rattle.cs_trigram.specs.declared.queries.Query.TheVariants.{And, Or}
-use Rattle.cs_index.specs.Candidates.{asks_for}
+use Rattle.cs_index.specs.Answerable.{asks_for}
 use Rattle.cs_index.proofs.AskedLemmas.{asks-And, asks-Or}
 
 -- a query of members asks for what some member asks for

@@ -10,7 +10,8 @@ use Rattle.cs_trigram.specs.Trigram.{has, Ascends, closing_trigram}
 use Rattle.cs_trigram.proofs.SetLemmas.{all_above}
 use Rattle.cs_tree.specs.Store.{part_of}
 use Rattle.cs_index.specs.Image.{ListEntry, entry_bytes}
-use Rattle.cs_index.specs.Opening.{Parts, entries_in, entry_at, ids_read, is_entry, is_list_index, number_at}
+use Rattle.cs_index.specs.Opening.{entries_in, entry_at, is_entry, is_list_index, number_at}
+use Rattle.cs_index.specs.OpenedParts.{Parts, ids_read}
 use Rattle.cs_index.specs.Postings.{entry_of}
 use Rattle.cs_index.specs.PostingLists.{read_list}
 use Rattle.cs_index.specs.Sifting.{nothing_read, read_for}

@@ -5,8 +5,7 @@ use Rattle.std.proofs.lemmas.Bool.{and_parts, eq-eqb, ne_eqb, ltb-true, cases_or
 use Rattle.std.proofs.lemmas.List.{length_push}
 use Rattle.cs_tree.specs.Cover.{same}
 use Rattle.cs_index.specs.Image.{with_nul, starts_from}
-use Rattle.cs_index.specs.Opening.{has_starts}
-use Rattle.cs_index.specs.Opening.{number_at, trigram_at, numbers_from, entry_at, entries_from, entries_in, rises}
+use Rattle.cs_index.specs.Opening.{has_starts, number_at, trigram_at, numbers_from, entry_at, entries_from, entries_in, rises}
 use Rattle.std.proofs.Math.Bool.{and-false, and-true}
 
 -- ---- offsets of names

@@ -2,7 +2,7 @@
 use Rattle.std.specs.Prelude.{◌≡◌, true, false, Some, refl, List, [], ◌∷◌, ◌++◌, codes, length, flat_map}
 use Rattle.cs_index.specs.PostingLists.{read_list}
 use Rattle.cs_index.specs.Image.{Entry, deltas_from, ids_from, image_of, posting_list, varint}
-use Rattle.cs_index.specs.Opening.{whole_ids}
+use Rattle.cs_index.specs.OpenedParts.{whole_ids}
 use Rattle.cs_index.specs.Built.{are_paths, is_above, is_storable}
 use Rattle.cs_index.specs.Ascending.{is_alone}
 use Rattle.cs_index.specs.Segments.{all_given, keys_in, listed}

@@ -6,7 +6,8 @@ use Rattle.std.specs.List.{starts_with, ends_with}
 use Rattle.std.specs.Cmp.Lexicographic.{bytes_decides}
 use Rattle.cs_index.specs.Roundtrip.{AreBytes}
 use Rattle.cs_index.specs.Image.{concat, with_nul, Sections, magic, trailer_magic, ListEntry}
-use Rattle.cs_index.specs.Opening.{Parts, cut_before, cut_of, entries_in, has_trailer, is_list_index, is_name_index, is_section, opening, parts_of, read_cut, read_sections, texts_of}
+use Rattle.cs_index.specs.Opening.{cut_before, cut_of, entries_in, has_trailer, is_list_index, is_name_index, is_section, opening, parts_of, read_cut, read_sections, texts_of}
+use Rattle.cs_index.specs.OpenedParts.{Parts}
 use Rattle.cs_index.specs.Failing.{HasMagic, HasTrailer, AreLaid, ArePaths, AreNames, AreOffsets, AreEntries, HavePaths, HaveNames, Fails}
 use Rattle.cs_index.specs.declared.fault.IndexFault.{IndexFault}
 use Rattle.cs_index.specs.declared.fault.IndexFault.TheVariants.{BadMagic, BadTrailer, BadOffsets, BadPaths, BadNames, BadNameIndex, BadListIndex, BadList, Memory}

@@ -10,7 +10,7 @@ use Rattle.cs_index.specs.Image.{Entry, Posting, IsString, Sections, in_order, i
 use Rattle.cs_index.specs.IdStream.{next_after}
 use Rattle.cs_index.specs.Rising.{ArePostings, IsPosting}
 use Rattle.cs_index.specs.Gathering.{keys, ids_of, with_id, lists_of, ordered_lists}
-use Rattle.cs_index.specs.Spelling.{IsIndexable}
+use Rattle.cs_index.specs.Indexable.{IsIndexable}
 use Rattle.cs_index.specs.PostingLists.{entries_of, set_at}
 use Rattle.cs_index.specs.Laid.{Laid, IsLaid, IsBegun, entries_laid, with_laid_name, with_laid_id, with_list, with_posting, with_postings, AllBelow}
 use Rattle.cs_index.proofs.BuildingLemmas.{names_entries}

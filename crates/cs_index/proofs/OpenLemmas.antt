@@ -9,7 +9,8 @@ use Rattle.std.specs.List.{list_all, starts_with}
 use Rattle.cs_index.specs.declared.fault.IndexFault.TheVariants.{BadMagic, BadTrailer}
 use Rattle.cs_tree.specs.Cover.{same}
 use Rattle.cs_index.specs.Image.{magic, Sections, ListEntry, starts_from, with_nul}
-use Rattle.cs_index.specs.Opening.{Parts, is_name_index, is_list_index, is_entry, rises, entries_in, entry_at, trigram_at, ids_read, parts_of, texts_of, has_trailer, cut_of, cut_before, numbers_from}
+use Rattle.cs_index.specs.Opening.{is_name_index, is_list_index, is_entry, rises, entries_in, entry_at, trigram_at, parts_of, texts_of, has_trailer, cut_of, cut_before, numbers_from}
+use Rattle.cs_index.specs.OpenedParts.{Parts, ids_read}
 use Rattle.cs_index.proofs.EntryLemmas.{get-in}
 
 -- the sections of bytes that begin with the magic

@@ -1,6 +1,7 @@
 -- Bytes open where they are spelled.
 use Rattle.std.proofs.Common.{◌≡◌, ℕ, zero, suc, ◌+◌, ◌-◌, ◌*◌, ◌/◌, ◌%◌, ◌<◌, ◌≤◌, ◌^◌, Bool, true, false, not, cond, ◌&&◌, ◌||◌, eqb, ltb, leb, List, [], ◌∷◌, ◌++◌, length, map, take, drop, get_or, Result, Ok, Err, refl, sym, ap, subst, ◌∙◌, ◌⊎◌, inl, inr, arith, append_assoc, length-append, length-drop, length-take}
-use Rattle.cs_index.specs.Roundtrip.{AreBytes, SpellsParts}
+use Rattle.cs_index.specs.Roundtrip.{AreBytes}
+use Rattle.cs_index.specs.Spelling.{SpellsParts, IsEntry}
 use Rattle.cs_trigram.specs.Trigram.{Ascends}
 use Rattle.std.proofs.lemmas.Bool.{or_cases, and_parts, and_from, eqb-true, eq-eqb, leb-true, le-leb, ltb-true, ltb-false, lt-ltb}
 use Rattle.std.proofs.lemmas.List.{take_at, drop_at, append-nil, drop_all, length-map}
@@ -12,15 +13,14 @@ use Rattle.cs_tree.specs.Cover.{same}
 use Rattle.cs_index.specs.declared.fault.IndexFault.{IndexFault}
 use Rattle.cs_index.specs.declared.fault.IndexFault.TheVariants.{BadMagic, BadTrailer, BadOffsets, BadPaths, BadNames, BadNameIndex, BadListIndex}
 use Rattle.cs_index.specs.Image.{four_bytes, concat, with_nul, starts_from, in_order, Sections, magic, trailer, trailer_magic, layout, strings_section, ListEntry, entry_bytes, name_offsets, IsString}
-use Rattle.cs_index.specs.Spelling.{IsEntry}
-use Rattle.cs_index.proofs.OpenLemmas.{cut_ended}
-use Rattle.cs_index.specs.Opening.{Parts, are_starts, cut_at, cut_before, cut_of, entries_from, entries_in, entry_at, has_trailer, is_entry, is_list_index, is_name_index, is_section, number_at, numbers_from, opening, parts_of, read_cut, read_sections, rises, texts_of}
+use Rattle.cs_index.proofs.OpenLemmas.{cut_ended, cut_there, name_count}
+use Rattle.cs_index.specs.Opening.{are_starts, cut_at, cut_before, cut_of, entries_from, entries_in, entry_at, has_trailer, is_entry, is_list_index, is_name_index, is_section, number_at, numbers_from, opening, parts_of, read_cut, read_sections, rises, texts_of}
+use Rattle.cs_index.specs.OpenedParts.{Parts}
 use Rattle.cs_index.proofs.OnceLemmas.{lengths, starts_fit}
 use Rattle.cs_index.proofs.PlaceLemmas.{Fits, entries_back, entries_laid, length-entries, length-fours, number_small, numbers_back, numbers_laid, slice_laid, slice_small}
 use Rattle.cs_index.proofs.ListReadLemmas.{Small, trigram_small}
 use Rattle.cs_index.proofs.StringLemmas.{length-starts_from}
 use Rattle.cs_index.proofs.TextLemmas.{formed_spelled, section_read, section_spelled, texts_spelled}
-use Rattle.cs_index.proofs.OpenLemmas.{cut_there, name_count}
 
 -- ---- sections that are laid out are cut
 

@@ -11,7 +11,8 @@ use Rattle.std.proofs.lemmas.List.Sums.{sum_by-cons}
 use Rattle.std.specs.Cmp.Lexicographic.{bytes_decides}
 use Rattle.cs_tree.specs.Cover.{same, is_among}
 use Rattle.cs_tree.specs.Folders.{are_distinct}
-use Rattle.cs_tree.specs.NameOrder.{are_ascending, bytes_cmp}
+use Rattle.cs_tree.specs.NameOrder.{bytes_cmp}
+use Rattle.cs_tree.specs.NamesAscending.{are_ascending}
 use Rattle.cs_tree.proofs.InOrder.{sorted_once, same_key, by_key}
 use Rattle.cs_index.specs.Order.{Named, name_in, id_in, with_ids, lent_names, IsOrder}
 use Rattle.cs_index.proofs.ReadingLemmas.{falls, climbs}

@@ -14,7 +14,8 @@ use Rattle.std.proofs.lemmas.List.Folds.{list_any_none, list_any_at}
 use Rattle.std.proofs.lemmas.List.Sorted.{searchable_from_sorted}
 use Rattle.std.proofs.lemmas.Map.Keys.{Less-from_sorted}
 use Rattle.std.proofs.Math.ListN.{get_or-map}
-use Rattle.cs_tree.specs.NameOrder.{bytes_cmp, are_ascending}
+use Rattle.cs_tree.specs.NameOrder.{bytes_cmp}
+use Rattle.cs_tree.specs.NamesAscending.{are_ascending}
 use Rattle.cs_tree.specs.Cover.{slash, same, covers}
 use Rattle.cs_tree.specs.Covering.{Covers, itself, below, root}
 use Rattle.cs_tree.specs.Reducing.{other_covers}

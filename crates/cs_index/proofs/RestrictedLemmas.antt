@@ -6,7 +6,7 @@ use Rattle.cs_tree.specs.Store.{part_of}
 use Rattle.cs_trigram.specs.Trigram.{Ascends}
 use Rattle.cs_trigram.specs.declared.queries.Query.{Query}
 use Rattle.cs_trigram.proofs.SetLemmas.{ascends-short}
-use Rattle.cs_index.specs.Candidates.{asks_for}
+use Rattle.cs_index.specs.Answerable.{asks_for}
 use Rattle.cs_index.specs.Image.{ListEntry}
 use Rattle.cs_index.specs.Opening.{entries_in, is_entry, is_list_index, parts_of, texts_of}
 use Rattle.cs_index.specs.SectionsRead.{IsRead}

@@ -7,8 +7,10 @@ use Rattle.cs_trigram.specs.Trigram.{has}
 use Rattle.cs_trigram.specs.declared.queries.Query.{Query, Query-F, map-Query, roll-Query, ind-Query}
 use Rattle.cs_trigram.specs.declared.queries.Query.TheVariants.{All, Nothing, Tri, And, Or, rolls-All, rolls-Nothing, rolls-Tri, rolls-And, rolls-Or}
 use Rattle.cs_index.specs.PostingLists.{Ids}
-use Rattle.cs_index.specs.Opening.{Parts, rises, whole_ids}
-use Rattle.cs_index.specs.Candidates.{asks_for, is_answerable, meets}
+use Rattle.cs_index.specs.Opening.{rises}
+use Rattle.cs_index.specs.OpenedParts.{Parts, whole_ids}
+use Rattle.cs_index.specs.Candidates.{meets}
+use Rattle.cs_index.specs.Answerable.{asks_for, is_answerable}
 use Rattle.cs_index.specs.Sifting.{read_for}
 use Rattle.cs_index.specs.Restriction.{AnswersAs, ReadAlike}
 use Rattle.cs_index.proofs.AskedLemmas.{asks-And, asks-Or, asks-Tri, holds-All, holds-And, holds-Nothing, holds-Or, holds-Tri, set_is, candidates_are, answerable-All, answerable-And, answerable-Nothing, answerable-Or, answerable-Tri}

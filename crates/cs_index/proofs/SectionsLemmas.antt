@@ -9,7 +9,7 @@ use Rattle.std.specs.Option.{option_map_or}
 use Rattle.cs_index.specs.declared.writing.sections.Sections.TheInside.{Inside}
 use Rattle.std.specs.Prelude.{Result, IfOk, flat_map}
 use Rattle.cs_index.specs.declared.fault.BuildFault.{BuildFault}
-use Rattle.cs_index.specs.Spelling.{IsIndexable}
+use Rattle.cs_index.specs.Indexable.{IsIndexable}
 use Rattle.cs_index.specs.Image.{Posting, ListEntry, concat, four_bytes, image_of, layout, list_entries, posting_list, sections_of, three_bytes, varint, deltas_from}
 use Rattle.cs_index.specs.IdStream.{most_ids, next_after, stream_of, ids_in, IsStream}
 use Rattle.cs_index.specs.Rising.{RiseWithin, IsPosting, moved}

@@ -6,7 +6,8 @@ use Rattle.std.proofs.lemmas.Bool.{cond_both}
 use Rattle.std.specs.Prelude.{flat_map}
 use Rattle.std.specs.List.{AllByRecursion}
 use Rattle.cs_index.specs.Image.{four_bytes, concat, with_nul, Entry, ids_from, Posting, posting_list, postings_of, trigrams_of, closing_list, ListEntry, list_entries, Sections, sections_of, layout, names_of, image_of, in_order, trailer}
-use Rattle.cs_index.specs.Spelling.{IsEntry, Spells, IsIndexable}
+use Rattle.cs_index.specs.Spelling.{IsEntry, Spells}
+use Rattle.cs_index.specs.Indexable.{IsIndexable}
 use Rattle.cs_trigram.proofs.SetLemmas.{ascends_set, all_set}
 
 -- ---- sets of trigrams

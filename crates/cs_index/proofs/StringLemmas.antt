@@ -7,7 +7,8 @@ use Rattle.std.specs.Prelude.{IsUtf8}
 use Rattle.std.specs.List.{AllByRecursion, list_all}
 use Rattle.cs_index.specs.Image.{concat, with_nul, starts_from, IsString}
 use Rattle.cs_index.specs.Built.{is_storable}
-use Rattle.cs_index.specs.Strings.{texts_in, AreStrings}
+use Rattle.cs_index.specs.Strings.{texts_in}
+use Rattle.cs_index.specs.StringStarts.{AreStrings}
 
 -- a text and its NUL stand in front
 pub front_text : (text rest : List ℕ) → AllByRecursion (λ b. 0 < b) text → texts_in (with_nul text ++ rest) ≡ text ∷ texts_in rest

@@ -1,13 +1,15 @@
 -- What is written of paths and entries opens as them.
 use Rattle.std.proofs.Common.{◌≡◌, ℕ, zero, suc, ◌+◌, ◌<◌, true, ◌&&◌, List, [], ◌∷◌, length, map, get_or, Ok, refl, ap, ◌∙◌, arith}
 use Rattle.cs_index.specs.Roundtrip.{parts_written, Has}
-use Rattle.cs_index.specs.PostingLists.{read_list, IsList, set_at, entries_of}
+use Rattle.cs_index.specs.PostingLists.{read_list, set_at, entries_of}
+use Rattle.cs_index.specs.WholeLists.{IsList}
 use Rattle.cs_trigram.specs.Trigram.{Ascends}
 use Rattle.std.proofs.lemmas.List.{length-map}
 use Rattle.std.specs.List.{AllByRecursion, AllZip, list_all}
 use Rattle.cs_index.specs.Image.{Entry, ListEntry, Posting, image_of, list_entries, names_of, postings_of, posting_list, Sections}
-use Rattle.cs_index.specs.Spelling.{IsIndexable}
-use Rattle.cs_index.specs.Opening.{Parts, lists_in, opening, whole_ids}
+use Rattle.cs_index.specs.Indexable.{IsIndexable}
+use Rattle.cs_index.specs.Opening.{opening}
+use Rattle.cs_index.specs.OpenedParts.{Parts, lists_in, whole_ids}
 use Rattle.cs_index.proofs.ListedLemmas.{image_lists}
 use Rattle.cs_index.proofs.OpenedLemmas.{opens_spelled}
 use Rattle.cs_index.proofs.SpellingLemmas.{image_sections, image_spelled}

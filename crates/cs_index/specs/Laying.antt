@@ -5,7 +5,7 @@ use Rattle.cs_index.specs.declared.writing.sections.Sections.TheInside.{Inside}
 use Rattle.cs_index.specs.Image.{Posting, ListEntry, concat, list_entries, magic, posting_list, strings_section, three_bytes}
 use Rattle.cs_index.specs.IdStream.{most_ids, next_after, stream_of}
 use Rattle.cs_index.specs.PostingLists.{read_list}
-use Rattle.cs_index.specs.Opening.{whole_ids}
+use Rattle.cs_index.specs.OpenedParts.{whole_ids}
 use Rattle.cs_index.specs.Laid.{Laid, IsLaid, AllBelow}
 
 -- what lies in front of the lists: the magic, the paths and the names

@@ -1,7 +1,6 @@
--- An index as it is read: which bytes open, what they hold, and which fault the others have.
+-- An index as it is read: which bytes open, and which fault the others have.
 -- docs/FORMAT.md, "The index as it is read".
 use Rattle.std.specs.Prelude.{ℕ, zero, suc, ◌+◌, ◌-◌, ◌*◌, ◌/◌, ◌%◌, Bool, true, not, ◌&&◌, ◌||◌, nat_eq, nat_le, nat_lt, List, [], ◌∷◌, ◌++◌, length, map, slice_index, slice_range, if◌then◌else◌, Result, Ok, Err, ◌^◌}
-use Rattle.cs_index.specs.PostingLists.{Ids, read_list, entries_of}
 use Rattle.cs_trigram.specs.Trigram.{closing_trigram}
 use Rattle.std.specs.List.{list_all, starts_with, ends_with}
 use Rattle.std.specs.Str.{is_utf8}
@@ -9,15 +8,9 @@ use Rattle.std.specs.Int.{from_be_bytes, w32}
 use Rattle.cs_tree.specs.Cover.{same}
 use Rattle.cs_index.specs.declared.fault.IndexFault.{IndexFault}
 use Rattle.cs_index.specs.declared.fault.IndexFault.TheVariants.{BadMagic, BadTrailer, BadOffsets, BadPaths, BadNames, BadNameIndex, BadListIndex}
-use Rattle.cs_index.specs.Image.{concat, with_nul, starts_from, Sections, magic, trailer_magic, Entry, ListEntry, Posting}
+use Rattle.cs_index.specs.Image.{concat, with_nul, starts_from, Sections, magic, trailer_magic, ListEntry}
 use Rattle.cs_index.specs.Strings.{texts_in}
-
--- What an index holds: its paths, its names, the entries of its list index, and the section that has the lists.
-pub record Parts : Type 0 where
-  pub paths : List (List ℕ)
-  pub names : List (List ℕ)
-  pub entries : List ListEntry
-  pub postings : List ℕ
+use Rattle.cs_index.specs.OpenedParts.{Parts}
 
 -- ---- numbers
 
@@ -134,25 +127,3 @@ read_cut (Err fault) = Err fault
 -- what the bytes open as
 unfoldable pub opening : List ℕ → Result Parts IndexFault
 opening bytes = read_cut (cut_of bytes)
-
--- ---- what is asked of an index
-
--- the ids of an entry's list, up to the first damage
-abbrev pub ids_read : Parts → ListEntry → Ids
-ids_read parts e = read_list parts.postings (length parts.names) e
-
--- the ids of a list; a damaged one has none
-abbrev pub whole_ids : Ids → List ℕ
-whole_ids r = if r.whole then r.ids else []
-
--- each trigram with the ids of its list
-abbrev pub lists_in : Parts → List Posting
-lists_in parts = map (λ (e : ListEntry). (e.trigram, whole_ids (ids_read parts e))) parts.entries
-
--- whether each list is whole
-abbrev pub are_whole : Parts → Bool
-are_whole parts = list_all (λ (e : ListEntry). (ids_read parts e).whole) parts.entries
-
--- each name with the trigrams whose list has its id
-abbrev pub files_read : Parts → List Entry
-files_read parts = entries_of 0 parts.names (lists_in parts)

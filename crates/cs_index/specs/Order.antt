@@ -4,7 +4,7 @@ use Rattle.std.specs.Prelude.{◌≡◌, true, false, ℕ, List, length, map, Op
 use Rattle.std.specs.Borrow.{Bor}
 use Rattle.std.specs.List.{range_with_len, zip}
 use Rattle.cs_tree.specs.Folders.{are_distinct}
-use Rattle.cs_tree.specs.NameOrder.{are_ascending}
+use Rattle.cs_tree.specs.NamesAscending.{are_ascending}
 
 -- A name with its id.
 abbrev pub Named : Type 0

@@ -4,7 +4,8 @@ use Rattle.std.specs.Prelude.{◌≡◌, ◌<◌, true, length}
 use Rattle.cs_index.specs.Image.{IsString}
 use Rattle.std.specs.List.{AllByRecursion, list_all}
 use Rattle.cs_index.specs.Built.{most_names}
-use Rattle.cs_index.specs.Opening.{Parts, is_entry, rises}
+use Rattle.cs_index.specs.Opening.{is_entry, rises}
+use Rattle.cs_index.specs.OpenedParts.{Parts}
 
 -- Paths and names are strings, the trigrams of the entries rise, and each entry has room for its list;
 -- `ff ff ff` has no file.

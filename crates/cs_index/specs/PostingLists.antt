@@ -1,6 +1,6 @@
 -- Posting lists as they are read: the ids of a list up to its first damage, and the sets of the names that they give.
 -- docs/FORMAT.md, "The index as it is read".
-use Rattle.std.specs.Prelude.{◌≡◌, ℕ, zero, suc, ◌+◌, ◌-◌, ◌*◌, ◌^◌, Bool, true, false, nat_eq, nat_lt, ◌&&◌, if◌then◌else◌, List, [], ◌∷◌, map, take, drop, Option, Some, None, option_map, option_and_then, filter}
+use Rattle.std.specs.Prelude.{ℕ, zero, suc, ◌+◌, ◌-◌, ◌*◌, ◌^◌, Bool, false, nat_eq, nat_lt, ◌&&◌, if◌then◌else◌, List, [], ◌∷◌, map, take, drop, Option, Some, None, option_map, option_and_then, filter}
 use Rattle.cs_trigram.specs.Trigram.{has}
 use Rattle.cs_tree.specs.Cover.{same}
 use Rattle.cs_index.specs.Image.{three_bytes, ListEntry, Entry, Posting}
@@ -47,10 +47,6 @@ read_ids names (suc count) next bytes = after_delta names next (read_ids names c
 abbrev pub read_list : List ℕ → ℕ → ListEntry → Ids
 read_list postings names e =
     if same (take 3 (drop e.offset postings)) (three_bytes e.trigram) then read_ids names e.count 0 (drop (e.offset + 3) postings) else damaged
-
--- The bytes at the entry are a list of these ids.
-abbrev pub IsList : List ℕ → ℕ → ListEntry → List ℕ → Type 0
-IsList postings names e ids = read_list postings names e ≡ record { ids = ids; whole = true }
 
 -- the trigrams whose list has the id
 abbrev pub set_at : ℕ → List Posting → List ℕ

@@ -2,8 +2,9 @@
 -- docs/FORMAT.md, "The index as it is read".
 use Rattle.std.specs.Prelude.{◌≡◌, ℕ, true}
 use Rattle.cs_trigram.specs.declared.queries.Query.{Query}
-use Rattle.cs_index.specs.Opening.{Parts}
-use Rattle.cs_index.specs.Candidates.{asks_for, candidates_of, is_answerable}
+use Rattle.cs_index.specs.OpenedParts.{Parts}
+use Rattle.cs_index.specs.Candidates.{candidates_of}
+use Rattle.cs_index.specs.Answerable.{asks_for, is_answerable}
 use Rattle.cs_index.specs.Sifting.{read_for}
 
 -- The part answers the query as the whole does: it has the paths and the names, the same ids meet the query, and

@@ -4,17 +4,11 @@ use Rattle.std.specs.Prelude.{◌≡◌, ℕ, true, List, slice_index, ◌<◌}
 use Rattle.cs_trigram.specs.Trigram.{Ascends}
 use Rattle.std.specs.List.{AllByRecursion}
 use Rattle.cs_index.specs.Image.{sections_of, Entry, names_of, list_entries, postings_of}
-use Rattle.cs_index.specs.Spelling.{Spells}
-use Rattle.cs_index.specs.Opening.{Parts, lists_in, are_whole, files_read}
+use Rattle.cs_index.specs.OpenedParts.{Parts, lists_in, are_whole, files_read}
 
 -- each is a byte
 abbrev pub AreBytes : List ℕ → Type 0
 AreBytes bytes = (at : ℕ) → slice_index bytes at < 256
-
--- The bytes spell these parts.
-pub record SpellsParts (bytes : List ℕ) (parts : Parts) : Type 0 where
-  pub spelled : Spells bytes parts.paths parts.names parts.entries
-  pub postings : spelled.sections.postings ≡ parts.postings
 
 -- what an index has that is written of paths and entries
 unfoldable pub parts_written : List (List ℕ) → List Entry → Parts

@@ -6,7 +6,7 @@ use Rattle.cs_trigram.specs.Trigram.{has}
 use Rattle.std.specs.List.{list_all, list_any, range_with_len}
 use Rattle.cs_trigram.specs.declared.queries.Query.{Query}
 use Rattle.cs_index.specs.Candidates.{candidates_of, meets, names_that}
-use Rattle.cs_index.specs.Opening.{Parts, ids_read}
+use Rattle.cs_index.specs.OpenedParts.{Parts, ids_read}
 
 -- what is read where there is no entry
 abbrev pub nothing_read : Ids

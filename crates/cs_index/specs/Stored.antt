@@ -4,7 +4,8 @@ use Rattle.std.specs.Prelude.{◌≡◌, ◌≤◌, ℕ, ◌+◌, List, length, 
 use Rattle.cs_tree.specs.Store.{part_of}
 use Rattle.cs_index.specs.declared.fault.IndexFault.{IndexFault}
 use Rattle.cs_index.specs.Image.{ListEntry, Sections}
-use Rattle.cs_index.specs.Opening.{Parts, opening, read_sections}
+use Rattle.cs_index.specs.Opening.{opening, read_sections}
+use Rattle.cs_index.specs.OpenedParts.{Parts}
 
 -- Paths, names and entries; where the section of the lists begins, and how long it is.
 pub record Held : Type 0 where

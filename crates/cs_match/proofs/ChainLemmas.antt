@@ -5,7 +5,8 @@ use Rattle.std.proofs.lemmas.List.Elements.{All-nil, All-cons, All-head, All-tai
 use Rattle.std.proofs.lemmas.Nat.{le_or_l, or_of_16}
 use Rattle.std.proofs.lemmas.Bool.{eqb-true, cases_lt}
 use Rattle.std.specs.Prelude.{IsTrue, ◌↔◌}
-use Rattle.cs_match.specs.Lines.{newline, ended_lines, IsPart}
+use Rattle.cs_match.specs.Lines.{newline, ended_lines}
+use Rattle.cs_match.specs.LineParts.{IsPart}
 use Rattle.cs_match.specs.Skipping.{AreWhole, NoneFound, ArePassed}
 use Rattle.cs_match.specs.Chains.{row_after, first_noisy, IsQuiet, AreBytes, Absorbs, TellsLines}
 use Rattle.cs_match.proofs.LinesLemmas.{ended_lines-part, ended_lines-line, IsPart-append}

@@ -9,7 +9,8 @@ use mir.Val.{bool_byte}
 use Rattle.std.proofs.lemmas.Nat.{le_or_l, or_of_16}
 use Rattle.std.proofs.lemmas.Bool.{eqb-true, ne_eqb}
 use Rattle.cs_match.specs.declared.counting.Count.{Count}
-use Rattle.cs_match.specs.Lines.{newline, ended_lines, IsPart}
+use Rattle.cs_match.specs.Lines.{newline, ended_lines}
+use Rattle.cs_match.specs.LineParts.{IsPart}
 use Rattle.cs_match.specs.Skipping.{AreWhole, ArePassed}
 use Rattle.cs_match.specs.Chains.{row_after, first_noisy, AreBytes}
 use Rattle.cs_match.specs.Counting.{found_row, unknown_row, nothing_counted, counted_in, counted_on, count_after, CountsLines, AreCounted}

@@ -2,8 +2,7 @@
 use Rattle.std.proofs.Common.{◌≡◌, ℕ, zero, suc, ◌+◌, ◌-◌, ◌≤◌, inl, inr, Bool, true, false, List, refl, sym, subst, arith}
 use Rattle.std.specs.Prelude.{Option, Some, None, nat_le, ◌↔◌, if◌then◌else◌}
 use Rattle.std.proofs.lemmas.Bool.{le-leb, leb-true}
-use Rattle.cs_syntax.specs.Matching.{Tree, Trees, empty, one_of, one_char, cat, alt, rep, line_start, line_end, word_edge, not_word_edge, none, more}
-use Rattle.cs_syntax.specs.Matching.{Chain, Takes, TakesAll, TakesSome, Found}
+use Rattle.cs_syntax.specs.Matching.{Tree, Trees, empty, one_of, one_char, cat, alt, rep, line_start, line_end, word_edge, not_word_edge, none, more, Chain, Takes, TakesAll, TakesSome, Found}
 use Rattle.cs_match.specs.Places.{IsLooped, AreLooped}
 use Rattle.cs_syntax.proofs.LoweringLemmas.{lowered_takes}
 use Rattle.cs_match.proofs.LoweredLemmas.{lowered_looped}

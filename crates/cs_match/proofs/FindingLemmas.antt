@@ -3,7 +3,7 @@ use Rattle.std.proofs.Common.{◌≡◌, ℕ, zero, suc, ◌<◌, ◌≤◌, ◌
 use Rattle.std.specs.Prelude.{IsTrue, ◌↔◌}
 use Rattle.std.proofs.lemmas.Bool.{both_ways, cases_lt, or_cases, or_left, or_right}
 use Rattle.cs_syntax.specs.Matching.{Tree, Found}
-use Rattle.cs_match.specs.Finding.{FindingIsDecided}
+use Rattle.cs_match.specs.FindingDecided.{FindingIsDecided}
 use Rattle.cs_match.specs.Places.{exit_at, IsLooped}
 use Rattle.cs_match.specs.Expansion.{expansion}
 use Rattle.cs_match.proofs.MarksLemmas.{found_where_left}

@@ -4,7 +4,8 @@ use Rattle.std.specs.List.{count_by}
 use Rattle.std.proofs.lemmas.List.Sums.{sum_by-append}
 use Rattle.std.proofs.lemmas.List.Recursion.{is_count_by}
 use Rattle.cs_tree.specs.Pieces.{onto_first}
-use Rattle.cs_match.specs.Lines.{newline, lines, ended_lines, with_byte_in_line, IsPart}
+use Rattle.cs_match.specs.Lines.{newline, lines, ended_lines, with_byte_in_line}
+use Rattle.cs_match.specs.LineParts.{IsPart}
 use Rattle.cs_match.specs.Unended.{unended, unless_ended, last_line}
 
 module _ (x : ℕ) (b : List ℕ) where

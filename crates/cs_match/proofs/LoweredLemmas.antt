@@ -6,9 +6,9 @@ use Rattle.std.proofs.lemmas.Bool.{cases_lt, cond-false}
 use Rattle.std.proofs.lemmas.Bool.Decides.{nat_tests}
 use Rattle.cs_syntax.specs.ByteSet.{set_of}
 use Rattle.cs_syntax.specs.Ranges.{is_in_ranges}
-use Rattle.cs_syntax.specs.Lowering.{part, parts, with_last_byte, forms, forms_within, wide_forms, all_wide_forms, ascii_forms, lowered}
+use Rattle.cs_syntax.specs.Lowering.{part, parts, with_last_byte, forms, forms_within, wide_forms, all_wide_forms, ascii_forms, lowered, any_of}
 use Rattle.cs_syntax.specs.Matching.{Tree, Trees, one_of, none, more}
-use Rattle.cs_syntax.specs.TreeList.{append, any_of}
+use Rattle.cs_syntax.specs.TreeList.{append}
 use Rattle.cs_match.specs.Places.{places, places_of, repeats, repeats_of, IsLooped, AreLooped}
 
 -- ---- no repeats, and sets of bytes alone

@@ -3,8 +3,7 @@ use Rattle.std.proofs.Common.{◌≡◌, ℕ, zero, suc, ◌<◌, ◌≤◌, inl
 use Rattle.std.specs.Prelude.{slice_index, nat_eq, Option, ◌↔◌}
 use Rattle.std.proofs.lemmas.List.{take_at, drop_at, length-replicate, replicate-append-replicate}
 use Rattle.std.proofs.lemmas.Bool.{and_parts, or_cases, and_from, or_left, or_right, eqb-true, eq-eqb, not-true}
-use Rattle.cs_syntax.specs.Matching.{Tree, Trees, empty, one_of, one_char, cat, alt, rep, line_start, line_end, word_edge, not_word_edge, none, more}
-use Rattle.cs_syntax.specs.Matching.{member, at_word_edge, Chain, Takes, TakesAll, TakesSome, Found}
+use Rattle.cs_syntax.specs.Matching.{Tree, Trees, empty, one_of, one_char, cat, alt, rep, line_start, line_end, word_edge, not_word_edge, none, more, member, at_word_edge, Chain, Takes, TakesAll, TakesSome, Found}
 use Rattle.cs_match.specs.declared.around.Around.{Around}
 use Rattle.cs_match.specs.Places.{around, places, places_of, nullable, nullable_all, nullable_some, leaves, leaves_all, leaves_some, exits, step, step_all, step_each, marks, exit_at, IsLooped, AreLooped}
 

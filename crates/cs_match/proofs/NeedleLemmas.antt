@@ -4,8 +4,7 @@ use Rattle.std.specs.Prelude.{Option, Result, Ok, Err, OnOk, max, slice_index, v
 use Rattle.std.proofs.lemmas.Bool.{cases_lt}
 use Rattle.std.proofs.lemmas.List.{drop-append-le, get_or_append_left}
 use Rattle.std.proofs.Math.Seq.{get_or-append_seam, drop-length}
-use Rattle.cs_syntax.specs.Matching.{Tree, Trees, empty, one_of, one_char, cat, alt, rep, line_start, line_end, word_edge, not_word_edge, none, more}
-use Rattle.cs_syntax.specs.Matching.{Chain, Takes, TakesAll, TakesSome}
+use Rattle.cs_syntax.specs.Matching.{Tree, Trees, empty, one_of, one_char, cat, alt, rep, line_start, line_end, word_edge, not_word_edge, none, more, Chain, Takes, TakesAll, TakesSome}
 use Rattle.std.specs.Char.{encode_utf8}
 use Rattle.cs_syntax.specs.Members.{IsOnly}
 use Rattle.cs_syntax.proofs.LoweringLemmas.{stands_within}

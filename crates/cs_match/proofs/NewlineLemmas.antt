@@ -3,7 +3,8 @@ use Rattle.std.proofs.Common.{◌≡◌, ℕ, suc, ◌+◌, ◌-◌, ◌<◌, �
 use Rattle.std.proofs.lemmas.List.{take_rest, drop-drop}
 use Rattle.std.proofs.lemmas.Bool.{eqb-true}
 use Rattle.memchr.specs.Find.{Nowhere, NoneBefore, Passes, is_byte}
-use Rattle.cs_match.specs.Lines.{newline, IsPart}
+use Rattle.cs_match.specs.Lines.{newline}
+use Rattle.cs_match.specs.LineParts.{IsPart}
 use Rattle.cs_match.proofs.LinesLemmas.{IsPart-searched}
 
 pub part_nowhere : (hay : List ℕ) → Nowhere (Passes (is_byte 10) hay) 0 (length hay) → IsPart hay

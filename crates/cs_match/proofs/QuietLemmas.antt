@@ -6,7 +6,8 @@ use Rattle.std.proofs.lemmas.List.Elements.{All-nil, All-cons, All-head, All-tai
 use Rattle.cs_syntax.specs.Matching.{Tree, Found}
 use Rattle.cs_match.specs.declared.standing.Standing.{Standing}
 use Rattle.cs_match.specs.Finding.{Decides}
-use Rattle.cs_match.specs.Lines.{newline, IsPart}
+use Rattle.cs_match.specs.Lines.{newline}
+use Rattle.cs_match.specs.LineParts.{IsPart}
 use Rattle.cs_match.specs.Places.{places, exit_at, IsLooped}
 use Rattle.cs_match.specs.Standings.{start, moved, moved_all, after, is_left_before}
 use Rattle.cs_match.specs.Table.{found_number, unknown_number, IsRow, found, next, IsCell, unknown, known, AreRows, AreCells}

@@ -1,9 +1,8 @@
 -- The standing after a front of a line tells what stands around its end, and has its marks.
-use Rattle.std.proofs.Common.{◌≡◌, ℕ, zero, suc, ◌+◌, ◌-◌, ◌<◌, ◌≤◌, Bool, true, false, List, [], ◌∷◌, ◌++◌, take, length, refl, sym, ◌∙◌, ap, arith}
+use Rattle.std.proofs.Common.{◌≡◌, ℕ, zero, suc, ◌+◌, ◌-◌, ◌<◌, ◌≤◌, Bool, true, false, List, [], ◌∷◌, ◌++◌, take, length, refl, sym, ◌∙◌, ap, arith, inl, inr}
 use Rattle.std.specs.Prelude.{slice_index, nat_eq, ◌≢◌}
 use Rattle.std.proofs.lemmas.List.{take_more, take_all, length-replicate}
 use Rattle.std.proofs.lemmas.Bool.{lt-ltb, le-ltb, le-leb, eq-eqb, ne_eqb, cases_eq}
-use Rattle.std.proofs.Common.{inl, inr}
 use Rattle.cs_match.proofs.MarksLemmas.{length-step, length-marks}
 use Rattle.cs_syntax.specs.Matching.{Tree, is_word, differ, word_before, word_after, at_word_edge}
 use Rattle.cs_match.specs.declared.standing.Standing.{Standing}

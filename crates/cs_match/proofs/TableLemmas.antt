@@ -1,11 +1,10 @@
 -- Rows and cells stay right where a cell is written, a row is added, or all is forgotten.
 use Rattle.std.proofs.Common.{true, ◌≡◌, ℕ, ◌+◌, ◌*◌, ◌/◌, ◌<◌, ◌≤◌, inl, inr, false, List, length, set, sym, ◌∙◌, ap, subst, arith, get_or, get_or-set_same, get_or-set_other, refl}
-use Rattle.std.specs.Prelude.{◌≢◌, replicate, if◌then◌else◌}
+use Rattle.std.specs.Prelude.{◌≢◌, replicate, if◌then◌else◌, bit_or}
 use Rattle.std.proofs.Math.ListN.{length-set}
 use Rattle.std.proofs.lemmas.Bool.{cases_eq, cases_lt, eq-eqb, ne_eqb}
 use Rattle.std.proofs.lemmas.Nat.{or_shifted}
 use Rattle.std.proofs.lemmas.List.{length-replicate, get_or-replicate, get_or_past}
-use Rattle.std.specs.Prelude.{bit_or}
 use Rattle.cs_syntax.specs.Matching.{Tree}
 use Rattle.cs_match.specs.declared.standing.Standing.{Standing}
 use Rattle.cs_match.specs.Places.{places}

@@ -5,7 +5,8 @@ use Rattle.std.proofs.Math.Seq.{take-add}
 use Rattle.std.proofs.lemmas.List.{drop-drop, take_rest}
 use Rattle.std.proofs.lemmas.List.Elements.{All-append}
 use Rattle.cs_match.proofs.LinesLemmas.{ended_lines-line}
-use Rattle.cs_match.specs.Lines.{newline, ended_lines, with_byte_in_line, IsPart}
+use Rattle.cs_match.specs.Lines.{newline, ended_lines, with_byte_in_line}
+use Rattle.cs_match.specs.LineParts.{IsPart}
 use Rattle.cs_match.specs.Skipping.{AreWhole, NoneFound}
 use Rattle.cs_match.specs.Unended.{unended, unless_ended}
 

@@ -5,8 +5,7 @@ use Rattle.std.specs.Prelude.{Option, None, max, slice_index, vec_len}
 use Rattle.std.proofs.lemmas.Bool.{cases_lt}
 use Rattle.std.proofs.lemmas.List.{drop-append-le, get_or_append_left, get_or-append-add}
 use Rattle.std.proofs.Math.Seq.{get_or-append_seam, drop-length}
-use Rattle.cs_syntax.specs.Matching.{Tree, Trees, one_of, rep, more}
-use Rattle.cs_syntax.specs.Matching.{Takes, TakesAll, member}
+use Rattle.cs_syntax.specs.Matching.{Tree, Trees, one_of, rep, more, Takes, TakesAll, member}
 use Rattle.cs_syntax.specs.Node.{tree_of}
 use Rattle.cs_syntax.specs.declared.node.Node.{Node}
 use Rattle.cs_syntax.specs.declared.node.Node.TheVariants.{Empty, LineStart, LineEnd, WordEdge, NotWordEdge}

@@ -2,7 +2,8 @@
 -- stands in a row, and the cell of the next byte is the row that it goes on in. At the start of a line it stands in
 -- row 0.
 use Rattle.std.specs.Prelude.{ℕ, ◌≡◌, ◌<◌, ◌≤◌, Bool, false, List, [], ◌∷◌, ◌++◌, All, slice_index, bit_or}
-use Rattle.cs_match.specs.Lines.{newline, IsPart}
+use Rattle.cs_match.specs.Lines.{newline}
+use Rattle.cs_match.specs.LineParts.{IsPart}
 
 -- the row that a run over the text comes to from a row
 unfoldable pub row_after : List ℕ → ℕ → List ℕ → ℕ

@@ -2,7 +2,8 @@
 -- its newline, and the run goes on at the start of the next.
 use Rattle.std.specs.Prelude.{ℕ, ◌≡◌, ◌+◌, ◌-◌, ◌<◌, ◌≤◌, ◌⊎◌, Bool, true, ◌&&◌, List, [], ◌∷◌, ◌++◌, nat_eq, if◌then◌else◌, length, take, drop, count_by, slice_index, bit_or}
 use Rattle.cs_match.specs.declared.counting.Count.{Count}
-use Rattle.cs_match.specs.Lines.{newline, ended_lines, IsPart}
+use Rattle.cs_match.specs.Lines.{newline, ended_lines}
+use Rattle.cs_match.specs.LineParts.{IsPart}
 use Rattle.cs_match.specs.Skipping.{AreWhole}
 use Rattle.cs_match.specs.Chains.{row_after, first_noisy, AreBytes, TellsLines}
 

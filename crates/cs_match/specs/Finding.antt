@@ -5,7 +5,3 @@ use Rattle.cs_syntax.specs.Matching.{Tree, Found}
 -- the test tells of each line whether the tree takes some part of it
 abbrev pub Decides : (List ℕ → Bool) → Tree → Type 0
 Decides test tree = (line : List ℕ) → IsTrue (test line) ↔ Found tree line
-
--- each tree has such a test
-abbrev pub FindingIsDecided : Type 0
-FindingIsDecided = (tree : Tree) → (test : List ℕ → Bool) × Decides test tree

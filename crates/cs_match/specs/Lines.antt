@@ -1,6 +1,6 @@
 -- The lines of a text. A line ends at a newline, or at the end of the text, and does not have its newline.
 -- docs/PATTERNS.md, "Lines". (std's `lines` takes a carriage return off the end of a line; here it stays.)
-use Rattle.std.specs.Prelude.{ℕ, nat_eq, false, ◌≡◌, if◌then◌else◌, List, [], ◌∷◌}
+use Rattle.std.specs.Prelude.{ℕ, nat_eq, if◌then◌else◌, List, [], ◌∷◌}
 use Rattle.cs_tree.specs.Pieces.{onto_first}
 
 abbrev pub newline : ℕ
@@ -20,8 +20,3 @@ with_byte_in_line b (line ∷ rest) = (b ∷ line) ∷ rest
 unfoldable pub ended_lines : List ℕ → List (List ℕ)
 ended_lines [] = []
 ended_lines (b ∷ text) = if nat_eq b newline then [] ∷ ended_lines text else with_byte_in_line b (ended_lines text)
-
--- no newline stands in the text
-abbrev pub IsPart : List ℕ → Type 0
-IsPart [] = Unit {0}
-IsPart (b ∷ text) = (nat_eq b newline ≡ false) × IsPart text

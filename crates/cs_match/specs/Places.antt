@@ -5,8 +5,7 @@
 -- Every repeat is a loop here, of at least 0 or at least 1 rounds, and every set is one of bytes (`IsLooped`), since counted
 -- repeats are written out, and sets of characters lowered.
 use Rattle.std.specs.Prelude.{ℕ, zero, suc, ◌≡◌, ◌+◌, Bool, true, false, ◌&&◌, ◌||◌, not, List, [], ◌∷◌, ◌++◌, take, drop, length, replicate, nat_eq, ◌≤◌, slice_index, slice_index_or, None}
-use Rattle.cs_syntax.specs.Matching.{Tree, Trees, empty, one_of, one_char, cat, alt, rep, line_start, line_end, word_edge, not_word_edge, none, more}
-use Rattle.cs_syntax.specs.Matching.{member, at_word_edge}
+use Rattle.cs_syntax.specs.Matching.{Tree, Trees, empty, one_of, one_char, cat, alt, rep, line_start, line_end, word_edge, not_word_edge, none, more, member, at_word_edge}
 use Rattle.cs_match.specs.declared.around.Around.{Around}
 
 -- what stands around place i of the line

@@ -1,7 +1,8 @@
 // Chains: runs over a table of cells, six side by side, that pass lines in which nothing is found. They know nothing
 // of patterns. `specs/Chains.antt` says what a run comes to, and what a table has to tell.
 ghost use Rattle.std.specs.Prelude.{◌≡◌, ◌≤◌, ◌<◌, ◌+◌, ◌-◌, ◌∷◌, ℕ, Bool, List, [], map, true, length, slice_index, take, drop};
-ghost use Rattle.cs_match.specs.Lines.{newline, ended_lines, IsPart};
+ghost use Rattle.cs_match.specs.Lines.{newline, ended_lines};
+ghost use Rattle.cs_match.specs.LineParts.{IsPart};
 ghost use Rattle.cs_match.specs.Skipping.{AreWhole, NoneFound, ArePassed};
 ghost use Rattle.cs_match.specs.Chains.{row_after, first_noisy, IsQuiet, TellsLines};
 

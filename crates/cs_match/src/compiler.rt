@@ -1,6 +1,5 @@
 // Counted repeats, written out.
-ghost use Rattle.std.specs.Prelude.{◌≡◌, IfOk, OnOk};
-ghost use Rattle.std.specs.Prelude.{None};
+ghost use Rattle.std.specs.Prelude.{◌≡◌, IfOk, OnOk, None};
 ghost use Rattle.cs_syntax.specs.Matching.{rep};
 ghost use Rattle.cs_syntax.specs.Node.{tree_of, trees_of};
 ghost use Rattle.cs_match.specs.Expansion.{expansion, expansions, with_copies, optional, repeat_expansion};

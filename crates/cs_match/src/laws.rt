@@ -1,7 +1,8 @@
 // Laws of the definitions.
 ghost use Rattle.std.specs.Prelude.{◌≡◌, ◌∷◌, ◌++◌, [], ℕ, List};
-ghost use Rattle.cs_match.specs.Finding.{FindingIsDecided};
-ghost use Rattle.cs_match.specs.Lines.{newline, lines, ended_lines, IsPart};
+ghost use Rattle.cs_match.specs.FindingDecided.{FindingIsDecided};
+ghost use Rattle.cs_match.specs.Lines.{newline, lines, ended_lines};
+ghost use Rattle.cs_match.specs.LineParts.{IsPart};
 
 /// For each tree there is a test of lines that tells what it finds.
 pub fn finding_is_decided()

@@ -2,8 +2,10 @@
 use Rattle.std.proofs.Common.{◌≡◌, ℕ, suc, ◌+◌, ◌*◌, ◌<◌, ◌≤◌, ◌^◌, Bool, true, false, cond, ◌&&◌, List, [], ◌∷◌, ◌++◌, length, map, refl, sym, ap, subst, ◌∙◌, inl, inr, None, Some, arith, length-append, append_assoc}
 use Rattle.cs_tree.specs.PathSet.{Paths}
 use Rattle.cs_tree.specs.NameOrder.{bytes_cmp}
-use Rattle.cs_index.specs.PostingLists.{IsList, set_at, entries_of}
-use Rattle.cs_trigram.specs.Trigram.{Ascends, IsTrigramSet}
+use Rattle.cs_index.specs.PostingLists.{set_at, entries_of}
+use Rattle.cs_index.specs.WholeLists.{IsList}
+use Rattle.cs_trigram.specs.Trigram.{Ascends}
+use Rattle.cs_trigram.specs.TrigramSets.{IsTrigramSet}
 use Rattle.std.proofs.lemmas.Bool.{cases_Bool}
 use Rattle.std.proofs.lemmas.List.{length-map}
 use Rattle.std.specs.Prelude.{T, flat_map, slice_index_or, is_some}
@@ -16,7 +18,8 @@ use Rattle.std.specs.FinMap as map'
 use Rattle.cs_tree.specs.PathSet as set
 use Rattle.cs_tree.proofs.Sets.{tied_is, tied_same, same_set}
 use Rattle.cs_index.specs.Image.{Files, Entry, image, image_of, names_of, Posting, posting_list, postings_of, ListEntry, list_entries, concat, with_nul, closing_list, Sections, sections_of, layout, in_order, trailer, name_offsets, four_bytes, starts_from, IsString}
-use Rattle.cs_index.specs.Spelling.{IsIndexable, Spells}
+use Rattle.cs_index.specs.Spelling.{Spells}
+use Rattle.cs_index.specs.Indexable.{IsIndexable}
 use Rattle.cs_index.proofs.SpellingLemmas.{image_spelled}
 use Rattle.cs_index.proofs.OnceLemmas.{sections_once, spelled_once}
 use Rattle.cs_index.proofs.ListedLemmas.{image_lists}

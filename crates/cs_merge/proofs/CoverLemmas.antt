@@ -16,7 +16,7 @@ use Rattle.cs_tree.specs.Cover.{begins, covers, is_among, is_covered, least, sam
 use Rattle.cs_tree.specs.Reducing.{lies_below}
 use Rattle.cs_tree.proofs.ReduceLemmas.{items-from_list}
 use Rattle.cs_tree.proofs.Sets.{some_member, member_passes, tied_same, same_set, contains-union}
-use Rattle.cs_index.specs.Opening.{Parts}
+use Rattle.cs_index.specs.OpenedParts.{Parts}
 use Rattle.cs_merge.specs.Content.{paths_in}
 use Rattle.cs_merge.specs.Join.{join_paths}
 use Rattle.cs_merge.proofs.HoldingLemmas.{from_list_all, marked_items}

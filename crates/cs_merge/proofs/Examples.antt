@@ -2,7 +2,7 @@
 use Rattle.std.proofs.Common.{◌≡◌, ℕ, true, false, List, [], ◌∷◌, Some, None, refl}
 use Rattle.std.specs.Prelude.{codes}
 use Rattle.cs_tree.specs.Folders.{are_distinct}
-use Rattle.cs_tree.specs.NameOrder.{are_ascending}
+use Rattle.cs_tree.specs.NamesAscending.{are_ascending}
 use Rattle.cs_merge.specs.Ranked.{names_in}
 use Rattle.cs_merge.specs.Renumbering.{NewIds, renumbered}
 

@@ -2,8 +2,10 @@
 use Rattle.std.proofs.Common.{◌≡◌, ℕ, zero, suc, ◌+◌, ◌<◌, ◌^◌, Bool, true, false, cond, ◌||◌, List, [], ◌∷◌, ◌++◌, length, map, take, drop, get_or, refl, sym, ap, subst, ◌∙◌, inl, inr, ◌⊎◌, Some, arith}
 use Rattle.cs_tree.specs.PathSet.{Paths}
 use Rattle.cs_tree.specs.NameOrder.{bytes_cmp}
-use Rattle.cs_index.specs.PostingLists.{damaged, read_ids, IsList, set_at, entries_of}
-use Rattle.cs_trigram.specs.Trigram.{has, Ascends, IsTrigramSet}
+use Rattle.cs_index.specs.PostingLists.{damaged, read_ids, set_at, entries_of}
+use Rattle.cs_index.specs.WholeLists.{IsList}
+use Rattle.cs_trigram.specs.Trigram.{has, Ascends}
+use Rattle.cs_trigram.specs.TrigramSets.{IsTrigramSet}
 use Rattle.std.proofs.lemmas.Bool.{true≢false, cases_Bool, cases_eq}
 use Rattle.std.specs.Prelude.{T, is_some, filter}
 use Rattle.std.specs.List.{AllByRecursion, AllZip, list_any}

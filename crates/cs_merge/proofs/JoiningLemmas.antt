@@ -2,7 +2,7 @@
 use Rattle.std.proofs.Common.{◌≡◌, ℕ, ◌+◌, ◌<◌, ◌≤◌, ◌^◌, true, false, List, length, Result, Ok, Err, subst, ◌∙◌, Vec, Global, arith}
 use Rattle.std.proofs.lemmas.Bool.{and_from}
 use Rattle.std.specs.Prelude.{IfOk, IfErr, MatchResult}
-use Rattle.cs_index.specs.Opening.{Parts, are_whole}
+use Rattle.cs_index.specs.OpenedParts.{Parts, are_whole}
 use Rattle.cs_index.specs.declared.fault.IndexFault.{IndexFault}
 use Rattle.cs_index.specs.declared.fault.IndexFault.TheVariants.{BadList}
 use Rattle.cs_merge.specs.declared.fault.MergeFault.{MergeFault}

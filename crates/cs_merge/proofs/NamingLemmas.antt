@@ -5,7 +5,8 @@ use Rattle.std.proofs.lemmas.Option.{slice_get_within, slice_get-get_or, same_So
 use Rattle.std.specs.Option.{option_map_or}
 use Rattle.std.specs.Ordering.{is_lt}
 use Rattle.cs_tree.specs.Folders.{are_distinct}
-use Rattle.cs_tree.specs.NameOrder.{bytes_cmp, are_ascending}
+use Rattle.cs_tree.specs.NameOrder.{bytes_cmp}
+use Rattle.cs_tree.specs.NamesAscending.{are_ascending}
 use Rattle.cs_index.specs.Built.{is_above}
 use Rattle.cs_index.proofs.StringLemmas.{last_of, last_is}
 use Rattle.cs_merge.specs.Renumbering.{NewIds, AreApart, AreRenumbered, AreRenumberings, IsOfOne, new, kept, AreNamed}

@@ -15,7 +15,7 @@ use Rattle.cs_tree.specs.PathSet.{Paths}
 use Rattle.cs_tree.specs.PathSet as set
 use Rattle.cs_tree.proofs.Sets.{alike, tied_is, tied_same, entries_in_order, or_else}
 use Rattle.cs_index.specs.Image.{Posting, image, image_of}
-use Rattle.cs_index.specs.Opening.{Parts, files_read, lists_in}
+use Rattle.cs_index.specs.OpenedParts.{Parts, files_read, lists_in}
 use Rattle.cs_index.specs.PostingLists.{set_at, entries_of}
 use Rattle.cs_merge.specs.Content.{files_in, paths_in}
 use Rattle.cs_merge.specs.Join.{join_files, join_paths}

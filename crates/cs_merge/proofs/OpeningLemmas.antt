@@ -1,8 +1,10 @@
 -- What opens as an index holds what the index has.
 use Rattle.std.proofs.Common.{◌≡◌, ℕ, ◌+◌, ◌<◌, ◌^◌, true, cond, List, [], ◌∷◌, length, map, Ok, refl, sym, ap, subst, ◌∙◌}
 use Rattle.cs_tree.specs.PathSet.{Paths}
-use Rattle.cs_tree.specs.NameOrder.{bytes_cmp, are_ascending}
-use Rattle.cs_index.specs.Roundtrip.{AreBytes, SpellsParts}
+use Rattle.cs_tree.specs.NameOrder.{bytes_cmp}
+use Rattle.cs_tree.specs.NamesAscending.{are_ascending}
+use Rattle.cs_index.specs.Roundtrip.{AreBytes}
+use Rattle.cs_index.specs.Spelling.{SpellsParts}
 use Rattle.cs_index.specs.PostingLists.{Ids, entries_of}
 use Rattle.std.proofs.lemmas.Bool.{and_from, and_parts}
 use Rattle.std.specs.FinMap as map'
@@ -10,7 +12,8 @@ use Rattle.std.specs.List.{AllZip, list_all}
 use Rattle.std.specs.Ordering.{is_lt}
 use Rattle.cs_tree.specs.PathSet as set
 use Rattle.cs_index.specs.Image.{Files, ListEntry, Posting, Sections}
-use Rattle.cs_index.specs.Opening.{Parts, are_whole, ids_read, lists_in, opening, whole_ids}
+use Rattle.cs_index.specs.Opening.{opening}
+use Rattle.cs_index.specs.OpenedParts.{Parts, are_whole, ids_read, lists_in, whole_ids}
 use Rattle.cs_index.proofs.OnceLemmas.{sections_once, spelled_once}
 use Rattle.cs_index.proofs.OpenedLemmas.{opens_spelled, spells_opened}
 use Rattle.cs_merge.specs.Content.{IsListOf, Holds, HasContent, Opens, files_in, paths_in}

@@ -8,7 +8,8 @@ use Rattle.std.specs.Option.{option_map_or}
 use Rattle.std.specs.Prelude.{nat_le, option_map}
 use Rattle.cs_trigram.specs.Trigram.{has, closing_trigram}
 use Rattle.cs_index.specs.Image.{ListEntry, Posting}
-use Rattle.cs_index.specs.Opening.{Parts, are_whole, ids_read, is_entry, lists_in, rises}
+use Rattle.cs_index.specs.Opening.{is_entry, rises}
+use Rattle.cs_index.specs.OpenedParts.{Parts, are_whole, ids_read, lists_in}
 use Rattle.cs_index.specs.Parts.{AreParts}
 use Rattle.cs_index.specs.PostingLists.{Ids, set_at}
 use Rattle.cs_index.specs.Rising.{RiseWithin}

@@ -9,8 +9,8 @@ use Rattle.std.specs.List.{All, Contains, range_with_len, zip}
 use Rattle.std.specs.Prelude.{option_map, slice_index, slice_index_or}
 use Rattle.cs_tree.specs.Cover.{is_among, same}
 use Rattle.cs_tree.specs.Folders.{are_distinct}
-use Rattle.cs_tree.specs.NameOrder.{are_ascending}
-use Rattle.cs_index.specs.Opening.{Parts}
+use Rattle.cs_tree.specs.NamesAscending.{are_ascending}
+use Rattle.cs_index.specs.OpenedParts.{Parts}
 use Rattle.cs_index.specs.Order.{Named, id_in as id_of, name_in, with_ids, IsOrder}
 use Rattle.cs_index.specs.Parts.{AreParts}
 use Rattle.cs_merge.specs.Ranked.{Ranked, id_at, id_at_place, names_by, names_in, IsRanked}

@@ -11,7 +11,7 @@ use Rattle.cs_tree.specs.Cover.{same}
 use Rattle.cs_index.specs.declared.fault.IndexFault.{IndexFault}
 use Rattle.cs_index.specs.declared.fault.IndexFault.TheVariants.{BadList}
 use Rattle.cs_index.specs.Image.{ListEntry, Posting, three_bytes}
-use Rattle.cs_index.specs.Opening.{Parts, ids_read, lists_in, whole_ids}
+use Rattle.cs_index.specs.OpenedParts.{Parts, ids_read, lists_in, whole_ids}
 
 -- ---- what an iterator of ids gives
 

@@ -17,7 +17,7 @@ use Rattle.cs_tree.proofs.Least.{IsLeast, least_says}
 use Rattle.cs_tree.proofs.Sets.{contains-union, tied_same}
 use Rattle.cs_index.specs.Image.{ListEntry, three_bytes, IsString}
 use Rattle.cs_index.specs.Built.{are_paths, are_reduced, is_before, is_storable}
-use Rattle.cs_index.specs.Opening.{Parts, ids_read}
+use Rattle.cs_index.specs.OpenedParts.{Parts, ids_read}
 use Rattle.cs_index.specs.Parts.{AreParts}
 use Rattle.cs_merge.specs.Content.{paths_in}
 use Rattle.cs_merge.specs.Join.{join_paths}

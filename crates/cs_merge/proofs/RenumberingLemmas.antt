@@ -6,7 +6,8 @@ use Rattle.std.specs.List.{cons_option}
 use Rattle.std.specs.Ordering.{is_lt, is_eq}
 use Rattle.std.specs.declared.cmp.Ordering.{Ordering}
 use Rattle.std.specs.declared.cmp.Ordering.TheVariants.{Less, Equal, Greater}
-use Rattle.cs_tree.specs.NameOrder.{bytes_cmp, are_ascending}
+use Rattle.cs_tree.specs.NameOrder.{bytes_cmp}
+use Rattle.cs_tree.specs.NamesAscending.{are_ascending}
 use Rattle.cs_tree.proofs.Sets.{tied_same}
 use Rattle.cs_trigram.specs.Trigram.{has}
 use Rattle.cs_index.specs.Rising.{RiseWithin}

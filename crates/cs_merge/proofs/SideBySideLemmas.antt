@@ -9,7 +9,7 @@ use Rattle.std.specs.Prelude.{option_map}
 use Rattle.cs_trigram.specs.Trigram.{has, closing_trigram}
 use Rattle.cs_index.specs.Image.{ListEntry, Posting}
 use Rattle.cs_index.specs.Laid.{Laid, AllBelow}
-use Rattle.cs_index.specs.Opening.{Parts, are_whole, ids_read, lists_in, whole_ids}
+use Rattle.cs_index.specs.OpenedParts.{Parts, are_whole, ids_read, lists_in, whole_ids}
 use Rattle.cs_index.specs.Parts.{AreParts}
 use Rattle.cs_index.specs.Postings.{IsListFault}
 use Rattle.cs_index.specs.Rising.{RiseWithin}

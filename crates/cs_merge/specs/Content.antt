@@ -2,15 +2,18 @@
 -- docs/FORMAT.md, "The index as it is written" and "The index as it is read".
 use Rattle.std.specs.Prelude.{◌≡◌, ℕ, true, List, length, Some, Ok}
 use Rattle.cs_tree.specs.PathSet.{Paths}
-use Rattle.cs_tree.specs.NameOrder.{bytes_cmp, are_ascending}
-use Rattle.cs_index.specs.PostingLists.{IsList, entries_of}
-use Rattle.cs_trigram.specs.Trigram.{IsTrigramSet}
+use Rattle.cs_tree.specs.NameOrder.{bytes_cmp}
+use Rattle.cs_tree.specs.NamesAscending.{are_ascending}
+use Rattle.cs_index.specs.PostingLists.{entries_of}
+use Rattle.cs_index.specs.WholeLists.{IsList}
+use Rattle.cs_trigram.specs.TrigramSets.{IsTrigramSet}
 use Rattle.std.specs.List.{AllZip}
 use Rattle.std.specs.FinMap as map
 use Rattle.cs_tree.specs.PathSet as set
 use Rattle.cs_tree.specs.Cover.{is_covered}
 use Rattle.cs_index.specs.Image.{Files, ListEntry, Posting, IsString}
-use Rattle.cs_index.specs.Opening.{Parts, are_whole, files_read, opening as opened_as}
+use Rattle.cs_index.specs.Opening.{opening as opened_as}
+use Rattle.cs_index.specs.OpenedParts.{Parts, are_whole, files_read}
 use Rattle.cs_index.specs.Spelling.{Spells}
 
 -- ---- what can be held

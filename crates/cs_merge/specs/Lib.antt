@@ -1,11 +1,16 @@
 -- What public contracts rest on.
 pub use Rattle.cs_index.specs.Roundtrip
-pub use Rattle.cs_index.specs.PostingLists
 pub use Rattle.cs_index.specs.Spelling
+pub use Rattle.cs_index.specs.PostingLists
+pub use Rattle.cs_index.specs.WholeLists
+pub use Rattle.cs_index.specs.Spelling
+pub use Rattle.cs_index.specs.Indexable
 pub use Rattle.cs_tree.specs.PathSet
 pub use Rattle.cs_tree.specs.Cover
+pub use Rattle.cs_tree.specs.LeastPaths
 pub use Rattle.cs_index.specs.Image
 pub use Rattle.cs_index.specs.Opening
+pub use Rattle.cs_index.specs.OpenedParts
 pub mod Join
 pub mod Content
 pub mod Joinable

@@ -1,8 +1,8 @@
 -- The names of an index in ascending order, whatever order its ids have.
 -- docs/PROMISES.md, "Joining".
 use Rattle.std.specs.Prelude.{◌≡◌, ℕ, ◌<◌, true, List, [], length, map, slice_get, slice_index_or, Option, Some, None}
-use Rattle.cs_tree.specs.NameOrder.{are_ascending}
-use Rattle.cs_index.specs.Opening.{Parts}
+use Rattle.cs_tree.specs.NamesAscending.{are_ascending}
+use Rattle.cs_index.specs.OpenedParts.{Parts}
 use Rattle.cs_index.specs.Parts.{AreParts}
 
 -- An index, and its ids in an order; none stands for the order of the ids themselves.

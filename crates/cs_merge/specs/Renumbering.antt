@@ -2,7 +2,7 @@
 -- docs/PROMISES.md, "Joining".
 use Rattle.std.specs.Prelude.{◌≡◌, ℕ, ◌+◌, ◌-◌, ◌<◌, ◌≤◌, Bool, true, false, List, [], ◌∷◌, Option, Some, None, slice_get, slice_index, length, option_and_then, option_map}
 use Rattle.std.specs.List.{filter_map}
-use Rattle.cs_tree.specs.NameOrder.{are_ascending}
+use Rattle.cs_tree.specs.NamesAscending.{are_ascending}
 use Rattle.cs_tree.specs.Cover.{is_covered}
 use Rattle.cs_index.specs.Built.{is_above}
 use Rattle.cs_index.specs.Laid.{Laid}

@@ -6,7 +6,7 @@ use Rattle.cs_trigram.specs.Trigram.{has}
 use Rattle.cs_index.specs.IdStream.{next_after}
 use Rattle.cs_index.specs.Image.{ListEntry}
 use Rattle.cs_index.specs.Laid.{Laid, AllBelow}
-use Rattle.cs_index.specs.Opening.{Parts, ids_read, lists_in}
+use Rattle.cs_index.specs.OpenedParts.{Parts, ids_read, lists_in}
 use Rattle.cs_index.specs.PostingLists.{Ids}
 use Rattle.cs_index.specs.Rising.{RiseWithin, moved}
 use Rattle.cs_merge.specs.Renumbering.{NewIds, new_id, AreCarried, AreMoved, list_of}

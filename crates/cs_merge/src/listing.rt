@@ -4,7 +4,7 @@ ghost use Rattle.cs_trigram.specs.Trigram.{closing_trigram};
 ghost use Rattle.cs_index.specs.Laid.{AllBelow};
 ghost use Rattle.cs_index.specs.Postings.{IsListFault};
 ghost use Rattle.cs_index.specs.Rising.{RiseWithin};
-ghost use Rattle.cs_index.specs.Opening.{lists_in};
+ghost use Rattle.cs_index.specs.OpenedParts.{lists_in};
 ghost use Rattle.cs_index.specs.Parts.{AreParts};
 ghost use Rattle.cs_merge.specs.Joinable.{both_whole};
 ghost use Rattle.cs_merge.specs.Renumbering.{renumbered_ids, AreCarried, AreOnce, AreRenumberings, KeepsOrder, RiseUnder};

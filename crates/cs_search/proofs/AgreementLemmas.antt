@@ -19,9 +19,8 @@ use Rattle.cs_trigram.specs.declared.scan.Reason.{Reason}
 use Rattle.cs_trigram.specs.declared.scan.Reason.TheVariants.{Nul, Utf8, TooLong as TooManyBytes, LongLine}
 use Rattle.cs_trigram.proofs.TextLemmas.{or_else-none}
 use Rattle.cs_trigram.proofs.LawLemmas.{has-part_of}
-use Rattle.cs_trigram.specs.Query.{holds}
+use Rattle.cs_trigram.specs.Query.{holds, HasTrigrams, LosesNoLine}
 use Rattle.cs_trigram.specs.declared.queries.Query.{Query}
-use Rattle.cs_trigram.specs.Query.{HasTrigrams, LosesNoLine}
 use Rattle.cs_index.specs.Image.{Entry}
 use Rattle.cs_words.specs.declared.jobs.Tool.{Tool}
 use Rattle.cs_words.specs.declared.jobs.Style.{Style}

@@ -4,7 +4,8 @@ use Rattle.std.proofs.lemmas.Bool.{eqb-true}
 use Rattle.std.proofs.lemmas.List.{take-append-drop, take_more, take_rest, get_or-drop}
 use Rattle.memchr.specs.Find.{Nowhere, NoneAfter, Passes, is_byte}
 use Rattle.cs_tree.proofs.Growing.{take_on}
-use Rattle.cs_match.specs.Lines.{ended_lines, IsPart}
+use Rattle.cs_match.specs.Lines.{ended_lines}
+use Rattle.cs_match.specs.LineParts.{IsPart}
 use Rattle.cs_match.specs.Skipping.{AreWhole}
 use Rattle.cs_match.specs.Unended.{unended}
 use Rattle.cs_match.proofs.LinesLemmas.{lines_within, unended-append, ended_lines-part, unended-part, IsPart-append, IsPart-searched}

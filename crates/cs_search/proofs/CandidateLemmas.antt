@@ -11,7 +11,7 @@ use Rattle.cs_trigram.specs.declared.queries.Query.{Query}
 use Rattle.cs_trigram.specs.Query.{holds, HasTrigrams, LosesNoLine}
 use Rattle.cs_trigram.specs.Windows.{HasWindows, IsSharp}
 use Rattle.cs_index.specs.PostingLists.{set_at}
-use Rattle.cs_index.specs.Opening.{Parts, lists_in}
+use Rattle.cs_index.specs.OpenedParts.{Parts, lists_in}
 use Rattle.cs_index.specs.Candidates.{candidates_of, meets}
 use Rattle.cs_index.proofs.SiftLemmas.{has-filter, has_range}
 use Rattle.cs_search.proofs.AgreementLemmas.{lines_known, text_is}

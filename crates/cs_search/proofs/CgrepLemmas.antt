@@ -16,9 +16,9 @@ use Rattle.cs_words.specs.declared.jobs.Tool.{Tool}
 use Rattle.cs_words.specs.declared.jobs.Tool.TheVariants.{Cgrep}
 use Rattle.cs_words.specs.declared.jobs.GrepJob.{GrepJob}
 use Rattle.cs_search.specs.declared.status.Status.{Status}
-use Rattle.cs_search.specs.Printed.{Printed, PrintsStatus, status_of, input_printed, file_printed, all_printed, TellsFaults}
+use Rattle.cs_search.specs.Printed.{Printed, PrintsStatus, status_of, input_printed, file_printed, all_printed, TellsFaults, searched_by_cgrep}
 use Rattle.cs_search.specs.Searcher.{Prints}
-use Rattle.cs_search.specs.Cgrep.{cgrep_printed, searched_by_cgrep, standard_name}
+use Rattle.cs_search.specs.Cgrep.{cgrep_printed, standard_name}
 use Rattle.cs_search.specs.CgrepFaults.{TellsFaultsOf}
 use Rattle.cs_search.specs.Programs.{IsProgramOf, RefusesPattern}
 use Rattle.cs_search.specs.Refusals.{QuietAtRefusal}

@@ -28,8 +28,10 @@ use Rattle.cs_words.specs.Faults.{pattern_fault, pattern_fault_at, index_fault}
 use Rattle.cs_trigram.specs.Query.{holds}
 use Rattle.cs_trigram.specs.declared.queries.Query.{Query}
 use Rattle.cs_index.specs.Image.{Entry, Posting}
-use Rattle.cs_index.specs.Opening.{Parts, opening, lists_in, files_read}
-use Rattle.cs_index.specs.Candidates.{candidates_of, is_answerable}
+use Rattle.cs_index.specs.Opening.{opening}
+use Rattle.cs_index.specs.OpenedParts.{Parts, lists_in, files_read}
+use Rattle.cs_index.specs.Candidates.{candidates_of}
+use Rattle.cs_index.specs.Answerable.{is_answerable}
 use Rattle.cs_search.specs.declared.report.TheConstants.{MOST_SEARCHED}
 use Rattle.cs_match.specs.Finding.{Decides}
 use Rattle.cs_search.specs.Refusals.{IsAccepted, QuietAtRefusal, has_write_failed}

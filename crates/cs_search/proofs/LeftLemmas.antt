@@ -14,14 +14,15 @@ use Rattle.cs_tree.specs.Reached.{read_item}
 use Rattle.cs_trigram.specs.Text.{text_trigrams, limits}
 use Rattle.cs_trigram.specs.declared.queries.Query.{Query}
 use Rattle.cs_index.specs.Image.{ListEntry}
-use Rattle.cs_index.specs.Opening.{Parts, opening, ids_read, are_whole}
-use Rattle.cs_index.specs.Candidates.{is_answerable, asks_for}
+use Rattle.cs_index.specs.Opening.{opening}
+use Rattle.cs_index.specs.OpenedParts.{Parts, ids_read, are_whole}
+use Rattle.cs_index.specs.Answerable.{is_answerable, asks_for}
 use Rattle.cs_index.specs.declared.fault.IndexFault.{IndexFault}
 use Rattle.cs_merge.proofs.ContentLemmas.{each_of_map}
 use Rattle.cs_history.specs.History.{History, files_of}
 use Rattle.cs_history.specs.Left.{HasLeft}
 use Rattle.cs_history.proofs.HistoryLemmas.{history_opens}
-use Rattle.cs_history.specs.Headline.{SearchPremises, indexed_names}
+use Rattle.cs_history.specs.SearchHeadline.{SearchPremises, indexed_names}
 use Rattle.cs_words.specs.declared.jobs.Tool.TheVariants.{Cgrep}
 use Rattle.cs_words.specs.declared.jobs.Style.{Style}
 use Rattle.cs_words.specs.declared.jobs.SearchJob.{SearchJob}
@@ -30,9 +31,9 @@ use Rattle.cs_words.specs.declared.fault.ToolFault.{ToolFault}
 use Rattle.cs_words.specs.declared.fault.ToolFault.TheVariants.{NoIndex, BadIndex}
 use Rattle.cs_search.specs.declared.report.TheConstants.{MOST_SEARCHED}
 use Rattle.cs_search.specs.declared.status.Status.{Status}
-use Rattle.cs_search.specs.Cgrep.{searched_by_cgrep, cgrep_printed}
+use Rattle.cs_search.specs.Cgrep.{cgrep_printed}
+use Rattle.cs_search.specs.Printed.{searched_by_cgrep, Printed}
 use Rattle.cs_search.specs.Csearch.{Seeks, IsBad, RefusedInOrder, PrintsAsPromised}
-use Rattle.cs_search.specs.Printed.{Printed}
 use Rattle.cs_search.specs.SameSearch.{IsSameSearch}
 use Rattle.cs_search.proofs.AgreementLemmas.{search_quiet}
 use Rattle.cs_search.proofs.CgrepLemmas.{cgrep_files}

@@ -2,7 +2,8 @@
 use Rattle.std.proofs.Common.{◌≡◌, ℕ, Bool, false, List, [], ◌∷◌, ◌++◌, refl, sym, ap, subst, ◌∙◌, Option, Some, None, Result, Ok, Err, ◌≢◌, ◌||◌, append_assoc, append-nil, ◌+◌, ◌<◌, length, take, drop, get_or, inl, inr}
 use Rattle.cs_tree.specs.TreeAnswers.{opening_of}
 use Rattle.cs_words.specs.FileFaults.{fault_line_of, file_fault_of}
-use Rattle.cs_tree.specs.Failures.{count_after, count_if}
+use Rattle.cs_tree.specs.Failures.{count_if}
+use Rattle.cs_tree.specs.FailureCount.{count_after}
 use Rattle.std.specs.Prelude.{option_map, map}
 use Rattle.std.proofs.lemmas.List.{take_more, map-append, take-append-drop}
 use Rattle.std.proofs.Math.Bool.{or-false, or_assoc}

@@ -1,6 +1,7 @@
 -- An input that is read piece by piece.
 use Rattle.std.proofs.Common.{◌≡◌, ℕ, ◌+◌, ◌-◌, ◌≤◌, Bool, true, false, nat_lt, cond, List, [], ◌++◌, length, take, drop, refl, sym, ap, subst, ◌∙◌, arith, append_assoc, append-nil, length-append, length-take, length-drop, Option, Some, None, ◌⊎◌, ⊎_elim}
-use Rattle.cs_tree.specs.Transfers.{Loses, IsAt, LosesAtMost}
+use Rattle.cs_tree.specs.Transfers.{Loses, IsAt}
+use Rattle.cs_tree.specs.Loss.{LosesAtMost}
 use Rattle.std.proofs.lemmas.List.{take_at, drop_at, take-append-drop, take-take, take_all, drop-drop}
 use Rattle.std.proofs.lemmas.Bool.{le-ltb, lt-ltb}
 use Rattle.cs_tree.specs.Told.{Told, Ending, Taken}

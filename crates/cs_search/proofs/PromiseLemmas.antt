@@ -13,31 +13,31 @@ use Rattle.cs_tree.specs.Reached.{read_item}
 use Rattle.cs_trigram.specs.Text.{text_trigrams, limits}
 use Rattle.cs_trigram.specs.declared.queries.Query.{Query, Query-F, fold-roll-Query}
 use Rattle.cs_trigram.specs.declared.queries.Query.TheVariants.{rolls-All}
-use Rattle.cs_trigram.specs.Query.{holds, holds_step}
-use Rattle.cs_trigram.specs.Query.{LosesNoLine}
+use Rattle.cs_trigram.specs.Query.{holds, holds_step, LosesNoLine}
 use Rattle.cs_index.specs.Image.{image, image_of}
-use Rattle.cs_index.specs.Opening.{Parts, opening, files_read, lists_in}
+use Rattle.cs_index.specs.Opening.{opening}
+use Rattle.cs_index.specs.OpenedParts.{Parts, files_read, lists_in}
 use Rattle.cs_index.proofs.WrittenLemmas.{image_opens, image_has}
 use Rattle.cs_merge.proofs.ContentLemmas.{content_indexable, ascending_sets, each_of_map}
 use Rattle.cs_history.specs.History.{History, index_of, paths_of, files_of}
-use Rattle.cs_history.specs.Jobs.{snapshot_told}
-use Rattle.cs_history.specs.Headline.{IsByJobs, IsShort, StillReads, indexed_names, SearchPremises}
+use Rattle.cs_history.specs.Premises.{snapshot_told, IsShort}
+use Rattle.cs_history.specs.SearchHeadline.{IsByJobs, StillReads, indexed_names, SearchPremises}
 use Rattle.cs_history.specs.WellFormed.{IsHistory}
 use Rattle.cs_history.proofs.HistoryLemmas.{history_content, index_is}
 use Rattle.cs_words.specs.declared.jobs.Tool.TheVariants.{Csearch, Cgrep}
 use Rattle.cs_words.specs.declared.jobs.SearchJob.{SearchJob}
 use Rattle.cs_search.specs.Searcher.{TellsAll}
 use Rattle.cs_search.specs.declared.report.TheConstants.{MOST_SEARCHED}
-use Rattle.cs_search.specs.Cgrep.{searched_by_cgrep}
+use Rattle.cs_search.specs.Printed.{searched_by_cgrep, Printed, all_printed, file_printed, PrintsSome}
 use Rattle.cs_search.specs.IndexSearch.{names_at, DecidesNames}
-use Rattle.cs_index.specs.Candidates.{candidates_of, is_answerable}
+use Rattle.cs_index.specs.Candidates.{candidates_of}
+use Rattle.cs_index.specs.Answerable.{is_answerable}
 use Rattle.cs_index.specs.Postings.{IsListFault}
 use Rattle.cs_index.specs.declared.fault.IndexFault.{IndexFault}
 use Rattle.cs_words.specs.Faults.{index_fault}
 use Rattle.cs_search.specs.Plans.{IsPlan, IsLent, RefusesPlan}
 use Rattle.cs_search.specs.declared.plan.Plan.{Plan}
 use Rattle.cs_search.specs.Csearch.{file_text, OpensWith, IsQueryOf, Asks, Seeks, ReadsAs, Agrees, names_meeting, csearch_printed, AreAccepted, IsReady, PrintsAsked, PrintsLikeCgrep, PrintsAsPromised}
-use Rattle.cs_search.specs.Printed.{Printed, all_printed, file_printed, PrintsSome}
 use Rattle.cs_search.proofs.AgreementLemmas.{search_alike}
 use Rattle.cs_search.proofs.PrintedLemmas.{PrintsSome-none}
 use Rattle.cs_search.proofs.CgrepLemmas.{decides_program}

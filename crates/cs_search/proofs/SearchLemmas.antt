@@ -4,7 +4,7 @@ use Rattle.cs_tree.specs.Taken.{EndsAfter}
 use Rattle.cs_tree.specs.Told.{Taken}
 use Rattle.cs_tree.proofs.Growing.{Grows-same}
 use Rattle.cs_tree.specs.Snapshot.{Snapshot}
-use Rattle.cs_index.specs.Opening.{Parts}
+use Rattle.cs_index.specs.OpenedParts.{Parts}
 use Rattle.cs_words.specs.declared.jobs.Tool.TheVariants.{Csearch}
 use Rattle.cs_words.specs.declared.jobs.SearchJob.{SearchJob}
 use Rattle.cs_words.specs.declared.fault.ToolFault.{ToolFault}

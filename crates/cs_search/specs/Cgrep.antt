@@ -4,15 +4,10 @@ use Rattle.cs_tree.specs.Told.{Told}
 use Rattle.cs_tree.specs.Snapshot.{Snapshot}
 use Rattle.cs_words.specs.declared.jobs.Tool.TheVariants.{Cgrep}
 use Rattle.cs_words.specs.declared.jobs.GrepJob.{GrepJob}
-use Rattle.cs_words.specs.declared.jobs.Style.{Style}
-use Rattle.cs_search.specs.Printed.{Printed, input_printed, file_printed, all_printed}
+use Rattle.cs_search.specs.Printed.{Printed, input_printed, searched_by_cgrep}
 
 abbrev pub standard_name : List ℕ
 standard_name = codes "<standard input>"
-
--- what is printed of files with these names, in this order
-unfoldable pub searched_by_cgrep : ℕ → Style → (List ℕ → Bool) → Snapshot → List (List ℕ) → Printed
-searched_by_cgrep most style finds tree names = all_printed (file_printed most Cgrep style finds tree) names
 
 -- what is printed: of standard input, or of the files in the order of the words
 unfoldable pub cgrep_printed : ℕ → GrepJob → (List ℕ → Bool) → Option Snapshot → Option Told → Option Printed

@@ -9,25 +9,24 @@ use Rattle.cs_match.specs.Finding.{Decides}
 use Rattle.cs_tree.specs.Snapshot.{Snapshot, item_at}
 use Rattle.cs_tree.specs.Reached.{read_item}
 use Rattle.cs_trigram.specs.Text.{text_trigrams, limits}
-use Rattle.cs_trigram.specs.Query.{holds}
+use Rattle.cs_trigram.specs.Query.{holds, LosesNoLine}
 use Rattle.cs_trigram.specs.declared.queries.Query.{Query}
 use Rattle.cs_trigram.specs.declared.queries.Query.TheVariants.{All}
-use Rattle.cs_trigram.specs.Query.{LosesNoLine}
 use Rattle.cs_trigram.specs.Windows.{IsSharp}
 use Rattle.cs_index.specs.Image.{Entry}
-use Rattle.cs_index.specs.Opening.{Parts, opening, files_read}
+use Rattle.cs_index.specs.Opening.{opening}
+use Rattle.cs_index.specs.OpenedParts.{Parts, files_read}
 use Rattle.cs_index.specs.declared.fault.IndexFault.{IndexFault}
 use Rattle.cs_index.specs.declared.fault.IndexFault.TheVariants.{BadList}
-use Rattle.cs_history.specs.Headline.{SearchesLikeGrep}
+use Rattle.cs_history.specs.SearchHeadline.{SearchesLikeGrep}
 use Rattle.cs_words.specs.declared.jobs.Tool.TheVariants.{Csearch}
 use Rattle.cs_words.specs.declared.jobs.Style.{Style}
 use Rattle.cs_words.specs.declared.jobs.SearchJob.{SearchJob}
 use Rattle.cs_words.specs.declared.fault.ToolFault.{ToolFault}
 use Rattle.cs_words.specs.declared.fault.ToolFault.TheVariants.{Pattern, FilePattern, NoIndex, BadIndex, Write, Memory}
-use Rattle.cs_index.specs.Candidates.{is_answerable}
+use Rattle.cs_index.specs.Answerable.{is_answerable}
 use Rattle.cs_search.specs.Refusals.{IsAccepted, IsPatternRefused}
-use Rattle.cs_search.specs.Cgrep.{searched_by_cgrep}
-use Rattle.cs_search.specs.Printed.{Printed, file_printed, all_printed}
+use Rattle.cs_search.specs.Printed.{searched_by_cgrep, Printed, file_printed, all_printed}
 
 -- ---- which files are searched
 

@@ -3,7 +3,7 @@ use Rattle.std.specs.Prelude.{ℕ, ◌≡◌, false, List, Option, string_bytes,
 use Rattle.cs_syntax.specs.Matching.{Tree}
 use Rattle.cs_syntax.specs.Reading.{Reads}
 use Rattle.cs_trigram.specs.declared.queries.Query.{Query}
-use Rattle.cs_index.specs.Opening.{Parts}
+use Rattle.cs_index.specs.OpenedParts.{Parts}
 use Rattle.cs_index.specs.Restriction.{AnswersAs}
 use Rattle.cs_words.specs.declared.jobs.SearchJob.{SearchJob}
 use Rattle.cs_words.specs.declared.fault.ToolFault.{ToolFault}

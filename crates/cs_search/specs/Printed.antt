@@ -19,6 +19,11 @@ use Rattle.cs_search.specs.declared.status.Status.TheVariants.{Matched, NoMatch}
 use Rattle.cs_tree.specs.Taken.{TakesFront, MayEnd}
 use Rattle.cs_search.specs.Report.{Report}
 use Rattle.cs_search.specs.InputReport.{told_report}
+use Rattle.cs_words.specs.declared.jobs.Tool.TheVariants.{Cgrep}
+
+-- what is printed of files with these names, in this order
+unfoldable pub searched_by_cgrep : ℕ → Style → (List ℕ → Bool) → Snapshot → List (List ℕ) → Printed
+searched_by_cgrep most style finds tree names = all_printed (file_printed most Cgrep style finds tree) names
 
 -- the fault of an input as that of a file
 abbrev pub left_fault : ReadFault → FileFault

@@ -3,7 +3,7 @@ use Rattle.std.specs.Prelude.{ℕ, ◌≡◌, Bool, List, Option, Some, None, Re
 use Rattle.cs_tree.specs.Told.{Told, Taken, Grows}
 use Rattle.cs_tree.specs.Taken.{TakesFront}
 use Rattle.cs_tree.specs.TakenAll.{TakesAll}
-use Rattle.cs_tree.specs.Transfers.{LosesAtMost}
+use Rattle.cs_tree.specs.Loss.{LosesAtMost}
 use Rattle.cs_tree.specs.Snapshot.{Snapshot, item_at}
 use Rattle.cs_tree.specs.TreeAnswers.{opening_of}
 use Rattle.cs_tree.specs.declared.fault.TreeFault.{TreeFault}

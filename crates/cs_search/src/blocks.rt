@@ -1,9 +1,10 @@
 // Searches of lines, and of blocks of lines.
 ghost use Rattle.std.specs.Prelude.{◌≡◌, ◌≤◌, ◌<◌, ◌+◌, ◌-◌, ◌^◌, ◌∷◌, [], ℕ, Bool, true, false, List, OnOk, OnErr, IfOk, IfSome, MatchBool, MatchOption, length, take, drop, count_by};
 ghost use Rattle.cs_search.specs.GrepFaults.{is_grep_failure};
-ghost use Rattle.cs_tree.specs.Failures.{count_after};
+ghost use Rattle.cs_tree.specs.FailureCount.{count_after};
 ghost use Rattle.cs_match.specs.Finding.{Decides};
-ghost use Rattle.cs_match.specs.Lines.{newline, ended_lines, IsPart};
+ghost use Rattle.cs_match.specs.Lines.{newline, ended_lines};
+ghost use Rattle.cs_match.specs.LineParts.{IsPart};
 ghost use Rattle.cs_match.specs.Skipping.{AreWhole, NoneFound};
 ghost use Rattle.cs_match.specs.Unended.{unended};
 ghost use Rattle.cs_search.specs.TestedLines.{Tests, TestsFront, IsListed};

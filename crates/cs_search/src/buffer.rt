@@ -1,7 +1,7 @@
 // The buffer that inputs are read into.
 ghost use Rattle.std.specs.Prelude.{◌≡◌, ◌≤◌, ◌<◌, ◌+◌, vec_len, length, take, drop, IfOk};
 ghost use Rattle.cs_tree.specs.Transfers.{ReadGives, is_io_failure};
-ghost use Rattle.cs_tree.specs.Failures.{count_after};
+ghost use Rattle.cs_tree.specs.FailureCount.{count_after};
 
 use cs_tree::{IoFault, Source};
 use std::alloc::{AllocError, Global};

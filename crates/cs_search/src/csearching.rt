@@ -4,7 +4,7 @@ ghost use Rattle.cs_tree.specs.Failures.{CountsOne};
 ghost use Rattle.cs_tree.specs.Taken.{EndsAfter};
 ghost use Rattle.cs_tree.specs.Told.{HasFlushed};
 ghost use Rattle.cs_match.specs.Finding.{Decides};
-ghost use Rattle.cs_index.specs.Opening.{Parts};
+ghost use Rattle.cs_index.specs.OpenedParts.{Parts};
 ghost use Rattle.cs_tree.specs.Snapshot.{Snapshot};
 ghost use Rattle.cs_words.specs.declared.jobs.Tool.TheVariants.{Csearch};
 ghost use Rattle.cs_search.specs.Searcher.{IsSearchFault, IsKept, Prints, PrintsFront, TellsAll};

@@ -1,7 +1,7 @@
 // How what is found in an input is printed.
 ghost use Rattle.std.specs.Prelude.{◌≡◌, ◌++◌, ◌∷◌, [], ℕ, true, false, IsTrue, codes, decimal, if◌then◌else◌};
 ghost use Rattle.cs_search.specs.GrepFaults.{is_grep_failure};
-ghost use Rattle.cs_tree.specs.Failures.{count_after};
+ghost use Rattle.cs_tree.specs.FailureCount.{count_after};
 ghost use Rattle.cs_match.specs.Lines.{newline};
 ghost use Rattle.cs_tree.specs.TakenAll.{TakesAll};
 ghost use Rattle.cs_search.specs.Report.{hit_line};

@@ -1,8 +1,9 @@
 // The reading of one input, and the search of what is read.
 ghost use Rattle.std.specs.Prelude.{◌≡◌, ◌≤◌, ◌<◌, ◌+◌, ◌^◌, [], ℕ, Bool, true, List, IfOk, OnErr, IsOkUnless, length};
-ghost use Rattle.cs_tree.specs.Transfers.{LosesAtMost};
+ghost use Rattle.cs_tree.specs.Loss.{LosesAtMost};
 ghost use Rattle.cs_search.specs.GrepFaults.{is_grep_failure};
-ghost use Rattle.cs_tree.specs.Failures.{count_after, count_if};
+ghost use Rattle.cs_tree.specs.Failures.{count_if};
+ghost use Rattle.cs_tree.specs.FailureCount.{count_after};
 ghost use Rattle.cs_match.specs.Finding.{Decides};
 ghost use Rattle.cs_search.specs.Buffer.{pending};
 ghost use Rattle.cs_search.specs.Progress.{StopsHere, Stops, UnlessListed, FindsBy, FindsFront, has_stop_failed};

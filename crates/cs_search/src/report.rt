@@ -1,7 +1,8 @@
 // Searches of one input.
 ghost use Rattle.std.specs.Prelude.{◌≡◌, ◌<◌, ◌+◌, ◌^◌, ℕ, Bool, List, OnOk, OnErr, IfOk};
-ghost use Rattle.cs_tree.specs.Transfers.{LosesAtMost};
-ghost use Rattle.cs_tree.specs.Failures.{count_after, count_if};
+ghost use Rattle.cs_tree.specs.Loss.{LosesAtMost};
+ghost use Rattle.cs_tree.specs.Failures.{count_if};
+ghost use Rattle.cs_tree.specs.FailureCount.{count_after};
 ghost use Rattle.cs_match.specs.Finding.{Decides};
 ghost use Rattle.cs_match.specs.Unended.{last_line};
 ghost use Rattle.cs_search.specs.GrepReports.{Reports, ReportsFront};

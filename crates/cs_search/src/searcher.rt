@@ -2,7 +2,7 @@
 ghost use Rattle.std.specs.Prelude.{◌≡◌, ◌+◌, ℕ, Bool, List, [], ◌∷◌, IfOk, OnErr, option_map, map, string_bytes};
 ghost use Rattle.cs_words.specs.FileFaults.{fault_line_of};
 ghost use Rattle.cs_tree.specs.Failures.{count_if, CountsOne};
-ghost use Rattle.cs_tree.specs.Transfers.{LosesAtMost};
+ghost use Rattle.cs_tree.specs.Loss.{LosesAtMost};
 ghost use Rattle.cs_match.specs.Finding.{Decides};
 ghost use Rattle.cs_tree.specs.TakenAll.{TakesAll};
 ghost use Rattle.cs_search.specs.Searcher.{IsSearchFault, Prints, FileLosesAtMost, PrintsFront, TellsAll};

@@ -13,7 +13,8 @@ use Rattle.std.proofs.lemmas.Bool.{le-leb, lt-ltb, ltb-true, cases_lt}
 use Rattle.std.proofs.lemmas.Option.{slice_get_within, get_or_from_slice_get}
 use Rattle.std.proofs.lemmas.List.{take_more, drop_more, drop_all, append_assoc, append-nil}
 use Rattle.cs_syntax.specs.Ranges.{is_in_ranges}
-use Rattle.cs_syntax.specs.Characters.{is_scalar, has_char, IsRun, AreRunsFrom, AreRuns, char_count_below, char_count}
+use Rattle.cs_syntax.specs.Characters.{is_scalar, has_char}
+use Rattle.cs_syntax.specs.CharRuns.{IsRun, AreRunsFrom, AreRuns, char_count_below, char_count}
 use Rattle.cs_syntax.specs.CharPlaces.{char_at, char_from, char_to}
 
 -- the test of a character, with what it tells

@@ -1,12 +1,11 @@
 -- A pattern, a bar and another pattern: the branches of both.
-use Rattle.std.proofs.Common.{◌≡◌, ℕ, zero, suc, ◌+◌, ◌<◌, ◌≤◌, Bool, true, false, cond, ◌&&◌, ◌||◌, List, [], ◌∷◌, ◌++◌, length, take, drop, refl, sym, ap, subst, ◌∙◌, inl, inr, arith, Option, Some, None}
+use Rattle.std.proofs.Common.{◌≡◌, ℕ, zero, suc, ◌+◌, ◌<◌, ◌≤◌, Bool, true, false, cond, ◌&&◌, ◌||◌, List, [], ◌∷◌, ◌++◌, length, take, drop, refl, sym, ap, subst, ◌∙◌, inl, inr, arith, Option, Some, None, length-drop}
 use Rattle.std.specs.Prelude.{nat_eq, nat_lt, nat_le, not, min, if◌then◌else◌, is_some, option_map, codes, map, chars, slice_index}
 use Rattle.std.specs.List.{prefix_len, starts_with}
 use Rattle.std.proofs.lemmas.Bool.{true≢false, cases_Bool, ltb-true, eqb-true}
 use Rattle.std.proofs.lemmas.List.Sums.{prefix_len-le-length}
-use Rattle.std.proofs.Common.{length-drop}
 use Rattle.cs_syntax.specs.Matching.{Tree, Trees, one_of, more, is_word}
-use Rattle.cs_syntax.specs.Ranges.{has}
+use Rattle.cs_syntax.specs.NumberList.{has}
 use Rattle.cs_syntax.specs.Fronts.{Front, Item, unit, repeat, bar, group_start, group_end, flags_from_here, item, fault, sequence, is_front, is_continuation, bytes_tree, char_tree}
 use Rattle.cs_syntax.specs.ByteSet.{is_letter, char_set}
 use Rattle.cs_syntax.specs.Numbers.{digit_value, is_digit, count_digits, value_in}

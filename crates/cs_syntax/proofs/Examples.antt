@@ -6,7 +6,8 @@ use Rattle.std.proofs.lemmas.Bool.Decides.{nat_tests}
 use Rattle.std.specs.Char.{encode_utf8}
 use Rattle.std.proofs.lemmas.Fmt.{decimal_digit}
 use Rattle.cs_syntax.specs.Matching.{Trees, empty, one_of, one_char, cat, alt, rep, line_start, line_end, word_edge, not_word_edge, none, more, member}
-use Rattle.cs_syntax.specs.Characters.{has_char, AreRuns, runs_through, TakesChar}
+use Rattle.cs_syntax.specs.Characters.{has_char, runs_through, TakesChar}
+use Rattle.cs_syntax.specs.CharRuns.{AreRuns}
 use Rattle.cs_syntax.specs.Lowering.{byte_range, lowered}
 use Rattle.cs_syntax.specs.ByteSet.{set_of, char_set, all_bytes}
 use Rattle.cs_syntax.specs.Bits.{has_bit}

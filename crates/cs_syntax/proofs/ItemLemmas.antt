@@ -3,14 +3,13 @@ use Rattle.std.proofs.Common.{◌≡◌, ℕ, zero, suc, ◌+◌, List, [], ◌�
 use Rattle.std.specs.Prelude.{Option, Result, Ok, Err, nat_eq}
 use Rattle.std.proofs.lemmas.List.{length-map}
 use Rattle.cs_syntax.specs.Matching.{Tree, Trees, rep, none, more}
-use Rattle.cs_syntax.specs.TreeList.{with_last}
+use Rattle.cs_syntax.specs.PartialGroups.{with_last, PartialGroup, whole_reading, with_last_unit, with_last_repeated, with_last_unit_repeated, with_last_branch, tree_so_far, empty_group}
 use Rattle.cs_syntax.specs.ItemViews.{front_view, IsFrontOf}
 use Rattle.cs_syntax.specs.declared.item.Item as items
 use Rattle.cs_syntax.specs.declared.item.Misread.{Misread}
 use Rattle.cs_syntax.specs.Fronts.{Front, Item, unit, repeat, bar, group_start, group_end, flags_from_here, item, fault}
 use Rattle.cs_syntax.specs.Items.{front}
 use Rattle.cs_syntax.specs.Reading.{Reading, refused, Group, Rest, most_open, rest, inside, with_repeat}
-use Rattle.cs_syntax.specs.PartialGroups.{PartialGroup, whole_reading, with_last_unit, with_last_repeated, with_last_unit_repeated, with_last_branch, tree_so_far, empty_group}
 use Rattle.cs_syntax.specs.ParserState.{WaitingGroup, State, group_of, reading_on, goes_on, stops, step_repeat, step_open, step_close, step, IsOperand, HasOperand, IsStop, IsRefusal}
 use Rattle.cs_syntax.specs.declared.before.Before.{Before}
 use Rattle.cs_syntax.specs.declared.before.Before.TheVariants.{Start, Operand, Counted}

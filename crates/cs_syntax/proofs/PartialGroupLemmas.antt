@@ -4,8 +4,7 @@ use Rattle.std.specs.Prelude.{Option}
 use Rattle.cs_syntax.specs.Matching.{Tree, Trees, alt, rep, none, more}
 use Rattle.cs_syntax.specs.Fronts.{sequence}
 use Rattle.cs_syntax.specs.Reading.{Level, empty_level, with_unit, with_repeat, with_bar, Rest, levels, broken, inside, with_close, with_open, tree, answer}
-use Rattle.cs_syntax.specs.PartialGroups.{PartialGroup, with_units, choice_after, group_with_rest, whole_reading, with_last_unit, with_last_branch, tree_so_far, empty_group, with_last_repeated}
-use Rattle.cs_syntax.specs.TreeList.{with_last}
+use Rattle.cs_syntax.specs.PartialGroups.{PartialGroup, with_units, choice_after, group_with_rest, whole_reading, with_last_unit, with_last_branch, tree_so_far, empty_group, with_last_repeated, with_last}
 use Rattle.cs_syntax.proofs.TreeListLemmas.{append_last}
 
 with_units_last : (us : Trees) (t : Tree) (l : Level) → with_units (with_last us t) l ≡ with_units us (with_unit t l)

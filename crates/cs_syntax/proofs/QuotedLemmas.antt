@@ -8,7 +8,7 @@ use Rattle.std.proofs.lemmas.Bool.{and_from, le-leb, lt-ltb, le-ltb, lt-leb, ne_
 use Rattle.std.proofs.lemmas.List.{take_at}
 use Rattle.std.proofs.lemmas.Str.{encode_ascii, encodes-chars}
 use Rattle.cs_syntax.specs.Matching.{Tree, one_of, none}
-use Rattle.cs_syntax.specs.Ranges.{has}
+use Rattle.cs_syntax.specs.NumberList.{has}
 use Rattle.cs_syntax.specs.ByteSet.{char_set}
 use Rattle.cs_syntax.specs.Numbers.{digit_value}
 use Rattle.cs_syntax.specs.Fronts.{sequence, item, unit, is_continuation, bytes_tree, char_tree}

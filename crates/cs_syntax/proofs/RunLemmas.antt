@@ -12,7 +12,8 @@ use Rattle.cs_syntax.specs.Ranges.{is_in_ranges}
 use Rattle.cs_syntax.specs.Matching.{differ}
 use Rattle.cs_syntax.specs.ByteSet.{is_letter, other_case, is_in_folded}
 use Rattle.cs_syntax.specs.ClassState.{is_other_case}
-use Rattle.cs_syntax.specs.Characters.{is_scalar, has_char, IsRun, AreRunsFrom, AreRuns, with_char, runs_through, runs_of}
+use Rattle.cs_syntax.specs.Characters.{is_scalar, has_char, with_char, runs_through, runs_of}
+use Rattle.cs_syntax.specs.CharRuns.{IsRun, AreRunsFrom, AreRuns}
 use Rattle.cs_syntax.specs.CharTrees.{runs_tree, chars_tree}
 use Rattle.cs_syntax.proofs.CharSetLemmas.{scalar_tells, is_in, has_char-cons, has_char-append, and_or, same_runs}
 

@@ -3,8 +3,9 @@ use Rattle.std.proofs.Common.{Bool, true, false, true≢false, ◌≡◌, ℕ, s
 use Rattle.cs_syntax.specs.Matching.{Trees, cat, alt, more, none}
 use Rattle.cs_syntax.specs.Fronts.{sequence}
 use Rattle.cs_syntax.specs.Node.{tree_of, trees_of}
-use Rattle.cs_syntax.specs.PartialGroups.{choice_after}
-use Rattle.cs_syntax.specs.TreeList.{append, with_last, any_of}
+use Rattle.cs_syntax.specs.PartialGroups.{choice_after, with_last}
+use Rattle.cs_syntax.specs.TreeList.{append}
+use Rattle.cs_syntax.specs.Lowering.{any_of}
 use Rattle.std.specs.Prelude.{if◌then◌else◌}
 use Rattle.cs_syntax.proofs.TreeListLemmas.{append_none}
 use Rattle.cs_syntax.specs.declared.node.Node.{Node}

@@ -2,7 +2,10 @@
 use Rattle.std.proofs.Common.{◌≡◌, ℕ, List, ◌⊎◌, inl, inr, refl, ap}
 use Rattle.std.specs.Prelude.{◌↔◌}
 use Rattle.cs_syntax.specs.Matching.{Tree, Trees, none, more, Takes, TakesSome}
-use Rattle.cs_syntax.specs.TreeList.{append, with_last, choice, any_of}
+use Rattle.cs_syntax.specs.TreeList.{append}
+use Rattle.cs_syntax.specs.Lowering.{any_of}
+use Rattle.cs_syntax.specs.PartialGroups.{with_last}
+use Rattle.cs_syntax.specs.Branches.{choice}
 
 pub append_assoc_trees : (ts us vs : Trees) → append (append ts us) vs ≡ append ts (append us vs)
 append_assoc_trees none us vs = refl

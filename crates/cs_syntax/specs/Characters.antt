@@ -1,7 +1,7 @@
 -- Sets of characters, as runs of numbers, and where a character stands in a line.
 -- A run is a pair of characters, and has each character from the one to the other. The Unicode standard, "Unicode
 -- scalar value" and table 3-6.
-use Rattle.std.specs.Prelude.{ℕ, ◌≡◌, ◌+◌, ◌≤◌, Bool, true, ◌||◌, ◌&&◌, nat_eq, nat_lt, nat_le, List, [], ◌∷◌, length, slice_range, count_by, encode_utf8, if◌then◌else◌}
+use Rattle.std.specs.Prelude.{ℕ, ◌≡◌, ◌+◌, Bool, true, ◌||◌, ◌&&◌, nat_eq, nat_lt, nat_le, List, [], ◌∷◌, length, slice_range, encode_utf8, if◌then◌else◌}
 use Rattle.std.specs.Char.{scalar_index}
 use Rattle.std.specs.List.{filter, range_with_len}
 use Rattle.cs_syntax.specs.Ranges.{is_in_ranges}
@@ -13,20 +13,6 @@ is_scalar c = nat_lt c 55296 || (nat_le 57344 c && nat_le c 1114111)
 -- the character is in one of the runs
 abbrev pub has_char : List (ℕ × ℕ) → ℕ → Bool
 has_char runs c = is_scalar c && is_in_ranges runs c
-
--- from one character to another, or the same
-abbrev pub IsRun : ℕ × ℕ → Type 0
-IsRun run = (run.0 ≤ run.1) × (is_scalar run.0 ≡ true) × (is_scalar run.1 ≡ true)
-
--- The runs ascend, and between each and the next one some character is left out. Characters are counted by their
--- places among all characters, so that d7ff and e000 are neighbours; the first run begins at the place `least` or later.
-abbrev pub AreRunsFrom : ℕ → List (ℕ × ℕ) → Type 0
-AreRunsFrom least [] = Unit {0}
-AreRunsFrom least (run ∷ runs) = (least ≤ scalar_index run.0) × IsRun run × AreRunsFrom (scalar_index run.1 + 2) runs
-
--- the runs are maximal, and ascend
-abbrev pub AreRuns : List (ℕ × ℕ) → Type 0
-AreRuns runs = AreRunsFrom 0 runs
 
 -- The runs with one more character, which stands before all of theirs: it joins the first run where that begins right
 -- behind it.
@@ -43,14 +29,6 @@ runs_through (c ∷ cs) = with_char c (runs_through cs)
 -- the maximal runs of the characters that pass the test
 unfoldable pub runs_of : (ℕ → Bool) → List (ℕ × ℕ)
 runs_of test = runs_through (filter (λ c. is_scalar c && test c) (range_with_len 0 1114112))
-
--- how many characters below n are in the runs
-unfoldable pub char_count_below : ℕ → List (ℕ × ℕ) → ℕ
-char_count_below n runs = count_by (has_char runs) (range_with_len 0 n)
-
--- how many characters are in the runs
-abbrev pub char_count : List (ℕ × ℕ) → ℕ
-char_count runs = char_count_below 1114112 runs
 
 -- the text stands in s from i to j
 abbrev pub StandsFrom : List ℕ → List ℕ → ℕ → ℕ → Type 0

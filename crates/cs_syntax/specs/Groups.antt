@@ -3,7 +3,7 @@
 use Rattle.std.specs.Prelude.{ℕ, ◌+◌, Bool, ◌&&◌, ◌||◌, not, List, nat_lt, nat_eq, take, drop, if◌then◌else◌}
 use Rattle.std.specs.List.{prefix_len}
 use Rattle.cs_syntax.specs.Matching.{is_word}
-use Rattle.cs_syntax.specs.Ranges.{has}
+use Rattle.cs_syntax.specs.NumberList.{has}
 use Rattle.cs_syntax.specs.Fronts.{Front, item, fault, group_start, flags_from_here, is_front}
 use Rattle.cs_syntax.specs.declared.flags.Flags.{Flags}
 use Rattle.cs_syntax.specs.declared.fault.PatternFault.TheVariants.{BadGroup, NotInProfile}

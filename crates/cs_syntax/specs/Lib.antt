@@ -1,8 +1,11 @@
 -- What public contracts rest on: what a tree takes, and what a text reads as.
 pub mod Ranges
+pub mod NumberList
 pub mod Characters
+pub mod CharRuns
 pub mod Matching
 pub mod TreeList
+pub mod Branches
 pub mod ByteSet
 pub mod Members
 pub mod CharTrees

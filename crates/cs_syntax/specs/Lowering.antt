@@ -6,8 +6,14 @@ use Rattle.std.specs.List.{list_any}
 use Rattle.cs_syntax.specs.Ranges.{is_in_ranges}
 use Rattle.cs_syntax.specs.ByteSet.{set_of}
 use Rattle.cs_syntax.specs.CharTrees.{ascii_set}
-use Rattle.cs_syntax.specs.Matching.{Tree, Trees, one_of, cat, none, more}
-use Rattle.cs_syntax.specs.TreeList.{append, any_of}
+use Rattle.cs_syntax.specs.Matching.{Tree, Trees, one_of, cat, none, more, alt}
+use Rattle.cs_syntax.specs.TreeList.{append}
+use Rattle.cs_syntax.specs.Branches.{choice}
+
+-- the same of some branches, or of none
+abbrev pub any_of : Trees → Tree
+any_of none = alt none
+any_of (more t ts) = choice t ts
 
 -- the bytes from the one to the other
 abbrev pub byte_range : ℕ → ℕ → Tree

@@ -1,10 +1,15 @@
 -- Groups that are read in part, each with what it has so far.
 use Rattle.std.specs.Prelude.{ℕ, List, [], ◌∷◌, Option}
 use Rattle.cs_syntax.specs.Matching.{Tree, Trees, alt, rep, none, more}
-use Rattle.cs_syntax.specs.TreeList.{choice, append, with_last}
+use Rattle.cs_syntax.specs.TreeList.{append}
+use Rattle.cs_syntax.specs.Branches.{choice}
 use Rattle.cs_syntax.specs.declared.fault.PatternFault.TheVariants.{OpenGroup}
 use Rattle.cs_syntax.specs.Fronts.{sequence}
 use Rattle.cs_syntax.specs.Reading.{Level, with_unit, Rest, levels, broken, Reading, tree, refused}
+
+-- one more tree at the end
+abbrev pub with_last : Trees → Tree → Trees
+with_last ts t = append ts (more t none)
 
 -- the branches of a group that are done, and the units of the one that is not
 pub record PartialGroup : Type 0 where

@@ -1,11 +1,7 @@
--- Ranges of bytes, both ends included, and lists of numbers.
+-- Ranges of bytes, both ends included.
 -- docs/PATTERNS.md, "Classes".
-use Rattle.std.specs.Prelude.{ℕ, Bool, List, [], ◌∷◌, ◌&&◌, nat_eq, nat_le}
+use Rattle.std.specs.Prelude.{ℕ, Bool, List, [], ◌∷◌, ◌&&◌, nat_le}
 use Rattle.std.specs.List.{list_any}
-
--- whether a list has the number
-abbrev pub has : List ℕ → ℕ → Bool
-has numbers n = list_any (λ m. nat_eq m n) numbers
 
 -- in one of the ranges
 abbrev pub is_in_ranges : List (ℕ × ℕ) → ℕ → Bool

@@ -2,7 +2,7 @@
 -- docs/PATTERNS.md, "Patterns" and "Faults".
 use Rattle.std.specs.Prelude.{ℕ, zero, suc, ◌+◌, ◌≡◌, Bool, false, List, [], ◌∷◌, length, Option, nat_eq, if◌then◌else◌}
 use Rattle.cs_syntax.specs.Matching.{Tree, Trees, rep, none, more}
-use Rattle.cs_syntax.specs.TreeList.{choice}
+use Rattle.cs_syntax.specs.Branches.{choice}
 use Rattle.cs_syntax.specs.Fronts.{sequence, unit, repeat, bar, group_start, group_end, flags_from_here, item, fault}
 use Rattle.cs_syntax.specs.Items.{front}
 use Rattle.cs_syntax.specs.declared.flags.Flags.{Flags}

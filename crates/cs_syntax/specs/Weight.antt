@@ -15,16 +15,11 @@ times n (Some m) = max m 1
 -- a repeat weighs as often as it may come; a set of characters as much as it has runs, and 1 without any
 abbrev mutual
   pub weight : Tree → ℕ
-  weight empty = 1
-  weight (one_of set) = 1
   weight (one_char runs) = max (length runs) 1
   weight (cat ts) = 1 + weights ts
   weight (alt ts) = 1 + weights ts
   weight (rep x n m) = 1 + times n m * weight x
-  weight line_start = 1
-  weight line_end = 1
-  weight word_edge = 1
-  weight not_word_edge = 1
+  weight part = 1
 
   pub weights : Trees → ℕ
   weights none = 0

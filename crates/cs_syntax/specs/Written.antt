@@ -2,7 +2,7 @@
 -- docs/PATTERNS.md, "Items" and "Repeats".
 use Rattle.std.specs.Prelude.{ℕ, Bool, List, [], ◌∷◌, ◌++◌, codes, decimal, flat_map, if◌then◌else◌}
 use Rattle.cs_syntax.specs.Matching.{Trees, none, more}
-use Rattle.cs_syntax.specs.Ranges.{has}
+use Rattle.cs_syntax.specs.NumberList.{has}
 use Rattle.cs_syntax.specs.Fronts.{char_tree}
 
 -- `{n,m}`

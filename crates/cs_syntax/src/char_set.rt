@@ -4,7 +4,8 @@ ghost use Rattle.std.specs.Char.{scalar_index};
 ghost use Rattle.std.specs.List.Sorted.{IsNonDecreasingBy};
 ghost use Rattle.cs_syntax.specs.Ranges.{is_in_ranges};
 ghost use Rattle.cs_syntax.specs.Matching.{differ};
-ghost use Rattle.cs_syntax.specs.Characters.{is_scalar, has_char, IsRun, AreRuns, runs_of, char_count};
+ghost use Rattle.cs_syntax.specs.Characters.{is_scalar, has_char, runs_of};
+ghost use Rattle.cs_syntax.specs.CharRuns.{IsRun, AreRuns, char_count};
 ghost use Rattle.cs_syntax.specs.CharPlaces.{char_at, char_from, char_to};
 
 use std::alloc::{AllocError, Global};
@@ -25,7 +26,7 @@ pub struct CharSet {
 
 impl Model for CharSet {
     ghost use Rattle.std.specs.Prelude.{ℕ, List};
-    ghost use Rattle.cs_syntax.specs.Characters.{AreRuns};
+    ghost use Rattle.cs_syntax.specs.CharRuns.{AreRuns};
 
     ghost Value = { List (ℕ × ℕ) };
 

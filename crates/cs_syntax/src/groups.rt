@@ -3,7 +3,7 @@ ghost use Rattle.std.specs.Prelude.{◌≡◌, ◌+◌, ◌≤◌, ◌<◌, ◌^
 ghost use Rattle.std.specs.List.{prefix_len, list_any};
 ghost use Rattle.cs_syntax.specs.Matching.{is_word};
 ghost use Rattle.cs_syntax.specs.ItemViews.{IsWithin, front_view};
-ghost use Rattle.cs_syntax.specs.Ranges.{has};
+ghost use Rattle.cs_syntax.specs.NumberList.{has};
 ghost use Rattle.cs_syntax.specs.Groups.{name, is_flag, is_cleared_flag, with_set, with_cleared, after_flags, cleared_flags, set_flags, head, group};
 
 use crate::fault::PatternFault;

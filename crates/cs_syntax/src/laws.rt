@@ -1,7 +1,8 @@
 // Laws of the definitions.
 ghost use Rattle.std.specs.Prelude.{◌↔◌, ◌≡◌, ◌≢◌, ◌<◌, ◌≤◌, ◌^◌, ◌&&◌, [], ◌∷◌, ◌++◌, ℕ, Bool, List, Some, IsUtf8};
 ghost use Rattle.std.specs.Str.{chars};
-ghost use Rattle.cs_syntax.specs.Characters.{is_scalar, has_char, AreRuns, runs_of, TakesChar};
+ghost use Rattle.cs_syntax.specs.Characters.{is_scalar, has_char, runs_of, TakesChar};
+ghost use Rattle.cs_syntax.specs.CharRuns.{AreRuns};
 ghost use Rattle.cs_syntax.specs.Decided.{IsDecided};
 ghost use Rattle.cs_syntax.specs.Levels.{HasLevels};
 ghost use Rattle.cs_syntax.specs.Lowering.{lowered};

@@ -1,9 +1,9 @@
 // Sets of characters, as trees of sets of bytes.
 ghost use Rattle.std.specs.Prelude.{ℕ, nat_lt, ◌≡◌, ◌+◌, ◌<◌, ◌≤◌, ◌^◌, ◌-◌, IfOk, OnOk};
 ghost use Rattle.std.specs.List.{list_any};
-ghost use Rattle.cs_syntax.specs.Lowering.{part, with_last_byte, forms, forms_within, wide_forms, ascii_forms, lowered};
+ghost use Rattle.cs_syntax.specs.Lowering.{part, with_last_byte, forms, forms_within, wide_forms, ascii_forms, lowered, any_of};
 ghost use Rattle.cs_syntax.specs.Node.{tree_of, trees_of};
-ghost use Rattle.cs_syntax.specs.TreeList.{append, any_of};
+ghost use Rattle.cs_syntax.specs.TreeList.{append};
 ghost use Rattle.cs_syntax.specs.Widths.{Fits};
 
 use crate::byte_set::ByteSet;

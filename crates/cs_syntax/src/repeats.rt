@@ -1,6 +1,5 @@
 // Repeats.
-ghost use Rattle.std.specs.Prelude.{◌≡◌, ◌+◌, ◌≤◌, ◌<◌, ◌^◌, ℕ, length, min, take, drop, MatchOption, IfSome, IfOk, OnOk};
-ghost use Rattle.std.specs.Prelude.{List};
+ghost use Rattle.std.specs.Prelude.{◌≡◌, ◌+◌, ◌≤◌, ◌<◌, ◌^◌, ℕ, length, min, take, drop, MatchOption, IfSome, IfOk, OnOk, List};
 ghost use Rattle.std.specs.Option.{option_map};
 ghost use Rattle.cs_syntax.specs.Fronts.{item};
 ghost use Rattle.cs_syntax.specs.ItemViews.{IsWithin, item_view, front_view};

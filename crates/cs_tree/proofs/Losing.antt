@@ -1,6 +1,7 @@
 -- Reads one after another.
 use Rattle.std.proofs.Common.{◌≡◌, ◌≤◌, ℕ, ◌+◌, ◌-◌, List, sym, ap, ◌∙◌, drop, length, Option, Some, None, arith, length-append}
-use Rattle.cs_tree.specs.Transfers.{Loses, LosesAtMost}
+use Rattle.cs_tree.specs.Transfers.{Loses}
+use Rattle.cs_tree.specs.Loss.{LosesAtMost}
 use Rattle.std.proofs.Math.Seq.{drop-append_seam}
 use Rattle.cs_tree.specs.Told.{Told}
 

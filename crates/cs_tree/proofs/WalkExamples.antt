@@ -1,6 +1,6 @@
 -- Worked rows of walks, by computation.
 use Rattle.std.proofs.Common.{◌≡◌, true, false, [], ◌∷◌, Some, None, refl}
-use Rattle.cs_tree.specs.NameOrder.{are_ascending}
+use Rattle.cs_tree.specs.NamesAscending.{are_ascending}
 use Rattle.std.specs.Prelude.{codes}
 use Rattle.cs_tree.specs.Reached.{is_left_out}
 use Rattle.cs_tree.specs.Snapshot.{folder, cut, other, bad, missing}

@@ -1,8 +1,7 @@
 -- What cleaning answers.
-use Rattle.std.specs.Prelude.{◌≡◌, ◌⊎◌, Option, Some, None, Result, Ok, Err}
+use Rattle.std.specs.Prelude.{◌≡◌, ◌⊎◌, Option, Some, None, Result, Ok, Err, String}
 use Rattle.cs_tree.specs.declared.cleaning.PathFault.{PathFault}
 use Rattle.cs_tree.specs.declared.cleaning.PathFault.TheVariants.{TooLong, Memory}
-use Rattle.std.specs.Prelude.{String}
 use Rattle.std.specs.declared.alloc.Global.{Global}
 
 -- The answer is that of the first test that fails, but that memory may run out before a path is known to

@@ -35,7 +35,3 @@ is_covered paths name = list_any (λ path. covers path name) (set.items paths)
 -- the paths that no other one covers: the minimal elements of the order that covering is
 abbrev pub least : Paths → Paths
 least paths = set.retain paths (λ path. not (list_any (λ other. covers other path && not (same other path)) (set.items paths)))
-
--- the paths of a list that no other one covers, in order
-abbrev pub least_of : List (List ℕ) → List (List ℕ)
-least_of paths = set.items (least (set.from_list paths))

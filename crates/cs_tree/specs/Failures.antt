@@ -1,6 +1,6 @@
 -- How calls that fail are counted: each failure once, up to 2^64 - 1, where the count stays.
 -- docs/PROMISES.md, "Sources and sinks".
-use Rattle.std.specs.Prelude.{◌≡◌, ◌<◌, ◌≤◌, ◌⊎◌, ℕ, ◌+◌, Bool, true, false, nat_lt, if◌then◌else◌, Result, Ok, Err}
+use Rattle.std.specs.Prelude.{◌≡◌, ◌⊎◌, ℕ, ◌+◌, Bool, true, false, nat_lt, if◌then◌else◌}
 
 -- the count after one more failure
 abbrev pub risen : ℕ → ℕ
@@ -11,16 +11,7 @@ abbrev pub count_if : Bool → ℕ → ℕ
 count_if true n = risen n
 count_if false n = n
 
--- the count after an answer, where a test tells which faults are failures: want of memory is none
-abbrev pub count_after : {A E : Type 0} → (E → Bool) → Result A E → ℕ → ℕ
-count_after is_failure (Ok answer) n = n
-count_after is_failure (Err fault) n = count_if (is_failure fault) n
-
 -- the counts of two outputs, after an answer that says whether a call of one of them has failed
 abbrev pub CountsOne : Bool → ℕ → ℕ → ℕ → ℕ → Type 0
 CountsOne true out out' err err' = ((out' ≡ risen out) × (err' ≡ err)) ⊎ ((out' ≡ out) × (err' ≡ risen err))
 CountsOne false out out' err err' = (out' ≡ out) × (err' ≡ err)
-
--- some call has failed: the count rose, or stands at its end
-abbrev pub HasFailed : ℕ → ℕ → Type 0
-HasFailed old new = (old < new) ⊎ (18446744073709551615 ≤ new)

@@ -1,10 +1,11 @@
 -- How reads and writes change what is told of a source and of a sink. Where nothing is told nothing is asked.
 -- docs/PROMISES.md, "Sources and sinks".
-use Rattle.std.specs.Prelude.{◌≡◌, ℕ, ◌+◌, ◌-◌, ◌<◌, ◌≤◌, List, [], ◌++◌, length, take, drop, Option, Some, None, Result, Ok, Err, MatchResult, Vec, Bool, true, false}
+use Rattle.std.specs.Prelude.{◌≡◌, ℕ, ◌+◌, ◌<◌, ◌≤◌, List, [], ◌++◌, length, take, Option, Some, None, Result, Ok, Err, MatchResult, Vec, Bool, true, false}
 use Rattle.std.specs.declared.alloc.Global.{Global}
 use Rattle.cs_tree.specs.declared.fault.IoFault.{IoFault}
 use Rattle.cs_tree.specs.declared.fault.IoFault.TheVariants.{Failed, Memory}
 use Rattle.cs_tree.specs.Told.{Ending, Told, Taken, Grows, GrowsFlushed, ends, fails}
+use Rattle.cs_tree.specs.Loss.{LosesAtMost}
 
 -- what is told loses these bytes at its front, and its ending stays
 abbrev pub Loses : Option Told → Option Told → List ℕ → Type 0
@@ -26,13 +27,6 @@ RefusedBy Memory told = Unit {0}
 abbrev pub ReadGives : Option Told → Option Told → Result ℕ IoFault → List ℕ → Type 0
 ReadGives told later answer buf =
     MatchResult answer (λ n. Loses told later (take n buf) × (n ≡ 0 → 0 < length buf → IsAt ends later)) (λ fault. Loses told later [] × RefusedBy fault later)
-
--- what is told loses at most so many bytes, at its front
-abbrev pub LosesAtMost : ℕ → Option Told → Option Told → Type 0
-LosesAtMost most None later = Unit {0}
-LosesAtMost most (Some told) None = ⊥
-LosesAtMost most (Some told) (Some rest) =
-    (rest.bytes ≡ drop (length told.bytes - length rest.bytes) told.bytes) × (length told.bytes ≤ most + length rest.bytes) × (told.ending ≡ rest.ending)
 
 -- a reading up to a limit has failed only where the bytes are within the limit, and failure follows them
 abbrev pub FailsWithin : ℕ → IoFault → Option Told → Type 0

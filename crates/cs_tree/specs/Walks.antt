@@ -1,11 +1,11 @@
 -- What a walk finds below its paths: the files that it comes to, and why other paths are left.
 -- docs/FORMAT.md, "Paths and names".
 use Rattle.std.specs.Prelude.{◌≡◌, ◌≤◌, ℕ, Bool, true, false, ◌&&◌, nat_le, if◌then◌else◌, List, [], ◌∷◌, map, length, Option, Some, None, String, string_bytes}
-use Rattle.cs_tree.specs.Failures.{HasFailed}
+use Rattle.cs_tree.specs.FailureCount.{HasFailed}
 use Rattle.cs_tree.specs.TreeAnswers.{fault_of}
 use Rattle.cs_tree.specs.Folders.{child, lists, IsTree, name_of}
 use Rattle.cs_tree.specs.PathSet.{Paths}
-use Rattle.cs_tree.specs.NameOrder.{are_ascending}
+use Rattle.cs_tree.specs.NamesAscending.{are_ascending}
 use Rattle.std.specs.List.{AllByRecursion}
 use Rattle.std.specs.declared.alloc.Global.{Global}
 use Rattle.cs_tree.specs.PathSet as set

@@ -1,6 +1,6 @@
 // A tree of which one call fails.
 ghost use Rattle.std.specs.Prelude.{◌≡◌, ◌≢◌, ◌≤◌, ◌-◌, ℕ, Option, None, IfOk, IfErr, Ok, Err, length, true, nat_eq};
-ghost use Rattle.cs_tree.specs.Failures.{count_after};
+ghost use Rattle.cs_tree.specs.FailureCount.{count_after};
 ghost use Rattle.cs_tree.specs.Folders.{are_names};
 ghost use Rattle.cs_tree.specs.Fuses.{Blows};
 ghost use Rattle.cs_tree.specs.Trees.{Answers, Opens, TreeReadGives, IsReadFault, is_tree_failure, kind_of, listing_of, listing_told, names_told};

@@ -1,7 +1,7 @@
 // Names in order.
 ghost use Rattle.std.specs.Prelude.{◌≡◌, ℕ, List, true, map, string_bytes};
 ghost use Rattle.cs_tree.specs.Cover.{is_among};
-ghost use Rattle.cs_tree.specs.NameOrder.{are_ascending};
+ghost use Rattle.cs_tree.specs.NamesAscending.{are_ascending};
 
 /// Puts names in order, each once.
 pub(crate) fn order_names(names: &mut Vec<String>)

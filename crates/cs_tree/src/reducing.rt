@@ -3,7 +3,8 @@ ghost use Rattle.std.specs.Prelude.{◌≡◌, ◌∷◌, [], ◌&&◌, not, map
 ghost use Rattle.cs_tree.specs.NameOrder.{bytes_cmp};
 ghost use Rattle.std.specs.List.{list_any};
 ghost use Rattle.std.specs.List.Sorted.{IsStrictlySortedBy};
-ghost use Rattle.cs_tree.specs.Cover.{begins, is_among, least_of, same, slash};
+ghost use Rattle.cs_tree.specs.Cover.{begins, is_among, same, slash};
+ghost use Rattle.cs_tree.specs.LeastPaths.{least_of};
 ghost use Rattle.cs_tree.specs.PathParts.{texts};
 ghost use Rattle.cs_tree.specs.PathSet as set;
 ghost use Rattle.cs_tree.specs.Reducing.{other_covers, lies_below, paths_alone};

@@ -1,7 +1,7 @@
 // The system's readers and writers, by std's `Read` and `Write`.
 ghost use Rattle.std.specs.Prelude.{◌≡◌, ◌≢◌, ◌≤◌, ◌<◌, ℕ, List, [], Option, None, Ok, Err, IfOk, MatchResult, length};
 ghost use Rattle.cs_tree.specs.Transfers.{ReadGives, Writes, is_io_failure};
-ghost use Rattle.cs_tree.specs.Failures.{count_after};
+ghost use Rattle.cs_tree.specs.FailureCount.{count_after};
 ghost use Rattle.cs_tree.specs.Told.{Told, Grows};
 
 use crate::again::{flush_again, read_again, write_again};

@@ -2,7 +2,7 @@
 ghost use Rattle.std.specs.Prelude.{◌≡◌, ◌≢◌, ◌≤◌, ◌++◌, ℕ, List, true, map, string_bytes, OnOk, IfOk, MatchResult, Contains, ◌<◌, ◌^◌, length};
 ghost use Rattle.cs_tree.specs.Folders.{child, name_of};
 ghost use Rattle.cs_tree.specs.Clean.{longest_path};
-ghost use Rattle.cs_tree.specs.NameOrder.{are_ascending};
+ghost use Rattle.cs_tree.specs.NamesAscending.{are_ascending};
 ghost use Rattle.cs_tree.specs.Trees.{AsksWithin};
 ghost use Rattle.cs_tree.specs.PathSet as set;
 ghost use Rattle.cs_tree.specs.Reached.{reaches, is_left_out as is_left_out', ends_in_tilde as ends_in_tilde'};

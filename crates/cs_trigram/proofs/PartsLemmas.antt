@@ -1,8 +1,7 @@
 -- Which parts of a file are remembered, and which are fresh.
-use Rattle.std.proofs.Common.{◌≡◌, ◌≤◌, ◌<◌, ℕ, ◌+◌, ◌*◌, ◌/◌, ◌%◌, ◌^◌, List, [], ◌∷◌, ◌++◌, length, take, drop, get_or, set, refl, sym, ap, subst, ◌∙◌, inl, inr, ◌⊎◌, arith, length-set, get_or-set_same, get_or-set_other}
+use Rattle.std.proofs.Common.{◌≡◌, ◌≤◌, ◌<◌, ℕ, ◌+◌, ◌*◌, ◌/◌, ◌%◌, ◌^◌, List, [], ◌∷◌, ◌++◌, length, take, drop, get_or, set, refl, sym, ap, subst, ◌∙◌, inl, inr, ◌⊎◌, arith, length-set, get_or-set_same, get_or-set_other, append_assoc, take_all}
 use Rattle.std.proofs.lemmas.Bool.{false≢true, cases_eq, or_cases, or_left, or_right}
 use Rattle.std.proofs.lemmas.List.{set-get_or, append-nil, take-set-le, drop_all, take_more}
-use Rattle.std.proofs.Common.{append_assoc, take_all}
 use Rattle.cs_trigram.specs.Trigram.{trigram_sequence, has}
 use Rattle.cs_trigram.specs.SixBytes.{part_trigrams, parts_trigrams, file_of, AreAmong, Remembers, AreFresh}
 use Rattle.cs_trigram.proofs.SetLemmas.{has-append}

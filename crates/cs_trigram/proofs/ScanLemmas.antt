@@ -1,6 +1,7 @@
 -- A scan on its way: one more piece is read.
 use Rattle.std.proofs.Common.{◌≡◌, ◌≤◌, ℕ, ◌+◌, List, [], ◌++◌, length, Option, Some, None, Result, Ok, Err, take, sym, ap, subst, ◌∙◌, arith, length-append, append_assoc}
-use Rattle.cs_tree.specs.Transfers.{Loses, IsAt, LosesAtMost}
+use Rattle.cs_tree.specs.Transfers.{Loses, IsAt}
+use Rattle.cs_tree.specs.Loss.{LosesAtMost}
 use Rattle.cs_trigram.specs.Scans.{found_or, found_at, text, left_out, unread}
 use Rattle.cs_trigram.specs.Ended.{SaysOf, IsRightOf}
 use Rattle.cs_tree.specs.Told.{Told, Ending, ends, fails}

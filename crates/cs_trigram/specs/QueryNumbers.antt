@@ -1,6 +1,6 @@
 -- The numbers in a query are those of trigrams.
 use Rattle.std.specs.Prelude.{Bool, true, nat_lt}
-use Rattle.cs_trigram.specs.Trigram.{trigram_count}
+use Rattle.cs_trigram.specs.TrigramSets.{trigram_count}
 use Rattle.std.specs.List.{list_all}
 use Rattle.cs_trigram.specs.declared.queries.Query.{Query}
 use Rattle.cs_trigram.specs.declared.queries.Query.TheOpen.{Query-F}

@@ -10,7 +10,8 @@ use Rattle.cs_trigram.specs.declared.scan.ScanFault.{ScanFault}
 use Rattle.cs_trigram.specs.declared.scan.ScanFault.TheVariants as fault
 use Rattle.cs_trigram.specs.declared.scan.Gathered.{Gathered}
 use Rattle.cs_trigram.specs.declared.scan.Gathered.TheVariants as gathered
-use Rattle.cs_trigram.specs.Trigram.{tri, set_of_numbers, IsTrigramSet}
+use Rattle.cs_trigram.specs.Trigram.{tri, set_of_numbers}
+use Rattle.cs_trigram.specs.TrigramSets.{IsTrigramSet}
 use Rattle.cs_trigram.specs.Text.{first_broken, skip}
 
 -- a text, with its trigrams and how many bytes it has; why a file is left out; or that a read failed

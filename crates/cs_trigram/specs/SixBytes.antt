@@ -1,6 +1,7 @@
 -- The parts of six bytes that are remembered of a file. A text repeats itself, and what it repeats has no new trigram.
 use Rattle.std.specs.Prelude.{◌≡◌, ℕ, ◌+◌, ◌/◌, ◌%◌, ◌^◌, ◌<◌, ◌≤◌, true, List, [], ◌∷◌, ◌++◌, length, take, slice_index}
-use Rattle.cs_trigram.specs.Trigram.{trigram_count, trigram_sequence, has}
+use Rattle.cs_trigram.specs.Trigram.{trigram_sequence, has}
+use Rattle.cs_trigram.specs.TrigramSets.{trigram_count}
 
 -- the trigrams of a part of six bytes, whose number has them as its low 48 bits
 abbrev pub part_trigrams : ℕ → List ℕ

@@ -1,12 +1,7 @@
 -- The trigrams of some bytes: the numbers of all their parts of three bytes.
 -- docs/FORMAT.md, "Which files are text"; the article "Regular Expression Matching with a Trigram Index".
 use Rattle.std.specs.Prelude.{ℕ, ◌+◌, ◌*◌, ◌<◌, nat_eq, nat_lt, if◌then◌else◌, List, [], ◌∷◌}
-use Rattle.std.specs.List.{AllByRecursion}
-pub use Rattle.cs_syntax.specs.Ranges.{has}
-
--- how many numbers three bytes have: 2^24
-abbrev pub trigram_count : ℕ
-trigram_count = 16777216
+pub use Rattle.cs_syntax.specs.NumberList.{has}
 
 -- the number of three bytes
 abbrev pub trigram : ℕ → ℕ → ℕ → ℕ
@@ -44,7 +39,3 @@ tri bytes = set_of_numbers (trigram_sequence bytes)
 -- ff ff ff, which no file has: an index ends its lists with it
 abbrev pub closing_trigram : ℕ
 closing_trigram = 16777215
-
--- the members of a set of trigrams of some file, ascending
-abbrev pub IsTrigramSet : List ℕ → Type 0
-IsTrigramSet trigrams = Ascends trigrams × AllByRecursion (λ n. n < closing_trigram) trigrams

@@ -2,7 +2,8 @@
 ghost use Rattle.std.specs.Prelude.{◌≡◌, ◌<◌, ℕ, Bool, true, Contains, IsTrue, IfOk, OnOk};
 ghost use Rattle.cs_trigram.specs.QueryNumbers.{are_trigrams};
 ghost use Rattle.std.specs.List.{list_all};
-ghost use Rattle.cs_trigram.specs.Trigram.{trigram, trigram_count};
+ghost use Rattle.cs_trigram.specs.Trigram.{trigram};
+ghost use Rattle.cs_trigram.specs.TrigramSets.{trigram_count};
 ghost use Rattle.cs_trigram.specs.Query.{holds};
 ghost use Rattle.cs_trigram.specs.declared.queries.Query.TheVariants.{Tri};
 ghost use Rattle.cs_trigram.specs.Sample.{all_hold, some_holds, AsksToo, NumbersToo, AsksForText, AsksForWord};

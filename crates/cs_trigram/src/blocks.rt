@@ -1,7 +1,7 @@
 // The blocks of a file, and the two bytes in front of each.
 ghost use Rattle.std.specs.Prelude.{◌≡◌, ◌+◌, ◌<◌, ◌≤◌, ℕ, List, ◌++◌, length, take, drop, IfOk};
 ghost use Rattle.cs_tree.specs.Transfers.{ReadGives, is_io_failure};
-ghost use Rattle.cs_tree.specs.Failures.{count_after};
+ghost use Rattle.cs_tree.specs.FailureCount.{count_after};
 ghost use Rattle.cs_trigram.specs.Blocks.{last_two, Carries};
 
 use cs_tree::{IoFault, Source};

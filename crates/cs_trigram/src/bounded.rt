@@ -1,8 +1,8 @@
 // A scanner with limits of its own.
 ghost use Rattle.std.specs.Prelude.{◌≡◌, ◌+◌, IfOk};
-ghost use Rattle.cs_tree.specs.Transfers.{LosesAtMost};
+ghost use Rattle.cs_tree.specs.Loss.{LosesAtMost};
 ghost use Rattle.cs_trigram.specs.Scans.{IsRight, HasTrigramSet, IsRightGathering, GathersOnce, is_scan_failure};
-ghost use Rattle.cs_tree.specs.Failures.{count_after};
+ghost use Rattle.cs_tree.specs.FailureCount.{count_after};
 ghost use Rattle.cs_trigram.specs.Small.{IsSmall};
 
 use crate::gatherer::Gatherer;

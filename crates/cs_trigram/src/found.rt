@@ -1,6 +1,7 @@
 // The trigrams that were found in a file.
 ghost use Rattle.std.specs.Prelude.{◌≡◌, ◌+◌, ◌*◌, ◌-◌, ◌<◌, ◌≤◌, ◌^◌, ℕ, List, [], ◌∷◌, ◌++◌, length, vec_len, IfOk, IsTrue, ◌↔◌, nat_lt};
-ghost use Rattle.cs_trigram.specs.Trigram.{trigram_count, trigram_sequence};
+ghost use Rattle.cs_trigram.specs.Trigram.{trigram_sequence};
+ghost use Rattle.cs_trigram.specs.TrigramSets.{trigram_count};
 ghost use Rattle.cs_trigram.specs.TrigramMarks.{Marks, Collects, CollectsOn};
 ghost use Rattle.cs_trigram.specs.SixBytes.{part_trigrams, parts_trigrams};
 

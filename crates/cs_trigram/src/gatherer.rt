@@ -1,12 +1,13 @@
 // The trigrams of a file, gathered block by block.
 ghost use Rattle.std.specs.Prelude.{◌≡◌, ◌+◌, ◌<◌, ◌≤◌, ◌^◌, ℕ, List, [], None, Ok, length, IfOk};
 ghost use Rattle.std.specs.List.{AllByRecursion};
-ghost use Rattle.cs_tree.specs.Transfers.{LosesAtMost};
-ghost use Rattle.cs_tree.specs.Failures.{count_after};
+ghost use Rattle.cs_tree.specs.Loss.{LosesAtMost};
+ghost use Rattle.cs_tree.specs.FailureCount.{count_after};
 ghost use Rattle.cs_tree.specs.Told.{ends};
 ghost use Rattle.cs_trigram.specs.Scans.{Finding, found_at, is_scan_failure, SaysInAnyOrder, GathersOnce, IsRight, HasTrigramSet};
 ghost use Rattle.cs_trigram.specs.Text.{first_broken};
-ghost use Rattle.cs_trigram.specs.Trigram.{trigram_count, set_of_numbers};
+ghost use Rattle.cs_trigram.specs.Trigram.{set_of_numbers};
+ghost use Rattle.cs_trigram.specs.TrigramSets.{trigram_count};
 ghost use Rattle.cs_trigram.specs.Small.{IsSmall};
 ghost use Rattle.cs_trigram.specs.Found.{Knows, IsSound, numbers_of};
 ghost use Rattle.cs_trigram.specs.Ended.{SaysOf, IsRightOf, HasNumbers};

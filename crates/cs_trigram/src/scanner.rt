@@ -1,8 +1,8 @@
 // The scanner of files that are indexed.
 ghost use Rattle.std.specs.Prelude.{◌≡◌, ◌+◌, IfOk};
-ghost use Rattle.cs_tree.specs.Transfers.{LosesAtMost};
+ghost use Rattle.cs_tree.specs.Loss.{LosesAtMost};
 ghost use Rattle.cs_trigram.specs.Scans.{IsRight, HasTrigramSet, IsRightGathering, GathersOnce, is_scan_failure};
-ghost use Rattle.cs_tree.specs.Failures.{count_after};
+ghost use Rattle.cs_tree.specs.FailureCount.{count_after};
 ghost use Rattle.cs_trigram.specs.Text.{limits};
 
 use crate::gatherer::Gatherer;

@@ -4,7 +4,7 @@ ghost use Rattle.cs_syntax.specs.Matching.{Tree, one_of, one_char, rep};
 ghost use Rattle.cs_trigram.specs.FiniteWords.{is_finite, HasWord};
 ghost use Rattle.cs_trigram.specs.Sample.{with_byte, with_words, IsSample};
 ghost use Rattle.cs_trigram.specs.CharWords.{run_forms, with_char};
-ghost use Rattle.cs_syntax.specs.Characters.{IsRun};
+ghost use Rattle.cs_syntax.specs.CharRuns.{IsRun};
 ghost use Rattle.cs_trigram.specs.Counted.{Counts};
 
 use crate::counted::Counted;

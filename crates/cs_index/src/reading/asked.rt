@@ -2,7 +2,7 @@
 ghost use Rattle.std.specs.Prelude.{◌≡◌, ◌||◌, ℕ, IfOk, OnOk};
 ghost use Rattle.std.specs.List.{list_any};
 ghost use Rattle.cs_trigram.specs.Trigram.{has, Ascends};
-ghost use Rattle.cs_index.specs.Candidates.{asks_for};
+ghost use Rattle.cs_index.specs.Answerable.{asks_for};
 
 use cs_trigram::Query;
 use std::alloc::{AllocError, Global};

@@ -1,6 +1,6 @@
 // Numbers and strings in the bytes of an index.
 ghost use Rattle.std.specs.Prelude.{◌≡◌, ◌≢◌, ◌≤◌, ◌<◌, ◌+◌, ◌++◌, [], ◌∷◌, ℕ, List, Option, length, IfSome, IfNone, slice_get, true, false, ◌||◌};
-ghost use Rattle.cs_tree.specs.NameOrder.{are_ascending};
+ghost use Rattle.cs_tree.specs.NamesAscending.{are_ascending};
 ghost use Rattle.cs_index.specs.SectionsRead.{HasNoText};
 ghost use Rattle.std.specs.List.{AllByRecursion};
 ghost use Rattle.std.specs.Option.{option_copied};

@@ -5,7 +5,8 @@ ghost use Rattle.cs_index.specs.Sifting.{AreMarkedToo, common_ids, names_of_each
 ghost use Rattle.cs_trigram.specs.Trigram.{has, Ascends};
 ghost use Rattle.std.specs.List.{list_all, list_any, range_with_len};
 ghost use Rattle.cs_index.specs.Opening.{rises};
-ghost use Rattle.cs_index.specs.Candidates.{candidates_of, is_answerable};
+ghost use Rattle.cs_index.specs.Candidates.{candidates_of};
+ghost use Rattle.cs_index.specs.Answerable.{is_answerable};
 ghost use Rattle.cs_trigram.specs.declared.queries.Query.{Query as Query'};
 ghost use Rattle.cs_trigram.specs.declared.queries.Query.TheVariants.{Tri};
 

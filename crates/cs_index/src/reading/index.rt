@@ -1,11 +1,12 @@
 // The reader of an index.
 ghost use Rattle.std.specs.Prelude.{◌≡◌, ◌==◌, ◌<◌, ◌^◌, ℕ, List, Err, IfOk, IfErr, length, slice_get, option_map};
 ghost use Rattle.cs_index.specs.Postings.{entry_of};
-ghost use Rattle.cs_tree.specs.NameOrder.{are_ascending};
+ghost use Rattle.cs_tree.specs.NamesAscending.{are_ascending};
 ghost use Rattle.cs_index.specs.SectionsRead.{IsRead};
 ghost use Rattle.std.specs.Option.{option_copied, option_map_or};
 ghost use Rattle.cs_index.specs.Image.{ListEntry};
-ghost use Rattle.cs_index.specs.Opening.{ids_read, opening, read_sections};
+ghost use Rattle.cs_index.specs.Opening.{opening, read_sections};
+ghost use Rattle.cs_index.specs.OpenedParts.{ids_read};
 ghost use Rattle.cs_index.specs.Cut.{lent_sections};
 ghost use Rattle.cs_index.specs.Parts.{AreParts};
 ghost use Rattle.cs_index.specs.Starts.{AreRead, with_lists};
@@ -25,7 +26,7 @@ pub struct Index<'a> {
 }
 
 impl<'a> Model for Index<'a> {
-    ghost use Rattle.cs_index.specs.Opening.{Parts};
+    ghost use Rattle.cs_index.specs.OpenedParts.{Parts};
 
     ghost Value = { Parts };
 

@@ -1,6 +1,6 @@
 // The ids of an index in the order of their names.
 ghost use Rattle.std.specs.Prelude.{◌≡◌, IfOk, List, ℕ, option_map, map};
-ghost use Rattle.cs_tree.specs.NameOrder.{are_ascending};
+ghost use Rattle.cs_tree.specs.NamesAscending.{are_ascending};
 ghost use Rattle.cs_index.specs.Order.{IsOrderOf, with_ids, lent_names, name_in, id_in};
 
 use crate::reading::index::Index;

@@ -1,6 +1,6 @@
 // An index of which the lists were read that a query asks for.
 ghost use Rattle.std.specs.Prelude.{◌≡◌, IfOk, IfSome, length};
-ghost use Rattle.cs_tree.specs.Failures.{count_after};
+ghost use Rattle.cs_tree.specs.FailureCount.{count_after};
 ghost use Rattle.cs_tree.specs.Transfers.{is_io_failure};
 ghost use Rattle.cs_index.specs.Restriction.{AnswersAs};
 ghost use Rattle.cs_index.specs.Stored.{LiesBefore, whole_of};
@@ -26,7 +26,7 @@ pub struct Restriction {
 }
 
 impl Model for Restriction {
-    ghost use Rattle.cs_index.specs.Opening.{Parts};
+    ghost use Rattle.cs_index.specs.OpenedParts.{Parts};
 
     ghost Value = { Parts };
 

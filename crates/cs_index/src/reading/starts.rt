@@ -1,7 +1,7 @@
 // Where the sections of an index in a store begin.
 ghost use Rattle.std.specs.Prelude.{◌≡◌, ◌+◌, ◌-◌, ◌≤◌, ◌<◌, ◌^◌, List, ℕ, length, IfOk, IfErr, IfSome, Err, IsTrue};
 ghost use Rattle.cs_tree.specs.Store.{part_of};
-ghost use Rattle.cs_tree.specs.Failures.{count_after};
+ghost use Rattle.cs_tree.specs.FailureCount.{count_after};
 ghost use Rattle.cs_tree.specs.Transfers.{is_io_failure};
 ghost use Rattle.cs_index.specs.Starts.{AreDisordered, AreGiven, AreInOrder, IsCutAt, is_tail};
 

@@ -1,6 +1,6 @@
 // An index that lies in a store: what of it is held in memory.
 ghost use Rattle.std.specs.Prelude.{◌≡◌, ◌≤◌, ◌<◌, ◌^◌, length, IfOk, IfSome};
-ghost use Rattle.cs_tree.specs.Failures.{count_after};
+ghost use Rattle.cs_tree.specs.FailureCount.{count_after};
 ghost use Rattle.cs_tree.specs.Transfers.{is_io_failure};
 ghost use Rattle.cs_index.specs.Starts.{AreInOrder, sections_at};
 ghost use Rattle.cs_index.specs.Stored.{LiesBefore, OpensAs, ReadsAs};

@@ -5,7 +5,7 @@ ghost use Rattle.cs_trigram.specs.Scans.{AreTrigramsOnce};
 ghost use Rattle.std.specs.List.{AllByRecursion};
 ghost use Rattle.cs_index.specs.Image.{image, image_of, names_of};
 ghost use Rattle.cs_index.specs.Gathering.{AreDistinct};
-ghost use Rattle.cs_index.specs.Spelling.{IsIndexable};
+ghost use Rattle.cs_index.specs.Indexable.{IsIndexable};
 ghost use Rattle.cs_index.specs.Built.{with_name, are_paths, files_of, is_above, is_storable, IsBuilt, IsOneTooMany, IsOutOfOrder, most_names, paths_of};
 
 use crate::fault::BuildFault;

@@ -7,7 +7,7 @@ ghost use Rattle.cs_tree.specs.Cover.{begins, is_among, same, slash};
 ghost use Rattle.cs_tree.specs.Reducing.{lies_below, other_covers};
 ghost use Rattle.cs_index.specs.Built.{are_paths, are_reduced, is_storable};
 ghost use Rattle.cs_index.specs.Ascending.{is_alone};
-ghost use Rattle.cs_tree.specs.NameOrder.{are_ascending};
+ghost use Rattle.cs_tree.specs.NamesAscending.{are_ascending};
 
 use cs_tree::is_absolute;
 

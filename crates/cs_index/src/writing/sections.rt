@@ -5,7 +5,7 @@ ghost use Rattle.cs_index.specs.IdStream.{ids_in, next_after, IsStream};
 ghost use Rattle.std.specs.List.{AllByRecursion};
 ghost use Rattle.cs_index.specs.Rising.{moved};
 ghost use Rattle.cs_index.specs.Image.{image_of, IsString};
-ghost use Rattle.cs_index.specs.Spelling.{IsIndexable};
+ghost use Rattle.cs_index.specs.Indexable.{IsIndexable};
 ghost use Rattle.cs_index.specs.Built.{are_paths, is_above, is_storable};
 ghost use Rattle.cs_index.specs.Laid.{entries_laid, last_ids, with_laid_name, with_last_id, with_last_ids, with_list, with_posting, AllBelow};
 

@@ -1,9 +1,8 @@
 // Strings in a row.
-ghost use Rattle.std.specs.Prelude.{◌≡◌, ◌<◌, ◌+◌, ◌-◌, ◌^◌, ◌++◌, ◌∷◌, [], List, ℕ, Option, length, OnOk, OnErr, slice_get, true, IsTrue, ◌↔◌, flat_map};
+ghost use Rattle.std.specs.Prelude.{◌≡◌, ◌<◌, ◌+◌, ◌-◌, ◌^◌, ◌++◌, ◌∷◌, [], List, ℕ, Option, length, OnOk, OnErr, slice_get, true, IsTrue, ◌↔◌, flat_map, map, take, drop, string_bytes, IfOk};
 ghost use Rattle.std.specs.Option.{option_copied};
 ghost use Rattle.cs_index.specs.Image.{strings_section, name_offsets, concat, with_nul, four_bytes, IsString};
 ghost use Rattle.cs_index.specs.Built.{are_paths, is_above, is_storable};
-ghost use Rattle.std.specs.Prelude.{map, take, drop, string_bytes, IfOk};
 ghost use Rattle.std.specs.List.{AllByRecursion};
 
 use crate::writing::numbers::{lay_number, lay_numbers};
@@ -19,7 +18,8 @@ pub(crate) struct Strings {
 
 impl Model for Strings {
     ghost use Rattle.std.specs.Prelude.{List, ℕ};
-    ghost use Rattle.cs_index.specs.Strings.{texts_in, AreStrings};
+    ghost use Rattle.cs_index.specs.Strings.{texts_in};
+    ghost use Rattle.cs_index.specs.StringStarts.{AreStrings};
 
     ghost Value = { List (List ℕ) };
 

@@ -1,7 +1,8 @@
 use Rattle.std.proofs.Common.{◌≡◌, ◌∙◌, ℕ, Result, Err, sym, ap, subst, map, string_bytes, inl, inr}
 use Rattle.std.proofs.lemmas.Result.{err_from_is_err_and}
 use Rattle.cs_tree.specs.PathSet as set
-use Rattle.cs_tree.specs.Failures.{count_if, count_after}
+use Rattle.cs_tree.specs.Failures.{count_if}
+use Rattle.cs_tree.specs.FailureCount.{count_after}
 use Rattle.cs_tree.specs.Told.{Grows}
 use Rattle.cs_tree.specs.Walks.{left_entry, names_walked, faults_walked}
 use Rattle.cs_words.specs.declared.fault.CindexFault.{CindexFault}

@@ -2,7 +2,7 @@ use Rattle.std.proofs.Common.{◌≡◌, List, ℕ, Option, Some, None, Vec, Glo
 use Rattle.std.specs.Prelude.{is_some, option_map}
 use Rattle.cs_tree.specs.Folders.{are_distinct}
 use Rattle.cs_tree.proofs.Listed.{ascending_distinct}
-use Rattle.cs_index.specs.Opening.{Parts}
+use Rattle.cs_index.specs.OpenedParts.{Parts}
 use Rattle.cs_index.specs.Order.{IsOrderOf}
 use Rattle.cs_index.specs.Parts.{AreParts}
 use Rattle.cs_merge.proofs.RankedLemmas.{ranked_distinct, ranked_order}

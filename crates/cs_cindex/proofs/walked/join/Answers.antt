@@ -1,7 +1,7 @@
 use Rattle.std.proofs.Common.{◌≡◌, ℕ, ◌≤◌, ◌^◌, true, false, Ok, Err, Result, Vec, Global, length, refl, sym, ap, subst, ◌∙◌}
 use Rattle.std.proofs.lemmas.Bool.{true≢false, and_from, false_from_ne_true}
 use Rattle.cs_tree.specs.Folders.{are_distinct}
-use Rattle.cs_index.specs.Opening.{Parts, are_whole}
+use Rattle.cs_index.specs.OpenedParts.{Parts, are_whole}
 use Rattle.cs_index.specs.declared.fault.IndexFault.{IndexFault}
 use Rattle.cs_index.specs.declared.fault.IndexFault.TheVariants.{BadList}
 use Rattle.cs_merge.specs.declared.fault.MergeFault.{MergeFault}

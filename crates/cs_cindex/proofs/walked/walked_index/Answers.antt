@@ -2,7 +2,7 @@ use Rattle.std.proofs.Common.{map, subst}
 use Rattle.std.specs.Prelude.{string_bytes}
 use Rattle.std.proofs.lemmas.Result.{err_from_is_err_and}
 use Rattle.cs_history.specs.Jobs.{given_texts}
-use Rattle.cs_cindex.specs.Bytes.{lent_bytes}
+use Rattle.cs_cindex.specs.LentBytes.{lent_bytes}
 use Rattle.cs_cindex.specs.JobPaths.{AreCleanFault}
 use Rattle.cs_cindex.proofs.ToldLemmas.{unclean_printed}
 use Rattle.cs_cindex.proofs.walked.walked_index.Goals as goal

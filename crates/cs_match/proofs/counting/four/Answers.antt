@@ -1,7 +1,6 @@
 use Rattle.std.proofs.Common.{refl, arith}
-use Rattle.cs_match.specs.Counting.{count_after}
+use Rattle.cs_match.specs.Counting.{count_after, nothing_counted}
 use Rattle.cs_match.proofs.CountingLemmas.{count_few_in, count_next, count_rest}
-use Rattle.cs_match.specs.Counting.{nothing_counted}
 use Rattle.cs_match.proofs.counting.four.Goals as goal
 
 pub loop-i-init : goal.loop-i-init

@@ -7,7 +7,7 @@ use Rattle.cs_tree.specs.PathSet as set
 use Rattle.cs_index.specs.Built.{are_paths}
 use Rattle.cs_index.specs.Image.{image_of}
 use Rattle.cs_index.specs.Laid.{entries_laid}
-use Rattle.cs_index.specs.Opening.{Parts, are_whole, lists_in}
+use Rattle.cs_index.specs.OpenedParts.{Parts, are_whole, lists_in}
 use Rattle.cs_index.specs.PostingLists.{entries_of}
 use Rattle.cs_merge.specs.Content.{paths_in}
 use Rattle.cs_merge.specs.Join.{join_paths}

@@ -1,6 +1,6 @@
 use Rattle.std.proofs.Common.{subst}
 use Rattle.std.specs.Prelude.{OnOk}
-use Rattle.cs_index.specs.Opening.{lists_in}
+use Rattle.cs_index.specs.OpenedParts.{lists_in}
 use Rattle.cs_merge.specs.Renumbering.{NewIds, AreCarried}
 use Rattle.cs_merge.proofs.listing.lay_lists.Goals as goal
 

@@ -7,7 +7,8 @@ use Rattle.std.proofs.lemmas.Grind.{common_steps}
 use Rattle.cs_search.specs.declared.grep_fault.ReadFault.TheVariants.{Read}
 use Rattle.cs_search.specs.declared.stop.Stop.TheVariants.{End, Left}
 use Rattle.cs_tree.proofs.Losing.{Loses_few}
-use Rattle.cs_match.specs.Lines.{ended_lines, IsPart}
+use Rattle.cs_match.specs.Lines.{ended_lines}
+use Rattle.cs_match.specs.LineParts.{IsPart}
 use Rattle.cs_match.specs.Unended.{unended}
 use Rattle.cs_search.specs.Buffer.{pending}
 use Rattle.cs_search.specs.TestedLines.{Tests, TestsFront, IsListed}

@@ -1,6 +1,6 @@
 use Rattle.std.proofs.Common.{◌≡◌, ◌≤◌, ◌+◌, ◌-◌, true, Bool, List, ℕ, length}
 use Rattle.cs_match.specs.Finding.{Decides}
-use Rattle.cs_match.specs.Lines.{IsPart}
+use Rattle.cs_match.specs.LineParts.{IsPart}
 use Rattle.cs_search.specs.Buffer.{pending}
 use Rattle.cs_search.specs.Progress.{HasRead, HasTested}
 use Rattle.cs_search.specs.TestedLines.{Tests}

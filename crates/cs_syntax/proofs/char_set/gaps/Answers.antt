@@ -1,5 +1,6 @@
 use Rattle.std.proofs.Common.{◌≡◌, ◌+◌, ap, subst, sym, ◌∙◌}
-use Rattle.cs_syntax.specs.Characters.{has_char, AreRuns}
+use Rattle.cs_syntax.specs.Characters.{has_char}
+use Rattle.cs_syntax.specs.CharRuns.{AreRuns}
 use Rattle.cs_syntax.proofs.CharSetLemmas.{gaps_from, all_gaps, LeavesGaps-at, LeavesGaps-gap, LeavesGaps-none, LeavesGaps-end, LeavesGaps-last}
 use Rattle.cs_syntax.proofs.char_set.gaps.Goals.{then-next-start+in_ok-push, else-next-start, then-next-lt-ALL+in_ok-push-2, else-next-lt-ALL}
 use Rattle.cs_syntax.proofs.char_set.gaps.Goals as goal

@@ -1,5 +1,6 @@
 use Rattle.std.proofs.Common.{refl, ◌∙◌, ◌++◌, ap, subst, sym}
-use Rattle.cs_syntax.specs.Characters.{AreRuns, has_char}
+use Rattle.cs_syntax.specs.Characters.{has_char}
+use Rattle.cs_syntax.specs.CharRuns.{AreRuns}
 use Rattle.cs_syntax.proofs.CharSetLemmas.{joined_to, joined_all, Joins-near, Joins-far, Joins-end}
 use Rattle.cs_syntax.proofs.char_set.joined.Goals.{then-place, else-place+in_ok-push}
 use Rattle.cs_syntax.proofs.char_set.joined.Goals as goal

@@ -1,5 +1,5 @@
 use Rattle.std.proofs.Common.{ℕ, List, [], ap, subst, sym, ◌∙◌}
-use Rattle.cs_syntax.specs.Characters.{AreRuns}
+use Rattle.cs_syntax.specs.CharRuns.{AreRuns}
 use Rattle.cs_syntax.specs.Matching.{one_char}
 use Rattle.cs_syntax.proofs.CharSetLemmas.{runs_at}
 use Rattle.cs_trigram.specs.FiniteWords.{HasWord}

@@ -1,7 +1,6 @@
 use Rattle.std.proofs.Common.{ℕ, List, ◌+◌, subst, sym, arith}
 use Rattle.cs_trigram.specs.Sample.{IsSample}
-use Rattle.cs_trigram.proofs.SampleLemmas.{SpellsBelow}
-use Rattle.cs_trigram.proofs.SampleLemmas.{set_next, set_many, set_whole}
+use Rattle.cs_trigram.proofs.SampleLemmas.{SpellsBelow, set_next, set_many, set_whole}
 use Rattle.cs_trigram.proofs.spelling.words_of_set.Goals as goal
 
 pub loop-byte-preserved : goal.loop-byte-preserved

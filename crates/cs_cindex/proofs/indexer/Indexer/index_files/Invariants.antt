@@ -1,5 +1,5 @@
 use Rattle.std.proofs.Common.{◌≡◌, ◌≤◌, true, map, string_bytes, take, drop}
-use Rattle.cs_tree.specs.NameOrder.{are_ascending}
+use Rattle.cs_tree.specs.NamesAscending.{are_ascending}
 use Rattle.cs_cindex.specs.Notices.{Prints}
 use Rattle.cs_cindex.specs.Files.{AreTextsIn, AreFileLinesIn, AreAbove, HaveNamesOf}
 use Rattle.cs_cindex.proofs.indexer.Indexer.index_files.Given as goal

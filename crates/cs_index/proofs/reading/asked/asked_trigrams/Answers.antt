@@ -1,6 +1,6 @@
 use Rattle.std.proofs.Common.{◌∙◌, ◌||◌, ap, ℕ, List}
 use Rattle.cs_trigram.specs.Trigram.{has}
-use Rattle.cs_index.specs.Candidates.{asks_for}
+use Rattle.cs_index.specs.Answerable.{asks_for}
 use Rattle.std.proofs.lemmas.List.Filters.{dedup_is}
 use Rattle.cs_index.proofs.AskedTrigramLemmas.{ascends_ordered, has_ordered}
 use Rattle.cs_index.proofs.reading.asked.asked_trigrams.Goals as goal

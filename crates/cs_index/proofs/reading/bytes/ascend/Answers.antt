@@ -1,5 +1,6 @@
 use Rattle.std.proofs.Common.{◌≡◌, ◌∙◌, ◌∷◌, ap, sym, true, false, List, ℕ}
-use Rattle.cs_tree.specs.NameOrder.{bytes_cmp, are_ascending}
+use Rattle.cs_tree.specs.NameOrder.{bytes_cmp}
+use Rattle.cs_tree.specs.NamesAscending.{are_ascending}
 use Rattle.std.specs.Ordering.{is_ge}
 use Rattle.cs_index.specs.Opening.{texts_of}
 use Rattle.cs_index.proofs.ReadingLemmas.{texts_after, formed_after, none_formed, below_texts, falls, climbs}

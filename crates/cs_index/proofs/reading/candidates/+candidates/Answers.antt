@@ -8,8 +8,10 @@ use Rattle.std.specs.Prelude.{filter}
 use Rattle.std.specs.List.{AllByRecursion, list_all, list_any, range_with_len}
 use Rattle.cs_trigram.specs.declared.queries.Query.{Query}
 use Rattle.cs_trigram.specs.declared.queries.Query.TheVariants.{Tri}
-use Rattle.cs_index.specs.Opening.{Parts, rises}
-use Rattle.cs_index.specs.Candidates.{candidates_of, is_answerable, meets, names_that}
+use Rattle.cs_index.specs.Opening.{rises}
+use Rattle.cs_index.specs.OpenedParts.{Parts}
+use Rattle.cs_index.specs.Candidates.{candidates_of, meets, names_that}
+use Rattle.cs_index.specs.Answerable.{is_answerable}
 use Rattle.cs_index.proofs.ResultLemmas.{both_ok}
 use Rattle.cs_index.proofs.SiftLemmas.{ascends_filter, filter_all, filter_filter}
 use Rattle.cs_index.proofs.ToldLemmas.{fault_of}

@@ -2,7 +2,8 @@ use Rattle.std.proofs.Common.{◌≡◌, ◌||◌, ℕ, false, length, get_or, d
 use Rattle.cs_trigram.specs.Trigram.{has, Ascends}
 use Rattle.std.specs.Prelude.{filter}
 use Rattle.std.specs.List.{list_all, list_any}
-use Rattle.cs_index.specs.Candidates.{candidates_of, is_answerable, meets, names_that}
+use Rattle.cs_index.specs.Candidates.{candidates_of, meets, names_that}
+use Rattle.cs_index.specs.Answerable.{is_answerable}
 use Rattle.cs_index.proofs.reading.candidates.+candidates.Given as goal
 
 abbrev pub invariant-ids_meeting_each-loop-member : goal.invariant-ids_meeting_each-loop-member

@@ -5,7 +5,8 @@ use Rattle.std.proofs.lemmas.Result.{IfErr-weaker, IfOk-weaker}
 use Rattle.std.specs.Prelude.{filter}
 use Rattle.std.specs.List.{list_all, range_with_len}
 use Rattle.cs_trigram.specs.declared.queries.Query.{Query}
-use Rattle.cs_index.specs.Candidates.{candidates_of, is_answerable}
+use Rattle.cs_index.specs.Candidates.{candidates_of}
+use Rattle.cs_index.specs.Answerable.{is_answerable}
 use Rattle.cs_index.proofs.ResultLemmas.{both_ok}
 use Rattle.cs_index.proofs.SiftLemmas.{ascends_range}
 use Rattle.cs_index.proofs.ToldLemmas.{fault_of}

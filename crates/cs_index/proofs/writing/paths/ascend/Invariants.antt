@@ -1,5 +1,5 @@
 use Rattle.std.proofs.Common.{◌≡◌, ◌≤◌, ◌-◌, length, map, drop, string_bytes}
-use Rattle.cs_tree.specs.NameOrder.{are_ascending}
+use Rattle.cs_tree.specs.NamesAscending.{are_ascending}
 use Rattle.cs_index.proofs.writing.paths.ascend.Given as goal
 
 -- the paths rise where those from the last one that was looked at do

@@ -1,9 +1,8 @@
-use Rattle.std.proofs.Common.{◌≡◌, ◌+◌, ◌*◌, ◌/◌, arith, sym, ◌∙◌, ap}
+use Rattle.std.proofs.Common.{◌≡◌, ◌+◌, ◌*◌, ◌/◌, arith, sym, ◌∙◌, ap, set, ℕ, subst}
 use Rattle.std.specs.Prelude.{bit_or}
 use Rattle.cs_match.proofs.TableLemmas.{cell_place, put_cell}
 use Rattle.cs_match.specs.Table.{AreCells}
 use Rattle.cs_match.specs.Remembering.{tree_in}
-use Rattle.std.proofs.Common.{set, ℕ, subst}
 use Rattle.cs_match.proofs.table.Table.put.Goals as goal
 
 pub returns-clause-right : goal.returns-clause-right

@@ -1,6 +1,6 @@
 use Rattle.std.proofs.Common.{◌≡◌, ℕ, List, length, sym, ap, subst, ◌∙◌, Some, Result, Ok, Err}
 use Rattle.std.specs.Prelude.{option_map, IfOk}
-use Rattle.cs_index.specs.Opening.{Parts}
+use Rattle.cs_index.specs.OpenedParts.{Parts}
 use Rattle.cs_merge.specs.Ranked.{Ranked, IsRanked}
 use Rattle.cs_merge.specs.Renumbering.{NewIds, AreByRank, ArePut, IsOrdering}
 use Rattle.cs_merge.proofs.RankedLemmas.{are_ordering, put_by_rank}

@@ -1,11 +1,10 @@
 use Rattle.std.proofs.Common.{◌≡◌, ◌∷◌, [], ap, refl, subst, ◌∙◌, Err}
 use Rattle.std.proofs.lemmas.Result.{err_from_is_err_and}
-use Rattle.cs_tree.specs.Failures.{count_after}
-use Rattle.cs_tree.specs.Trees.{is_tree_failure}
+use Rattle.cs_tree.specs.FailureCount.{count_after}
+use Rattle.cs_tree.specs.Trees.{is_tree_failure, open_told}
 use Rattle.cs_words.specs.FileFaults.{fault_line_of}
 use Rattle.std.specs.Prelude.{option_map}
 use Rattle.cs_tree.specs.Told.{Grows}
-use Rattle.cs_tree.specs.Trees.{open_told}
 use Rattle.cs_search.specs.declared.report.TheConstants.{MOST_SEARCHED}
 use Rattle.cs_search.specs.Searcher.{Prints, PrintsFront}
 use Rattle.cs_tree.specs.Taken.{TakesFront}

@@ -1,6 +1,7 @@
 use Rattle.std.proofs.Common.{ℕ, ◌∙◌, ap, rules}
 use Rattle.std.proofs.lemmas.List.Sorted.{All-permutation, IsNonDecreasingBy-from_sort_by_key}
-use Rattle.cs_syntax.specs.Characters.{has_char, IsRun}
+use Rattle.cs_syntax.specs.Characters.{has_char}
+use Rattle.cs_syntax.specs.CharRuns.{IsRun}
 use Rattle.cs_syntax.proofs.CharSetLemmas.{has_char-IsPermutation}
 use Rattle.cs_syntax.proofs.char_set.CharSet.from_ranges.Goals as goal
 

@@ -1,6 +1,6 @@
 use Rattle.std.proofs.Common.{◌≡◌, ◌∙◌, ap, subst, sym, arith}
 use Rattle.std.proofs.lemmas.List.{drop_all}
-use Rattle.cs_syntax.specs.Characters.{AreRuns, char_count}
+use Rattle.cs_syntax.specs.CharRuns.{AreRuns, char_count}
 use Rattle.cs_syntax.proofs.CharSetLemmas.{sizes, sizes_count, Counts-at, Counts-more}
 use Rattle.cs_syntax.proofs.char_set.CharSet.len.Goals as goal
 

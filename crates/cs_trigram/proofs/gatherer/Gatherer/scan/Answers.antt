@@ -1,6 +1,7 @@
 use Rattle.std.proofs.Common.{◌≤◌, ◌<◌, ◌^◌, ℕ, List, [], ◌∷◌, length, arith, subst, ◌∙◌}
 use Rattle.std.specs.List.{AllByRecursion}
-use Rattle.cs_trigram.specs.Trigram.{trigram_count, set_of_numbers, Ascends}
+use Rattle.cs_trigram.specs.Trigram.{set_of_numbers, Ascends}
+use Rattle.cs_trigram.specs.TrigramSets.{trigram_count}
 use Rattle.cs_trigram.specs.Scans.{AreTrigramsOnce}
 use Rattle.cs_trigram.specs.Found.{numbers_of}
 use Rattle.cs_trigram.specs.Ended.{HasNumbers}

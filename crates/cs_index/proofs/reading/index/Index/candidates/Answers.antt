@@ -1,5 +1,6 @@
 use Rattle.std.proofs.Common.{◌∙◌, ap, sym, length}
-use Rattle.cs_index.specs.Opening.{Parts, rises}
+use Rattle.cs_index.specs.Opening.{rises}
+use Rattle.cs_index.specs.OpenedParts.{Parts}
 use Rattle.cs_index.proofs.OpenLemmas.{entries_rise}
 use Rattle.cs_index.proofs.reading.index.Index.candidates.Goals as goal
 

@@ -1,5 +1,6 @@
 use Rattle.std.proofs.Common.{◌≡◌, ◌-◌, ◌/◌, ◌∙◌, ap, length, arith}
-use Rattle.cs_index.specs.Opening.{Parts, texts_of}
+use Rattle.cs_index.specs.Opening.{texts_of}
+use Rattle.cs_index.specs.OpenedParts.{Parts}
 use Rattle.cs_index.proofs.OpenLemmas.{name_count}
 use Rattle.cs_index.proofs.reading.index.Index.len.Goals as goal
 

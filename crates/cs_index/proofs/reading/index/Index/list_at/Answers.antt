@@ -1,5 +1,6 @@
 use Rattle.std.proofs.Common.{◌≡◌, ◌<◌, ◌/◌, ◌∙◌, ap, sym, length, Some, ℕ, List, arith}
-use Rattle.cs_index.specs.Opening.{Parts, texts_of, entries_in}
+use Rattle.cs_index.specs.Opening.{texts_of, entries_in}
+use Rattle.cs_index.specs.OpenedParts.{Parts}
 use Rattle.cs_index.specs.Cut.{lent_sections}
 use Rattle.cs_index.proofs.EntryLemmas.{length-in}
 use Rattle.cs_index.proofs.OpenLemmas.{few_read, list_given}

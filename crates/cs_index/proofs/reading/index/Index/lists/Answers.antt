@@ -1,5 +1,5 @@
 use Rattle.std.proofs.Common.{◌∙◌, ap, sym, length}
-use Rattle.cs_index.specs.Opening.{Parts}
+use Rattle.cs_index.specs.OpenedParts.{Parts}
 use Rattle.cs_index.proofs.EntryLemmas.{length-in}
 use Rattle.cs_index.proofs.reading.index.Index.lists.Goals as goal
 

@@ -1,6 +1,7 @@
 use Rattle.std.proofs.Common.{◌≡◌, ◌≤◌, ◌<◌, ◌-◌, ◌*◌, ◌∙◌, ap, sym, subst, ℕ, List, length, take, drop, arith}
 use Rattle.std.proofs.lemmas.List.{take_rest}
-use Rattle.cs_index.specs.Opening.{Parts, number_at, texts_of}
+use Rattle.cs_index.specs.Opening.{number_at, texts_of}
+use Rattle.cs_index.specs.OpenedParts.{Parts}
 use Rattle.cs_index.proofs.OpenLemmas.{name_count}
 use Rattle.cs_index.proofs.ReadingLemmas.{formed}
 use Rattle.cs_index.proofs.NameLemmas.{name_begins, name_given}

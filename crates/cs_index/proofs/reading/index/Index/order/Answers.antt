@@ -3,7 +3,7 @@ use Rattle.std.proofs.lemmas.List.MinMax.{ranks_by}
 use Rattle.std.proofs.lemmas.List.Sorted.{answers_always}
 use Rattle.std.specs.Cmp.Lexicographic.{nat_list_cmp_total}
 use Rattle.std.specs.Ordering.{is_lt}
-use Rattle.cs_tree.specs.NameOrder.{are_ascending}
+use Rattle.cs_tree.specs.NamesAscending.{are_ascending}
 use Rattle.cs_tree.proofs.InOrder.{by_key}
 use Rattle.cs_index.specs.Order.{IsOrder, name_in, id_in, lent_names}
 use Rattle.cs_index.proofs.OrderLemmas.{name_lent, in_order, held_twice}

@@ -1,5 +1,6 @@
 use Rattle.std.proofs.Common.{◌≡◌, ◌∙◌, ap, sym, length, arith, rules}
-use Rattle.cs_index.specs.Opening.{Parts, texts_of}
+use Rattle.cs_index.specs.Opening.{texts_of}
+use Rattle.cs_index.specs.OpenedParts.{Parts}
 use Rattle.cs_index.specs.Cut.{lent_sections}
 use Rattle.cs_index.proofs.OpenLemmas.{entries_rise, few_read}
 use Rattle.cs_index.proofs.reading.index.Index.postings.Goals as goal

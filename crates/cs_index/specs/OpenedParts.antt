@@ -1,0 +1,33 @@
+-- What an index holds, and what is asked of it.
+-- docs/FORMAT.md, "The index as it is read".
+use Rattle.std.specs.Prelude.{ℕ, Bool, List, [], length, map, if◌then◌else◌}
+use Rattle.cs_index.specs.PostingLists.{Ids, read_list, entries_of}
+use Rattle.std.specs.List.{list_all}
+use Rattle.cs_index.specs.Image.{Entry, ListEntry, Posting}
+
+-- What an index holds: its paths, its names, the entries of its list index, and the section that has the lists.
+pub record Parts : Type 0 where
+  pub paths : List (List ℕ)
+  pub names : List (List ℕ)
+  pub entries : List ListEntry
+  pub postings : List ℕ
+
+-- the ids of an entry's list, up to the first damage
+abbrev pub ids_read : Parts → ListEntry → Ids
+ids_read parts e = read_list parts.postings (length parts.names) e
+
+-- the ids of a list; a damaged one has none
+abbrev pub whole_ids : Ids → List ℕ
+whole_ids r = if r.whole then r.ids else []
+
+-- each trigram with the ids of its list
+abbrev pub lists_in : Parts → List Posting
+lists_in parts = map (λ (e : ListEntry). (e.trigram, whole_ids (ids_read parts e))) parts.entries
+
+-- whether each list is whole
+abbrev pub are_whole : Parts → Bool
+are_whole parts = list_all (λ (e : ListEntry). (ids_read parts e).whole) parts.entries
+
+-- each name with the trigrams whose list has its id
+abbrev pub files_read : Parts → List Entry
+files_read parts = entries_of 0 parts.names (lists_in parts)

@@ -1,0 +1,9 @@
+-- Posting lists that are whole.
+-- docs/FORMAT.md, "The index as it is read".
+use Rattle.std.specs.Prelude.{◌≡◌, ℕ, true, List}
+use Rattle.cs_index.specs.Image.{ListEntry}
+use Rattle.cs_index.specs.PostingLists.{read_list}
+
+-- The bytes at the entry are a list of these ids.
+abbrev pub IsList : List ℕ → ℕ → ListEntry → List ℕ → Type 0
+IsList postings names e ids = read_list postings names e ≡ record { ids = ids; whole = true }

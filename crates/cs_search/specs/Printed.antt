@@ -1,6 +1,6 @@
 -- What a tool prints and answers of the inputs that it searches, one after another.
 -- docs/PROMISES.md, "What is printed".
-use Rattle.std.specs.Prelude.{ℕ, ◌≡◌, ◌⊎◌, Bool, true, false, ◌||◌, List, [], ◌∷◌, ◌++◌, Option, Some, None, Result, Ok, Err}
+use Rattle.std.specs.Prelude.{ℕ, ◌≡◌, ◌⊎◌, Bool, true, false, ◌||◌, if◌then◌else◌, List, [], ◌∷◌, ◌++◌, Option, Some, None, Result, Ok, Err}
 use Rattle.cs_tree.specs.TreeAnswers.{opening_of}
 use Rattle.cs_words.specs.FileFaults.{fault_line_of, file_fault_of}
 use Rattle.cs_tree.specs.Failures.{count_if}
@@ -9,6 +9,7 @@ use Rattle.cs_tree.specs.Told.{Told, Taken, Grows, GrowsFlushed}
 use Rattle.cs_tree.specs.Snapshot.{Snapshot, item_at}
 use Rattle.cs_tree.specs.declared.fault.TreeFault.{TreeFault}
 use Rattle.cs_words.specs.declared.jobs.Tool.{Tool}
+use Rattle.cs_words.specs.declared.jobs.Tool.TheVariants.{Cgrep}
 use Rattle.cs_words.specs.declared.jobs.Style.{Style}
 use Rattle.cs_words.specs.declared.fault.FileFault.{FileFault}
 use Rattle.cs_words.specs.declared.fault.FileFault.TheVariants.{Failed, InputTooLong}
@@ -19,11 +20,6 @@ use Rattle.cs_search.specs.declared.status.Status.TheVariants.{Matched, NoMatch}
 use Rattle.cs_tree.specs.Taken.{TakesFront, MayEnd}
 use Rattle.cs_search.specs.Report.{Report}
 use Rattle.cs_search.specs.InputReport.{told_report}
-use Rattle.cs_words.specs.declared.jobs.Tool.TheVariants.{Cgrep}
-
--- what is printed of files with these names, in this order
-unfoldable pub searched_by_cgrep : ℕ → Style → (List ℕ → Bool) → Snapshot → List (List ℕ) → Printed
-searched_by_cgrep most style finds tree names = all_printed (file_printed most Cgrep style finds tree) names
 
 -- the fault of an input as that of a file
 abbrev pub left_fault : ReadFault → FileFault
@@ -78,9 +74,12 @@ unfoldable pub all_printed : (List ℕ → Printed) → List (List ℕ) → Prin
 all_printed printed [] = nothing
 all_printed printed (name ∷ names) = then (printed name) (all_printed printed names)
 
+-- by cgrep, of files with these names, in this order
+unfoldable pub searched_by_cgrep : ℕ → Style → (List ℕ → Bool) → Snapshot → List (List ℕ) → Printed
+searched_by_cgrep most style finds tree names = all_printed (file_printed most Cgrep style finds tree) names
+
 abbrev pub status_of : Bool → Status
-status_of true = Matched
-status_of false = NoMatch
+status_of matched = if matched then Matched else NoMatch
 
 -- This was printed, then each output was flushed once, and the answer is its mark as a status, where what was searched
 -- tells its bytes.

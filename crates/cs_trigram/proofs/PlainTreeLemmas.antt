@@ -2,7 +2,7 @@
 use Rattle.std.proofs.Common.{◌≡◌, ℕ, inl, inr, true, List, refl, arith}
 use Rattle.std.proofs.lemmas.Bool.{and_parts, and_from}
 use Rattle.cs_syntax.specs.Matching.{Tree, Trees, empty, one_of, one_char, cat, alt, rep, line_start, line_end, word_edge, not_word_edge, none, more}
-use Rattle.cs_trigram.specs.Windows.{is_plain, are_plain, SpellsWord, Joins, SomeSpells, IsPlainRun}
+use Rattle.cs_trigram.specs.Windows.{is_plain, are_plain, Spells, Joins, SomeSpells, IsPlainRun}
 use Rattle.cs_trigram.specs.FiniteWords.{is_finite, are_finite, HasWord, JoinWords, SomeHasWord, HaveFewWords}
 
 mutual
@@ -25,7 +25,7 @@ mutual
       and_from (is_finite t) (are_finite ts) (plain_finite t q.0) (all_finite ts q.1)
 
 mutual
-  spells_has : (t : Tree) → is_plain t ≡ true → (w : List ℕ) → SpellsWord t w → HasWord t w
+  spells_has : (t : Tree) → is_plain t ≡ true → (w : List ℕ) → Spells t w → HasWord t w
   spells_has empty p w s = s
   spells_has (one_of set) p w s = s
   spells_has (one_char runs) p w s = absurd s
@@ -50,7 +50,7 @@ mutual
       elim s [ inl a ↦ inl (spells_has t q.0 w a) | inr b ↦ inr (some_has ts q.1 w b) ]
 
 mutual
-  has_spells : (t : Tree) → is_plain t ≡ true → (w : List ℕ) → HasWord t w → SpellsWord t w
+  has_spells : (t : Tree) → is_plain t ≡ true → (w : List ℕ) → HasWord t w → Spells t w
   has_spells empty p w s = s
   has_spells (one_of set) p w s = s
   has_spells (one_char runs) p w s = (cc)

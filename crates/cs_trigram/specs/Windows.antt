@@ -11,9 +11,14 @@ abbrev mutual
   pub is_plain : Tree → Bool
   is_plain empty = true
   is_plain (one_of set) = true
+  is_plain (one_char runs) = false
   is_plain (cat ts) = are_plain ts
   is_plain (alt ts) = are_plain ts
-  is_plain part = false
+  is_plain (rep x n m) = false
+  is_plain line_start = false
+  is_plain line_end = false
+  is_plain word_edge = false
+  is_plain not_word_edge = false
 
   pub are_plain : Trees → Bool
   are_plain none = true
@@ -21,21 +26,26 @@ abbrev mutual
 
 -- the word is one that a plain tree spells
 abbrev mutual
-  pub SpellsWord : Tree → List ℕ → Type 0
-  SpellsWord empty word = word ≡ []
-  SpellsWord (one_of set) word = (b : ℕ) × (member set b ≡ true) × (word ≡ b ∷ [])
-  SpellsWord (cat ts) word = Joins ts word
-  SpellsWord (alt ts) word = SomeSpells ts word
-  SpellsWord part word = ⊥
+  pub Spells : Tree → List ℕ → Type 0
+  Spells empty word = word ≡ []
+  Spells (one_of set) word = (b : ℕ) × (member set b ≡ true) × (word ≡ b ∷ [])
+  Spells (one_char runs) word = ⊥
+  Spells (cat ts) word = Joins ts word
+  Spells (alt ts) word = SomeSpells ts word
+  Spells (rep x n m) word = ⊥
+  Spells line_start word = ⊥
+  Spells line_end word = ⊥
+  Spells word_edge word = ⊥
+  Spells not_word_edge word = ⊥
 
   -- the word joins a word of each tree, in order
   pub Joins : Trees → List ℕ → Type 0
   Joins none word = word ≡ []
-  Joins (more t ts) word = (front back : List ℕ) × SpellsWord t front × Joins ts back × (word ≡ front ++ back)
+  Joins (more t ts) word = (front back : List ℕ) × Spells t front × Joins ts back × (word ≡ front ++ back)
 
   pub SomeSpells : Trees → List ℕ → Type 0
   SomeSpells none word = ⊥
-  SomeSpells (more t ts) word = SpellsWord t word ⊎ SomeSpells ts word
+  SomeSpells (more t ts) word = Spells t word ⊎ SomeSpells ts word
 
 abbrev pub IsMember : List ℕ → List (List ℕ) → Type 0
 IsMember word [] = ⊥

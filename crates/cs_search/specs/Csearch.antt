@@ -23,7 +23,7 @@ use Rattle.cs_words.specs.declared.jobs.Tool.TheVariants.{Csearch}
 use Rattle.cs_words.specs.declared.jobs.Style.{Style}
 use Rattle.cs_words.specs.declared.jobs.SearchJob.{SearchJob}
 use Rattle.cs_words.specs.declared.fault.ToolFault.{ToolFault}
-use Rattle.cs_words.specs.declared.fault.ToolFault.TheVariants.{Pattern, FilePattern, NoIndex, BadIndex, Memory}
+use Rattle.cs_words.specs.declared.fault.ToolFault.TheVariants.{Pattern, FilePattern, NoIndex, BadIndex, Write, Memory}
 use Rattle.cs_index.specs.Answerable.{is_answerable}
 use Rattle.cs_search.specs.Refusals.{IsAccepted, IsPatternRefused}
 use Rattle.cs_search.specs.Printed.{searched_by_cgrep, Printed, file_printed, all_printed}
@@ -128,10 +128,11 @@ IsBad job index fault =
 
 -- The pattern is refused first, then that of `-f`, then the index that is not there, then the bad one; all else comes after.
 abbrev pub RefusedInOrder : {A : Type 0} → SearchJob → Option (List ℕ) → Result A ToolFault → Type 0
+RefusedInOrder job index (Ok answer) = AreAccepted job × IsReady job index
 RefusedInOrder job index (Err (Pattern error)) = IsPatternRefused (string_bytes job.pattern) job.fold error
 RefusedInOrder job index (Err (FilePattern error)) =
     IsAccepted (string_bytes job.pattern) job.fold × IsSomeAnd (file_text job) (λ text. IsPatternRefused text false error)
 RefusedInOrder job index (Err NoIndex) = AreAccepted job × (index ≡ None)
 RefusedInOrder job index (Err (BadIndex fault)) = AreAccepted job × IsBad job index fault
+RefusedInOrder job index (Err Write) = AreAccepted job × IsReady job index
 RefusedInOrder job index (Err Memory) = Unit {0}
-RefusedInOrder job index answer = AreAccepted job × IsReady job index

@@ -1,6 +1,6 @@
 -- What a tool prints and answers of the inputs that it searches, one after another.
 -- docs/PROMISES.md, "What is printed".
-use Rattle.std.specs.Prelude.{ℕ, ◌≡◌, ◌⊎◌, Bool, true, false, ◌||◌, if◌then◌else◌, List, [], ◌∷◌, ◌++◌, Option, Some, None, Result, Ok, Err}
+use Rattle.std.specs.Prelude.{ℕ, ◌≡◌, ◌⊎◌, Bool, true, false, ◌||◌, List, [], ◌∷◌, ◌++◌, Option, Some, None, Result, Ok, Err}
 use Rattle.cs_tree.specs.TreeAnswers.{opening_of}
 use Rattle.cs_words.specs.FileFaults.{fault_line_of, file_fault_of}
 use Rattle.cs_tree.specs.Failures.{count_if}
@@ -48,11 +48,7 @@ module _ (most : ℕ) (tool : Tool) (style : Style) (finds : List ℕ → Bool) 
   -- of what was opened, or refused, at this name
   abbrev pub opened_printed : List ℕ → Result Told TreeFault → Printed
   opened_printed name (Ok told) = input_printed name told
-  opened_printed name (Err fault) = record {
-    output = [];
-    errors = fault_line_of tool name (file_fault_of fault);
-    matched = false;
-  }
+  opened_printed name (Err fault) = record { output = []; errors = fault_line_of tool name (file_fault_of fault); matched = false }
 
   -- of what stands in the tree at this name
   unfoldable pub file_printed : Snapshot → List ℕ → Printed
@@ -79,7 +75,8 @@ unfoldable pub searched_by_cgrep : ℕ → Style → (List ℕ → Bool) → Sna
 searched_by_cgrep most style finds tree names = all_printed (file_printed most Cgrep style finds tree) names
 
 abbrev pub status_of : Bool → Status
-status_of matched = if matched then Matched else NoMatch
+status_of true = Matched
+status_of false = NoMatch
 
 -- This was printed, then each output was flushed once, and the answer is its mark as a status, where what was searched
 -- tells its bytes.

@@ -1,6 +1,6 @@
 -- What a tool that searches refuses for its patterns, and what is printed then.
 -- docs/PATTERNS.md, "Faults"; docs/PROMISES.md, "What is printed".
-use Rattle.std.specs.Prelude.{ℕ, ◌≢◌, ◌≤◌, Bool, true, false, List, Result, Err}
+use Rattle.std.specs.Prelude.{ℕ, ◌≢◌, ◌≤◌, Bool, true, false, List, Result, Ok, Err}
 use Rattle.cs_syntax.specs.Matching.{Tree}
 use Rattle.cs_syntax.specs.Weight.{weight, most_weight}
 use Rattle.cs_syntax.specs.Reading.{Reads}
@@ -28,5 +28,6 @@ QuietAtRefusal answer Quiet = Unit {0}
 
 -- a write to one of the outputs has failed
 abbrev pub has_write_failed : {A : Type 0} → Result A ToolFault → Bool
+has_write_failed (Ok answer) = false
 has_write_failed (Err Write) = true
-has_write_failed answer = false
+has_write_failed (Err fault) = false

@@ -17,13 +17,13 @@ use Rattle.cs_words.specs.declared.jobs.Tool.TheVariants.{Cgrep}
 use Rattle.cs_words.specs.declared.jobs.GrepJob.{GrepJob}
 use Rattle.cs_search.specs.declared.status.Status.{Status}
 use Rattle.cs_search.specs.Printed.{Printed, PrintsStatus, status_of, input_printed, file_printed, all_printed, TellsFaults, searched_by_cgrep}
-use Rattle.cs_search.specs.Searcher.{Prints}
+use Rattle.cs_search.specs.Searcher.{IsSearchFault, Prints}
 use Rattle.cs_search.specs.Cgrep.{cgrep_printed, standard_name}
-use Rattle.cs_search.specs.CgrepFaults.{TellsFaultsOf}
+use Rattle.cs_search.specs.CgrepFaults.{PatternFirst, TellsFaultsOf}
 use Rattle.cs_search.specs.Programs.{IsProgramOf, RefusesPattern}
-use Rattle.cs_search.specs.Refusals.{QuietAtRefusal}
+use Rattle.cs_search.specs.Refusals.{IsAccepted, QuietAtRefusal}
 use Rattle.cs_words.specs.declared.fault.ToolFault.{ToolFault}
-use Rattle.cs_words.specs.declared.fault.ToolFault.TheVariants.{Pattern, FilePattern, NoIndex, BadIndex}
+use Rattle.cs_words.specs.declared.fault.ToolFault.TheVariants.{Pattern, FilePattern, NoIndex, BadIndex, Write, Memory}
 use Rattle.cs_search.proofs.PrintedLemmas.{Tells-no}
 use Rattle.cs_words.specs.Faults.{pattern_fault, pattern_fault_at}
 
@@ -43,6 +43,15 @@ pattern_refused_at text fold error fault is refused = ((refused, λ memory. cc),
 
 pub pattern_refused : (text : List ℕ) (fold : Bool) (error : PatternError) → IsRefused text fold error → RefusesPattern text fold (pattern_fault error)
 pattern_refused text fold error refused = pattern_refused_at text fold error error.fault refl refused
+
+-- a search that was begun, and is refused
+pub begun_refused : (A B : Type 0) (text : List ℕ) (fold : Bool) (fault : ToolFault) → IsSearchFault {A = A} (Err fault) → IsAccepted text fold → PatternFirst {A = B} text fold (Err fault)
+begun_refused A B text fold Write only is = is
+begun_refused A B text fold Memory only is = tt
+begun_refused A B text fold (Pattern error) only is = absurd only
+begun_refused A B text fold (FilePattern error) only is = absurd only
+begun_refused A B text fold NoIndex only is = absurd only
+begun_refused A B text fold (BadIndex fault) only is = absurd only
 
 -- where nothing was printed
 pub all_quiet : {A : Type 0} (Quiet : Type 0) (answer : Result A ToolFault) → Quiet → QuietAtRefusal answer Quiet

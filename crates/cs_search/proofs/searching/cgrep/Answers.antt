@@ -1,5 +1,5 @@
 use Rattle.std.proofs.Common.{Err, refl, sym, subst, inl, inr}
-use Rattle.std.specs.Prelude.{string_bytes}
+use Rattle.std.specs.Prelude.{Bool, string_bytes}
 use Rattle.std.proofs.lemmas.Result.{err_from_is_err_and}
 use Rattle.cs_tree.proofs.Growing.{Grows-same, leaves_flushed}
 use Rattle.cs_match.specs.Finding.{Decides}
@@ -8,7 +8,8 @@ use Rattle.cs_tree.specs.Taken.{EndsAfter}
 use Rattle.cs_tree.specs.TakenAll.{TakesAll}
 use Rattle.cs_search.proofs.FrontLemmas.{any_err}
 use Rattle.cs_search.proofs.PrintedLemmas.{done, PrintsSome-front, PrintsSome-all, Tells-flushed}
-use Rattle.cs_search.proofs.CgrepLemmas.{all_quiet, decides_program, PrintsStatus-flushed, Tells-as, Tells-nothing}
+use Rattle.cs_search.proofs.CgrepLemmas.{all_quiet, begun_refused, decides_program, PrintsStatus-flushed, Tells-as, Tells-nothing}
+use Rattle.cs_search.specs.declared.status.Status.{Status}
 use Rattle.cs_search.proofs.searching.cgrep.Goals as goal
 
 -- ---- no program
@@ -51,6 +52,13 @@ returns-in_err-matched-clause-faults g c =
     let p = err_from_is_err_and c.from_residual-in_err-matched.result c.from_residual-in_err-matched.ensures.1 in
     rw p.1 c.in_err-matched.ensures.faults
 
+pub returns-in_err-matched-clause-pattern : goal.returns-in_err-matched-clause-pattern
+returns-in_err-matched-clause-pattern g c =
+    let job = c.args.job.now in
+    let is = c.in_ok-program.ensures.compiled in
+    let p = err_from_is_err_and c.from_residual-in_err-matched.result c.from_residual-in_err-matched.ensures.1 in
+    rw (p.1, p.2) (begun_refused Bool Status (string_bytes job.pattern) job.fold _ c.in_err-matched.ensures.only (is.0, is.1, is.2))
+
 pub returns-in_err-matched-clause-front : goal.returns-in_err-matched-clause-front
 returns-in_err-matched-clause-front g c =
     let job = c.args.job.now in
@@ -71,6 +79,13 @@ returns-in_err-status-clause-faults g c =
     rw p.1 (Tells-as c.args.job.now _ _ _ _ (λ lines. TakesAll lines err now done) (λ lines. EndsAfter {A = Unit {0}} lines err later (Err p.0))
     (λ tool names failed failed' told. Tells-flushed tool {A = Unit {0}} (Err p.0) names failed failed' err now later told c.in_err-status.ensures.err)
     c.in_ok-matched.ensures.faults)
+
+pub returns-in_err-status-clause-pattern : goal.returns-in_err-status-clause-pattern
+returns-in_err-status-clause-pattern g c =
+    let job = c.args.job.now in
+    let is = c.in_ok-program.ensures.compiled in
+    let p = err_from_is_err_and c.from_residual-in_err-status.result c.from_residual-in_err-status.ensures.1 in
+    rw (p.1, p.2) (begun_refused Status Status (string_bytes job.pattern) job.fold _ c.in_err-status.ensures.only (is.0, is.1, is.2))
 
 pub returns-in_err-status-clause-front : goal.returns-in_err-status-clause-front
 returns-in_err-status-clause-front g c =

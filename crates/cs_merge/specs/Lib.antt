@@ -3,7 +3,6 @@ pub use Rattle.cs_index.specs.Roundtrip
 pub use Rattle.cs_index.specs.Spelling
 pub use Rattle.cs_index.specs.PostingLists
 pub use Rattle.cs_index.specs.WholeLists
-pub use Rattle.cs_index.specs.Spelling
 pub use Rattle.cs_index.specs.Indexable
 pub use Rattle.cs_tree.specs.PathSet
 pub use Rattle.cs_tree.specs.Cover

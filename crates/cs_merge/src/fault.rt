@@ -9,8 +9,8 @@ use thiserror::Error;
 /// Why two indexes are not joined.
 #[derive(Clone, Copy, Debug, PartialEq, Eq, Drop, Error)]
 pub enum MergeFault {
-    /// The names of one of both do not strictly ascend, as `/a/b/z` before `/a/b-x`.
-    #[error("names out of order")]
+    /// One of both holds a name twice, in whatever order its names stand.
+    #[error("index holds a name twice")]
     Unsorted,
     /// A name of the newer index lies under none of its paths, as `/b` under `/a`.
     #[error("name outside the paths")]

@@ -1,6 +1,7 @@
 # make check     every proof from nothing, the edits that must fail, the tests, the program built two ways,
 #                and then the program from end to end: as a person runs it, as the manual and docs/USE.md say,
-#                with each allocation refused, as of each library's calls, over damaged indexes, and with its system calls failing
+#                over histories and patterns by chance, with each allocation refused, as of each library's calls,
+#                over damaged indexes, and with its system calls failing
 # make wrong     each wrong program by itself, where the gate tries those of a file together; CRATES='NAME..' gives some crates
 # make trusted   what one has to read to believe cindex, cgrep and csearch: the definitions that their contracts rest on
 # make program   the proved program, crates/codesearch/out/codesearch
@@ -26,6 +27,8 @@ check:
 	tests/end_to_end.sh $(program)
 	tests/manual.sh $(program)
 	tests/use.sh $(program)
+	tests/histories.py $(program)
+	tests/chance.py $(program)
 	tests/refusals.py crates/cs_tool_tests/out/cs_tool_tests_tests
 	tests/allocations.py $(program)
 	tests/damage.py $(program)

@@ -95,6 +95,13 @@ try 1 '' '' "cgrep zzz < files/lines"
 try 1 '' '' "cgrep '' < /dev/null"
 try 1 '' '' "cgrep '^\$' < files/lines"
 try 0 '<standard input>:\n' '' "printf '\n' | cgrep '^\$'"
+try 0 '<standard input>:a\n<standard input>:\n' '' "printf 'a\n\n' | cgrep ''"
+try 0 '<standard input>:ab\n' '' "printf 'ab\nba\n' | cgrep '(?P<n>a)(?<n>b)'"
+try 0 '<standard input>:[\n<standard input>::\n<standard input>:a\n' '' "printf '[\n:\na\nb\n' | cgrep '^[[:a]\$'"
+try 0 '<standard input>:\303\251\n' '' "printf '\303\251\ne\n' | cgrep '^\xe9\$'"
+try 0 '<standard input>:A\0008\n' '' "printf 'A\0008\nA8\n' | cgrep '^\101\08\$'"
+# Letters past ASCII are not folded.
+try 0 '<standard input>:\303\251A\n' '' "printf '\303\211A\n\303\251A\n' | cgrep -i 'éa'"
 
 # ---- refusals -------------------------------------------------------------------------------------------------------
 first='codesearch: first word must be cindex, csearch or cgrep\n'
@@ -191,6 +198,8 @@ try 2 '' 'cgrep: unknown option -cn\n' "cgrep -cn x"
 try 2 '' 'cgrep: unknown option ---n\n' "cgrep ---n x"
 try 2 '' 'cgrep: unknown option -f\n' "cgrep -f x"
 try 2 '' 'cgrep: no pattern\n' "cgrep -n"
+# An option behind the pattern is a file.
+try 0 'files/p:two\n' 'cgrep: -n: no such file\n' "cgrep two -n files/p"
 
 # ---- styles: each option alone, and each pair -------------------------------------------------------------------------
 lines='files/p:one\nfiles/p:one\n'

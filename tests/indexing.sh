@@ -26,6 +26,8 @@ try 0 "$home/trees/a\n" '' "cindex -list"
 try 2 '' 'cindex: bad path \n' "cindex ''"
 try 2 '' 'cindex: unknown option -verbose\n' "cindex -verbose trees"
 try 0 "$home/trees/a\n" '' "cindex -list trees/none"
+try 0 '' "cindex: $home/-list: no such file\n" "cindex trees/a -list"
+try 0 "$home/-list\n$home/trees/a\n" '' "cindex -list"
 
 # ---- what is left out -------------------------------------------------------------------------------------------------
 mkdir trees/odd trees/odd/.git trees/odd/folder~

@@ -125,6 +125,3 @@ fn run_over<W: Write + Drop>(
         err,
     ))
 }
-
-#[cfg(test)]
-mod tests;

@@ -1,7 +1,4 @@
-// Which lines are found, and which are passed: rows from outside, and many patterns beside a plain walk.
-mod chance;
+// Which lines are found, and which are passed: rows from outside.
 mod characters;
 mod finding;
 mod passing;
-mod plain;
-mod random;

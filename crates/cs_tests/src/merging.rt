@@ -1,11 +1,8 @@
 // Joining over worked rows.
-mod rebuilding;
 mod runs;
 
-ghost use Rattle.std.specs.Prelude.{◌<◌};
-
-use crate::fixtures::{Files, ROW, UNSORTED, builder_of, changed, index_of};
-use cs_index::{BuildFault, Builder, Index, IndexFault};
+use crate::fixtures::{Files, ROW, UNSORTED, changed, index_of};
+use cs_index::{Index, IndexFault};
 use cs_merge::{MergeFault, merge, merge_within};
 use std::alloc::Global;
 use std::test::Fail;
@@ -149,114 +146,6 @@ fn refusals_are_told(rt: HostRuntime) -> Result<(), Fail> {
         (&damaged, &empty, bad),
     ] {
         assert!(rt; refusal(rt.alloc(), old, newer) == Some(fault), "{fault:?}");
-    }
-    Ok(())
-}
-
-/// The names of small indexes, each of which is a path too.
-const NAMES: [&str; 3] = ["/a", "/b", "/c"];
-
-/// What stands at the names, as the digits of a number.
-fn digits(number: usize, base: usize) -> [usize; 3]
-    requires { 0 < base }
-{
-    [
-        number % base,
-        number / base % base,
-        number / base / base % base,
-    ]
-}
-
-/// Adds a name with those of three trigrams that the bits of a number choose.
-fn add_chosen(builder: &mut Builder, name: &str, bits: usize) -> Result<u32, BuildFault> {
-    match bits {
-        0 => builder.add(name, &[]),
-        1 => builder.add(name, &[1]),
-        2 => builder.add(name, &[2]),
-        3 => builder.add(name, &[1, 2]),
-        4 => builder.add(name, &[9]),
-        5 => builder.add(name, &[1, 9]),
-        6 => builder.add(name, &[2, 9]),
-        _ => builder.add(name, &[1, 2, 9]),
-    }
-}
-
-/// An index of some paths, where 0 stands for no file and each other digit for a set of trigrams.
-fn small_index(alloc: Global, paths: &[&str], files: [usize; 3]) -> Result<Vec<u8>, BuildFault> {
-    let mut builder = builder_of(alloc, paths)?;
-    for place in 0..3 {
-        if files[place] > 0 {
-            let _id = add_chosen(&mut builder, NAMES[place], files[place] - 1)?;
-        }
-    }
-    builder.finish()
-}
-
-/// The indexes of all three paths with each choice of files.
-fn whole_indexes(alloc: Global) -> Option<Vec<Vec<u8>>> {
-    let mut indexes = Vec::new(alloc);
-    for number in 0..729 {
-        let index = small_index(alloc, &NAMES, digits(number, 9)).ok()?;
-        indexes.push(index).ok()?;
-    }
-    Some(indexes)
-}
-
-/// An index of those paths whose digit is not 0, with the files of one less.
-fn partial_index(alloc: Global, choice: [usize; 3]) -> Option<Vec<u8>> {
-    let mut paths = Vec::new(alloc);
-    let mut files = choice;
-    for place in 0..3 {
-        if choice[place] > 0 {
-            paths.push(NAMES[place]).ok()?;
-            files[place] = choice[place] - 1;
-        }
-    }
-    small_index(alloc, &paths, files).ok()
-}
-
-/// The digit of what both have: at a path of the newer one what that has, else what the old one has.
-fn joined_digit(old: usize, newer: usize) -> usize {
-    if newer > 0 { newer - 1 } else { old }
-}
-
-/// The number of the index of what both have.
-fn joined_number(old: [usize; 3], newer: [usize; 3]) -> usize {
-    let ones = joined_digit(old[0], newer[0]);
-    let nines = joined_digit(old[1], newer[1]);
-    let squares = joined_digit(old[2], newer[2]);
-    squares
-        .wrapping_mul(9)
-        .wrapping_add(nines)
-        .wrapping_mul(9)
-        .wrapping_add(ones)
-}
-
-/// Whether the index of a number is joined with that of a choice to the one that has what both have.
-fn is_joined_at(
-    alloc: Global,
-    whole: &[Vec<u8>],
-    number: usize,
-    choice: usize,
-    newer: &[u8],
-) -> Option<bool> {
-    let joined = join(alloc, whole.get(number)?, newer)?;
-    let want = whole.get(joined_number(digits(number, 9), digits(choice, 10)))?;
-    Some(joined == *want)
-}
-
-/// Indexes of up to three files and three trigrams, each with some of all those of such files at some of the paths.
-#[test]
-fn small_indexes_are_joined(rt: HostRuntime) -> Result<(), Fail> {
-    let whole = whole_indexes(rt.alloc()).ok_or("indexes")?;
-    for choice in (0..1000).step_by(7) {
-        let newer = partial_index(rt.alloc(), digits(choice, 10)).ok_or("newer")?;
-        for number in (choice % 7..729).step_by(7) {
-            assert!(rt;
-                is_joined_at(rt.alloc(), &whole, number, choice, &newer) == Some(true),
-                "{number} and {choice}"
-            );
-        }
     }
     Ok(())
 }

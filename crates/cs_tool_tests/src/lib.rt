@@ -1,8 +1,10 @@
 //! The tests of the crates of whole tools, one module for each, and of all calls with memory refused. They call public
-//! functions alone. The libraries below are tested in `cs_tests`, and the whole program in `codesearch`. A test is one
+//! functions alone. The libraries below are tested in `cs_tests`, and the program is run by what stands in `tests/`. A test is one
 //! question, put to a function that answers `bool`, since each assert is proved too.
 #![tactic(auto)]
 
+#[cfg(test)]
+mod desk;
 #[cfg(test)]
 mod failing;
 #[cfg(test)]

@@ -1,64 +1,50 @@
-// Sets of characters: their runs, and what they and their lowered trees take. Wants are those of Unicode's rules for UTF-8.
-use crate::matching::plain::is_found;
-use cs_syntax::{CharSet, Node, lower};
+// Sets of characters: their runs, and the bytes that they take. Wants are those of Unicode's rules for UTF-8.
+use crate::matching::finding::finds;
+use cs_syntax::CharSet;
 use std::alloc::{AllocError, Global};
 
-/// The line, from its start to its end, as the tree has it.
-fn whole(alloc: Global, tree: Node) -> Result<Node, AllocError> {
-    let mut parts = Vec::new(alloc);
-    parts.push(Node::LineStart)?;
-    parts.push(tree)?;
-    parts.push(Node::LineEnd)?;
-    Ok(Node::Cat(parts))
-}
-
-const ALL: &[(u32, u32)] = &[(0, 0x10_FFFF)];
-
-const NOT_NEWLINE: &[(u32, u32)] = &[(0, 9), (11, 0x10_FFFF)];
-
-const ACCENTED: &[(u32, u32)] = &[(0xE0, 0xFC)];
-
-/// Ranges, a line, and whether it is one of their characters.
-const ROWS: &[(&[(u32, u32)], &[u8], bool)] = &[
-    (ALL, b"\xc3\xa9", true),
-    (ALL, b"a", true),
-    (ALL, b"\n", true),
-    (ALL, b"\xf0\x9f\x98\x80", true),
-    (ALL, b"\xed\x9f\xbf", true),
-    (ALL, b"\xee\x80\x80", true),
-    (ALL, b"\xf4\x8f\xbf\xbf", true),
-    (ALL, b"\xff", false),
-    (ALL, b"\xe9", false),
-    (ALL, b"\xc0\x80", false),
-    (ALL, b"\xe0\x9f\xbf", false),
-    (ALL, b"\xed\xa0\x80", false),
-    (ALL, b"\xf0\x8f\xbf\xbf", false),
-    (ALL, b"\xf4\x90\x80\x80", false),
-    (ALL, b"\xc3", false),
-    (ALL, b"ab", false),
-    (ALL, b"", false),
-    (NOT_NEWLINE, b"\n", false),
-    (NOT_NEWLINE, b"\xe2\x82\xac", true),
-    (ACCENTED, b"\xc3\xa9", true),
-    (ACCENTED, b"\xc3\xbd", false),
-    (ACCENTED, b"\xc3\x9f", false),
-    (ACCENTED, b"e", false),
+/// Lines, and whether each is one character.
+const CHARACTERS: &[(&[u8], bool)] = &[
+    (b"\xc3\xa9", true),
+    (b"a", true),
+    (b"\n", true),
+    (b"\xf0\x9f\x98\x80", true),
+    (b"\xed\x9f\xbf", true),
+    (b"\xee\x80\x80", true),
+    (b"\xf4\x8f\xbf\xbf", true),
+    (b"\xff", false),
+    (b"\xe9", false),
+    (b"\xc0\x80", false),
+    (b"\xe0\x9f\xbf", false),
+    (b"\xed\xa0\x80", false),
+    (b"\xf0\x8f\xbf\xbf", false),
+    (b"\xf4\x90\x80\x80", false),
+    (b"\xc3", false),
+    (b"ab", false),
+    (b"", false),
 ];
 
-/// Whether the line is one character of the ranges, as the lowered tree has it and as the set itself.
-fn takes(alloc: Global, ranges: &[(u32, u32)], line: &[u8]) -> Result<[bool; 2], AllocError> {
-    let set = CharSet::from_ranges(alloc, ranges)?;
-    let lowered = is_found(&whole(alloc, lower(alloc, &set)?)?, line);
-    let plain = is_found(&whole(alloc, Node::Chars(set))?, line);
-    Ok([lowered, plain])
-}
+/// Patterns of one set of characters, with lines and whether each is one of its characters.
+const ROWS: &[(&str, &[(&[u8], bool)])] = &[
+    ("^[\\0-\\x{10ffff}]$", CHARACTERS),
+    ("^[^\\n]$", &[(b"\n", false), (b"\xe2\x82\xac", true)]),
+    (
+        "^[à-ü]$",
+        &[
+            (b"\xc3\xa9", true),
+            (b"\xc3\xbd", false),
+            (b"\xc3\x9f", false),
+            (b"e", false),
+        ],
+    ),
+];
 
 #[test]
 fn takes_one_character(rt: HostRuntime) {
-    for (ranges, line, want) in ROWS {
+    for (pattern, lines) in ROWS {
         assert!(rt;
-            takes(rt.alloc(), ranges, line) == Ok([*want; 2]),
-            "at {line:?}"
+            finds(rt.alloc(), pattern, *lines) == Some(true),
+            "of {pattern}"
         );
     }
 }

@@ -11,7 +11,7 @@ pub fn program_of(alloc: Global, pattern: &str) -> Option<Program> {
 }
 
 /// Whether a matcher of the pattern finds something in each line where that is wanted, and nothing in the others.
-fn finds(alloc: Global, pattern: &str, lines: &[(&[u8], bool)]) -> Option<bool> {
+pub fn finds(alloc: Global, pattern: &str, lines: &[(&[u8], bool)]) -> Option<bool> {
     let program = program_of(alloc, pattern)?;
     let mut matcher = Matcher::new(alloc, &program).ok()?;
     Some(answers(&mut matcher, lines))

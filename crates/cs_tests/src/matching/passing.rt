@@ -18,7 +18,7 @@ fn whole(text: &[u8]) -> &[u8]
 }
 
 /// One number for the starts of lines, as they come.
-pub fn noted(sum: usize, start: usize) -> usize {
+fn noted(sum: usize, start: usize) -> usize {
     sum.wrapping_mul(1031).wrapping_add(start).wrapping_add(1)
 }
 
@@ -83,7 +83,7 @@ fn found_beside(alloc: Global, pattern: &str, newlines: &str, block: &[u8]) -> O
 
 /// What is found where each line is looked at, where lines are passed over by what the pattern has, where it has a
 /// branch without its word, and where it has one without any windows.
-pub fn each_way(alloc: Global, pattern: &str, block: &[u8]) -> Option<[usize; 4]> {
+fn each_way(alloc: Global, pattern: &str, block: &[u8]) -> Option<[usize; 4]> {
     Some([
         found(alloc, pattern, block, Way::Look)?,
         found(alloc, pattern, block, Way::Pass)?,

@@ -51,13 +51,13 @@ fn searched(alloc: Global, index: &[u8]) -> Result<Came, Fail> {
     let mut out = MemSink::new(alloc, 1000);
     let mut err = MemSink::new(alloc, 1000);
     let words = "-f g -n Goo.*";
-    let answer = search(alloc, words, index, &mut tree, &mut out, &mut err)?;
+    let answer = search(alloc, words, Some(index), &mut tree, &mut out, &mut err)?;
     let missing = b"csearch: /g/2: no such file\n";
     Ok(came(answer, &out, &err, (b"/g/1:1:Google Search\n", missing)))
 }
 
 fn searched_twice(alloc: Global) -> Result<[Came; 2], Fail> {
-    let index = index_of(alloc, "/g", GOOGLE)?;
+    let index = index_of(alloc, &["/g"], GOOGLE)?;
     Ok([searched(alloc, &index)?, searched(alloc, &index)?])
 }
 

@@ -1,4 +1,5 @@
 // Searches of an index, over trees that lack the files that are not to be opened.
+use crate::desk::have;
 use crate::fixtures::{Placed, tree_of, words_of};
 use crate::indexing::jobs::index_of;
 use cs_search::{Status, csearch};
@@ -49,17 +50,17 @@ fn job_of(alloc: Global, text: &str) -> Result<SearchJob, Fail> {
     }
 }
 
-/// A search of the index over the tree.
+/// A search of the index, where there is one, over the tree.
 pub fn search(
     alloc: Global,
     words: &str,
-    index: &[u8],
+    index: Option<&[u8]>,
     tree: &mut MemTree,
     out: &mut MemSink,
     err: &mut MemSink,
 ) -> Result<Result<Status, ToolFault>, Fail> {
     let job = job_of(alloc, words)?;
-    Ok(csearch(alloc, &job, Some(index), tree, out, err))
+    Ok(csearch(alloc, &job, index, tree, out, err))
 }
 
 /// Files that an index is made of, those that are there when it is searched, the words, and what is printed on both
@@ -93,16 +94,12 @@ const ROWS: &[Row<'static>] = &[
 /// Whether such a search matches and prints this.
 fn prints(alloc: Global, row: &Row<'_>) -> Result<bool, Fail> {
     let (indexed, there, words, lines, faults) = *row;
-    let index = index_of(alloc, "/g", indexed)?;
+    let index = index_of(alloc, &["/g"], indexed)?;
     let mut tree = tree_of(alloc, there)?;
     let mut out = MemSink::new(alloc, 1000);
     let mut err = MemSink::new(alloc, 1000);
-    let status = search(alloc, words, &index, &mut tree, &mut out, &mut err)?;
-    Ok(
-        status == Ok(Status::Matched)
-            && out.bytes() == lines.as_bytes()
-            && err.bytes() == faults.as_bytes(),
-    )
+    let status = search(alloc, words, Some(&index), &mut tree, &mut out, &mut err)?;
+    Ok(status == Ok(Status::Matched) && have(&out, lines, &err, faults))
 }
 
 #[test]

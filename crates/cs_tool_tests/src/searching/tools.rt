@@ -1,4 +1,5 @@
-// A run of cgrep over a tree in memory, and runs whose outputs fail.
+// Runs of cgrep over inputs that fail, and those whose outputs fail.
+use crate::desk::have;
 use crate::fixtures::words_of;
 use cs_search::{Status, cgrep};
 use cs_tree::{IoFault, Item, MemSink, MemSource, MemTree, PutFault, Sink};
@@ -14,16 +15,17 @@ fn job_of(alloc: Global, text: &str) -> Result<GrepJob, Fail> {
     }
 }
 
-/// A file with three lines, and one that fails after two.
+/// A file with three lines, one that fails after two, and one that may not be read.
 fn tree_of(alloc: Global) -> Result<MemTree, PutFault> {
     let mut tree = MemTree::new(alloc, 4)?;
     tree.put("/t", Item::Folder)?;
     tree.put("/t/p", Item::File(b"one\ntwo\none\n".to_vec(alloc)?))?;
     tree.put("/t/c", Item::Cut(b"one\ntwo\non".to_vec(alloc)?))?;
+    tree.put("/t/d", Item::Denied)?;
     Ok(tree)
 }
 
-/// A run over the tree, with nothing on standard input.
+/// A run over the tree, with a standard input that fails after two lines.
 pub fn run<O: Sink, E: Sink>(
     alloc: Global,
     words: &str,
@@ -32,25 +34,39 @@ pub fn run<O: Sink, E: Sink>(
 ) -> Result<Result<Status, ToolFault>, Fail> {
     let job = job_of(alloc, words)?;
     let mut tree = tree_of(alloc)?;
-    let mut input = MemSource::new(b"", 1, false);
+    let mut input = MemSource::new(b"one\ntwo\non", 4, true);
     Ok(cgrep(alloc, &job, &mut tree, &mut input, out, err))
 }
 
-/// Whether a file is searched, and a line names a path where nothing stands.
-fn searches_files(alloc: Global) -> Result<bool, Fail> {
+const FAILED: &str = "cgrep: <standard input>: cannot be read\n";
+
+/// Words of searches that match, what they print, and the lines on standard error.
+const ROWS: &[(&str, &str, &str)] = &[
+    (
+        "two /t/x /t/d /t /t/c /t/p",
+        "/t/c:two\n/t/p:two\n",
+        "cgrep: /t/x: no such file\ncgrep: /t/d: permission denied\ncgrep: /t: cannot be read\ncgrep: /t/c: cannot be read\n",
+    ),
+    ("-c one /t/c", "", "cgrep: /t/c: cannot be read\n"),
+    ("-l one /t/c", "/t/c\n", ""),
+    ("on", "<standard input>:one\n", FAILED),
+    ("-c on", "", FAILED),
+    ("-l on", "<standard input>\n", ""),
+];
+
+/// Whether such a search prints this.
+fn prints(alloc: Global, words: &str, lines: &str, faults: &str) -> Result<bool, Fail> {
     let mut out = MemSink::new(alloc, 1000);
     let mut err = MemSink::new(alloc, 1000);
-    let status = run(alloc, "two /t/x /t/p", &mut out, &mut err)?;
-    Ok(
-        status == Ok(Status::Matched)
-            && out.bytes() == b"/t/p:two\n".as_slice()
-            && err.bytes() == b"cgrep: /t/x: no such file\n".as_slice(),
-    )
+    let status = run(alloc, words, &mut out, &mut err)?;
+    Ok(status == Ok(Status::Matched) && have(&out, lines, &err, faults))
 }
 
 #[test]
-fn cgrep_of_files(rt: HostRuntime) -> Result<(), Fail> {
-    assert!(rt; searches_files(rt.alloc())?);
+fn what_fails_leaves_the_others(rt: HostRuntime) -> Result<(), Fail> {
+    for (words, lines, faults) in ROWS {
+        assert!(rt; prints(rt.alloc(), *words, *lines, *faults)?, "{words}");
+    }
     Ok(())
 }
 

@@ -1,6 +1,9 @@
 // Indexes of small trees, byte for byte, and jobs that are refused.
-use crate::tests::desk::Step::{Call, Cut, File, Folder, Index, Left, Other};
-use crate::tests::desk::{Step, tells};
+use crate::desk::Step::{Cut, File, Folder, Index, Job, Left, Other, Search};
+use crate::desk::{DONE, MATCHED, NO_MATCH, Step, tells};
+use cs_index::IndexFault;
+use cs_words::{CindexFault, Reply, ToolFault};
+use std::test::Fail;
 
 const EMPTY: &[u8; 65] =
     b"csearch index 1\n/a\0\0\0\xff\xff\xff\0\0\0\0\0\0\0\0\x10\0\0\0\x14\0\0\0\x15\0\0\0\x19\0\0\0\x1d\ncsearch trailr\n";
@@ -42,66 +45,46 @@ const DAMAGED: &[u8; 122] =
 
 const AN_EMPTY_FOLDER: &[Step<'static>] = &[
     Folder("/a"),
-    Call(&["cindex", "/a"], 0, "", ""),
+    Job(&["/a"], DONE, "", ""),
     Left(Some(EMPTY)),
-    Call(&["cindex", "-list"], 0, "/a\n", ""),
+    Job(&["-list"], DONE, "/a\n", ""),
 ];
-
-#[test]
-fn an_empty_folder(rt: HostRuntime) {
-    tells(&rt, AN_EMPTY_FOLDER);
-}
 
 const ONE_FILE_STEPS: &[Step<'static>] = &[
     Folder("/a"),
     File("/a/x", b"abcd\n"),
-    Call(&["cindex", "/a"], 0, "", ""),
+    Job(&["/a"], DONE, "", ""),
     Left(Some(ONE_FILE)),
 ];
-
-#[test]
-fn one_file(rt: HostRuntime) {
-    tells(&rt, ONE_FILE_STEPS);
-}
 
 const A_FILE_WITHOUT_TEXT: &[Step<'static>] = &[
     Folder("/t"),
     File("/t/e", b""),
-    Call(&["cindex", "/t"], 0, "", ""),
+    Job(&["/t"], DONE, "", ""),
     Left(Some(EMPTY_FILE)),
-    Call(&["csearch", "-l", ""], 1, "", ""),
+    Search("-l ", NO_MATCH, "", ""),
 ];
-
-#[test]
-fn a_file_without_text(rt: HostRuntime) {
-    tells(&rt, A_FILE_WITHOUT_TEXT);
-}
 
 const FILES_WITHOUT_TRIGRAMS: &[Step<'static>] = &[
     Folder("/t"),
     File("/t/e", b""),
     File("/t/f", b"a"),
     File("/t/g", b"b\n"),
-    Call(&["cindex", "/t"], 0, "", ""),
+    Job(&["/t"], DONE, "", ""),
     Left(Some(NO_TRIGRAMS)),
-    Call(&["csearch", "^a"], 0, "/t/f:a\n", ""),
-    Call(&["csearch", "-c", "^$"], 1, "", ""),
+    Search("^a", MATCHED, "/t/f:a\n", ""),
+    Search("-c ^$", NO_MATCH, "", ""),
 ];
 
-#[test]
-fn files_without_trigrams(rt: HostRuntime) {
-    tells(&rt, FILES_WITHOUT_TRIGRAMS);
-}
-
 const NAMES_THAT_ARE_LEFT_OUT: &[Step<'static>] = &[
-    Call(&["cindex", "-reset", "/.x"], 0, "", ""),
+    Job(&["-reset", "/.x"], DONE, "", ""),
     Left(Some(NO_FILE)),
     Folder("/.x"),
     File("/.x/y", b"abcd\n"),
-    Call(&["cindex", "-reset", "/.x"], 0, "", ""),
+    Job(&["-reset", "/.x"], DONE, "", ""),
     Left(Some(NO_FILE)),
-    Call(&["cindex", "-reset", "/.x/y"], 0, "", ""),
-    Call(&["csearch", "-l", "abc"], 0, "/.x/y\n", ""),
+    Job(&["-reset", "/.x/y"], DONE, "", ""),
+    Search("-l abc", MATCHED, "/.x/y\n", ""),
     Folder("/t"),
     File("/t/.a", b"x\n"),
     File("/t/#b", b"x\n"),
@@ -109,67 +92,46 @@ const NAMES_THAT_ARE_LEFT_OUT: &[Step<'static>] = &[
     File("/t/d~", b"x\n"),
     File("/t/e", b"x\n"),
     Other("/t/o"),
-    Call(&["cindex", "-reset", "/t"], 0, "", ""),
-    Call(&["csearch", "-l", "x"], 0, "/t/e\n", ""),
+    Job(&["-reset", "/t"], DONE, "", ""),
+    Search("-l x", MATCHED, "/t/e\n", ""),
 ];
-
-#[test]
-fn names_that_are_left_out(rt: HostRuntime) {
-    tells(&rt, NAMES_THAT_ARE_LEFT_OUT);
-}
 
 const FILES_THAT_ARE_LEFT_OUT: &[Step<'static>] = &[
     Folder("/s"),
     File("/s/n", b"a\0"),
-    Call(
-        &["cindex", "-logskip", "/s"],
-        0,
+    Job(
+        &["-logskip", "/s"],
+        DONE,
         "",
         "cindex: /s/n: not indexed: NUL byte\n",
     ),
-    Call(&["csearch", "-l", ""], 1, "", ""),
-    Call(&["cindex", "/s"], 0, "", ""),
+    Search("-l ", NO_MATCH, "", ""),
+    Job(&["/s"], DONE, "", ""),
 ];
 
 const A_FILE_THAT_IS_CUT: &[Step<'static>] = &[
     Folder("/t"),
     Cut("/t/c", b"one\ntwo\non"),
-    Call(&["cindex", "/t"], 0, "", "cindex: /t/c: cannot be read\n"),
-    Call(&["csearch", "-l", ""], 1, "", ""),
+    Job(&["/t"], DONE, "", "cindex: /t/c: cannot be read\n"),
+    Search("-l ", NO_MATCH, "", ""),
 ];
-
-#[test]
-fn files_that_are_left_out(rt: HostRuntime) {
-    tells(&rt, FILES_THAT_ARE_LEFT_OUT);
-    tells(&rt, A_FILE_THAT_IS_CUT);
-}
 
 const NO_INDEX: &[Step<'static>] = &[
-    Call(&["cindex"], 2, "", "cindex: no index\n"),
-    Call(&["cindex", "-list"], 2, "", "cindex: no index\n"),
-    Call(&["csearch", "x"], 2, "", "csearch: no index\n"),
-    Call(&["cindex", "-reset"], 0, "", ""),
+    Job(&[], Reply::Refused(CindexFault::NoIndex), "", ""),
+    Job(&["-list"], Reply::Refused(CindexFault::NoIndex), "", ""),
+    Search("x", Err(ToolFault::NoIndex), "", ""),
+    Job(&["-reset"], DONE, "", ""),
     Left(None),
-    Call(&["cindex", ""], 2, "", "cindex: bad path \n"),
+    Job(&[""], Reply::Refused(CindexFault::BadPath(0)), "", ""),
 ];
-
-#[test]
-fn no_index(rt: HostRuntime) {
-    tells(&rt, NO_INDEX);
-}
 
 const A_BARE_RESET_LEAVES_NO_INDEX: &[Step<'static>] = &[
     Index(Some(ONE_FILE)),
-    Call(&["cindex", "-reset"], 0, "", ""),
+    Job(&["-reset"], DONE, "", ""),
     Left(None),
 ];
 
-#[test]
-fn a_bare_reset_leaves_no_index(rt: HostRuntime) {
-    tells(&rt, A_BARE_RESET_LEAVES_NO_INDEX);
-}
-
-const BAD: &str = "cindex: bad index: trailer\n";
+const BAD: Reply = Reply::Refused(CindexFault::BadIndex(IndexFault::BadTrailer));
 
 const FOREIGN_INDEXES: &[Step<'static>] = &[
     Folder("/a"),
@@ -177,46 +139,61 @@ const FOREIGN_INDEXES: &[Step<'static>] = &[
     File("/a/b/z", b"abc"),
     File("/a/b-x", b"abc"),
     Index(Some(OUT_OF_ORDER)),
-    Call(&["cindex", "-list"], 0, "/a\n", ""),
-    Call(&["csearch", "abc"], 0, "/a/b/z:abc\n/a/b-x:abc\n", ""),
+    Job(&["-list"], DONE, "/a\n", ""),
+    Search("abc", MATCHED, "/a/b/z:abc\n/a/b-x:abc\n", ""),
     File("/a/b-x", b"six\n"),
-    Call(&["cindex", "/a/b-x"], 0, "", ""),
+    Job(&["/a/b-x"], DONE, "", ""),
     Left(Some(RENUMBERED)),
-    Call(&["csearch", "abc"], 0, "/a/b/z:abc\n", ""),
+    Search("abc", MATCHED, "/a/b/z:abc\n", ""),
     Index(Some(HELD_TWICE)),
-    Call(
-        &["cindex", "/a"],
-        2,
-        "",
-        "cindex: index holds a name twice\n",
-    ),
+    Job(&["/a"], Reply::Refused(CindexFault::Unsorted), "", ""),
     Left(Some(HELD_TWICE)),
-    Call(&["cindex", "-reset", "/a"], 0, "", ""),
+    Job(&["-reset", "/a"], DONE, "", ""),
     Index(Some(CUT)),
-    Call(&["csearch", "abc"], 2, "", "csearch: bad index: trailer\n"),
-    Call(&["cindex", "/a"], 2, "", BAD),
-    Call(&["cindex", "-list"], 2, "", BAD),
+    Search(
+        "abc",
+        Err(ToolFault::BadIndex(IndexFault::BadTrailer)),
+        "",
+        "",
+    ),
+    Job(&["/a"], BAD, "", ""),
+    Job(&["-list"], BAD, "", ""),
     Left(Some(CUT)),
-    Call(&["cindex", "-reset", "/a"], 0, "", ""),
+    Job(&["-reset", "/a"], DONE, "", ""),
 ];
-
-#[test]
-fn foreign_indexes(rt: HostRuntime) {
-    tells(&rt, FOREIGN_INDEXES);
-}
 
 const DAMAGED_LISTS: &[Step<'static>] = &[
     Folder("/a"),
     File("/a/x", b"abcd\n"),
     Index(Some(DAMAGED)),
-    Call(&["csearch", "abc"], 2, "", "csearch: bad index: list\n"),
-    Call(&["csearch", "bcd"], 0, "/a/x:abcd\n", ""),
-    Call(&["csearch", "-brute", "abc"], 0, "/a/x:abcd\n", ""),
-    Call(&["cindex", "/a"], 2, "", "cindex: bad index: list\n"),
+    Search("abc", Err(ToolFault::BadIndex(IndexFault::BadList)), "", ""),
+    Search("bcd", MATCHED, "/a/x:abcd\n", ""),
+    Search("-brute abc", MATCHED, "/a/x:abcd\n", ""),
+    Job(
+        &["/a"],
+        Reply::Refused(CindexFault::BadIndex(IndexFault::BadList)),
+        "",
+        "",
+    ),
     Left(Some(DAMAGED)),
 ];
 
+/// Each of these.
+const ALL: &[&[Step<'static>]] = &[
+    AN_EMPTY_FOLDER,
+    ONE_FILE_STEPS,
+    A_FILE_WITHOUT_TEXT,
+    FILES_WITHOUT_TRIGRAMS,
+    NAMES_THAT_ARE_LEFT_OUT,
+    FILES_THAT_ARE_LEFT_OUT,
+    A_FILE_THAT_IS_CUT,
+    NO_INDEX,
+    A_BARE_RESET_LEAVES_NO_INDEX,
+    FOREIGN_INDEXES,
+    DAMAGED_LISTS,
+];
+
 #[test]
-fn damaged_lists(rt: HostRuntime) {
-    tells(&rt, DAMAGED_LISTS);
+fn indexes(rt: HostRuntime) -> Result<(), Fail> {
+    tells(&rt, ALL)
 }

@@ -1,0 +1,158 @@
+// A tree and an index, over which the tools are called one after another.
+use crate::indexing::job_of;
+use crate::searching::indexed::search;
+use cs_cindex::cindex;
+use cs_search::Status;
+use cs_tree::{Item, MemSink, MemTree};
+use cs_words::{Reply, ToolFault};
+use std::alloc::{AllocError, Global};
+use std::process::Abort;
+use std::slice;
+use std::test::Fail;
+
+mod histories;
+mod indexed;
+mod indexes;
+
+pub const DONE: Reply = Reply::Done;
+
+pub const MATCHED: Result<Status, ToolFault> = Ok(Status::Matched);
+
+pub const NO_MATCH: Result<Status, ToolFault> = Ok(Status::NoMatch);
+
+/// What is put into the tree or taken away, what is called, and what is wanted then.
+#[derive(Clone, Copy, Drop)]
+pub enum Step<'a> {
+    /// A folder is put.
+    Folder(&'a str),
+    /// A file with this text is put.
+    File(&'a str, &'a [u8]),
+    /// A file is put whose reads fail after this text.
+    Cut(&'a str, &'a [u8]),
+    /// What may not be read is put.
+    Denied(&'a str),
+    /// What is neither a file nor a folder is put.
+    Other(&'a str),
+    /// What stands there is taken away.
+    Remove(&'a str),
+    /// The index gets these bytes, or there is none from now on.
+    Index(Option<&'a [u8]>),
+    /// A job of `cindex`: its words, the reply, the output and the lines on standard error.
+    Job(&'a [&'a str], Reply, &'a str, &'a str),
+    /// A search by `csearch`: its words, between spaces, the answer, the output and the lines on standard error.
+    Search(&'a str, Result<Status, ToolFault>, &'a str, &'a str),
+    /// The index has these bytes, or there is none.
+    Left(Option<&'a [u8]>),
+}
+
+/// Each step of each of these is as wanted, from an empty tree and no index.
+fn tells(rt: &(impl Abort + AllocGlobal), each: &[&[Step<'_>]]) -> Result<(), Fail> {
+    for (place, steps) in each.iter().enumerate() {
+        let wrong = wrong_step(rt.alloc(), *steps)?;
+        assert!(rt; wrong.is_none(), "step {wrong:?} of {place}");
+    }
+    Ok(())
+}
+
+/// The place of the step that is not as wanted, where there is one.
+fn wrong_step(alloc: Global, steps: &[Step<'_>]) -> Result<Option<usize>, Fail> {
+    let mut desk = Desk::new(alloc)?;
+    for (place, step) in steps.iter().enumerate() {
+        if !desk.takes_step(alloc, step)? {
+            return Ok(Some(place));
+        }
+    }
+    Ok(None)
+}
+
+#[derive(Drop)]
+struct Desk {
+    tree: MemTree,
+    index: Option<Vec<u8>>,
+}
+
+impl Desk {
+    /// An empty tree, and no index.
+    fn new(alloc: Global) -> Result<Desk, AllocError> {
+        Ok(Desk {
+            tree: MemTree::new(alloc, 7)?,
+            index: None,
+        })
+    }
+
+    /// Takes a step, and answers whether it is as wanted.
+    fn takes_step(&mut self, alloc: Global, step: &Step<'_>) -> Result<bool, Fail> {
+        match *step {
+            Step::Folder(path) => self.tree.put(path, Item::Folder)?,
+            Step::File(path, text) => self.tree.put(path, Item::File(text.to_vec(alloc)?))?,
+            Step::Cut(path, text) => self.tree.put(path, Item::Cut(text.to_vec(alloc)?))?,
+            Step::Denied(path) => self.tree.put(path, Item::Denied)?,
+            Step::Other(path) => self.tree.put(path, Item::Other)?,
+            Step::Remove(path) => {
+                self.tree.remove(path);
+            }
+            Step::Index(bytes) => self.index = copied(alloc, bytes)?,
+            Step::Job(words, reply, out, err) => return self.does(alloc, words, reply, out, err),
+            Step::Search(words, answer, out, err) => {
+                return self.finds(alloc, words, answer, out, err);
+            }
+            Step::Left(bytes) => return Ok(self.index.as_deref() == bytes),
+        }
+        Ok(true)
+    }
+
+    /// Does a job of `cindex`, and answers whether the reply and the outputs are as wanted.
+    fn does(
+        &mut self,
+        alloc: Global,
+        words: &[&str],
+        reply: Reply,
+        out: &str,
+        err: &str,
+    ) -> Result<bool, Fail> {
+        let jobs = [job_of(alloc, words)?];
+        let mut replies = [DONE];
+        let mut lines = MemSink::new(alloc, 1000);
+        let mut faults = MemSink::new(alloc, 1000);
+        let trees = slice::from_mut(&mut self.tree);
+        self.index = cindex(
+            alloc,
+            self.index.take(),
+            &jobs,
+            trees,
+            &mut replies,
+            &mut lines,
+            &mut faults,
+        );
+        Ok(replies[0] == reply && have(&lines, out, &faults, err))
+    }
+
+    /// Searches by `csearch`, and answers whether the answer and the outputs are as wanted.
+    fn finds(
+        &mut self,
+        alloc: Global,
+        words: &str,
+        answer: Result<Status, ToolFault>,
+        out: &str,
+        err: &str,
+    ) -> Result<bool, Fail> {
+        let mut lines = MemSink::new(alloc, 1000);
+        let mut faults = MemSink::new(alloc, 1000);
+        let index = self.index.as_deref();
+        let found = search(alloc, words, index, &mut self.tree, &mut lines, &mut faults)?;
+        Ok(found == answer && have(&lines, out, &faults, err))
+    }
+}
+
+/// Whether the two outputs have these texts.
+pub fn have(lines: &MemSink, out: &str, faults: &MemSink, err: &str) -> bool {
+    lines.bytes() == out.as_bytes() && faults.bytes() == err.as_bytes()
+}
+
+/// A copy of the bytes, where there are some.
+fn copied(alloc: Global, bytes: Option<&[u8]>) -> Result<Option<Vec<u8>>, AllocError> {
+    match bytes {
+        Some(bytes) => Ok(Some(bytes.to_vec(alloc)?)),
+        None => Ok(None),
+    }
+}

@@ -57,7 +57,7 @@ def function(crate, path, old):
 def programs(crate):
     """The wrong programs of a crate."""
     found = {}
-    for file in sorted(crate.glob("must-fail/*.edit")):
+    for file in sorted([*crate.glob("must-fail/*.edit"), *crate.glob("wrong/*.edit")]):
         parts = NAME.split(file.read_text())
         for name, text in zip(parts[1::2], parts[2::2]) if parts[1:] else [(file.stem, parts[0])]:
             if name in found:

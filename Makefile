@@ -2,7 +2,7 @@
 #                and then the program from end to end: as a person runs it, as the manual and docs/USE.md say,
 #                over histories and patterns by chance, with each allocation refused, as of each library's calls,
 #                over damaged indexes, and with its system calls failing
-# make wrong     each wrong program by itself, where the gate tries those of a file together; CRATES='NAME..' gives some crates
+# make wrong     every wrong program by itself, of which the gate tries those in must-fail/; CRATES='NAME..' gives some crates
 # make trusted   what one has to read to believe cindex, cgrep and csearch: the definitions that their contracts rest on
 # make program   the proved program, crates/codesearch/out/codesearch
 # make bench     measures the tools side by side with their peers over a tree of files: make bench TREE=/usr/src

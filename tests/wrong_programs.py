@@ -1,6 +1,6 @@
 #!/usr/bin/env python3
-"""Judges each wrong program by itself, where `rt ci` tries those of a file together: such a file has a line `# NAME` before
-each of its programs, and is refused where one of them is.
+"""Judges each wrong program by itself: those that `rt ci` tries, in must-fail/, and the others, in wrong/. A file of several has a
+line `# NAME` before each, and `rt ci` takes it for refused where one of them is.
 usage: tests/wrong_programs.py [CRATE..]
 
 A check says of each function whether it is proved, and proves it by the contracts of those that it calls, whatever their

@@ -32,7 +32,7 @@ pub struct DiskTree<R: Files + Drop> {
 }
 
 /// What `open` opens.
-#[derive(Clone, Copy, Debug, PartialEq, Eq)]
+#[derive(Clone, Copy, PartialEq, Eq)]
 enum Opens {
     /// All but folders, as a pipe or a terminal. It may wait.
     Anything,
@@ -41,7 +41,7 @@ enum Opens {
 }
 
 /// Two names are those of one file where both numbers are the same.
-#[derive(Clone, Copy, Debug, PartialEq, Eq)]
+#[derive(Clone, Copy, PartialEq, Eq)]
 struct FileId {
     device: u64,
     node: u64,

@@ -47,7 +47,7 @@ fn remember(tags: &mut [u64], fresh: &mut [u64], count: usize, part: u64) -> usi
 }
 
 /// How many parts of some bytes were not remembered, and where the bytes go on that are in no part.
-#[derive(Clone, Copy, Debug, PartialEq, Eq)]
+#[derive(Clone, Copy)]
 pub(crate) struct Split {
     pub(crate) count: usize,
     pub(crate) at: usize,

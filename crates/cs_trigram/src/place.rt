@@ -9,7 +9,7 @@ use crate::scan::Reason;
 
 /// Where a byte stands: how many bytes stand before it, in the file and in its line, and the last
 /// of them, a zero where there is none.
-#[derive(Clone, Copy, Debug, PartialEq, Eq)]
+#[derive(Clone, Copy)]
 pub(crate) struct Place {
     pub(crate) count: u64,
     pub(crate) column: usize,

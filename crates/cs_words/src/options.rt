@@ -8,7 +8,7 @@ ghost use Rattle.cs_words.specs.declared.options.Flag.TheVariants.{Switch as A_s
 use crate::jobs::Tool;
 
 /// An option that is on or off.
-#[derive(Clone, Copy, Debug, PartialEq, Eq, Drop)]
+#[derive(Clone, Copy, Drop)]
 pub(crate) enum Switch {
     List,
     Reset,
@@ -22,7 +22,7 @@ pub(crate) enum Switch {
 }
 
 /// An option, by what it sets.
-#[derive(Clone, Copy, Debug, PartialEq, Eq, Drop)]
+#[derive(Clone, Copy, Drop)]
 pub(crate) enum Flag {
     Switch(Switch),
     File,

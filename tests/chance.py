@@ -1,6 +1,6 @@
 #!/usr/bin/env -S python3 -B
 """Searches files of lines by chance for patterns by chance, always the same ones, and compares the lines that `cgrep` and `csearch`
-find with those that Python's `re` finds.
+find with those that Python's `re` finds; then lines whose ends lie around those of the blocks that are passed over at once.
 usage: tests/chance.py PROGRAM"""
 import random
 import re
@@ -49,6 +49,21 @@ REPEATS = ["*", "+", "?", "{2}", "{0,2}", "{2,}", "{3,4}"]
 BYTES = [b"a", b"a", b"a", b"b", b"b", b"b", b"B", b"z", b"q", b"j", b"zqj", b" ", b"_", b"-", b"\t", b"\r", "é".encode(), "€".encode()]
 
 
+# Patterns that mean the same to Python, what lines have for them, and how many bytes the lines have beside it.
+PARTS = [
+    ("[0-9]{3}-[0-9]{4}", "123-4567"),
+    ("[0-9]{3}-[0-9]{4}", "123-456"),
+    ("(?i)copyright", "copyRight"),
+    ("alpha|beta|gamma", "beta"),
+    ("alpha|be?ta|gamma$", "gamma"),
+    ("(ab|cd)x*[0-9]+ef", "cd17ef"),
+    ("^(ab+c|qz.)$", "abbbc"),
+    (r"\bq(xy|wz)+\b", "qxywz"),
+    ("", ""),
+]
+LENGTHS = [0, 1, 29, 30, 31, *range(62, 71), *range(510, 515)]
+
+
 def repeated(chance, ours, theirs):
     """An item or a group, which a third of the time is repeated."""
     if chance.random() < 0.35:
@@ -77,7 +92,19 @@ def line_of(chance, is_text):
     return b"".join(pieces if is_text else [*pieces, b"\xc3", chance.choice(BYTES)])
 
 
+def judge_parts():
+    """Finds parts in lines of such lengths, each before a line that is the part alone."""
+    for pattern, part in PARTS:
+        for length in LENGTHS:
+            lines = [" " * (length // 2) + part + " " * (length - length // 2), part] * 2
+            hits = [f"{at}:{line}\n" for at, line in enumerate(lines, 1) if re.search(pattern, line)]
+            came = run(["cgrep", "-h", "-n", pattern], "".join(line + "\n" for line in lines).encode())
+            if came != (0 if hits else 1, "".join(hits).encode(), b""):
+                complain(f"cgrep {pattern!r} in lines of {length} bytes beside {part!r}", came)
+
+
 def main():
+    judge_parts()
     chance = random.Random(2012)
     files = {}
     for at in range(FILES):

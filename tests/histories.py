@@ -13,6 +13,9 @@ from running import complain, home, leave, read, run, write
 
 HISTORIES = 1000
 JOBS = 4
+# How many files each of three folders has, and how many one of them has then; how many files of 20,000 trigrams are indexed.
+JOINED = [(1, 0), (9, 8), (128, 127), (140, 0), (140, 131), (300, 300), (300, 1)]
+BATCHES = [1, 23, 24, 25, 26, 49]
 
 # Names beside one another that a `/` and a byte below it part, a name that is a folder at times, and a folder of its own.
 FILES = ["a/b/f", "a/b/g", "a/b-x", "a/b.c", "a/g", "c/f", "c/d/e"]
@@ -54,12 +57,13 @@ class Model:
         names = sorted(self.kept)
         if chance:
             chance.shuffle(names)
-        texts = [self.kept[name] for name in names]
-        lists, entries = b"", b""
-        for trigram in sorted({text[at : at + 3] for text in texts for at in range(len(text) - 2)}):
-            ids = [at for at, text in enumerate(texts) if trigram in text]
-            entries += trigram + number(len(ids)) + number(len(lists))
-            lists += trigram + bytes(id - last for last, id in zip([-1, *ids], ids)) + b"\0"
+        ids, lists, entries = {}, b"", b""
+        for id, text in enumerate(self.kept[name] for name in names):
+            for trigram in {text[at : at + 3] for at in range(len(text) - 2)}:
+                ids.setdefault(trigram, []).append(id)
+        for trigram, found in sorted(ids.items()):
+            entries += trigram + number(len(found)) + number(len(lists))
+            lists += trigram + b"".join(varint(id - last) for last, id in zip([-1, *found], found)) + b"\0"
         ends = [0]
         for name in names:
             ends.append(ends[-1] + len(name) + 1)
@@ -76,18 +80,27 @@ def number(value):
     return value.to_bytes(4, "big")
 
 
-def change(chance):
-    """Makes the tree anew by chance, and answers its files by their names."""
+def varint(value):
+    return bytes([value]) if value < 128 else bytes([value % 128 + 128]) + varint(value // 128)
+
+
+def lay(files):
+    """Makes the tree anew with these files, and answers them by their whole names."""
     shutil.rmtree("t", ignore_errors=True)
-    files = {name: text for name in FILES if (text := chance.choice(TEXTS)) is not None}
-    if chance.random() < 0.2:
-        # (a file where a folder stood)
-        files = {name: text for name, text in files.items() if not covers("a/b", name)} | {"a/b": b"file\n"}
     os.mkdir("t")
     for name, text in files.items():
         os.makedirs(os.path.dirname(f"t/{name}"), exist_ok=True)
         write(f"t/{name}", text)
     return {f"{home}/t/{name}": text for name, text in files.items()}
+
+
+def by_chance(chance):
+    """A tree by chance."""
+    files = {name: text for name in FILES if (text := chance.choice(TEXTS)) is not None}
+    if chance.random() < 0.2:
+        # (a file where a folder stood)
+        files = {name: text for name, text in files.items() if not covers("a/b", name)} | {"a/b": b"file\n"}
+    return lay(files)
 
 
 def finds_the_same(model, files):
@@ -98,23 +111,65 @@ def finds_the_same(model, files):
     return run(["csearch", *pattern]) == run(["cgrep", *pattern, *sorted(model.kept)])
 
 
+def does(model, given, files, resets=False):
+    """Whether a job over these files leaves the index that the model lays, and csearch finds what cgrep does."""
+    status, out, _err = run(["cindex", *(["-reset"] if resets else []), *given])
+    return (status, out, read("index")) == (model.job(resets, given, files), b"", model.index()) and finds_the_same(model, files)
+
+
+def history(chance):
+    """The first job of a history by chance that goes wrong, or nothing."""
+    leave(None)
+    model = Model()
+    for job in range(JOBS):
+        files = by_chance(chance)
+        if chance.random() < 0.2:
+            leave(model.index(chance))
+        resets = chance.random() < 0.15
+        given = [f"{home}/t/{path}" for path in PATHS if chance.random() < 0.25]
+        if not does(model, given, files, resets):
+            return f"job {job}: {given}, reset: {resets}, over {files}"
+    return None
+
+
+def folder(path, count, state):
+    """Files of a text that all have, with one that few have, and one that a third has in each state."""
+    return {f"{path}/{at + 1000}": b"all" + b"few" * (at % 130 == 0) + b"third" * ((at + state) % 3 == 0) for at in range(count)}
+
+
+def is_joined(count, now, changed):
+    """Whether an index of three folders takes in one of them with so many files now, whose ids are longer than a byte."""
+    folders = {path: folder(path, count, 0) for path in "bcd"}
+    model = Model()
+    whole = does(model, [f"{home}/t"], lay({name: text for files in folders.values() for name, text in files.items()}), True)
+    folders[changed] = folder(changed, now, 1)
+    return whole and does(model, [f"{home}/t/{changed}"], lay({name: text for files in folders.values() for name, text in files.items()}))
+
+
+def text_of_many_trigrams():
+    """A text of 20,000 trigrams, of which 24 fill what is put in order at once."""
+    text, state = bytearray(), 1
+    for at in range(20_243):
+        state = (state * 1_103_515_245 + 12_345) % 2**32
+        text.append(10 if at % 80 == 79 else 33 + (state >> 16) % 94)
+    return bytes(text)
+
+
 def main():
     chance = random.Random(2012)
-    for history in range(HISTORIES):
-        leave(None)
-        model = Model()
-        for job in range(JOBS):
-            files = change(chance)
-            if chance.random() < 0.2:
-                leave(model.index(chance))
-            resets = chance.random() < 0.15
-            given = [f"{home}/t/{path}" for path in PATHS if chance.random() < 0.25]
-            status, out, _err = run(["cindex", *(["-reset"] if resets else []), *given])
-            wanted = model.job(resets, given, files)
-            if (status, out, read("index")) != (wanted, b"", model.index()) or not finds_the_same(model, files):
-                complain(f"job {job} of history {history}: {given}, reset: {resets}, over {files}", (status, read("index")))
-                break
-    print(f"histories: {HISTORIES} of {JOBS} jobs, {running.wrong} wrong")
+    for at in range(HISTORIES):
+        wrong = history(chance)
+        if wrong:
+            complain(f"history {at}, {wrong}", read("index"))
+    for count, now in JOINED:
+        for changed in "bcd":
+            if not is_joined(count, now, changed):
+                complain(f"{now} files for {count}, in {changed}", "another index")
+    text = text_of_many_trigrams()
+    for count in BATCHES:
+        if not does(Model(), [f"{home}/t"], lay({f"f/{at + 1000}": text for at in range(count)}), True):
+            complain(f"{count} files of many trigrams", "another index")
+    print(f"histories: {HISTORIES} of {JOBS} jobs, {3 * len(JOINED)} of many files, {len(BATCHES)} of many trigrams, {running.wrong} wrong")
     return running.wrong > 0
 
 

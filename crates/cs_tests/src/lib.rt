@@ -13,8 +13,6 @@ mod matching;
 #[cfg(test)]
 mod merging;
 #[cfg(test)]
-mod sieve;
-#[cfg(test)]
 mod syntax;
 #[cfg(test)]
 mod trees;

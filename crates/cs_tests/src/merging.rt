@@ -1,6 +1,4 @@
 // Joining over worked rows.
-mod runs;
-
 use crate::fixtures::{Files, ROW, UNSORTED, changed, index_of};
 use cs_index::{Index, IndexFault};
 use cs_merge::{MergeFault, merge, merge_within};

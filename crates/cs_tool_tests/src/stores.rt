@@ -1,19 +1,11 @@
-// Indexes that lie in a store, and a store whose bytes change.
+// A store whose bytes change.
 ghost use Rattle.std.specs.Prelude.{◌≡◌, ◌≤◌, length};
 
-use crate::fixtures::UNSORTED;
 use cs_tree::{IoFault, Store};
 
 /// The index of the file `/a/x` with `abcd` and a newline.
 pub const ROW: &[u8; 122] =
     b"csearch index 1\n/a\0\0/a/x\0\0abc\x01\0bcd\x01\0cd\n\x01\0\xff\xff\xff\0\0\0\0\0\0\0\0\x05abc\0\0\0\x01\0\0\0\0bcd\0\0\0\x01\0\0\0\x05cd\n\0\0\0\x01\0\0\0\x0a\0\0\0\x10\0\0\0\x14\0\0\0\x1a\0\0\0\x2d\0\0\0\x35\ncsearch trailr\n";
-
-/// An index of no file.
-const EMPTY: &[u8; 65] =
-    b"csearch index 1\n/a\0\0\0\xff\xff\xff\0\0\0\0\0\0\0\0\x10\0\0\0\x14\0\0\0\x15\0\0\0\x19\0\0\0\x1d\ncsearch trailr\n";
-
-/// Indexes of one file, of two and of none.
-pub const INDEXES: [&[u8]; 3] = [ROW, UNSORTED, EMPTY];
 
 /// Bytes that are others after so many reads: then each read fails, or gives what stands in `then`.
 #[derive(Drop)]

@@ -1,86 +1,17 @@
-// Each call once with ample memory, and readers and writers that fail in mid-stream.
+// Trees in memory and on the real disk, and readers and writers that fail in mid-stream.
 ghost use Rattle.std.specs.Prelude.{◌≡◌, ◌∷◌, [], true};
 ghost use Rattle.cs_tree.specs.Cover.{begins, slash};
 
-use crate::fixtures::{bytes_of, spaced, strings, tree_of};
+use crate::fixtures::{spaced, strings, tree_of};
 use cs_tree::{
-    DiskTree, IoFault, Item, Kind, MemSink, MemSource, MemTree, PathFault, PutFault, Sink, Source,
-    StdSink, StdSource, Tree, TreeFault, TreeReader, clean, covers, is_settled, read_all, reduce,
-    write_all,
+    DiskTree, IoFault, Item, Kind, MemTree, PathFault, PutFault, Sink, Source, StdSink, StdSource,
+    Tree, TreeFault, TreeReader, clean, covers, is_settled, read_all, reduce,
 };
 use std::alloc::{AllocError, Global};
 use std::io::{Read, Write};
 use std::os::unix::fs::symlink;
 use std::test::*;
 use std::{fs, io};
-
-/// Whether a source gives four bytes at most a read, and so on, and then the last answer each time.
-fn gives_pieces(cut: bool, last: Result<usize, IoFault>) -> bool {
-    let mut source = MemSource::new(b"one\ntwo\n", 4, cut);
-    let mut buf = [0u8; 8];
-    source.read(&mut buf) == Ok(4)
-        && &buf[..4] == b"one\n".as_slice()
-        && source.read(&mut buf[..3]) == Ok(3)
-        && source.read(&mut buf) == Ok(1)
-        && source.read(&mut buf) == last
-        && source.read(&mut buf) == last
-        && source.failures() == if cut { 2 } else { 0 }
-}
-
-/// Whether each reading of all of a cut source fails.
-fn fails_where_cut(alloc: Global) -> bool {
-    let mut cut = MemSource::new(b"abc", 2, true);
-    let failed = Some(IoFault::Failed);
-    read_all(alloc, &mut cut, 3).err() == failed
-        && read_all(alloc, &mut cut, 3).err() == failed
-        && cut.failures() == 2
-}
-
-/// Whether a sink takes three bytes, and no more.
-fn takes_three(alloc: Global) -> bool {
-    let mut sink = MemSink::new(alloc, 3);
-    sink.write(b"ab") == Ok(2)
-        && sink.write(b"cd") == Ok(1)
-        && sink.write(b"d") == Err(IoFault::Failed)
-        && sink.write(b"") == Ok(0)
-        && sink.flush() == Ok(())
-        && sink.bytes() == b"abc".as_slice()
-        && sink.failures() == 1
-}
-
-/// Whether a sink with so much room answers so to four bytes, and has taken these.
-fn takes(alloc: Global, room: usize, answer: Result<(), IoFault>, taken: &[u8]) -> bool {
-    let mut sink = MemSink::new(alloc, room);
-    write_all(&mut sink, b"abcd") == answer && sink.bytes() == taken
-}
-
-/// Whether this is read of eight bytes to a limit.
-fn is_read(alloc: Global, limit: u16, want: &[u8]) -> bool {
-    let mut source = MemSource::new(b"abcdefgh", 3, false);
-    match read_all(alloc, &mut source, limit as usize) {
-        Ok(all) => all.as_slice() == want,
-        Err(_) => false,
-    }
-}
-
-const LIMITS: &[(u16, &[u8])] = &[
-    (9, b"abcdefgh"),
-    (8, b"abcdefgh"),
-    (7, b"abcdefgh"),
-    (4, b"abcde"),
-];
-
-#[test]
-fn memory_is_read_and_written(rt: HostRuntime) {
-    assert!(rt; gives_pieces(false, Ok(0)) && gives_pieces(true, Err(IoFault::Failed)));
-    for (limit, want) in LIMITS {
-        assert!(rt; is_read(rt.alloc(), *limit, *want), "limit: {limit}");
-    }
-    assert!(rt; fails_where_cut(rt.alloc()));
-    assert!(rt; takes_three(rt.alloc()));
-    assert!(rt; takes(rt.alloc(), 4, Ok(()), b"abcd"));
-    assert!(rt; takes(rt.alloc(), 3, Err(IoFault::Failed), b"abc"));
-}
 
 /// A reader and writer that fails at its second call, and at its third does nothing.
 #[derive(Drop)]
@@ -231,45 +162,6 @@ fn removes_items(alloc: Global, tree: &mut MemTree) -> bool {
         && has_names(alloc, tree, "/", "d o ")
         && tree.remove("/")
         && has_names(alloc, tree, "/", "")
-}
-
-/// A file, and one that is cut.
-fn two_files(alloc: Global) -> Result<MemTree, PutFault> {
-    let mut tree = MemTree::new(alloc, 3)?;
-    tree.put("/f", Item::File(bytes_of(alloc, "one\n")?))?;
-    tree.put("/c", Item::Cut(bytes_of(alloc, "two\n")?))?;
-    Ok(tree)
-}
-
-/// Whether a file is read, and then the cut one, whose last read fails.
-fn reads_both<T: Tree>(alloc: Global, tree: &mut T) -> bool {
-    let mut buf = [0u8; 8];
-    tree.read(&mut buf) == Err(TreeFault::Failed)
-        && tree.open("/f") == Ok(())
-        && has_rest(alloc, tree, b"one\n")
-        && tree.open("/c") == Ok(())
-        && tree.read(&mut buf) == Ok(3)
-        && tree.kind("/f") == Ok(Kind::File)
-        && tree.read(&mut buf) == Ok(1)
-        && &buf[..1] == b"\n".as_slice()
-        && rest_of(alloc, tree).err() == Some(IoFault::Failed)
-}
-
-/// Whether nothing is read where a folder could not be opened, or an item was to be removed.
-fn reads_nothing(tree: &mut MemTree) -> bool {
-    let mut buf = [0u8; 8];
-    tree.open("/") == Err(TreeFault::Failed)
-        && tree.read(&mut buf) == Err(TreeFault::Failed)
-        && tree.open("/f") == Ok(())
-        && !tree.remove("/g")
-        && tree.read(&mut buf) == Err(TreeFault::Failed)
-}
-
-#[test]
-fn files_are_read(rt: HostRuntime) -> Result<(), Fail> {
-    let mut tree = two_files(rt.alloc())?;
-    assert!(rt; reads_both(rt.alloc(), &mut tree) && reads_nothing(&mut tree));
-    Ok(())
 }
 
 /// Makes a folder of the real disk anew, with a file.

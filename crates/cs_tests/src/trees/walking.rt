@@ -1,5 +1,5 @@
 // What walks find: the rows of the documents, and trees that fail.
-use crate::fixtures::{Files, bytes_of, spaced, strings, tree_of};
+use crate::fixtures::{bytes_of, spaced, strings, tree_of};
 use cs_tree::{Item, Kind, Listing, MemTree, PutFault, Tree, TreeFault, WalkFault, Walked, walk};
 use std::alloc::{AllocError, Global};
 use std::test::*;
@@ -32,21 +32,6 @@ fn are_faults(faults: &[(String, WalkFault)], want: &[(&str, WalkFault)]) -> boo
     true
 }
 
-#[test]
-fn names_that_are_left_out(rt: HostRuntime) -> Result<(), Fail> {
-    let files: Files<'_> = &[
-        ("/t/.a", b""),
-        ("/t/#b", b""),
-        ("/t/~c", b""),
-        ("/t/d~", b""),
-        ("/t/e", b""),
-    ];
-    let mut tree = tree_of(rt.alloc(), "/t", files)?;
-    tree.put("/t/o", Item::Other)?;
-    assert!(rt; walks_to(rt.alloc(), &mut tree, &["/t"], "/t/e ", &[]) == Ok(true));
-    Ok(())
-}
-
 /// Whether walks leave out what an element that begins with a dot names, and not what stands below it.
 fn tests_the_last_element(alloc: Global, tree: &mut MemTree) -> Result<bool, AllocError> {
     Ok(
@@ -62,24 +47,6 @@ fn only_the_last_element_is_tested(rt: HostRuntime) -> Result<(), Fail> {
     assert!(rt; walks_to(rt.alloc(), &mut nothing, &["/.x"], "", &[]) == Ok(true));
     let mut tree = tree_of(rt.alloc(), "/.x", &[("/.x/y", b"abcd\n")])?;
     assert!(rt; tests_the_last_element(rt.alloc(), &mut tree) == Ok(true));
-    Ok(())
-}
-
-/// Whether a walk comes to a file, and to a fault where its folder is removed.
-fn loses_its_path(alloc: Global, tree: &mut MemTree) -> Result<bool, AllocError> {
-    let missing = ("/v", WalkFault::Tree(TreeFault::Missing));
-    Ok(
-        walks_to(alloc, tree, &["/v"], "/v/f ", &[])?
-            && tree.remove("/v")
-            && walks_to(alloc, tree, &["/v"], "", &[missing])?
-            && tree.failures() == 1,
-    )
-}
-
-#[test]
-fn a_path_that_has_vanished(rt: HostRuntime) -> Result<(), Fail> {
-    let mut tree = tree_of(rt.alloc(), "/v", &[("/v/f", b"one\n")])?;
-    assert!(rt; loses_its_path(rt.alloc(), &mut tree) == Ok(true));
     Ok(())
 }
 

@@ -2,6 +2,7 @@
 """Runs histories of jobs over small trees that change, always the same ones, and compares the index after each job with the one
 that a plain program lays at once (docs/FORMAT.md) from the paths that remain and the text last read of each file below them.
 Where each indexed file still reads as it was indexed, `csearch` has to print what `cgrep` prints over those files.
+The same over folders of many files, and over files of many trigrams.
 usage: tests/histories.py PROGRAM"""
 import os
 import random
@@ -138,12 +139,14 @@ def folder(path, count, state):
 
 
 def is_joined(count, now, changed):
-    """Whether an index of three folders takes in one of them with so many files now, whose ids are longer than a byte."""
+    """Whether an index of three folders takes in one of them with so many files now, whose ids may be longer than a byte."""
     folders = {path: folder(path, count, 0) for path in "bcd"}
+    tree = lambda: lay({name: text for files in folders.values() for name, text in files.items()})
     model = Model()
-    whole = does(model, [f"{home}/t"], lay({name: text for files in folders.values() for name, text in files.items()}), True)
+    if not does(model, [f"{home}/t"], tree(), resets=True):
+        return False
     folders[changed] = folder(changed, now, 1)
-    return whole and does(model, [f"{home}/t/{changed}"], lay({name: text for files in folders.values() for name, text in files.items()}))
+    return does(model, [f"{home}/t/{changed}"], tree())
 
 
 def text_of_many_trigrams():
@@ -167,7 +170,7 @@ def main():
                 complain(f"{now} files for {count}, in {changed}", "another index")
     text = text_of_many_trigrams()
     for count in BATCHES:
-        if not does(Model(), [f"{home}/t"], lay({f"f/{at + 1000}": text for at in range(count)}), True):
+        if not does(Model(), [f"{home}/t"], lay({f"f/{at + 1000}": text for at in range(count)}), resets=True):
             complain(f"{count} files of many trigrams", "another index")
     print(f"histories: {HISTORIES} of {JOBS} jobs, {3 * len(JOINED)} of many files, {len(BATCHES)} of many trigrams, {running.wrong} wrong")
     return running.wrong > 0

@@ -15,7 +15,7 @@ bin = $(DESTDIR)$(PREFIX)/bin
 manual = $(DESTDIR)$(PREFIX)/share/man
 completions = $(DESTDIR)$(PREFIX)/share/bash-completion/completions
 program = crates/codesearch/out/codesearch
-sources = crates.txt $(shell find crates -type d \( -name out -o -name must-fail \) -prune -o -type f -print)
+sources = crates.txt $(shell find crates -type d \( -name out -o -name must-fail -o -name wrong \) -prune -o -type f -print)
 tools = cindex csearch cgrep
 pages = $(notdir $(wildcard man/*.[157]))
 

@@ -8,7 +8,7 @@ from pathlib import Path
 crates = Path(__file__).resolve().parent.parent / "crates"
 IMPORT = re.compile(r"^\s*(?:pub )?(?:ghost )?use Rattle\.(cs_\w+)\.specs\.([A-Za-z_.]+?)(?:\.\{([^}]*)\}| as (\S+?))?;?$", re.M)
 
-# the function, the file that it stands in, and which of its clauses count (none: all)
+# the function, the file that it stands in, and which of its clauses count (none: all), beside what it requires
 CONTRACTS = [
     ("cindex", "cs_cindex/src/cindexing.rt", ["indexes"]),
     ("cgrep", "cs_search/src/searching.rt", []),
@@ -25,8 +25,8 @@ def spec(crate, module):
 def clauses(source, name, wanted):
     """The text of a public function's clauses."""
     contract = re.search(r"pub fn " + name + r"\b.*?\n\{\n", source, re.S).group(0)
-    parts = re.findall(r"\n\s+ensures (\w*) ?\{(.*?)(?=\n\s+ensures|\n\s+requires|\n\{)", contract, re.S)
-    return " ".join(text for clause, text in parts if not wanted or clause in wanted)
+    parts = re.findall(r"\n\s+(ensures|requires) (\w*) ?\{(.*?)(?=\n\s+ensures|\n\s+requires|\n\{)", contract, re.S)
+    return " ".join(text for kind, clause, text in parts if kind == "requires" or not wanted or clause in wanted)
 
 
 def imports(text, words=None):

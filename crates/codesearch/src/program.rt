@@ -12,27 +12,27 @@ use std::alloc::{AllocError, Global};
 use std::slice;
 
 /// The status where some line matched, or a job was done.
-pub const MATCHED: u8 = 0;
+pub(crate) const MATCHED: u8 = 0;
 
 /// The status where no line matched.
 const NO_MATCH: u8 = 1;
 
 /// The status where the program refuses.
-pub const REFUSED: u8 = 2;
+pub(crate) const REFUSED: u8 = 2;
 
-pub const FIRST_WORD: &str = "codesearch: first word must be cindex, csearch or cgrep\n";
+pub(crate) const FIRST_WORD: &str = "codesearch: first word must be cindex, csearch or cgrep\n";
 
-pub const NO_FOLDER: &str = "codesearch: no current folder\n";
+pub(crate) const NO_FOLDER: &str = "codesearch: no current folder\n";
 
-pub const OUT_OF_MEMORY: &str = "codesearch: out of memory\n";
+pub(crate) const OUT_OF_MEMORY: &str = "codesearch: out of memory\n";
 
 /// How a run ended.
 #[derive(Drop)]
-pub struct Ran {
+pub(crate) struct Ran {
     /// 0 where some line matched or a job was done, 1 where none matched, 2 where it refused, with a
     /// line on standard error that says why.
-    pub status: u8,
-    pub index: After,
+    pub(crate) status: u8,
+    pub(crate) index: After,
 }
 
 impl Ran {
@@ -49,7 +49,7 @@ impl Ran {
 }
 
 /// The tool that a first word names.
-pub fn tool_of(word: &str) -> Option<Tool> {
+pub(crate) fn tool_of(word: &str) -> Option<Tool> {
     match word {
         "cindex" => Some(Tool::Cindex),
         "csearch" => Some(Tool::Csearch),
@@ -59,7 +59,7 @@ pub fn tool_of(word: &str) -> Option<Tool> {
 }
 
 /// Whether the words ask for lines, of which a file may have many, and not for its name or its count.
-pub fn asks_for_lines(alloc: Global, words: &[String]) -> Result<bool, AllocError> {
+pub(crate) fn asks_for_lines(alloc: Global, words: &[String]) -> Result<bool, AllocError> {
     let Some((first, words)) = words.split_first() else {
         return Ok(false);
     };
@@ -77,7 +77,7 @@ pub fn asks_for_lines(alloc: Global, words: &[String]) -> Result<bool, AllocErro
 
 /// Does what the words ask, over the index file, where there is one. `folder` is the current folder, of which `cindex`
 /// alone makes use, and `file` the name of the index file, which is for the line that it cannot be read.
-pub fn run<S: Store, T: Tree, R: Source, O: Sink, E: Sink>(
+pub(crate) fn run<S: Store, T: Tree, R: Source, O: Sink, E: Sink>(
     alloc: Global,
     words: &[String],
     folder: &str,
@@ -317,7 +317,13 @@ fn path_at(fault: CindexFault, job: &IndexJob) -> &str {
 }
 
 /// Writes the line on a file that is not read or written.
-pub fn blame<E: Sink>(alloc: Global, what: &str, file: &str, fault: FileFault, err: &mut E) -> u8
+pub(crate) fn blame<E: Sink>(
+    alloc: Global,
+    what: &str,
+    file: &str,
+    fault: FileFault,
+    err: &mut E,
+) -> u8
     ensures { result ≤ 2 }
 {
     if fault == FileFault::Memory {
@@ -327,7 +333,7 @@ pub fn blame<E: Sink>(alloc: Global, what: &str, file: &str, fault: FileFault, e
 }
 
 /// Writes the line on a word that is no text, with its place behind the name of the tool, from 1.
-pub fn refuse_word<E: Sink>(alloc: Global, tool: &str, place: usize, err: &mut E) -> u8
+pub(crate) fn refuse_word<E: Sink>(alloc: Global, tool: &str, place: usize, err: &mut E) -> u8
     ensures { result ≤ 2 }
 {
     refuse_by(err, format!(in alloc; "{tool}: word {place} is not text\n"))
@@ -344,7 +350,7 @@ fn refuse_by<E: Sink>(err: &mut E, line: Result<String, AllocError>) -> u8
 }
 
 /// Writes the line. Where that fails, nothing is left to say.
-pub fn refuse<E: Sink>(err: &mut E, line: &str) -> u8
+pub(crate) fn refuse<E: Sink>(err: &mut E, line: &str) -> u8
     ensures { result ≤ 2 }
 {
     let _ = write_all(err, line.as_bytes());

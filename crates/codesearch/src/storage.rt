@@ -24,7 +24,7 @@ const ROOT: u32 = 0;
 
 /// What is to become of the index file.
 #[derive(Drop)]
-pub enum After {
+pub(crate) enum After {
     /// It stays as it is.
     Kept,
     /// It gets these bytes.
@@ -35,7 +35,7 @@ pub enum After {
 
 impl After {
     /// What becomes of it after jobs that left these bytes, or no index.
-    pub fn of(index: Option<Vec<u8>>) -> After {
+    pub(crate) fn of(index: Option<Vec<u8>>) -> After {
         match index {
             Some(bytes) => After::Write(bytes),
             None => After::Remove,
@@ -45,7 +45,7 @@ impl After {
 
 /// Why the index file is not read or written.
 #[derive(Clone, Copy, Debug, PartialEq, Eq, Drop)]
-pub enum FileFault {
+pub(crate) enum FileFault {
     /// The system does not read or write it.
     Failed,
     /// A growth was refused.
@@ -87,7 +87,7 @@ impl From<AllocError> for FileFault {
 
 /// The name of the index file: the value of `CSEARCHINDEX`, and where that is unset or empty, the file
 /// `.csearchindex` in the folder that `HOME` names.
-pub fn index_file(rt: &HostRuntime) -> Result<String, FileFault> {
+pub(crate) fn index_file(rt: &HostRuntime) -> Result<String, FileFault> {
     let mut file = variable(rt, "CSEARCHINDEX")?;
     if file.is_empty() {
         file = variable(rt, "HOME")?;
@@ -108,16 +108,16 @@ fn variable(rt: &HostRuntime, name: &str) -> Result<String, FileFault> {
 
 /// The index file as it was found.
 #[derive(Drop)]
-pub struct Found {
+pub(crate) struct Found {
     /// The file, where there is one.
-    pub file: Option<DiskStore<File>>,
+    pub(crate) file: Option<DiskStore<File>>,
     /// What the system said of it when it was opened.
-    pub seen: Option<Metadata>,
+    pub(crate) seen: Option<Metadata>,
 }
 
 /// Opens the index file, where there is one. What is no regular file is not opened: a pipe would wait, and a device may
 /// do anything.
-pub fn find(rt: &HostRuntime, file: &str) -> Result<Found, FileFault> {
+pub(crate) fn find(rt: &HostRuntime, file: &str) -> Result<Found, FileFault> {
     match fs::metadata(rt, file) {
         Ok(there) if is_readable(&there) => {}
         Ok(_) => return Err(FileFault::Failed),
@@ -147,7 +147,7 @@ fn is_readable(there: &Metadata) -> bool {
 }
 
 /// Does with the index file what a run asks that has found it so.
-pub fn store(
+pub(crate) fn store(
     rt: &HostRuntime,
     file: &str,
     seen: Option<&Metadata>,

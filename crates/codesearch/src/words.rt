@@ -8,15 +8,15 @@ const FIRST_ROOM: usize = 256;
 
 /// The words behind the program's name.
 #[derive(Drop)]
-pub struct Words {
+pub(crate) struct Words {
     /// Those before the first that is no text.
-    pub text: Vec<String>,
+    pub(crate) text: Vec<String>,
     /// Whether there is one that is no text.
-    pub ends_early: bool,
+    pub(crate) ends_early: bool,
 }
 
 /// The words behind the program's name, up to the first that is no text.
-pub fn words_of<E: Env>(alloc: Global, env: &E) -> Result<Words, AllocError> {
+pub(crate) fn words_of<E: Env>(alloc: Global, env: &E) -> Result<Words, AllocError> {
     let mut text = Vec::new(alloc);
     let mut ends_early = false;
     for at in 1..usize::MAX {

@@ -12,7 +12,8 @@ use Rattle.cs_history.specs.Premises.{snapshot_told, Premises}
 use Rattle.cs_history.specs.Headline.{Indexes}
 use Rattle.cs_history.proofs.FollowingLemmas.{followed-push, later_premises}
 use Rattle.cs_history.proofs.RefusalLemmas.{right_more}
-use Rattle.cs_cindex.specs.Steps.{RightAfter, RightAll, Standing, JobTree, job_tree, job_trees, IsWholeStep, Steps}
+use Rattle.cs_cindex.specs.Outcomes.{RightAfter}
+use Rattle.cs_cindex.specs.Steps.{RightAll, Standing, JobTree, job_tree, job_trees, IsWholeStep, Steps}
 
 all_front : {A : Type 0} (P : A → Type 0) (xs ys : List A) → AllByRecursion P (xs ++ ys) → AllByRecursion P xs
 all_front P [] ys all = tt

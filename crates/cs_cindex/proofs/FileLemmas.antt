@@ -6,9 +6,7 @@ use Rattle.std.specs.Prelude.{option_map, filter_map, slice_get}
 use Rattle.std.specs.List.{AllByRecursion, cons_option}
 use Rattle.std.specs.Option.{option_map_or}
 use Rattle.std.specs.Ordering.{is_lt}
-use Rattle.std.specs.declared.cmp.Ordering.{Ordering}
-use Rattle.std.specs.declared.cmp.Ordering.TheVariants.{Less, Equal, Greater}
-use Rattle.std.specs.Cmp.Lexicographic.{nat_list_cmp_total, bytes_decides}
+use Rattle.std.specs.Cmp.Lexicographic.{bytes_decides}
 use Rattle.std.proofs.lemmas.Bool.{and_parts, or_left, or_right}
 use Rattle.std.proofs.lemmas.List.Folds.{list_any-append}
 use Rattle.std.proofs.lemmas.List.{take_at, take_more, take-append-drop, map-append}
@@ -20,12 +18,15 @@ use Rattle.cs_trigram.specs.Trigram.{set_of_numbers}
 use Rattle.cs_index.specs.Image.{Entry, names_of}
 use Rattle.cs_index.specs.Built.{is_storable, is_above}
 use Rattle.cs_words.specs.declared.fault.FileFault.TheVariants.{Unnamed}
+use Rattle.cs_history.specs.FileTrigrams.{file_trigrams}
 use Rattle.cs_cindex.specs.declared.reading.Verdict.{Verdict}
 use Rattle.cs_cindex.specs.declared.reading.Verdict.TheVariants.{Text, Skipped, Left}
 use Rattle.cs_tree.specs.Taken.{TakesFront}
 use Rattle.cs_cindex.specs.Notices.{Line, faulted, file_line, text_of, AreCounted, Prints, PrintsFront}
-use Rattle.cs_cindex.specs.Verdicts.{trigrams_told, line_told, file_trigrams, IsVerdict, IsVerdictIn, IsVerdictCounted, one_line, noted_line, added_entries, noted_entries}
+use Rattle.cs_cindex.specs.Verdicts.{trigrams_told, line_told, IsVerdict, IsVerdictIn, IsVerdictCounted, one_line, noted_line, added_entries, noted_entries}
 use Rattle.cs_cindex.specs.Files.{texts_at, are_storable, AreTextsIn, AreTooManyIn, AreFileLinesIn, BeginFileLinesIn, AreAbove, HaveNamesOf}
+use Rattle.cs_index.proofs.PathLemmas.{tail_up}
+use Rattle.cs_tree.proofs.BeforeLemmas.{before_chain}
 use Rattle.cs_tree.proofs.Fronts.{front_all}
 use Rattle.cs_cindex.proofs.LineLemmas.{front_after, text-append, AreCounted-wider, AreCounted-append}
 use Rattle.cs_tree.proofs.Growing.{Grows-chain, Grows-same}
@@ -99,7 +100,7 @@ lines_step log_skip (Some tree) names lines name verdict are is = λ storable.
     ∙ sym (filter_map-append (file_line log_skip tree) names (name ∷ []))
 
 noted_counted : (log_skip : Bool) (name : List ℕ) (verdict : Verdict) (old new : ℕ) → IsVerdictCounted verdict old new → AreCounted (one_line (noted_line log_skip name verdict)) old new
-noted_counted log_skip name (Text trigrams) old new h = elim (is_storable name) as (λ b. AreCounted (one_line (cond b None (Some (faulted name Unnamed)))) old new) [ true ↦ tt | false ↦ (tt, tt) ]
+noted_counted log_skip name (Text trigrams) old new h = elim (is_storable name) as (λ b. AreCounted (one_line (cond b None (Some (faulted name Unnamed)))) old new) [ true ↦ tt | false ↦ (λ fails. cc, tt) ]
 noted_counted true name (Skipped reason) old new h = (tt, tt)
 noted_counted false name (Skipped reason) old new h = tt
 noted_counted log_skip name (Left why) old new h = (h, tt)
@@ -169,24 +170,12 @@ too_many (Some tree) all names rest entries is are many = λ storable.
 
 -- ---- names in order
 
-less : (r : Ordering) → is_lt r ≡ true → r ≡ Less
-less Less h = refl
-less Equal h = cc
-less Greater h = cc
-
-chain : (a b c : List ℕ) → is_lt (bytes_cmp a b) ≡ true → is_lt (bytes_cmp b c) ≡ true → is_lt (bytes_cmp a c) ≡ true
-chain a b c h g = ap is_lt (nat_list_cmp_total.trans a b c (less _ h) (less _ g))
-
-pub ascend_rest : (name : List ℕ) (rest : List (List ℕ)) → are_ascending (name ∷ rest) ≡ true → are_ascending rest ≡ true
-ascend_rest name [] h = refl
-ascend_rest name (next ∷ rest) h = (and_parts (is_lt (bytes_cmp name next)) (are_ascending (next ∷ rest)) h).1
-
 abbrev pub AreAfter : List ℕ → List (List ℕ) → Type 0
 AreAfter name rest = AllByRecursion (λ next. is_lt (bytes_cmp name next) ≡ true) rest
 
 after_lower : (low name : List ℕ) (rest : List (List ℕ)) → is_lt (bytes_cmp low name) ≡ true → AreAfter name rest → AreAfter low rest
 after_lower low name [] h all = tt
-after_lower low name (next ∷ rest) h all = (chain low name next h all.0, after_lower low name rest h all.1)
+after_lower low name (next ∷ rest) h all = (before_chain low name next h all.0, after_lower low name rest h all.1)
 
 pub ascend_after : (name : List ℕ) (rest : List (List ℕ)) → are_ascending (name ∷ rest) ≡ true → AreAfter name rest
 ascend_after name [] h = tt
@@ -270,7 +259,7 @@ pub above_first : (entries : List Entry) (names rest : List (List ℕ)) (name : 
 above_first entries names rest name e all = (subst (AreAbove entries) e all).0
 
 pub ascend_next : (names rest : List (List ℕ)) (name : List ℕ) → names ≡ name ∷ rest → are_ascending names ≡ true → are_ascending rest ≡ true
-ascend_next names rest name e up = ascend_rest name rest (sym (ap are_ascending e) ∙ up)
+ascend_next names rest name e up = tail_up name rest (sym (ap are_ascending e) ∙ up)
 
 -- ---- at the start
 

@@ -1,13 +1,16 @@
 -- The index of the files that a walk finds.
-use Rattle.std.proofs.Common.{◌≡◌, ℕ, suc, ◌+◌, ◌*◌, ◌^◌, ◌≤◌, ◌<◌, Bool, true, false, cond, not, ◌&&◌, ◌||◌, List, [], ◌∷◌, ◌++◌, map, length, refl, sym, ap, subst, ◌∙◌, arith, Option, Some, None, length-append, inl, inr}
+use Rattle.std.proofs.Common.{◌≡◌, ℕ, ◌+◌, ◌*◌, ◌^◌, ◌≤◌, Bool, true, false, cond, not, ◌&&◌, ◌||◌, List, [], ◌∷◌, ◌++◌, map, length, refl, sym, ap, subst, ◌∙◌, arith, Option, Some, None, length-append, inl, inr}
 use Rattle.cs_history.specs.JobIndex.{tree_index}
+use Rattle.cs_history.specs.Replies.{IsLong}
+use Rattle.cs_history.specs.FileTrigrams.{file_trigrams}
+use Rattle.cs_history.proofs.BeginningLemmas.{find_all}
 use Rattle.cs_tree.specs.Folders.{IsTree}
 use Rattle.cs_tree.specs.PathSet.{Paths}
 use Rattle.cs_tree.specs.NameOrder.{bytes_cmp}
 use Rattle.cs_tree.specs.NamesAscending.{are_ascending}
 use Rattle.std.proofs.lemmas.List.{length-map}
 use Rattle.std.proofs.lemmas.Bool.{true≢false, and_parts, and_from, cases_Bool}
-use Rattle.std.specs.Prelude.{flat_map, nat_le}
+use Rattle.std.specs.Prelude.{nat_le}
 use Rattle.std.specs.List.{list_any, list_all, cons_option, AllByRecursion}
 use Rattle.std.specs.Ordering.{is_lt, eq_by_cmp}
 use Rattle.std.specs.Cmp.Lexicographic.{nat_list_cmp_total, bytes_decides}
@@ -19,23 +22,22 @@ use Rattle.cs_tree.specs.Cover.{covers, is_covered, same}
 use Rattle.cs_tree.specs.Snapshot.{Snapshot, Item, folder, file, cut, other, bad, item_at}
 use Rattle.cs_tree.specs.Reached.{files_reached, read_item, is_reached}
 use Rattle.cs_tree.specs.Walks.{Left, Finds, FindsIn, is_among, is_file}
-use Rattle.cs_tree.proofs.Sets.{alike, entries_in_order, items_in_order, tied_is}
+use Rattle.cs_tree.proofs.Sets.{alike, entries_in_order, items_in_order}
 use Rattle.cs_tree.proofs.Collect.{get-collected}
 use Rattle.cs_tree.proofs.Found.{get-found}
 use Rattle.cs_trigram.specs.Text.{limits, text_trigrams}
-use Rattle.cs_trigram.specs.Trigram.{Ascends, closing_trigram}
 use Rattle.cs_trigram.specs.TrigramSets.{IsTrigramSet}
 use Rattle.cs_merge.specs.Content.{IsContent, LieUnder}
 use Rattle.cs_merge.proofs.HoldingLemmas.{from_list_all}
 use Rattle.cs_index.specs.Image.{Entry, IsString, image, image_of, names_of, concat, with_nul, four_bytes, starts_from, name_offsets, magic, trailer, sections_of, postings_of}
 use Rattle.cs_index.specs.Built.{Built, IsBuilt, are_paths, are_reduced, is_before, is_storable}
 use Rattle.cs_index.proofs.StringLemmas.{length-starts_from}
-use Rattle.cs_cindex.specs.Indexed.{IsIndexOf, IsTreeTooLarge}
+use Rattle.cs_index.proofs.PlaceLemmas.{length-fours}
+use Rattle.cs_index.proofs.PathLemmas.{tail_up}
 use Rattle.cs_cindex.specs.Output.{AreTooMany}
-use Rattle.cs_cindex.specs.Next.{IsIndex}
-use Rattle.cs_cindex.specs.Verdicts.{file_trigrams}
+use Rattle.cs_cindex.specs.Next.{IsIndex, IsIndexOf, IsTreeTooLarge}
 use Rattle.cs_cindex.specs.Files.{texts_at, are_storable, AreTextsIn, AreTooManyIn, HaveNamesOf}
-use Rattle.cs_cindex.proofs.FileLemmas.{AreAfter, ascend_rest, ascend_after, with_name}
+use Rattle.cs_cindex.proofs.FileLemmas.{AreAfter, ascend_after, with_name}
 use Rattle.cs_cindex.proofs.NameLemmas.{found_storable}
 use Rattle.cs_cindex.proofs.OrderLemmas.{same_tied, true_T, below_all}
 
@@ -75,7 +77,7 @@ below_texts tree name (next ∷ rest) h =
 texts_sorted : (tree : Snapshot) (names : List (List ℕ)) → are_ascending names ≡ true → map'.is_sorted bytes_cmp (texts_at tree names) ≡ true
 texts_sorted tree [] h = refl
 texts_sorted tree (name ∷ rest) h =
-    let later = texts_sorted tree rest (ascend_rest name rest h) in
+    let later = texts_sorted tree rest (tail_up name rest h) in
     elim (file_trigrams tree name) as (λ o. map'.is_sorted bytes_cmp (cons_option (with_name name o) (texts_at tree rest)) ≡ true) [
       | None ↦ later
       | Some trigrams ↦ and_from (below_all name (texts_at tree rest)) (map'.is_sorted bytes_cmp (texts_at tree rest)) (below_texts tree name rest (ascend_after name rest h)) later
@@ -100,7 +102,6 @@ by_tests true false c x h = refl
 by_tests false b c x h = refl
 
 texts_found : (tree : Snapshot) (paths : Paths) (names : List (List ℕ)) (faults : List Left) → Finds tree paths names faults → map'.from_entries (texts_at tree names) ≡ files_reached (text_trigrams limits) tree paths
-unfolding file_trigrams
 texts_found tree paths names faults finds = map'.same_map nat_list_cmp_total alike (map'.from_entries (texts_at tree names)) (files_reached (text_trigrams limits) tree paths) (λ q.
     get-collected (file_trigrams tree) names q
     ∙ ap (λ b. cond b (file_trigrams tree q) None) (tied_among names q ∙ finds.names_are q)
@@ -117,16 +118,6 @@ module _ (tree : Snapshot) (paths names : List (List ℕ)) (faults : List Left) 
   names_stored is = found_storable tree paths names faults is (and_parts (list_all is_storable paths) (are_reduced paths) ok).0 finds
 
 -- ---- the size of an index
-
-length-offsets : (ns : List ℕ) → length (flat_map four_bytes ns) ≡ 4 * length ns
-length-offsets [] = refl
-length-offsets (n ∷ ns) =
-    let rest = length-offsets ns in
-    let both : length (four_bytes n ++ flat_map four_bytes ns) ≡ length (four_bytes n) + length (flat_map four_bytes ns) = length-append (four_bytes n) (flat_map four_bytes ns) in
-    four_more (length (four_bytes n ++ flat_map four_bytes ns)) (length (flat_map four_bytes ns)) (length ns) both rest
-  where
-    four_more : (n m k : ℕ) → n ≡ 4 + m → m ≡ 4 * k → n ≡ 4 * suc k
-    four_more n m k e f = omega (arith, e, f)
 
 within : (a b c d e f g : List ℕ) → length d ≤ length (a ++ ((b ++ (c ++ (e ++ (d ++ (f ++ []))))) ++ g))
 within a b c d e f g =
@@ -148,7 +139,7 @@ offsets_within paths entries =
 length-image : (paths : List (List ℕ)) (entries : List Entry) → 4 * length entries ≤ length (image_of paths entries)
 length-image paths entries =
     let size : length (name_offsets (names_of entries)) ≡ 4 * length entries =
-    length-offsets (starts_from 0 (map with_nul (names_of entries)))
+    length-fours (starts_from 0 (map with_nul (names_of entries)))
     ∙ ap (λ n. 4 * n) (length-starts_from 0 (map with_nul (names_of entries)) ∙ length-map (names_of entries) with_nul ∙ length-map entries (λ (e : Entry). e.0)) in
     subst (λ n. n ≤ length (image_of paths entries)) size (offsets_within paths entries)
 
@@ -159,17 +150,17 @@ module _ (told : Option Snapshot) (paths names : List (List ℕ)) (faults : List
   index_is built entries bytes same are is = by_tree told finds are
     where
       by_tree : (told : Option Snapshot) → FindsIn told (set.from_list paths) names faults → AreTextsIn told names entries → IsIndexOf told (set.from_list paths) bytes
-      by_tree None finds are = tt
+      by_tree None finds are = λ tells. absurd tells
       by_tree (Some tree) finds are = λ tree_is.
           is ∙ ap (λ ps. image_of ps entries) same ∙ ap (image_of paths) (are (names_stored tree paths names faults ok (finds tree_is) tree_is)) ∙ image_found tree paths names faults ok (finds tree_is)
 
-  pub too_large : (built : List (List ℕ)) (entries : List Entry) → built ≡ paths → AreTextsIn told names entries → 2 ^ 32 ≤ length (image_of built entries) → IsTreeTooLarge told (set.from_list paths)
+  pub too_large : (built : List (List ℕ)) (entries : List Entry) → built ≡ paths → AreTextsIn told names entries → IsLong (Some (image_of built entries)) → IsTreeTooLarge told (set.from_list paths)
   too_large built entries same are large = by_tree told finds are
     where
       by_tree : (told : Option Snapshot) → FindsIn told (set.from_list paths) names faults → AreTextsIn told names entries → IsTreeTooLarge told (set.from_list paths)
-      by_tree None finds are = tt
+      by_tree None finds are = λ tells. absurd tells
       by_tree (Some tree) finds are = λ tree_is.
-          subst (λ bytes. 2 ^ 32 ≤ length bytes) (ap (λ ps. image_of ps entries) same ∙ ap (image_of paths) (are (names_stored tree paths names faults ok (finds tree_is) tree_is)) ∙ image_found tree paths names faults ok (finds tree_is)) large
+          subst (λ bytes. IsLong (Some bytes)) (ap (λ ps. image_of ps entries) same ∙ ap (image_of paths) (are (names_stored tree paths names faults ok (finds tree_is) tree_is)) ∙ image_found tree paths names faults ok (finds tree_is)) large
 
   -- 2^30 names need four bytes each in the name index alone
   pub too_many : AreTooManyIn told names → IsTreeTooLarge told (set.from_list paths)
@@ -179,9 +170,9 @@ module _ (told : Option Snapshot) (paths names : List (List ℕ)) (faults : List
       larger n m h g = omega (arith, h, g)
 
       by_tree : (told : Option Snapshot) → FindsIn told (set.from_list paths) names faults → AreTooManyIn told names → IsTreeTooLarge told (set.from_list paths)
-      by_tree None finds many = tt
+      by_tree None finds many = λ tells. absurd tells
       by_tree (Some tree) finds many = λ tree_is.
-          subst (λ bytes. 2 ^ 32 ≤ length bytes) (image_found tree paths names faults ok (finds tree_is))
+          subst (λ bytes. IsLong (Some bytes)) (image_found tree paths names faults ok (finds tree_is))
           (larger (length (texts_at tree names)) (length (image_of paths (texts_at tree names))) (many (names_stored tree paths names faults ok (finds tree_is) tree_is)) (length-image paths (texts_at tree names)))
 
   -- and they are more texts than an index may name
@@ -198,23 +189,6 @@ module _ (told : Option Snapshot) (paths names : List (List ℕ)) (faults : List
 
 -- ---- whatever the tree told
 
-find_all : (P : List ℕ → List ℕ → Type 0) (entries : List Entry) (name trigrams : List ℕ) → AllByRecursion (λ (e : Entry). P e.0 e.1) entries → find bytes_cmp name entries ≡ Some trigrams → P name trigrams
-find_all P [] name trigrams all h = cc
-find_all P (e ∷ entries) name trigrams all h =
-    elim (cases_Bool (eq_by_cmp bytes_cmp name e.0)) [
-      | inl here ↦
-          let is : e.1 ≡ trigrams = same_some e.1 trigrams (sym (ap (λ t. cond t (Some e.1) (find bytes_cmp name entries)) here) ∙ h) in
-          subst (P name) is (subst (λ n. P n e.1) (sym (tied_is name e.0 here)) all.0)
-      | inr apart ↦ find_all P entries name trigrams all.1 (sym (ap (λ t. cond t (Some e.1) (find bytes_cmp name entries)) apart) ∙ h)
-    ]
-  where
-    same_some : (s t : List ℕ) → Some s ≡ Some t → s ≡ t
-    same_some s t e = cc
-
-each_set : (entries : List Entry) → AllByRecursion (λ (e : Entry). Ascends e.1) entries → AllByRecursion (λ (e : Entry). AllByRecursion (λ g. g < closing_trigram) e.1) entries → AllByRecursion (λ (e : Entry). IsTrigramSet e.1) entries
-each_set [] up fit = tt
-each_set (e ∷ entries) up fit = ((up.0, fit.0), each_set entries up.1 fit.1)
-
 each_string : (entries : List Entry) → AllByRecursion IsString (names_of entries) → AllByRecursion (λ (e : Entry). IsString e.0) entries
 each_string [] all = tt
 each_string (e ∷ entries) all = (all.0, each_string entries all.1)
@@ -226,7 +200,7 @@ built_content built is =
     record {
       paths_are = from_list_all IsString built.paths is.each_path;
       names_are = λ name trigrams there. find_all (λ n (t : List ℕ). IsString n) built.entries name trigrams (each_string built.entries is.each_name) (read name trigrams there);
-      sets_are = λ name trigrams there. find_all (λ (n : List ℕ) t. IsTrigramSet t) built.entries name trigrams (each_set built.entries is.sets is.trigrams) (read name trigrams there);
+      sets_are = λ name trigrams there. find_all (λ (n : List ℕ) t. IsTrigramSet t) built.entries name trigrams is.sets (read name trigrams there);
     }
 
 -- what holds of all names holds of those of the entries

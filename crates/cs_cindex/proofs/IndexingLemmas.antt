@@ -6,7 +6,7 @@ use Rattle.std.specs.Prelude.{filter_map}
 use Rattle.cs_tree.specs.PathSet as set
 use Rattle.cs_tree.specs.Snapshot.{Snapshot}
 use Rattle.cs_tree.specs.Told.{Grows, Taken}
-use Rattle.cs_tree.specs.Walks.{Left, FindsIn, CountsFaults}
+use Rattle.cs_tree.specs.Walks.{Left, FindsIn, CountsFaults, left_entry}
 use Rattle.cs_tree.proofs.Growing.{Grows-chain}
 use Rattle.cs_index.specs.Built.{are_paths}
 use Rattle.cs_tree.specs.Taken.{TakesFront}
@@ -14,12 +14,12 @@ use Rattle.cs_cindex.specs.Notices.{Line, left_line, file_line, text_of, AreLine
 use Rattle.cs_index.specs.Image.{Entry}
 use Rattle.cs_cindex.specs.Files.{AreFileLinesIn, BeginFileLinesIn, AreTextsIn, AreTooManyIn}
 use Rattle.cs_tree.proofs.Fronts.{front_all}
-use Rattle.cs_cindex.proofs.LineLemmas.{front_after, text-append, AreCounted-wider, AreCounted-append, walk_counted}
+use Rattle.cs_cindex.proofs.LineLemmas.{LeftEntry, front_after, text-append, AreCounted-wider, AreCounted-append, walk_counted}
 use Rattle.cs_cindex.proofs.OrderLemmas.{lines_once}
 use Rattle.cs_cindex.proofs.IndexLemmas.{names_stored}
 
 -- what was printed of files, where what the code has is known by equations
-pub files_printed : (log_skip log_skip' : Bool) (told told' : Option Snapshot) (names names' : List (List ℕ)) (failed failed' : ℕ) (taken taken' : Option Taken) → log_skip ≡ log_skip' → told ≡ told' → names ≡ names' → Prints (AreFileLinesIn log_skip told names) failed failed' taken taken' → Prints (AreFileLinesIn log_skip' told' names') failed failed' taken taken'
+files_printed : (log_skip log_skip' : Bool) (told told' : Option Snapshot) (names names' : List (List ℕ)) (failed failed' : ℕ) (taken taken' : Option Taken) → log_skip ≡ log_skip' → told ≡ told' → names ≡ names' → Prints (AreFileLinesIn log_skip told names) failed failed' taken taken' → Prints (AreFileLinesIn log_skip' told' names') failed failed' taken taken'
 files_printed log_skip log_skip' told told' names names' failed failed' taken taken' a b c p = rw (← a, ← b, ← c) p
 
 pub files_front : (log_skip log_skip' : Bool) (told told' : Option Snapshot) (names names' : List (List ℕ)) (failed failed' : ℕ) (taken taken' : Option Taken) → log_skip ≡ log_skip' → told ≡ told' → names ≡ names' → PrintsFront (BeginFileLinesIn log_skip told names) failed failed' taken taken' → PrintsFront (BeginFileLinesIn log_skip' told' names') failed failed' taken taken'
@@ -101,6 +101,17 @@ module _ (log_skip : Bool) (told : Option Snapshot) (paths names : List (List �
         counted = all_counted p.lines p.counted;
         grows = subst (Grows taken later) (sym (text-append walked p.lines)) (Grows-chain taken now later (text_of walked) (text_of p.lines) printed p.grows);
       }
+
+-- that, where what the code has is known by equations
+pub walk_printed : (log_skip log_skip' : Bool) (told told' : Option Snapshot) (paths names names' : List (List ℕ)) (left left' : List LeftEntry) (before failed failed' : ℕ) (taken now later : Option Taken) →
+    are_paths paths ≡ true → FindsIn told' (set.from_list paths) names' (map left_entry left') → CountsFaults (map left_entry left') before failed → before ≤ failed → failed ≤ failed' →
+    left ≡ left' → Grows taken now (text_of (map left_line (map left_entry left))) →
+    log_skip ≡ log_skip' → told ≡ told' → names ≡ names' → Prints (AreFileLinesIn log_skip told names) failed failed' now later →
+    Prints (AreLinesIn log_skip' told' (set.from_list paths)) before failed' taken later
+walk_printed log_skip log_skip' told told' paths names names' left left' before failed failed' taken now later ok finds counted rises more same printed a b c files =
+    prints_all log_skip' told' paths names' (map left_entry left') ok finds before failed taken now counted failed' later rises more
+    (subst (λ entries. Grows taken now (text_of (map left_line (map left_entry entries)))) same printed)
+    (files_printed log_skip log_skip' told told' names names' failed failed' now later a b c files)
 
 -- all lines are the first of them
 pub front_whole : (log_skip : Bool) (told : Option Snapshot) (paths : Paths) (failed failed' : ℕ) (taken taken' : Option Taken) → Prints (AreLinesIn log_skip told paths) failed failed' taken taken' → PrintsFront (BeginLinesIn log_skip told paths) failed failed' taken taken'

@@ -11,14 +11,12 @@ use Rattle.cs_tree.specs.Told.{Grows, Taken}
 use Rattle.cs_tree.specs.Walks.{Left, left_entry, CountsFault, CountsFaults}
 use Rattle.cs_tree.specs.declared.walking.WalkFault.{WalkFault}
 use Rattle.cs_tree.specs.declared.walking.WalkFault.TheVariants as walk
-use Rattle.cs_tree.specs.declared.fault.TreeFault.TheVariants as tree
 use Rattle.std.specs.Prelude.{String, OnErr}
 use Rattle.std.specs.declared.alloc.Global.{Global}
 use Rattle.cs_tree.proofs.Growing.{Grows-chain}
 use Rattle.cs_trigram.specs.declared.scan.Reason.{Reason}
 use Rattle.cs_words.specs.declared.jobs.Tool.TheVariants.{Cindex}
 use Rattle.cs_words.specs.declared.fault.FileFault.{FileFault}
-use Rattle.cs_words.specs.declared.fault.FileFault.TheVariants.{Missing, Denied, Output, Failed, Unnamed, PathTooLong, InputTooLong}
 use Rattle.cs_tree.proofs.Fronts.{front_none, front_left, front_right}
 use Rattle.cs_tree.specs.Taken.{TakesFront}
 use Rattle.cs_cindex.specs.Notices.{Line, faulted, skipped, line_text, text_of, left_line, walk_fault, BeginLinesIn, PrintsFront, IsCounted, IsLineCounted, AreCounted}
@@ -112,13 +110,7 @@ module _ (a b c d : ℕ) (low : a ≤ b) (high : c ≤ d) where
   HasFailed-wider h = wider 18446744073709551615 a b c d low high h
 
   pub IsCounted-wider : (why : FileFault) → IsCounted why b c → IsCounted why a d
-  IsCounted-wider Missing h = HasFailed-wider h
-  IsCounted-wider Denied h = HasFailed-wider h
-  IsCounted-wider Output h = HasFailed-wider h
-  IsCounted-wider Failed h = HasFailed-wider h
-  IsCounted-wider Unnamed h = tt
-  IsCounted-wider PathTooLong h = tt
-  IsCounted-wider InputTooLong h = tt
+  IsCounted-wider why h = λ fails. HasFailed-wider (h fails)
 
   line-wider : (line : Line) → IsLineCounted b c line → IsLineCounted a d line
   line-wider (faulted name why) h = IsCounted-wider why h
@@ -151,13 +143,9 @@ any_err (Err e) p = p
 -- ---- the failures of a walk
 
 left_counted : (fault : WalkFault) (old new : ℕ) → CountsFault fault old new → IsCounted (walk_fault fault) old new
-left_counted (walk.Tree tree.Missing) old new h = h
-left_counted (walk.Tree tree.Denied) old new h = h
-left_counted (walk.Tree tree.Output) old new h = h
-left_counted (walk.Tree tree.Failed) old new h = h
-left_counted (walk.Tree tree.Memory) old new h = h
-left_counted walk.Unnamed old new h = tt
-left_counted walk.TooLong old new h = tt
+left_counted (walk.Tree fault) old new h = λ fails. h
+left_counted walk.Unnamed old new h = λ fails. cc
+left_counted walk.TooLong old new h = λ fails. cc
 
 pub walk_counted : (faults : List Left) (old new : ℕ) → CountsFaults faults old new → AreCounted (map left_line faults) old new
 walk_counted [] old new h = tt

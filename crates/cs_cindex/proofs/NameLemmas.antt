@@ -1,8 +1,8 @@
 -- The names that a walk finds can be those of an index.
 use Rattle.std.proofs.Common.{◌≡◌, ℕ, Bool, true, false, cond, not, eqb, ltb, ◌&&◌, ◌||◌, List, [], ◌∷◌, ◌++◌, length, refl, sym, ap, subst, ◌∙◌, inl, inr, Some, arith}
-use Rattle.cs_tree.specs.Folders.{stem_of, child, lists, is_name, HasNames, IsTree}
+use Rattle.cs_tree.specs.Folders.{stem_of, child, lists, is_element, ListsElements, IsTree}
 use Rattle.cs_tree.specs.NameOrder.{bytes_cmp}
-use Rattle.std.proofs.lemmas.Bool.{true≢false, cases_Bool, and_parts, and_from, or_cases, or_parts, not-true, eqb-false, ne_eqb, lt-ltb}
+use Rattle.std.proofs.lemmas.Bool.{true≢false, cases_Bool, and_parts, and_from, or_cases, or_parts, or_right, not-true, eqb-false, ne_eqb, lt-ltb}
 use Rattle.std.specs.Prelude.{is_some}
 use Rattle.std.specs.List.{list_any, list_all}
 use Rattle.std.specs.Ordering.{eq_by_cmp}
@@ -38,23 +38,23 @@ free_name (b ∷ name) h =
     let parts = or_parts (eqb b 0) (list_any (λ c. eqb c 0) name) h in
     and_from (ltb 0 b) (is_free name) (positive b parts.0) (free_name name parts.1)
 
-name_free : (name : List ℕ) → is_name name ≡ true → is_free name ≡ true
+name_free : (name : List ℕ) → is_element name ≡ true → is_free name ≡ true
 name_free name h =
     let parts = and_parts (not (same name [])) (not (list_any (λ b. eqb b slash) name) && not (list_any (λ b. eqb b 0) name)) h in
     let more = and_parts (not (list_any (λ b. eqb b slash) name)) (not (list_any (λ b. eqb b 0) name)) parts.1 in
     free_name name (not-true _ more.1)
 
-listed_free : (names : List (List ℕ)) (name : List ℕ) → list_all is_name names ≡ true → list_any (λ listed. same listed name) names ≡ true → is_free name ≡ true
+listed_free : (names : List (List ℕ)) (name : List ℕ) → list_all is_element names ≡ true → list_any (λ listed. same listed name) names ≡ true → is_free name ≡ true
 listed_free [] name h there = absurd (true≢false (sym there))
 listed_free (x ∷ names) name h there =
-    let parts = and_parts (is_name x) (list_all is_name names) h in
+    let parts = and_parts (is_element x) (list_all is_element names) h in
     elim (or_cases (same x name) (list_any (λ listed. same listed name) names) there) [
       | inl here ↦ subst (λ n. is_free n ≡ true) ((bytes_decides x name).0 here) (name_free x parts.0)
       | inr later ↦ listed_free names name parts.1 later
     ]
 
-lists_free : (item : Item) (name : List ℕ) → HasNames item → lists item name ≡ true → is_free name ≡ true
-lists_free (folder names unnamed) name h there = listed_free names name (and_parts (list_all is_name names) _ h.0).0 there
+lists_free : (item : Item) (name : List ℕ) → ListsElements item → lists item name ≡ true → is_free name ≡ true
+lists_free (folder names unnamed) name h there = listed_free names name (and_parts (list_all is_element names) _ h.0).0 there
 lists_free (file bytes) name h there = absurd (true≢false (sym there))
 lists_free (cut bytes) name h there = absurd (true≢false (sym there))
 lists_free other name h there = absurd (true≢false (sym there))
@@ -100,11 +100,7 @@ each_among [] h = refl
 each_among (first ∷ names) h =
     and_from (is_storable first) (are_storable names)
     (h first (ap (λ b. b || is_among names first) ((bytes_decides first first).1 refl)))
-    (each_among names (λ name there. h name (later (same first name) (is_among names name) there)))
-  where
-    later : (a b : Bool) → b ≡ true → (a || b) ≡ true
-    later true b e = refl
-    later false b e = e
+    (each_among names (λ name there. h name (or_right (same first name) (is_among names name) there)))
 
 pub found_storable : (tree : Snapshot) (paths : List (List ℕ)) (names : List (List ℕ)) (faults : List Left) → IsTree tree → are_storable paths ≡ true → Finds tree (set.from_list paths) names faults → are_storable names ≡ true
 found_storable tree paths names faults is h finds = each_among names (λ name there.

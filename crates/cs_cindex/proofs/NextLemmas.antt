@@ -17,9 +17,8 @@ use Rattle.cs_tree.proofs.Sets.{same_set}
 use Rattle.cs_index.specs.Opening.{opening}
 use Rattle.cs_index.specs.OpenedParts.{Parts, are_whole}
 use Rattle.cs_index.specs.declared.fault.IndexFault.{IndexFault}
-use Rattle.cs_merge.specs.Content.{paths_in}
 use Rattle.cs_merge.specs.Joinable.{joined_index, AreJoinable}
-use Rattle.cs_cindex.specs.Indexed.{IsIndexOf, IsTreeTooLarge, IsIndexingFault}
+use Rattle.cs_cindex.specs.Files.{IsIndexingFault}
 use Rattle.cs_words.specs.declared.jobs.IndexJob.{IndexJob}
 use Rattle.cs_words.specs.declared.fault.CindexFault.{CindexFault}
 use Rattle.cs_words.specs.declared.fault.CindexFault.TheVariants.{NoIndex, BadIndex, Unsorted, TooLarge, BadPath, Write, Memory}
@@ -34,21 +33,21 @@ use Rattle.cs_history.proofs.HistoryLemmas.{walk_content, walk_lies}
 use Rattle.cs_history.proofs.IndexLemmas.{joined_as, first_index, given_some, walked_again, no_index}
 use Rattle.std.specs.Result.{IsOkAnd}
 use Rattle.cs_cindex.specs.Joins.{IsSound, JoinsTo, IsJoinRefusal}
-use Rattle.cs_cindex.specs.Next.{opening_paths, base_paths, paths_walked, index_alone, opening_join, next_index, HasWholeLists, IsIndex, IsOwn, IsNextLong, alone, joined, IsNext}
+use Rattle.cs_cindex.specs.Next.{opening_paths, base_paths, paths_walked, opening_join, next_index, HasWholeLists, IsIndex, IsIndexOf, IsTreeTooLarge, IsOwn, IsNextLong, alone, joined, IsNext}
 use Rattle.cs_cindex.specs.Refusals.{base, IsWalkFault}
 use Rattle.cs_cindex.proofs.OldLemmas.{OpensWith, OpensFor, history_opens, opened_image}
 
 -- ---- of what a walk gives, whatever bytes the job goes on from
 
-own_told : (job : IndexJob) (tree : Option Snapshot) (old : Option (List ℕ)) (paths : Paths) (bytes : List ℕ) → paths ≡ paths_walked job old → IsIndexOf tree paths bytes → Tells tree → bytes ≡ index_alone job (snapshot_told tree) old
-own_told job None old paths bytes e built tells = absurd tells
-own_told job (Some tree) old paths bytes e built tells = built tells ∙ ap (tree_index tree) e
+-- the index of what the job finds, alone
+abbrev index_alone : IndexJob → Snapshot → Option (List ℕ) → List ℕ
+index_alone job tree old = tree_index tree (paths_walked job old)
 
 -- what indexing gives is the job's own index
 pub own_index : (job : IndexJob) (tree : Option Snapshot) (old : Option (List ℕ)) (paths : Paths) (bytes : List ℕ) → paths ≡ paths_walked job old → IsIndex paths bytes → IsIndexOf tree paths bytes → length bytes < 2 ^ 32 → IsOwn job tree old bytes
 own_index job tree old paths bytes e index built short = record {
   index = subst (λ ps. IsIndex ps bytes) e index;
-  told = own_told job tree old paths bytes e built;
+  told = subst (λ ps. IsIndexOf tree ps bytes) e built;
   short = short;
 }
 
@@ -87,12 +86,8 @@ pub told_short : (job : IndexJob) (tree : Option Snapshot) (old : Option (List �
 told_short job tree old own own_is tells = subst (λ b. length b < 2 ^ 32) (own_is.told tells) own_is.short
 
 -- a refusal of indexing is one of the job
-large_told : (job : IndexJob) (tree : Option Snapshot) (old : Option (List ℕ)) (paths : Paths) → paths ≡ paths_walked job old → IsTreeTooLarge tree paths → Tells tree → IsLong (Some (index_alone job (snapshot_told tree) old))
-large_told job None old paths e large tells = absurd tells
-large_told job (Some tree) old paths e large tells = subst (λ ps. 2 ^ 32 ≤ length (tree_index tree ps)) e (large tells)
-
 pub index_refusal : (job : IndexJob) (tree : Option Snapshot) (old : Option (List ℕ)) (paths : Paths) (fault : CindexFault) → paths ≡ paths_walked job old → IsIndexingFault fault → (fault ≡ TooLarge → IsTreeTooLarge tree paths) → IsWalkFault job tree old fault
-index_refusal job tree old paths TooLarge e only large = alone (large_told job tree old paths e (large refl))
+index_refusal job tree old paths TooLarge e only large = alone (subst (IsTreeTooLarge tree) e (large refl))
 index_refusal job tree old paths Write e only large = tt
 index_refusal job tree old paths Memory e only large = tt
 index_refusal job tree old paths NoIndex e only large = only
@@ -144,7 +139,6 @@ walked_own : (visit : Visit) (before : History) → set.len visit.given ≢ 0 �
 walked_own visit before some = ap (λ b. cond b (paths_of before) (least visit.given)) (ne_eqb (set.len visit.given) 0 some)
 
 content_paths : (opening : Result Parts IndexFault) (earlier : History) → OpensFor earlier opening → least (opening_paths opening) ≡ paths_of earlier
-unfolding paths_in
 content_paths (Ok parts) earlier h = h.paths_are
 content_paths (Err fault) earlier h = absurd h
 

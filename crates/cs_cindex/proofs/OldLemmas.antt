@@ -20,16 +20,16 @@ use Rattle.cs_index.specs.Image.{Files, Entry, image, names_of}
 use Rattle.cs_index.specs.Indexable.{IsIndexable}
 use Rattle.cs_index.proofs.WrittenLemmas.{image_has, image_opens}
 use Rattle.cs_index.specs.Opening.{opening}
-use Rattle.cs_index.specs.OpenedParts.{Parts, are_whole}
+use Rattle.cs_index.specs.OpenedParts.{Parts, are_whole, paths_in, files_in}
 use Rattle.cs_index.specs.declared.fault.IndexFault.{IndexFault}
 use Rattle.cs_index.specs.declared.fault.IndexFault.TheVariants.{BadPaths}
 use Rattle.cs_words.specs.declared.fault.CindexFault.TheVariants.{BadIndex, Unsorted}
-use Rattle.cs_merge.specs.Content.{IsContent, LieUnder, paths_in, files_in}
+use Rattle.cs_merge.specs.Content.{IsContent, LieUnder}
 use Rattle.cs_merge.proofs.ContentLemmas.{content_indexable, ascending_sets}
-use Rattle.cs_history.specs.History.{History, nothing, handed_in, ◌⊳◌, all_given, paths_of, files_of, index_of}
+use Rattle.cs_history.specs.History.{History, nothing, handed_in, ◌⊳◌, all_paths_given, paths_of, files_of, index_of}
 use Rattle.cs_history.specs.WellFormed.{AreClean, IsBeginning, IsHistory}
 use Rattle.cs_history.proofs.BeginningLemmas.{begun_opens}
-use Rattle.cs_history.proofs.HistoryLemmas.{history_content, history_lies, is_begun, files_begun, index_is, clean_paths, least_twice}
+use Rattle.cs_history.proofs.HistoryLemmas.{history_content, history_lies, has_beginning, files_begun, index_is, clean_paths, least_twice}
 use Rattle.cs_tree.specs.Cleaning.{is_settled}
 use Rattle.cs_merge.specs.Joinable.{are_covered}
 use Rattle.std.specs.Result.{IsOkAnd}
@@ -80,14 +80,13 @@ each_key P files h = each (map'.keys files) (λ name member. by_option name (map
     each (n ∷ ns) g = (g n (or_left (eq_by_cmp bytes_cmp n n) _ (tied_same n)), each ns (λ name member. g name (or_right (eq_by_cmp bytes_cmp name n) _ member)))
 
 covered_names : (parts : Parts) (paths : Paths) (files : Files) → set.from_list parts.paths ≡ paths → parts.names ≡ names_of (map'.entries files) → LieUnder paths files → are_covered parts ≡ true
-unfolding are_covered paths_in
+unfolding are_covered
 covered_names parts paths files p n under =
     ap (λ s. list_all (λ name. is_covered s name) parts.names) p
     ∙ ap (λ ns. list_all (λ name. is_covered paths name) ns) n
     ∙ all_pass (λ name. is_covered paths name) (map'.keys files) (each_key (λ name. is_covered paths name ≡ true) files under)
 
 written_content : (paths : Paths) (files : Files) → IsContent paths files → LieUnder paths files → IsIndexable (set.items paths) (map'.entries files) → HasContent (parts_written (set.items paths) (map'.entries files)) paths files
-unfolding paths_in files_in
 written_content paths files content under indexable =
     let has = image_has (set.items paths) (map'.entries files) indexable in
     record {
@@ -126,17 +125,16 @@ abbrev pub OpensFor : History → Result Parts IndexFault → Type 0
 OpensFor earlier opening = IsOkAnd opening (GoesOn earlier)
 
 content_goes : (earlier : History) (opening : Result Parts IndexFault) → AreClean (paths_of earlier) → OpensWith opening (paths_of earlier) (files_of earlier) → OpensFor earlier opening
-unfolding paths_in
 content_goes earlier (Err fault) clean h = h
 content_goes earlier (Ok parts) clean h = record {
-  paths_are = ap least h.paths_are ∙ least_twice (all_given earlier);
+  paths_are = ap least h.paths_are ∙ least_twice (all_paths_given earlier);
   files_are = h.files_are;
   settled = all_pass is_settled parts.paths (each_listed (λ p. is_settled p ≡ true) parts.paths (λ p member. (clean p (subst (λ s. set.contains s p ≡ true) h.paths_are member)).settled));
   sound = h.sound;
 }
 
 begun_goes : (bytes : List ℕ) (parts : Parts) → IsBeginning bytes parts → GoesOn (handed_in bytes parts) parts
-unfolding are_covered paths_in files_in
+unfolding are_covered
 begun_goes bytes parts is = record {
   paths_are = refl;
   files_are = sym (files_begun bytes parts);
@@ -158,7 +156,7 @@ history_opens (handed_in old parts) bytes is e short =
 history_opens (visit ⊳ before) bytes is e short =
     let earlier : History = visit ⊳ before in
     content_goes earlier (opening bytes) (clean_paths earlier is)
-    (opened_image bytes (paths_of earlier) (files_of earlier) (history_content earlier is) (history_lies earlier (is_begun earlier is)) (sym (index_is earlier bytes tt e)) short)
+    (opened_image bytes (paths_of earlier) (files_of earlier) (history_content earlier is) (history_lies earlier (has_beginning earlier is)) (sym (index_is earlier bytes tt e)) short)
 
 content_fault : (earlier : History) (opening : Result Parts IndexFault) → OpensFor earlier opening → opening_fault unfit_parts_fault opening ≡ None
 content_fault earlier (Err fault) h = absurd h

@@ -16,7 +16,8 @@ use Rattle.cs_tree.specs.Snapshot.{Snapshot}
 use Rattle.cs_tree.specs.Walks.{Left, Finds, is_among, fault_among}
 use Rattle.cs_tree.proofs.Sets.{alike, tied_is, tied_same, entries_in_order}
 use Rattle.cs_cindex.specs.Notices.{Line, AreLines, lines_for}
-use Rattle.cs_cindex.proofs.FileLemmas.{AreAfter, ascend_rest, ascend_after}
+use Rattle.cs_index.proofs.PathLemmas.{tail_up}
+use Rattle.cs_cindex.proofs.FileLemmas.{AreAfter, ascend_after}
 
 pub same_tied : (p q : List ℕ) → eq_by_cmp bytes_cmp q p ≡ same p q
 same_tied p q = both_ways (eq_by_cmp bytes_cmp q p) (same p q)
@@ -42,7 +43,7 @@ module _ {X : Type 0} where
   pub ascend_sorted : (entries : List (List ℕ × X)) → are_ascending (keys_of entries) ≡ true → map'.is_sorted bytes_cmp entries ≡ true
   ascend_sorted [] h = refl
   ascend_sorted (e ∷ entries) h =
-      and_from (below_all e.0 entries) (map'.is_sorted bytes_cmp entries) (after_below e.0 entries (ascend_after e.0 (keys_of entries) h)) (ascend_sorted entries (ascend_rest e.0 (keys_of entries) h))
+      and_from (below_all e.0 entries) (map'.is_sorted bytes_cmp entries) (after_below e.0 entries (ascend_after e.0 (keys_of entries) h)) (ascend_sorted entries (tail_up e.0 (keys_of entries) h))
 
   -- entries in order that answer alike are the same
   one_list : (a b : List (List ℕ × X)) → are_ascending (keys_of a) ≡ true → are_ascending (keys_of b) ≡ true → ((q : List ℕ) → find bytes_cmp q a ≡ find bytes_cmp q b) → a ≡ b

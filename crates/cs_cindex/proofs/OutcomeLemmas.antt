@@ -15,7 +15,7 @@ use Rattle.cs_history.specs.Headline.{Indexes}
 use Rattle.cs_history.specs.Replies.{Walks, IsLong, IsTooLarge}
 use Rattle.cs_cindex.specs.Next.{IsNextLong, IsNext}
 use Rattle.cs_cindex.specs.Refusals.{lists, clears, walks, job_kind, base, first_bad, base_fault, early_walk_fault, early_fault_of, early_fault, IsLateFault, EarlyOr, HasCause}
-use Rattle.cs_cindex.specs.Steps.{RightAfter}
+use Rattle.cs_cindex.specs.Outcomes.{RightAfter}
 use Rattle.cs_cindex.proofs.PathLemmas.{all_taken}
 use Rattle.cs_cindex.proofs.NextLemmas.{told_next, told_short, on_base, walks_on, next_is, large_is, fits_is}
 use Rattle.cs_cindex.proofs.JobLemmas.{Causes, none_there, refused, causes, listing, clearing, walking, cases_of, is_early, right_reply}

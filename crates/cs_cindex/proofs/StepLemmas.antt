@@ -22,17 +22,17 @@ use Rattle.cs_history.specs.Premises.{snapshot_told}
 use Rattle.cs_history.specs.Headline.{Indexes}
 use Rattle.cs_history.specs.Replies.{Walks}
 use Rattle.cs_cindex.specs.Bytes.{index_bytes}
-use Rattle.cs_cindex.specs.LentBytes.{lent_bytes}
+use Rattle.std.specs.Option.{option_copied}
 use Rattle.cs_tree.specs.Taken.{TakesFront, MayEnd}
 use Rattle.cs_cindex.specs.Next.{IsNext}
-use Rattle.cs_cindex.specs.Output.{TellsBy, WalkPrints, WalkPrintsSome, index_lines, list_lines, is_failed_write}
+use Rattle.cs_cindex.specs.Output.{JobPrintsBy, WalkPrints, WalkPrintsSome, index_lines, list_lines, is_failed_write}
 use Rattle.cs_cindex.specs.Refusals.{JobKind, lists, clears, walks, job_kind, base, list_fault, early_walk_fault, early_fault_of, IsOutputFault, IsWalkFault, IsLateFault, EarlyOr}
 use Rattle.cs_cindex.specs.Steps.{JobTree, Outputs, Standing, IsStep, IsWholeStep}
 use Rattle.cs_cindex.specs.declared.outcome.Outcome.{Outcome}
 use Rattle.cs_cindex.specs.Outcomes.{IsWholeStepTo, index_from, reply_of}
 use Rattle.cs_tree.proofs.Fronts.{front_none, front_all}
 use Rattle.cs_tree.proofs.Growing.{Grows-same}
-use Rattle.cs_cindex.proofs.ToldLemmas.{tells_refused}
+use Rattle.cs_cindex.proofs.ToldLemmas.{prints_refused}
 use Rattle.cs_cindex.proofs.OutcomeLemmas.{walks_kind, walk_indexes}
 
 -- ---- the index after a job that does not walk
@@ -89,7 +89,7 @@ module _ (job : IndexJob) (tree : JobTree) (old : Standing) (later : Outputs) wh
         keeps = ((λ _. refl), (λ f r n. absurd (true≢false (sym l ∙ f))));
         walked = λ _ w. absurd (true≢false (sym l ∙ w.0));
         out = subst (λ k. Grows old.outputs.out later.out (list_lines k old.index)) (sym kind) out;
-        err = subst (λ k. TellsBy k Done job tree.snapshot old.index tree.failed tree.failed_then old.outputs.err later.err) (sym kind) err;
+        err = subst (λ k. JobPrintsBy k Done job tree.snapshot old.index tree.failed tree.failed_then old.outputs.err later.err) (sym kind) err;
         writes = (o, e);
       }
 
@@ -102,7 +102,7 @@ module _ (job : IndexJob) (tree : JobTree) (old : Standing) (later : Outputs) wh
         keeps = refl;
         walked = λ h. absurd (never_done fault h);
         out = subst (λ k. TakesFront (list_lines k old.index) old.outputs.out later.out) (sym kind) out;
-        err = subst (λ k. TellsBy k (Refused fault) job tree.snapshot old.index tree.failed tree.failed_then old.outputs.err later.err) (sym kind) err;
+        err = subst (λ k. JobPrintsBy k (Refused fault) job tree.snapshot old.index tree.failed tree.failed_then old.outputs.err later.err) (sym kind) err;
         writes = counts_out (is_failed_write fault) old.outputs.out_failed later.out_failed old.outputs.err_failed later.err_failed o e;
       }
 
@@ -116,7 +116,7 @@ module _ (job : IndexJob) (tree : JobTree) (old : Standing) (later : Outputs) wh
         keeps = ((λ f. absurd (true≢false (sym f ∙ l))), (λ _ _ _. refl));
         walked = λ _ w. absurd (true≢false (sym alone ∙ w.1));
         out = subst (λ k. Grows old.outputs.out later.out (list_lines k old.index)) (sym kind) out;
-        err = subst (λ k. TellsBy k Done job tree.snapshot old.index tree.failed tree.failed_then old.outputs.err later.err) (sym kind) err;
+        err = subst (λ k. JobPrintsBy k Done job tree.snapshot old.index tree.failed tree.failed_then old.outputs.err later.err) (sym kind) err;
         writes = (o, e);
       }
 
@@ -132,7 +132,7 @@ module _ (job : IndexJob) (tree : JobTree) (old : Standing) (later : Outputs) wh
           keeps = ((λ f. absurd (true≢false (sym f ∙ w.0))), (λ f r n. absurd (true≢false (sym (ap (λ b. b && has_no_path job) r ∙ n) ∙ w.1))));
           walked = λ _ _. next';
           out = subst (λ k. Grows old.outputs.out later.out (list_lines k old.index)) (sym kind) out;
-          err = subst (λ k. TellsBy k Done job tree.snapshot old.index tree.failed tree.failed_then old.outputs.err later.err) (sym kind)
+          err = subst (λ k. JobPrintsBy k Done job tree.snapshot old.index tree.failed tree.failed_then old.outputs.err later.err) (sym kind)
               (subst (λ b. WalkPrints job tree.snapshot b tree.failed tree.failed_then old.outputs.err later.err) (sym is) err);
           writes = (o, e);
         }
@@ -147,7 +147,7 @@ module _ (job : IndexJob) (tree : JobTree) (old : Standing) (later : Outputs) wh
           keeps = refl;
           walked = λ h. absurd (never_done fault h);
           out = subst (λ k. TakesFront (list_lines k old.index) old.outputs.out later.out) (sym kind) (front_all [] old.outputs.out later.out out);
-          err = subst (λ k. TellsBy k (Refused fault) job tree.snapshot old.index tree.failed tree.failed_then old.outputs.err later.err) (sym kind)
+          err = subst (λ k. JobPrintsBy k (Refused fault) job tree.snapshot old.index tree.failed tree.failed_then old.outputs.err later.err) (sym kind)
               (subst (λ b. WalkPrintsSome (early_walk_fault job b) fault job tree.snapshot b tree.failed tree.failed_then old.outputs.err later.err) (sym is) err);
           writes = counts_err (is_failed_write fault) old.outputs.out_failed later.out_failed old.outputs.err_failed later.err_failed o e;
         }
@@ -194,7 +194,7 @@ module _ (job : IndexJob) (tree : JobTree) (old : Standing) (index : Option (Lis
         keeps = refl;
         walked = λ h. absurd (never_done (write_refusal why) h);
         out = front_all (list_lines (job_kind job) old.index) old.outputs.out mid.out done.out;
-        err = tells_refused (job_kind job) job tree.snapshot old.index tree.failed tree.failed_then old.outputs.err mid.err (write_refusal why) done.cause done.err;
+        err = prints_refused (job_kind job) job tree.snapshot old.index tree.failed tree.failed_then old.outputs.err mid.err (write_refusal why) done.cause done.err;
         writes = counts;
       };
       flushes = (out, err);
@@ -214,6 +214,6 @@ module _ (job : IndexJob) (tree : JobTree) (old : Standing) (index : Option (Lis
 
 -- ---- and then the new index is taken
 
-pub step_taken : (job : IndexJob) (tree : JobTree) (old : Option (Vec ℕ Global)) (lent : Option (Bor (List ℕ))) (before later : Outputs) (outcome : Result Outcome CindexFault) (index : Option (List ℕ)) (reply : Reply) → lent_bytes lent ≡ index_bytes old → IsWholeStepTo job tree outcome (record { index = lent_bytes lent; outputs = before }) later → index ≡ index_from (index_bytes old) outcome → reply ≡ reply_of outcome → IsWholeStep job tree reply (record { index = index_bytes old; outputs = before }) (record { index = index; outputs = later })
+pub step_taken : (job : IndexJob) (tree : JobTree) (old : Option (Vec ℕ Global)) (lent : Option (Bor (List ℕ))) (before later : Outputs) (outcome : Result Outcome CindexFault) (index : Option (List ℕ)) (reply : Reply) → option_copied lent ≡ index_bytes old → IsWholeStepTo job tree outcome (record { index = option_copied lent; outputs = before }) later → index ≡ index_from (index_bytes old) outcome → reply ≡ reply_of outcome → IsWholeStep job tree reply (record { index = index_bytes old; outputs = before }) (record { index = index; outputs = later })
 step_taken job tree old lent before later outcome index reply same step e f =
     rw (e, f) (subst (λ bytes. IsWholeStepTo job tree outcome (record { index = bytes; outputs = before }) later) same step)

@@ -17,12 +17,12 @@ use Rattle.cs_words.specs.declared.fault.CindexFault.{CindexFault}
 use Rattle.cs_history.specs.Jobs.{given_paths, given_texts}
 use Rattle.cs_tree.specs.Taken.{TakesFront}
 use Rattle.cs_cindex.specs.Notices.{AreLinesIn, BeginLinesIn, Prints, PrintsFront}
-use Rattle.cs_cindex.specs.Indexed.{IsIndexingFault}
+use Rattle.cs_cindex.specs.Files.{IsIndexingFault}
 use Rattle.cs_cindex.specs.Refusals.{JobKind, lists, clears, walks, base, early_fault_of, early_walk_fault, base_fault, EarlyOr, IsOutputFault}
 use Rattle.cs_cindex.specs.JobPaths.{AreCleanFault, AreCleaned, starts}
 use Rattle.cs_cindex.specs.Next.{opening_paths, base_paths, paths_walked}
 use Rattle.cs_words.specs.declared.fault.CindexFault.TheVariants.{NoIndex, BadIndex, Unsorted, TooLarge, BadPath, Write, Memory}
-use Rattle.cs_cindex.specs.Output.{path_lines, AreTooMany, IsMidway, WalkPrints, WalkPrintsFront, WalkPrintsSome, TellsBy}
+use Rattle.cs_cindex.specs.Output.{path_lines, AreTooMany, IsMidway, WalkPrints, WalkPrintsFront, WalkPrintsSome, JobPrintsBy}
 use Rattle.cs_tree.proofs.Fronts.{front_none, front_left, front_right}
 use Rattle.cs_tree.proofs.Growing.{Grows-same}
 use Rattle.cs_cindex.proofs.GoingLemmas.{walk_as_set, count_texts}
@@ -118,10 +118,10 @@ module _ (job : IndexJob) (tree : Option Snapshot) (paths : Paths) (old : Option
 
 -- ---- refusals after all was printed
 
-pub tells_refused : (kind : JobKind) (job : IndexJob) (tree : Option Snapshot) (old : Option (List ℕ)) (n m : ℕ) (a b : Option Taken) (fault : CindexFault) → early_fault_of kind job old ≡ None → TellsBy kind Done job tree old n m a b → TellsBy kind (Refused fault) job tree old n m a b
-tells_refused lists job tree old n m a b fault none h = h
-tells_refused clears job tree old n m a b fault none h = h
-tells_refused walks job tree old n m a b fault none h = subst (λ o. WalkPrintsSome o fault job tree (base job old) n m a b) (sym none) (inl h)
+pub prints_refused : (kind : JobKind) (job : IndexJob) (tree : Option Snapshot) (old : Option (List ℕ)) (n m : ℕ) (a b : Option Taken) (fault : CindexFault) → early_fault_of kind job old ≡ None → JobPrintsBy kind Done job tree old n m a b → JobPrintsBy kind (Refused fault) job tree old n m a b
+prints_refused lists job tree old n m a b fault none h = h
+prints_refused clears job tree old n m a b fault none h = h
+prints_refused walks job tree old n m a b fault none h = subst (λ o. WalkPrintsSome o fault job tree (base job old) n m a b) (sym none) (inl h)
 
 -- ---- the lines of paths
 

@@ -20,7 +20,7 @@ use Rattle.cs_words.specs.declared.fault.FileFault.TheVariants.{Failed}
 use Rattle.cs_cindex.specs.declared.reading.Verdict.{Verdict}
 use Rattle.cs_cindex.specs.declared.reading.Verdict.TheVariants.{Text, Skipped, Left}
 use Rattle.cs_cindex.specs.Notices.{file_line, opening_line, finding_line}
-use Rattle.cs_cindex.specs.Verdicts.{trigrams_told, line_told, file_trigrams, IsVerdict, IsVerdictIn}
+use Rattle.cs_cindex.specs.Verdicts.{trigrams_told, line_told, IsVerdict, IsVerdictIn}
 
 -- the trigrams of what a scan finds, and of what is opened
 abbrev pub finding_trigrams : Finding → Option (List ℕ)
@@ -53,7 +53,7 @@ record Agrees (name : List ℕ) (verdict : Verdict) (opening : Result Told TreeF
   line : (log_skip : Bool) → line_told log_skip name verdict ≡ opening_line log_skip name opening
 
 verdict_is : (tree : Snapshot) (name : List ℕ) (verdict : Verdict) → Agrees name verdict (opening_of (item_at tree name)) → IsVerdict tree name verdict
-unfolding file_trigrams file_line
+unfolding file_line
 verdict_is tree name verdict agrees = record { trigrams = agrees.trigrams ∙ sym (trigrams_opened (item_at tree name)); line = agrees.line }
 
 -- ---- a file that is not opened

@@ -5,8 +5,10 @@ use Rattle.cs_tree.specs.Cover.{is_among}
 use Rattle.cs_tree.specs.Snapshot.{Snapshot}
 use Rattle.cs_index.specs.Image.{Entry, names_of}
 use Rattle.cs_index.specs.Built.{is_storable, is_above, most_names}
+use Rattle.cs_words.specs.declared.fault.CindexFault.{CindexFault}
+use Rattle.cs_words.specs.declared.fault.CindexFault.TheVariants.{TooLarge, Write, Memory}
+use Rattle.cs_history.specs.FileTrigrams.{file_trigrams}
 use Rattle.cs_cindex.specs.Notices.{Line, file_line}
-use Rattle.cs_cindex.specs.Verdicts.{file_trigrams}
 
 -- the files at these names that are text, each with its trigrams
 abbrev pub texts_at : Snapshot → List (List ℕ) → List Entry
@@ -42,3 +44,12 @@ BeginFileLinesIn log_skip (Some tree) names lines =
 -- Each of these names is above the names of the entries.
 abbrev pub AreAbove : List Entry → List (List ℕ) → Type 0
 AreAbove entries names = AllByRecursion (λ name. is_above (names_of entries) name ≡ true) names
+
+-- ---- refusals
+
+-- an index is refused for its size, for a write that has failed, or for want of memory
+abbrev pub IsIndexingFault : CindexFault → Type 0
+IsIndexingFault TooLarge = Unit {0}
+IsIndexingFault Write = Unit {0}
+IsIndexingFault Memory = Unit {0}
+IsIndexingFault _ = ⊥

@@ -1,16 +1,14 @@
 -- What public contracts rest on.
+pub use Rattle.cs_index.specs.Stored
 pub use Rattle.cs_history.specs.Headline
-pub use Rattle.cs_history.specs.SearchHeadline
-pub use Rattle.cs_history.specs.Premises
+pub use Rattle.cs_history.specs.Jobs
 pub mod Bytes
-pub mod LentBytes
 pub mod Notices
 pub mod Next
 pub mod Refusals
 pub mod Output
 pub mod Steps
 -- What functions inside promise each other.
-pub mod Indexed
 pub mod Verdicts
 pub mod Files
 pub mod JobPaths

@@ -10,7 +10,7 @@ use Rattle.cs_tree.specs.Cover.{least}
 use Rattle.cs_tree.specs.Snapshot.{Snapshot}
 use Rattle.cs_index.specs.Image.{Files, image}
 use Rattle.cs_index.specs.Opening.{opening}
-use Rattle.cs_index.specs.OpenedParts.{Parts, are_whole}
+use Rattle.cs_index.specs.OpenedParts.{Parts, are_whole, paths_in}
 use Rattle.cs_index.specs.declared.fault.IndexFault.{IndexFault}
 use Rattle.cs_merge.specs.Content.{IsContent, LieUnder}
 use Rattle.cs_merge.specs.Joinable.{joined_index}
@@ -23,7 +23,7 @@ use Rattle.cs_history.specs.Replies.{IsLong}
 
 -- the paths of an index that opens
 abbrev pub opening_paths : Result Parts IndexFault → Paths
-opening_paths (Ok parts) = set.from_list parts.paths
+opening_paths (Ok parts) = paths_in parts
 opening_paths (Err fault) = set.empty
 
 -- those of the index that a job goes on from
@@ -36,10 +36,6 @@ abbrev pub paths_walked : IndexJob → Option (List ℕ) → Paths
 paths_walked job old = least (if has_no_path job then base_paths old else given_paths job)
 
 -- ---- the index after it
-
--- the index of what the job finds, alone
-abbrev pub index_alone : IndexJob → Snapshot → Option (List ℕ) → List ℕ
-index_alone job tree old = tree_index tree (paths_walked job old)
 
 -- the index of two that open, joined
 abbrev pub opening_join : Result Parts IndexFault → Result Parts IndexFault → Option (List ℕ)
@@ -64,17 +60,25 @@ pub record IsIndex (paths : Paths) (bytes : List ℕ) : Type 0 where
   pub under : LieUnder paths files
   pub is : bytes ≡ image paths files
 
+-- The bytes are the index of what a walk from the paths finds, where the tree tells what stands in it.
+abbrev pub IsIndexOf : Option Snapshot → Paths → List ℕ → Type 0
+IsIndexOf tree paths bytes = Tells tree → bytes ≡ tree_index (snapshot_told tree) paths
+
+-- 32 bits do not count the bytes of that index.
+abbrev pub IsTreeTooLarge : Option Snapshot → Paths → Type 0
+IsTreeTooLarge tree paths = Tells tree → IsLong (Some (tree_index (snapshot_told tree) paths))
+
 -- A job's own index is one of the paths that it walks, and 32 bits count its bytes. Where the tree tells what
 -- stands in it, it is that of what the job finds.
 pub record IsOwn (job : IndexJob) (tree : Option Snapshot) (old : Option (List ℕ)) (own : List ℕ) : Type 0 where
   pub index : IsIndex (paths_walked job old) own
-  pub told : Tells tree → own ≡ index_alone job (snapshot_told tree) old
+  pub told : IsIndexOf tree (paths_walked job old) own
   pub short : length own < 2 ^ 32
 
 -- Why a job that walks is too large: 32 bits do not count the bytes of its own index; or it has one, every list
 -- that it goes on from is whole, and they do not count those of the index after it.
 pub data IsNextLong (job : IndexJob) (tree : Option Snapshot) (old : Option (List ℕ)) : Type 0 where
-  alone : (Tells tree → IsLong (Some (index_alone job (snapshot_told tree) old))) → IsNextLong job tree old
+  alone : IsTreeTooLarge tree (paths_walked job old) → IsNextLong job tree old
   joined :
       (own : List ℕ) → IsOwn job tree old own → HasWholeLists old → IsLong (next_index old own) →
       IsNextLong job tree old

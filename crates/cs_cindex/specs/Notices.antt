@@ -1,12 +1,12 @@
 -- What is printed while the files of a tree are indexed: a line for each path that a walk leaves, in the
 -- order of the paths, and then one for each file that is left out, in the order of the names.
 -- docs/PROMISES.md, "What is printed"; docs/FORMAT.md, "Which files are text".
-use Rattle.std.specs.Prelude.{◌≡◌, ℕ, Bool, if◌then◌else◌, List, ◌++◌, map, filter_map, take, length, Option, Some, None, Result, Ok, Err}
+use Rattle.std.specs.Prelude.{◌≡◌, ℕ, Bool, true, if◌then◌else◌, List, ◌++◌, map, filter_map, take, length, Option, Some, None, Result, Ok, Err}
 use Rattle.cs_words.specs.SkipLines.{skip_line_of}
 use Rattle.cs_tree.specs.TreeAnswers.{opening_of}
 use Rattle.cs_tree.specs.Folders.{IsTree}
 use Rattle.cs_tree.specs.PathSet.{Paths}
-use Rattle.cs_words.specs.FileFaults.{fault_line_of, file_fault_of}
+use Rattle.cs_words.specs.FileFaults.{fault_line_of, file_fault_of, is_file_failure}
 use Rattle.cs_trigram.specs.Scans.{Finding, finding, text, left_out, unread}
 use Rattle.cs_tree.specs.FailureCount.{HasFailed}
 use Rattle.std.specs.List.{AllByRecursion, flat_map}
@@ -21,7 +21,7 @@ use Rattle.cs_trigram.specs.Text.{limits}
 use Rattle.cs_trigram.specs.declared.scan.Reason.{Reason}
 use Rattle.cs_words.specs.declared.jobs.Tool.TheVariants.{Cindex}
 use Rattle.cs_words.specs.declared.fault.FileFault.{FileFault}
-use Rattle.cs_words.specs.declared.fault.FileFault.TheVariants.{Missing, Denied, Output, Failed, Unnamed, PathTooLong, InputTooLong}
+use Rattle.cs_words.specs.declared.fault.FileFault.TheVariants.{Failed, Unnamed, PathTooLong}
 
 -- ---- lines
 
@@ -88,15 +88,9 @@ BeginLinesIn log_skip (Some tree) paths lines = IsTree tree → (all : List Line
 
 -- ---- what was printed
 
--- `no such file`, `permission denied`, `is the output` and `cannot be read` tell of a call that has failed, and that was counted
+-- a fault that is a failure tells of a call that has failed, and that was counted
 abbrev pub IsCounted : FileFault → ℕ → ℕ → Type 0
-IsCounted Missing old new = HasFailed old new
-IsCounted Denied old new = HasFailed old new
-IsCounted Output old new = HasFailed old new
-IsCounted Failed old new = HasFailed old new
-IsCounted Unnamed old new = Unit {0}
-IsCounted PathTooLong old new = Unit {0}
-IsCounted InputTooLong old new = Unit {0}
+IsCounted why old new = is_file_failure why ≡ true → HasFailed old new
 
 abbrev pub IsLineCounted : ℕ → ℕ → Line → Type 0
 IsLineCounted old new (faulted name why) = IsCounted why old new

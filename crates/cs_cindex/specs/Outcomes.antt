@@ -1,14 +1,23 @@
--- What a job comes to: its reply, and what becomes of the index.
-use Rattle.std.specs.Prelude.{ℕ, List, Option, Some, None, Result, Ok, Err}
+-- What functions inside promise of a job: its reply, what becomes of the index, and what was printed.
+use Rattle.std.specs.Prelude.{◌≡◌, ℕ, List, [], ◌∷◌, Option, Some, None, Result, Ok, Err, MatchResult}
+use Rattle.cs_tree.specs.Snapshot.{Snapshot}
+use Rattle.cs_tree.specs.Told.{Taken}
 use Rattle.cs_words.specs.declared.jobs.Reply.{Reply}
 use Rattle.cs_words.specs.declared.jobs.Reply.TheVariants.{Done, Refused}
 use Rattle.cs_words.specs.declared.jobs.IndexJob.{IndexJob}
 use Rattle.cs_words.specs.declared.fault.CindexFault.{CindexFault}
 use Rattle.cs_cindex.specs.declared.outcome.Outcome.{Outcome}
 use Rattle.cs_cindex.specs.declared.outcome.Outcome.TheVariants.{Kept, Gone, Index}
+use Rattle.cs_history.specs.History.{History}
+use Rattle.cs_history.specs.Premises.{snapshot_told, Premises}
+use Rattle.cs_history.specs.Replies.{IsRightReply}
+use Rattle.cs_cindex.specs.Refusals.{EarlyOr}
+use Rattle.cs_cindex.specs.Output.{WalkPrints, WalkPrintsSome}
 use Rattle.cs_cindex.specs.Steps.{JobTree, Outputs, Standing, IsStep, IsWholeStep}
 
--- the index after the job
+-- ---- the index
+
+-- after the job
 abbrev pub index_after : Option (List ℕ) → Outcome → Option (List ℕ)
 index_after old Kept = old
 index_after old Gone = None
@@ -32,3 +41,20 @@ IsStepTo job tree outcome old later =
 abbrev pub IsWholeStepTo : IndexJob → JobTree → Result Outcome CindexFault → Standing → Outputs → Type 0
 IsWholeStepTo job tree outcome old later =
     IsWholeStep job tree (reply_of outcome) old (record { index = index_from old.index outcome; outputs = later })
+
+-- ---- the reply
+
+-- the reply is right, whichever jobs left the index
+abbrev pub RightAfter : Option Snapshot → Option (List ℕ) → IndexJob → Reply → Type 0
+RightAfter tree old job reply = (earlier : History) → Premises (tree ∷ []) old earlier → IsRightReply earlier job (snapshot_told tree) reply
+
+-- An answer is given only where there is no early fault, and each refusal has its cause.
+abbrev pub AnswersFor : {A : Type 0} → Result A CindexFault → Option CindexFault → (CindexFault → Type 0) → Type 0
+AnswersFor result early IsLate = MatchResult result (λ _. early ≡ None) (λ fault. EarlyOr early (IsLate fault) fault)
+
+-- ---- what was printed
+
+-- by a job that walks, by its answer
+abbrev pub WalkPrintsFor : {A : Type 0} → Result A CindexFault → Option CindexFault → IndexJob → Option Snapshot → Option (List ℕ) → ℕ → ℕ → Option Taken → Option Taken → Type 0
+WalkPrintsFor result early job tree old failed failed_then err later =
+    MatchResult result (λ _. WalkPrints job tree old failed failed_then err later) (λ fault. WalkPrintsSome early fault job tree old failed failed_then err later)

@@ -1,5 +1,5 @@
 -- What a job prints. docs/PROMISES.md, "What is printed".
-use Rattle.std.specs.Prelude.{◌≤◌, ◌⊎◌, ℕ, length, List, [], ◌++◌, codes, Option, Some, None, Result, Ok, Err, MatchResult, Bool, true, false}
+use Rattle.std.specs.Prelude.{◌≤◌, ◌⊎◌, ℕ, length, List, [], ◌++◌, codes, Option, Some, None, Result, Ok, Err, Bool, true, false}
 use Rattle.std.specs.List.{flat_map}
 use Rattle.cs_tree.specs.Snapshot.{Snapshot}
 use Rattle.cs_tree.specs.Told.{Taken, Grows}
@@ -80,20 +80,16 @@ WalkPrintsSome None fault job tree old failed failed_then err later =
     ⊎ (IsMidway fault tree (paths_walked job old) × WalkPrintsFront job tree old failed failed_then err later)
 WalkPrintsSome (Some early) fault job tree old failed failed_then err later = Grows err later []
 
--- what one has printed, by its answer
-abbrev pub WalkPrintsFor : {A : Type 0} → Result A CindexFault → Option CindexFault → IndexJob → Option Snapshot → Option (List ℕ) → ℕ → ℕ → Option Taken → Option Taken → Type 0
-WalkPrintsFor result early job tree old failed failed_then err later =
-    MatchResult result (λ _. WalkPrints job tree old failed failed_then err later) (λ fault. WalkPrintsSome early fault job tree old failed failed_then err later)
-
+-- what one has printed, by its reply
 abbrev pub WalkPrintsBy : Reply → IndexJob → Option Snapshot → Option (List ℕ) → ℕ → ℕ → Option Taken → Option Taken → Type 0
 WalkPrintsBy Done job tree old failed failed_then err later = WalkPrints job tree old failed failed_then err later
 WalkPrintsBy (Refused fault) job tree old failed failed_then err later = WalkPrintsSome (early_walk_fault job old) fault job tree old failed failed_then err later
 
 -- No other job prints there.
-abbrev pub TellsBy : JobKind → Reply → IndexJob → Option Snapshot → Option (List ℕ) → ℕ → ℕ → Option Taken → Option Taken → Type 0
-TellsBy lists reply job tree old failed failed_then err later = Grows err later []
-TellsBy clears reply job tree old failed failed_then err later = Grows err later []
-TellsBy walks reply job tree old failed failed_then err later = WalkPrintsBy reply job tree (base job old) failed failed_then err later
+abbrev pub JobPrintsBy : JobKind → Reply → IndexJob → Option Snapshot → Option (List ℕ) → ℕ → ℕ → Option Taken → Option Taken → Type 0
+JobPrintsBy lists reply job tree old failed failed_then err later = Grows err later []
+JobPrintsBy clears reply job tree old failed failed_then err later = Grows err later []
+JobPrintsBy walks reply job tree old failed failed_then err later = WalkPrintsBy reply job tree (base job old) failed failed_then err later
 
 -- ---- outputs that fail
 

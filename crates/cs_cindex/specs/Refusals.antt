@@ -1,11 +1,10 @@
 -- Why a job is refused, whatever bytes the old index has.
 -- docs/PROMISES.md, "Refusals of cindex"; the comment of the command cindex.
-use Rattle.std.specs.Prelude.{◌≡◌, ◌⊎◌, ℕ, true, false, not, ◌&&◌, if◌then◌else◌, List, [], ◌∷◌, position, Option, Some, None, option_map, is_some, Result, Ok, Err, MatchResult, string_bytes}
+use Rattle.std.specs.Prelude.{◌≡◌, ◌⊎◌, ℕ, false, not, ◌&&◌, if◌then◌else◌, List, position, Option, Some, None, option_map, is_some, Result, Ok, Err, string_bytes}
 use Rattle.cs_tree.specs.Folders.{are_distinct}
 use Rattle.std.specs.List.{list_all}
 use Rattle.std.specs.Option.{option_or}
 use Rattle.std.specs.Result.{IsOkAnd}
-use Rattle.cs_tree.specs.Cover.{begins, slash}
 use Rattle.cs_tree.specs.Cleaning.{clean_fault, is_settled}
 use Rattle.cs_tree.specs.Snapshot.{Snapshot}
 use Rattle.cs_index.specs.Opening.{opening}
@@ -22,10 +21,6 @@ use Rattle.cs_history.specs.Jobs.{given_texts, has_no_path}
 use Rattle.cs_cindex.specs.Next.{IsNextLong, IsOwn}
 
 -- ---- what a job is
-
--- its folder is absolute
-abbrev pub HasAbsoluteFolder : IndexJob → Type 0
-HasAbsoluteFolder job = begins (slash ∷ []) (string_bytes job.cwd) ≡ true
 
 pub data JobKind : Type 0 where
   -- `-list`, whatever stands beside it
@@ -128,10 +123,6 @@ IsEarly early fault = (fault ≡ early) ⊎ (fault ≡ Memory)
 abbrev pub EarlyOr : Option CindexFault → Type 0 → CindexFault → Type 0
 EarlyOr None late fault = late
 EarlyOr (Some early) late fault = IsEarly early fault
-
--- An answer is given only where there is no early fault, and each refusal has its cause.
-abbrev pub AnswersFor : {A : Type 0} → Result A CindexFault → Option CindexFault → (CindexFault → Type 0) → Type 0
-AnswersFor result early IsLate = MatchResult result (λ _. early ≡ None) (λ fault. EarlyOr early (IsLate fault) fault)
 
 -- A job that has an early fault is not done, and each refusal has its cause.
 abbrev pub HasCause : IndexJob → Option Snapshot → Option (List ℕ) → Reply → Type 0

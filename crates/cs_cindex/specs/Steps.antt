@@ -10,12 +10,12 @@ use Rattle.cs_words.specs.declared.jobs.Reply.{Reply}
 use Rattle.cs_words.specs.declared.jobs.Reply.TheVariants.{Done, Refused}
 use Rattle.cs_cindex.specs.Next.{IsNext}
 use Rattle.cs_cindex.specs.Refusals.{HasCause, job_kind, base}
-use Rattle.cs_cindex.specs.Output.{TakesBy, TellsBy, list_lines, has_failed_write}
+use Rattle.cs_cindex.specs.Output.{TakesBy, JobPrintsBy, list_lines, has_failed_write}
 use Rattle.cs_history.specs.History.{History}
 use Rattle.cs_history.specs.Jobs.{has_no_path}
 use Rattle.cs_history.specs.Premises.{snapshot_told, Premises}
 use Rattle.cs_history.specs.Headline.{Indexes}
-use Rattle.cs_history.specs.Replies.{Walks, IsRightReply, AreRightReplies}
+use Rattle.cs_history.specs.Replies.{Walks, AreRightReplies}
 
 -- ---- the index
 
@@ -26,10 +26,6 @@ KeepsIndex job Done old new =
     (job.list ≡ true → new ≡ old) × (job.list ≡ false → job.reset ≡ true → has_no_path job ≡ true → new ≡ None)
 
 -- ---- the replies
-
--- the reply is right, whichever jobs left the index
-abbrev pub RightAfter : Option Snapshot → Option (List ℕ) → IndexJob → Reply → Type 0
-RightAfter tree old job reply = (earlier : History) → Premises (tree ∷ []) old earlier → IsRightReply earlier job (snapshot_told tree) reply
 
 -- each reply is right after the jobs before it, whichever jobs left the old index
 abbrev pub RightAll : List (Option Snapshot) → Option (List ℕ) → List IndexJob → List Reply → Type 0
@@ -87,7 +83,7 @@ pub record IsStep (job : IndexJob) (tree : JobTree) (reply : Reply) (old new : S
   -- where the job walks; with `-reset` it goes on from none
   pub walked : reply ≡ Done → Walks job → IsNext job tree.snapshot (base job old.index) new.index
   pub out : TakesBy reply (list_lines (job_kind job) old.index) old.outputs.out new.outputs.out
-  pub err : TellsBy (job_kind job) reply job tree.snapshot old.index tree.failed tree.failed_then old.outputs.err new.outputs.err
+  pub err : JobPrintsBy (job_kind job) reply job tree.snapshot old.index tree.failed tree.failed_then old.outputs.err new.outputs.err
   pub writes : CountsOne (has_failed_write reply) old.outputs.out_failed new.outputs.out_failed old.outputs.err_failed new.outputs.err_failed
 
 -- A job that is done ends by flushing both outputs once; in a refused one `out` was flushed once at most and `err` never:

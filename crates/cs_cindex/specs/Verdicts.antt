@@ -2,12 +2,11 @@
 use Rattle.std.specs.Prelude.{◌≡◌, ℕ, Bool, if◌then◌else◌, List, [], ◌∷◌, Option, Some, None, Result}
 use Rattle.cs_trigram.specs.Trigram.{set_of_numbers}
 use Rattle.cs_trigram.specs.Scans.{AreTrigramsOnce}
-use Rattle.cs_tree.specs.Snapshot.{Snapshot, item_at}
-use Rattle.cs_tree.specs.Reached.{read_item}
-use Rattle.cs_trigram.specs.Text.{limits, text_trigrams}
+use Rattle.cs_tree.specs.Snapshot.{Snapshot}
 use Rattle.cs_index.specs.Image.{Entry}
 use Rattle.cs_index.specs.Built.{is_storable}
 use Rattle.cs_words.specs.declared.fault.FileFault.TheVariants.{Unnamed}
+use Rattle.cs_history.specs.FileTrigrams.{file_trigrams}
 use Rattle.cs_cindex.specs.declared.reading.Verdict.{Verdict}
 use Rattle.cs_cindex.specs.declared.reading.Verdict.TheVariants.{Text, Skipped, Left}
 use Rattle.cs_tree.specs.Told.{Taken}
@@ -25,10 +24,6 @@ abbrev pub line_told : Bool → List ℕ → Verdict → Option Line
 line_told log_skip name (Text trigrams) = None
 line_told log_skip name (Skipped reason) = if log_skip then Some (skipped name reason) else None
 line_told log_skip name (Left why) = Some (faulted name why)
-
--- the trigrams of what stands at a name, if it is a file that is text
-unfoldable pub file_trigrams : Snapshot → List ℕ → Option (List ℕ)
-file_trigrams tree name = read_item (text_trigrams limits) (item_at tree name)
 
 -- It says what stands at the name.
 pub record IsVerdict (tree : Snapshot) (name : List ℕ) (verdict : Verdict) : Type 0 where

@@ -1,7 +1,7 @@
 // Lists of jobs.
 ghost use Rattle.std.specs.Prelude.{◌≡◌, map, length, All};
 ghost use Rattle.cs_history.specs.Headline.{Indexes};
-ghost use Rattle.cs_cindex.specs.Refusals.{HasAbsoluteFolder};
+ghost use Rattle.cs_history.specs.Jobs.{HasAbsoluteFolder};
 ghost use Rattle.cs_cindex.specs.Bytes.{index_bytes};
 ghost use Rattle.cs_cindex.specs.Steps.{RightAll, Steps, job_trees, standing};
 

@@ -1,5 +1,5 @@
 // The paths of a job, cleaned.
-ghost use Rattle.std.specs.Prelude.{◌≡◌, ◌∷◌, ◌++◌, [], true, map, string_bytes, IfOk, OnOk, MatchResult, None};
+ghost use Rattle.std.specs.Prelude.{◌≡◌, ◌∷◌, [], true, map, string_bytes, IfOk, MatchResult, None};
 ghost use Rattle.cs_tree.specs.Cover.{begins, slash};
 ghost use Rattle.cs_tree.specs.Clean.{clean_path};
 ghost use Rattle.cs_tree.specs.Cleaning.{clean_fault};
@@ -8,7 +8,7 @@ ghost use Rattle.cs_cindex.specs.JobPaths.{IsCleanFault, AreCleanFault, cleaned_
 
 use cs_tree::{PathFault, clean};
 use cs_words::CindexFault;
-use std::alloc::{AllocError, Global};
+use std::alloc::Global;
 
 /// The paths, each made absolute and clean by its text. The first one that cleaning refuses is refused.
 pub(crate) fn clean_all(
@@ -26,7 +26,7 @@ pub(crate) fn clean_all(
     let mut given = Vec::new(alloc);
     'paths: for (place, path) in paths.iter().enumerate() {
         let cleaned = clean_one(alloc, folder, path, place)?;
-        hold(&mut given, cleaned)?;
+        given.push(cleaned)?;
     }
     Ok(given)
 }
@@ -43,13 +43,4 @@ fn clean_one(alloc: Global, folder: &str, path: &str, place: usize) -> Result<St
         Err(PathFault::Memory) => Err(CindexFault::Memory),
         Err(_) => Err(CindexFault::BadPath(place)),
     }
-}
-
-/// Adds a path to the end.
-fn hold(given: &mut Vec<String>, path: String) -> Result<(), AllocError>
-    ensures { OnOk result (map string_bytes given.new.items ≡
-        map string_bytes given.old.items ++ string_bytes path ∷ []) }
-{
-    given.push(path)?;
-    Ok(())
 }

@@ -8,11 +8,10 @@ ghost use Rattle.cs_index.specs.Built.{are_paths, is_above, IsBuilt, most_names}
 ghost use Rattle.cs_index.specs.Image.{image_of, names_of};
 ghost use Rattle.cs_history.specs.Replies.{IsLong};
 ghost use Rattle.cs_cindex.specs.Output.{is_failed_write};
-ghost use Rattle.cs_cindex.specs.Indexed.{IsIndexingFault};
 ghost use Rattle.cs_cindex.specs.Notices.{Prints, PrintsFront};
 ghost use Rattle.cs_cindex.specs.Refusals.{IsOutputFault};
 ghost use Rattle.cs_cindex.specs.Verdicts.{HasTrigramsOnce, added_entries, added_line, noted_entries, noted_line, one_line, PrintsAll};
-ghost use Rattle.cs_cindex.specs.Files.{AreTextsIn, AreTooManyIn, AreFileLinesIn, BeginFileLinesIn, HaveNamesOf};
+ghost use Rattle.cs_cindex.specs.Files.{AreTextsIn, AreTooManyIn, AreFileLinesIn, BeginFileLinesIn, HaveNamesOf, IsIndexingFault};
 
 use crate::printing::{print_fault, print_skipped};
 use crate::reading::{Verdict, read_file};

@@ -4,8 +4,8 @@ ghost use Rattle.cs_tree.specs.FailureCount.{count_after};
 ghost use Rattle.cs_tree.specs.PathSet as set;
 ghost use Rattle.cs_index.specs.Built.{are_paths};
 ghost use Rattle.cs_cindex.specs.Output.{AreTooMany, is_failed_write};
-ghost use Rattle.cs_cindex.specs.Indexed.{IsIndexOf, IsTreeTooLarge, IsIndexingFault};
-ghost use Rattle.cs_cindex.specs.Next.{IsIndex};
+ghost use Rattle.cs_cindex.specs.Files.{IsIndexingFault};
+ghost use Rattle.cs_cindex.specs.Next.{IsIndex, IsIndexOf, IsTreeTooLarge};
 ghost use Rattle.cs_cindex.specs.Notices.{AreLinesIn, BeginLinesIn, Prints, PrintsFront};
 
 use crate::indexer::Indexer;

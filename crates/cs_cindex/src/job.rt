@@ -1,10 +1,10 @@
 // One job.
 ghost use Rattle.std.specs.Prelude.{◌≡◌};
 ghost use Rattle.cs_cindex.specs.Bytes.{index_bytes};
-ghost use Rattle.cs_cindex.specs.LentBytes.{lent_bytes};
-ghost use Rattle.cs_cindex.specs.Outcomes.{IsStepTo, IsWholeStepTo};
-ghost use Rattle.cs_cindex.specs.Refusals.{HasAbsoluteFolder};
-ghost use Rattle.cs_cindex.specs.Steps.{IsWholeStep, RightAfter, job_tree, outputs, standing};
+ghost use Rattle.std.specs.Option.{option_copied};
+ghost use Rattle.cs_cindex.specs.Outcomes.{IsStepTo, IsWholeStepTo, RightAfter};
+ghost use Rattle.cs_history.specs.Jobs.{HasAbsoluteFolder};
+ghost use Rattle.cs_cindex.specs.Steps.{IsWholeStep, job_tree, outputs, standing};
 
 use crate::listing::list_paths;
 use crate::outcome::{Outcome, index_and_reply};
@@ -47,7 +47,7 @@ fn run_job<T: Tree, O: Sink, E: Sink>(
     requires { HasAbsoluteFolder job.now }
     ensures step { IsWholeStepTo job.now (job_tree T.snapshot T.failed tree.old tree.new) result
         (standing O.taken O.failed E.taken E.failed
-        (lent_bytes old.entry) out.old err.old)
+        (option_copied old.entry) out.old err.old)
         (outputs O.taken O.failed E.taken E.failed out.new err.new) }
     ensures tree_keeps { T.snapshot tree.new ≡ T.snapshot tree.old }
 {
@@ -69,7 +69,7 @@ fn outcome_of<T: Tree, O: Sink, E: Sink>(
     requires { HasAbsoluteFolder job.now }
     ensures step { IsStepTo job.now (job_tree T.snapshot T.failed tree.old tree.new) result
         (standing O.taken O.failed E.taken E.failed
-        (lent_bytes old.entry) out.old err.old)
+        (option_copied old.entry) out.old err.old)
         (outputs O.taken O.failed E.taken E.failed out.new err.new) }
     ensures tree_keeps { T.snapshot tree.new ≡ T.snapshot tree.old }
 {

@@ -4,10 +4,10 @@ ghost use Rattle.cs_tree.specs.FailureCount.{count_after};
 ghost use Rattle.cs_tree.specs.TakenAll.{TakesAll};
 ghost use Rattle.cs_index.specs.Stored.{OpensAs};
 ghost use Rattle.cs_words.specs.declared.jobs.IndexJob.{IndexJob as IndexJob'};
-ghost use Rattle.cs_cindex.specs.LentBytes.{lent_bytes};
-ghost use Rattle.cs_cindex.specs.Outcomes.{reply_of};
+ghost use Rattle.std.specs.Option.{option_copied};
+ghost use Rattle.cs_cindex.specs.Outcomes.{AnswersFor, reply_of};
 ghost use Rattle.cs_cindex.specs.Output.{index_lines, path_lines, is_failed_write};
-ghost use Rattle.cs_cindex.specs.Refusals.{AnswersFor, IsOutputFault, list_fault};
+ghost use Rattle.cs_cindex.specs.Refusals.{IsOutputFault, list_fault};
 ghost use Rattle.cs_cindex.specs.Steps.{IsWholeStep, JobTree, LeavesFlushed, outputs, standing};
 
 use cs_index::{Index, IndexFault, StoredIndex, Texts};
@@ -74,8 +74,8 @@ fn print_opened<O: Sink>(
 
 /// Prints each path of the index on a line.
 pub(crate) fn list_paths<O: Sink>(old: Option<&[u8]>, out: &mut O) -> Result<(), CindexFault>
-    ensures refusal { AnswersFor result (list_fault (lent_bytes old.entry)) IsOutputFault }
-    ensures out { TakesAll (index_lines (lent_bytes old.entry))
+    ensures refusal { AnswersFor result (list_fault (option_copied old.entry)) IsOutputFault }
+    ensures out { TakesAll (index_lines (option_copied old.entry))
         (O.taken out.old) (O.taken out.new) result }
     ensures writes { O.failed out.new ≡ count_after is_failed_write result (O.failed out.old) }
 {

@@ -2,14 +2,16 @@
 ghost use Rattle.std.specs.Prelude.{◌≡◌, ◌<◌, ◌^◌, true, Some, None, map, string_bytes, length, IfOk, IfErr};
 ghost use Rattle.cs_tree.specs.Folders.{are_distinct};
 ghost use Rattle.cs_tree.specs.FailureCount.{count_after};
-ghost use Rattle.cs_cindex.specs.LentBytes.{lent_bytes};
+ghost use Rattle.std.specs.Option.{option_copied};
 ghost use Rattle.cs_tree.specs.PathSet as set;
 ghost use Rattle.cs_tree.specs.Cover.{least};
 ghost use Rattle.cs_index.specs.Opening.{opening};
 ghost use Rattle.cs_cindex.specs.Joins.{IsJoinRefusal, JoinsTo, refusal_of};
 ghost use Rattle.cs_cindex.specs.Next.{IsNext};
-ghost use Rattle.cs_cindex.specs.Refusals.{AnswersFor, HasAbsoluteFolder, IsWalkFault, base_fault, early_walk_fault};
-ghost use Rattle.cs_cindex.specs.Output.{WalkPrintsFor, is_failed_write};
+ghost use Rattle.cs_cindex.specs.Refusals.{IsWalkFault, base_fault, early_walk_fault};
+ghost use Rattle.cs_history.specs.Jobs.{HasAbsoluteFolder};
+ghost use Rattle.cs_cindex.specs.Output.{is_failed_write};
+ghost use Rattle.cs_cindex.specs.Outcomes.{AnswersFor, WalkPrintsFor};
 ghost use Rattle.cs_cindex.specs.JobPaths.{AreCleaned, starts};
 
 use crate::cleaning::clean_all;
@@ -32,11 +34,11 @@ pub(crate) fn walked_index<T: Tree, E: Sink>(
 ) -> Result<Vec<u8>, CindexFault>
     requires { HasAbsoluteFolder job.now }
     ensures next { IfOk result
-        (λ index. IsNext job.now (T.snapshot tree.old) (lent_bytes old.entry) (Some index.items)) }
-    ensures refusal { AnswersFor result (early_walk_fault job.now (lent_bytes old.entry))
-        (IsWalkFault job.now (T.snapshot tree.old) (lent_bytes old.entry)) }
-    ensures prints { WalkPrintsFor result (early_walk_fault job.now (lent_bytes old.entry))
-        job.now (T.snapshot tree.old) (lent_bytes old.entry)
+        (λ index. IsNext job.now (T.snapshot tree.old) (option_copied old.entry) (Some index.items)) }
+    ensures refusal { AnswersFor result (early_walk_fault job.now (option_copied old.entry))
+        (IsWalkFault job.now (T.snapshot tree.old) (option_copied old.entry)) }
+    ensures prints { WalkPrintsFor result (early_walk_fault job.now (option_copied old.entry))
+        job.now (T.snapshot tree.old) (option_copied old.entry)
         (T.failed tree.old) (T.failed tree.new) (E.taken err.old) (E.taken err.new) }
     ensures writes { E.failed err.new ≡ count_after is_failed_write result (E.failed err.old) }
     ensures tree_keeps { T.snapshot tree.new ≡ T.snapshot tree.old }

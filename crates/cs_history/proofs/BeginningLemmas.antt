@@ -1,13 +1,11 @@
 -- An index that opens, whoever wrote it: what it spells can be held by an index.
-use Rattle.std.proofs.Common.{◌≡◌, ℕ, ◌+◌, ◌-◌, ◌<◌, ◌^◌, Bool, true, false, cond, not, ◌&&◌, ◌||◌, eqb, leb, ltb, List, [], ◌∷◌, length, map, take, drop, refl, sym, ap, subst, ◌∙◌, inl, inr, Some, Result, Ok, Err}
-use Rattle.std.specs.Prelude.{nat_eq}
+use Rattle.std.proofs.Common.{◌≡◌, ℕ, ◌+◌, ◌-◌, Bool, true, false, cond, not, ◌||◌, eqb, leb, ltb, List, [], ◌∷◌, length, map, take, drop, refl, sym, ap, subst, ◌∙◌, inl, inr, Some, Result, Ok, Err}
 use Rattle.std.proofs.lemmas.Bool.{cases_Bool, and_parts, or_cases, eqb-true, ltb-true}
-use Rattle.std.specs.List.{AllByRecursion, list_all, starts_with, ends_with}
+use Rattle.std.specs.List.{AllByRecursion, list_all}
 use Rattle.std.specs.Ordering.{eq_by_cmp}
 use Rattle.std.specs.Cmp.Lexicographic.{nat_list_cmp_total}
 use Rattle.std.specs.FinMap as map'
 use Rattle.std.specs.FinMap.{find}
-use Rattle.cs_tree.specs.PathSet.{Paths}
 use Rattle.cs_tree.specs.PathSet as set
 use Rattle.cs_tree.specs.NameOrder.{bytes_cmp}
 use Rattle.cs_tree.specs.Cover.{is_covered, same}
@@ -15,19 +13,18 @@ use Rattle.cs_tree.specs.Cleaning.{is_settled}
 use Rattle.cs_tree.proofs.Sets.{tied_is}
 use Rattle.cs_trigram.specs.Trigram.{Ascends, closing_trigram}
 use Rattle.cs_trigram.specs.TrigramSets.{IsTrigramSet}
-use Rattle.cs_index.specs.Image.{Entry, ListEntry, Posting, Sections, IsString, magic, trailer_magic, three_bytes}
-use Rattle.cs_index.specs.PostingLists.{damaged, read_ids, set_at, entries_of}
-use Rattle.cs_index.specs.Opening.{opening, cut_of, cut_before, has_trailer, read_cut, parts_of, texts_of, is_section, is_names_section, is_name_index, is_list_index, is_entry, rises}
-use Rattle.cs_index.specs.OpenedParts.{Parts, ids_read, whole_ids, lists_in}
+use Rattle.cs_index.specs.Image.{Entry, ListEntry, Posting, Sections, IsString, three_bytes}
+use Rattle.cs_index.specs.PostingLists.{damage, read_ids, set_at, entries_of}
+use Rattle.cs_index.specs.Opening.{opening, cut_of, read_cut, parts_of, texts_of, is_section, is_names_section, is_name_index, is_list_index, is_entry, rises}
+use Rattle.cs_index.specs.OpenedParts.{Parts, ids_read, whole_ids, lists_in, files_in}
 use Rattle.cs_index.specs.declared.fault.IndexFault.{IndexFault}
-use Rattle.cs_index.specs.declared.fault.IndexFault.TheVariants.{BadMagic, BadTrailer, BadPaths, BadNames, BadNameIndex, BadListIndex}
+use Rattle.cs_index.specs.declared.fault.IndexFault.TheVariants.{BadPaths, BadNames, BadNameIndex, BadListIndex}
 use Rattle.cs_index.proofs.OpenLemmas.{entries_rise}
 use Rattle.cs_index.proofs.OpenedLemmas.{opens_spelled}
 use Rattle.cs_index.proofs.PartsLemmas.{entries_fit}
 use Rattle.cs_index.proofs.TextLemmas.{section_read}
 use Rattle.cs_merge.specs.Content.{EachFile, IsContent, LieUnder}
 use Rattle.cs_merge.proofs.HoldingLemmas.{Fits, from_list_all, set_fits, set_ascends, all_files}
-use Rattle.cs_history.specs.History.{files_spelled}
 use Rattle.cs_history.specs.WellFormed.{AreClean, IsBeginning}
 
 -- ---- what opens
@@ -82,8 +79,8 @@ module _ (parts : Parts) where
 
   none_counted : (e : ListEntry) → e.count ≡ 0 → whole_ids (ids_read parts e) ≡ []
   none_counted e none =
-      ap (λ count. whole_ids (cond (same (take 3 (drop e.offset parts.postings)) (three_bytes e.trigram)) (read_ids (length parts.names) count 0 (drop (e.offset + 3) parts.postings)) damaged)) none
-      ∙ elim (same (take 3 (drop e.offset parts.postings)) (three_bytes e.trigram)) as (λ b. whole_ids (cond b (read_ids (length parts.names) 0 0 (drop (e.offset + 3) parts.postings)) damaged) ≡ []) [
+      ap (λ count. whole_ids (cond (same (take 3 (drop e.offset parts.postings)) (three_bytes e.trigram)) (read_ids (length parts.names) count 0 (drop (e.offset + 3) parts.postings)) damage)) none
+      ∙ elim (same (take 3 (drop e.offset parts.postings)) (three_bytes e.trigram)) as (λ b. whole_ids (cond b (read_ids (length parts.names) 0 0 (drop (e.offset + 3) parts.postings)) damage) ≡ []) [
         | true ↦ either (read_ids (length parts.names) 0 0 (drop (e.offset + 3) parts.postings)).whole
         | false ↦ refl
       ]
@@ -106,7 +103,7 @@ module _ (parts : Parts) where
 
 -- ---- what is spelled can be held
 
-find_all : (P : List ℕ → List ℕ → Type 0) (entries : List Entry) (name trigrams : List ℕ) → AllByRecursion (λ (e : Entry). P e.0 e.1) entries → find bytes_cmp name entries ≡ Some trigrams → P name trigrams
+pub find_all : (P : List ℕ → List ℕ → Type 0) (entries : List Entry) (name trigrams : List ℕ) → AllByRecursion (λ (e : Entry). P e.0 e.1) entries → find bytes_cmp name entries ≡ Some trigrams → P name trigrams
 find_all P [] name trigrams all h = cc
 find_all P (e ∷ entries) name trigrams all h =
     elim (cases_Bool (eq_by_cmp bytes_cmp name e.0)) [
@@ -120,12 +117,12 @@ find_all P (e ∷ entries) name trigrams all h =
     same_some s t e = cc
 
 -- what holds of each name, and of each set, holds of each file
-each_spelled : (parts : Parts) (P Q : List ℕ → Type 0) → AllByRecursion P parts.names → ((id : ℕ) → Q (set_at id (lists_in parts))) → EachFile (λ name trigrams. P name × Q trigrams) (files_spelled parts)
+each_spelled : (parts : Parts) (P Q : List ℕ → Type 0) → AllByRecursion P parts.names → ((id : ℕ) → Q (set_at id (lists_in parts))) → EachFile (λ name trigrams. P name × Q trigrams) (files_in parts)
 each_spelled parts P Q names sets name trigrams there =
     find_all (λ n (t : List ℕ). P n × Q t) (entries_of 0 parts.names (lists_in parts)) name trigrams (all_files P Q 0 parts.names (lists_in parts) names sets)
     (sym (map'.get-from_entries nat_list_cmp_total (entries_of 0 parts.names (lists_in parts)) name) ∙ there)
 
-pub spelled_content : (bytes : List ℕ) (parts : Parts) → opening bytes ≡ Ok parts → IsContent (set.from_list parts.paths) (files_spelled parts)
+pub spelled_content : (bytes : List ℕ) (parts : Parts) → opening bytes ≡ Ok parts → IsContent (set.from_list parts.paths) (files_in parts)
 spelled_content bytes parts opens =
     let are = are_opened bytes parts opens in
     let each = each_spelled parts IsString IsTrigramSet are.each_name (λ id. (set_ascends id (lists_in parts) (lists_rise parts parts.entries are.rise), set_fits id (lists_in parts) (lists_fit parts parts.entries are.fit))) in
@@ -150,6 +147,6 @@ begun_clean bytes parts is path member = record {
   settled = from_list_all (λ p. is_settled p ≡ true) parts.paths (all_true is_settled parts.paths is.settled) path member;
 }
 
-pub begun_lies : (bytes : List ℕ) (parts : Parts) → IsBeginning bytes parts → LieUnder (set.from_list parts.paths) (files_spelled parts)
+pub begun_lies : (bytes : List ℕ) (parts : Parts) → IsBeginning bytes parts → LieUnder (set.from_list parts.paths) (files_in parts)
 begun_lies bytes parts is name trigrams there =
     (each_spelled parts (λ n. is_covered (set.from_list parts.paths) n ≡ true) (λ (t : List ℕ). Unit {0}) (all_true (is_covered (set.from_list parts.paths)) parts.names is.under) (λ id. tt) name trigrams there).0

@@ -6,26 +6,26 @@ use Rattle.std.proofs.lemmas.Bool.{true≢false, or_cases}
 use Rattle.std.specs.FinMap as map
 use Rattle.cs_tree.specs.PathSet as set
 use Rattle.cs_tree.specs.Cover.{is_covered, least}
-use Rattle.cs_tree.specs.Snapshot.{Snapshot, item_at}
-use Rattle.cs_tree.specs.Reached.{read_item}
+use Rattle.cs_tree.specs.Snapshot.{Snapshot}
 use Rattle.cs_tree.proofs.Found.{found_under}
 use Rattle.cs_tree.proofs.Sets.{contains-union, contains-empty}
 use Rattle.cs_tree.proofs.Least.{least_says, least_settled, covered-least}
 use Rattle.cs_index.specs.Image.{Files, image, IsString}
 use Rattle.cs_trigram.specs.Text.{text_trigrams, limits}
 use Rattle.cs_merge.specs.Join.{join_files}
-use Rattle.cs_merge.specs.Content.{IsContent, LieUnder, Holds, paths_in, files_in}
+use Rattle.cs_merge.specs.Content.{IsContent, LieUnder, Holds}
 use Rattle.cs_merge.proofs.OpeningLemmas.{held_opens}
 use Rattle.cs_merge.proofs.JoinLemmas.{newer_at, old_at}
 use Rattle.cs_merge.proofs.ContentLemmas.{content_joined, under_joined}
 use Rattle.cs_merge.proofs.HoldingLemmas.{content_held, held_once, held_names, held_set}
 use Rattle.cs_index.specs.Opening.{opening}
-use Rattle.cs_index.specs.OpenedParts.{Parts, are_whole}
-use Rattle.cs_history.specs.History.{Visit, History, nothing, handed_in, ◌⊳◌, all_given, paths_of, walked_paths, files_spelled, files_of, index_of}
+use Rattle.cs_index.specs.OpenedParts.{Parts, are_whole, paths_in, files_in}
+use Rattle.cs_history.specs.History.{Visit, History, nothing, handed_in, ◌⊳◌, all_paths_given, paths_of, walked_paths, files_of, index_of}
 use Rattle.cs_history.specs.JobIndex.{files_found}
+use Rattle.cs_history.specs.FileTrigrams.{file_trigrams}
 use Rattle.cs_tree.proofs.SettledLemmas.{settled_filled, settled_no_nul, no_nul_bytes}
 use Rattle.cs_history.specs.WellFormed.{IsClean, AreClean, IsHistory}
-use Rattle.cs_history.specs.Begun.{IsBegun}
+use Rattle.cs_history.specs.Begun.{HasBeginning}
 use Rattle.cs_history.specs.SearchHeadline.{IsByJobs, indexed_names, StillReads}
 use Rattle.cs_history.proofs.BeginningLemmas.{spelled_content, begun_clean, begun_lies, begun_opens}
 use Rattle.cs_history.proofs.KeepingLemmas.{join_kept, join_paths_of, kept_spelled, get-kept}
@@ -43,13 +43,13 @@ clean_union : (a b : Paths) → AreClean a → AreClean b → AreClean (set.unio
 clean_union a b f g path member =
     elim (or_cases (set.contains a path) (set.contains b path) (sym (contains-union a b path) ∙ member)) [ inl here ↦ f path here | inr there ↦ g path there ]
 
-clean_given : (history : History) → IsHistory history → AreClean (all_given history)
+clean_given : (history : History) → IsHistory history → AreClean (all_paths_given history)
 clean_given nothing is path member = absurd (true≢false (sym member ∙ contains-empty path))
 clean_given (handed_in bytes parts) is path member = begun_clean bytes parts is path member
-clean_given (visit ⊳ before) is path member = clean_union (all_given before) visit.given (clean_given before is.1) is.0.given_are path member
+clean_given (visit ⊳ before) is path member = clean_union (all_paths_given before) visit.given (clean_given before is.1) is.0.given_are path member
 
 pub clean_paths : (history : History) → IsHistory history → AreClean (paths_of history)
-clean_paths history is = clean_least (all_given history) (clean_given history is)
+clean_paths history is = clean_least (all_paths_given history) (clean_given history is)
 
 -- what holds of the paths before and of the job's own holds of those that it walks
 module _ (P : Paths → Type 0) (visit : Visit) (before : History) where
@@ -60,7 +60,7 @@ pub clean_walked : (visit : Visit) (before : History) → IsHistory (visit ⊳ b
 clean_walked visit before is = by_walked AreClean visit before (clean_paths before is.1) (clean_least visit.given is.0.given_are)
 
 pub reduced_walked : (visit : Visit) (before : History) → least (walked_paths visit before) ≡ walked_paths visit before
-reduced_walked visit before = by_walked (λ paths. least paths ≡ paths) visit before (least_twice (all_given before)) (least_twice visit.given)
+reduced_walked visit before = by_walked (λ paths. least paths ≡ paths) visit before (least_twice (all_paths_given before)) (least_twice visit.given)
 
 pub clean_string : (path : List ℕ) → IsClean path → IsString path
 clean_string path is = (settled_filled path is.settled, no_nul_bytes path (settled_no_nul path is.settled), is.utf8)
@@ -77,19 +77,19 @@ pub walk_lies : (visit : Visit) (before : History) → LieUnder (walked_paths vi
 walk_lies visit before name trigrams h = found_lies (text_trigrams limits) visit.tree (walked_paths visit before) name trigrams h
 
 nothing_kept : (name trigrams : List ℕ) → map.get (files_of nothing) name ≡ Some trigrams → ⊥
-nothing_kept name trigrams h = none_some (sym (get-kept (text_trigrams limits) files_spelled nothing name) ∙ h)
+nothing_kept name trigrams h = none_some (sym (get-kept (text_trigrams limits) files_in nothing name) ∙ h)
   where
     none_some : None ≡ Some trigrams → ⊥
     none_some e = cc
 
 -- an index that was handed in has the files that it spells
-pub files_begun : (bytes : List ℕ) (parts : Parts) → files_of (handed_in bytes parts) ≡ files_spelled parts
-files_begun bytes parts = kept_spelled (text_trigrams limits) files_spelled bytes parts
+pub files_begun : (bytes : List ℕ) (parts : Parts) → files_of (handed_in bytes parts) ≡ files_in parts
+files_begun bytes parts = kept_spelled (text_trigrams limits) files_in bytes parts
 
-pub is_begun : (history : History) → IsHistory history → IsBegun history
-is_begun nothing is = tt
-is_begun (handed_in bytes parts) is = is
-is_begun (visit ⊳ before) is = is_begun before is.1
+pub has_beginning : (history : History) → IsHistory history → HasBeginning history
+has_beginning nothing is = tt
+has_beginning (handed_in bytes parts) is = is
+has_beginning (visit ⊳ before) is = has_beginning before is.1
 
 pub history_content : (history : History) → IsHistory history → IsContent (paths_of history) (files_of history)
 history_content nothing is = record {
@@ -103,17 +103,17 @@ history_content (handed_in bytes parts) is =
     (record { paths_are = clean_strings (paths_of (handed_in bytes parts)) (clean_paths (handed_in bytes parts) is); names_are = content.names_are; sets_are = content.sets_are })
 history_content (visit ⊳ before) is =
     let joined = content_joined (paths_of before) (walked_paths visit before) (files_of before) (files_found visit before) (history_content before is.1) (walk_content visit before is) in
-    subst (λ files. IsContent (paths_of (visit ⊳ before)) files) (join_kept (text_trigrams limits) files_spelled before visit)
+    subst (λ files. IsContent (paths_of (visit ⊳ before)) files) (join_kept (text_trigrams limits) files_in before visit)
     (subst (λ paths. IsContent paths (join_files (walked_paths visit before) (files_of before) (files_found visit before))) (join_paths_of before visit) joined)
 
-pub history_lies : (history : History) → IsBegun history → LieUnder (paths_of history) (files_of history)
+pub history_lies : (history : History) → HasBeginning history → LieUnder (paths_of history) (files_of history)
 history_lies nothing is name trigrams h = absurd (nothing_kept name trigrams h)
 history_lies (handed_in bytes parts) is name trigrams h =
     covered-least (set.from_list parts.paths) name ∙ begun_lies bytes parts is name trigrams (subst (λ files. map.get files name ≡ Some trigrams) (files_begun bytes parts) h)
 history_lies (visit ⊳ before) is name trigrams h =
     let joined = under_joined (paths_of before) (walked_paths visit before) (files_of before) (files_found visit before) (history_lies before is) (walk_lies visit before) in
     subst (λ paths. is_covered paths name ≡ true) (join_paths_of before visit)
-    (joined name trigrams (subst (λ files. map.get files name ≡ Some trigrams) (sym (join_kept (text_trigrams limits) files_spelled before visit)) h))
+    (joined name trigrams (subst (λ files. map.get files name ≡ Some trigrams) (sym (join_kept (text_trigrams limits) files_in before visit)) h))
 
 -- ---- the index
 
@@ -141,7 +141,6 @@ pub record OpensAs (bytes : List ℕ) (history : History) : Type 0 where
   pub whole : are_whole parts ≡ true
 
 pub history_opens : (history : History) (bytes : List ℕ) → IsHistory history → index_of history ≡ Some bytes → length bytes < 2 ^ 32 → OpensAs bytes history
-unfolding paths_in files_in
 history_opens nothing bytes is h short = cc
 history_opens (handed_in old parts) bytes is h short = subst (λ b. OpensAs b (handed_in old parts)) (same h) (record {
   parts = parts;
@@ -158,7 +157,7 @@ history_opens (visit ⊳ before) bytes is h short =
     record {
       parts = held.parts;
       opened = held.opened;
-      paths_are = ap least held.has.paths_are ∙ least_twice (all_given (visit ⊳ before));
+      paths_are = ap least held.has.paths_are ∙ least_twice (all_paths_given (visit ⊳ before));
       files_are = held.has.files_are;
       whole = held.has.whole;
     }
@@ -167,12 +166,12 @@ history_opens (visit ⊳ before) bytes is h short =
 
 pub newest_at : (visit : Visit) (before : History) (name : List ℕ) → is_covered (walked_paths visit before) name ≡ true → map.get (files_of (visit ⊳ before)) name ≡ map.get (files_found visit before) name
 newest_at visit before name h =
-    ap (λ files. map.get files name) (sym (join_kept (text_trigrams limits) files_spelled before visit))
+    ap (λ files. map.get files name) (sym (join_kept (text_trigrams limits) files_in before visit))
     ∙ newer_at (walked_paths visit before) (files_of before) (files_found visit before) name h
 
 pub others_at : (visit : Visit) (before : History) (name : List ℕ) → is_covered (walked_paths visit before) name ≡ false → map.get (files_of (visit ⊳ before)) name ≡ map.get (files_of before) name
 others_at visit before name h =
-    ap (λ files. map.get files name) (sym (join_kept (text_trigrams limits) files_spelled before visit))
+    ap (λ files. map.get files name) (sym (join_kept (text_trigrams limits) files_in before visit))
     ∙ old_at (walked_paths visit before) (files_of before) (files_found visit before) name (found_under (text_trigrams limits) visit.tree (walked_paths visit before) name h) h
 
 -- ---- files that still read as they were indexed
@@ -181,7 +180,7 @@ pub names_held : (history : History) (bytes : List ℕ) (paths : Paths) (files :
 names_held history bytes paths files is by h short holds =
     ap map.keys (index_once history bytes paths files is by h short holds).1 ∙ held_names bytes paths files holds
 
-pub reads_agree : (history : History) (bytes : List ℕ) (paths : Paths) (files : Files) (tree : Snapshot) → IsHistory history → IsByJobs history → index_of history ≡ Some bytes → length bytes < 2 ^ 32 → StillReads history tree → (holds : Holds bytes paths files) (id : ℕ) (d : List ℕ) → id < length holds.names → read_item (text_trigrams limits) (item_at tree (get_or holds.names id d)) ≡ Some (set_at id holds.lists)
+pub reads_agree : (history : History) (bytes : List ℕ) (paths : Paths) (files : Files) (tree : Snapshot) → IsHistory history → IsByJobs history → index_of history ≡ Some bytes → length bytes < 2 ^ 32 → StillReads history tree → (holds : Holds bytes paths files) (id : ℕ) (d : List ℕ) → id < length holds.names → file_trigrams tree (get_or holds.names id d) ≡ Some (set_at id holds.lists)
 reads_agree history bytes paths files tree is by h short still holds id d within =
     still (get_or holds.names id d) (set_at id holds.lists)
     (ap (λ m. map.get m (get_or holds.names id d)) (index_once history bytes paths files is by h short holds).1 ∙ held_set bytes paths files holds id d within)

@@ -3,16 +3,14 @@ use Rattle.std.proofs.Common.{◌≡◌, true, false, cond, List, [], ◌∷◌,
 use Rattle.cs_tree.specs.Folders.{IsTree, Tells}
 use Rattle.std.proofs.lemmas.Bool.{cases_Bool, cond_both, ltb-false}
 use Rattle.std.proofs.lemmas.Str.{IsUtf8-append, IsUtf8-string_bytes}
-use Rattle.std.specs.Prelude.{string_bytes, String, is_some, nat_eq, nat_lt, length}
+use Rattle.std.specs.Prelude.{string_bytes, String, nat_lt, length}
 use Rattle.std.specs.declared.alloc.Global.{Global}
 use Rattle.std.specs.List.{AllByRecursion, AllZip}
-use Rattle.std.specs.Ordering.{eq_by_cmp}
 use Rattle.std.specs.FinMap as map'
-use Rattle.std.specs.FinMap.{find}
 use Rattle.cs_tree.specs.Cover.{slash, begins, same}
 use Rattle.cs_tree.specs.Snapshot.{Snapshot}
 use Rattle.cs_tree.specs.Clean.{absolute, clean_path, has_nul, longest_path}
-use Rattle.cs_tree.proofs.SettledLemmas.{settled_from, bytes_no_nul, no_nul_bytes, no_fault_parts}
+use Rattle.cs_tree.proofs.SettledLemmas.{cleaned_settled, settled_from, bytes_no_nul, no_nul_bytes, no_fault_parts}
 use Rattle.cs_merge.proofs.HoldingLemmas.{from_list_all}
 use Rattle.cs_history.specs.History.{History, nothing, ◌⊳◌}
 use Rattle.cs_history.specs.SearchHeadline.{IsByJobs}
@@ -23,7 +21,7 @@ use Rattle.cs_words.specs.declared.jobs.IndexJob.{IndexJob}
 use Rattle.cs_words.specs.declared.jobs.Reply.{Reply}
 use Rattle.cs_words.specs.declared.jobs.Reply.TheVariants.{Done, Refused}
 use Rattle.cs_history.proofs.PathLemmas.{NoNul, IsPart, slash_utf8}
-use Rattle.cs_history.proofs.CleanLemmas.{cleaned_settled, cleaned_part}
+use Rattle.cs_history.proofs.CleanLemmas.{cleaned_part}
 
 -- ---- the paths of a job
 

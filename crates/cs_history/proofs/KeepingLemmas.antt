@@ -11,14 +11,15 @@ use Rattle.std.specs.FinMap as map
 use Rattle.cs_tree.specs.PathSet as set
 use Rattle.cs_tree.specs.Cover.{is_covered, least}
 use Rattle.cs_tree.specs.Reached.{files_reached}
-use Rattle.cs_tree.proofs.Sets.{alike, or_else, same_set, contains-union, contains-empty}
+use Rattle.cs_tree.proofs.Sets.{alike, same_set, contains-union, contains-empty}
+use Rattle.std.specs.Option.{option_or}
 use Rattle.cs_tree.proofs.Least.{least-union, least_settled, covered-union, covered-least}
 use Rattle.cs_tree.proofs.Collect.{get-collected}
 use Rattle.cs_tree.proofs.Found.{found_under}
 use Rattle.cs_merge.specs.Join.{join_files, join_paths}
 use Rattle.cs_merge.proofs.JoinLemmas.{get-join_files}
 use Rattle.cs_index.specs.OpenedParts.{Parts}
-use Rattle.cs_history.specs.History.{Visit, History, nothing, handed_in, ◌⊳◌, all_given, paths_of, walked_paths, kept_at, names_found, kept_files}
+use Rattle.cs_history.specs.History.{Visit, History, nothing, handed_in, ◌⊳◌, all_paths_given, paths_of, walked_paths, kept_at, names_found, kept_files}
 
 list_any-append : (test : List ℕ → Bool) (xs ys : List (List ℕ)) → list_any test (xs ++ ys) ≡ (list_any test xs || list_any test ys)
 list_any-append test [] ys = refl
@@ -58,20 +59,20 @@ module _ {X : Type 0} (read : List ℕ → Option X) (spelled : Parts → map.Fi
       ]
 
   -- what a join has at a name is what is kept there
-  kept_joined : (history : History) (visit : Visit) (name : List ℕ) (b : Bool) → is_covered (walked_paths visit history) name ≡ b → or_else (map.get (files_reached read visit.tree (walked_paths visit history)) name) (cond (not b) (kept_at read spelled history name) None) ≡ cond b (map.get (files_reached read visit.tree (walked_paths visit history)) name) (kept_at read spelled history name)
+  kept_joined : (history : History) (visit : Visit) (name : List ℕ) (b : Bool) → is_covered (walked_paths visit history) name ≡ b → option_or (map.get (files_reached read visit.tree (walked_paths visit history)) name) (cond (not b) (kept_at read spelled history name) None) ≡ cond b (map.get (files_reached read visit.tree (walked_paths visit history)) name) (kept_at read spelled history name)
   kept_joined history visit name true h = or_none (map.get (files_reached read visit.tree (walked_paths visit history)) name)
     where
-      or_none : (o : Option X) → or_else o None ≡ o
+      or_none : (o : Option X) → option_or o None ≡ o
       or_none None = refl
       or_none (Some x) = refl
   kept_joined history visit name false h =
-      ap (λ o. or_else o (kept_at read spelled history name)) (found_under read visit.tree (walked_paths visit history) name h)
+      ap (λ o. option_or o (kept_at read spelled history name)) (found_under read visit.tree (walked_paths visit history) name h)
 
   pub join_kept : (history : History) (visit : Visit) → join_files (walked_paths visit history) (kept_files read spelled history) (files_reached read visit.tree (walked_paths visit history)) ≡ kept_files read spelled (visit ⊳ history)
   join_kept history visit =
       map.same_map nat_list_cmp_total alike _ _ (λ name.
       get-join_files (walked_paths visit history) (kept_files read spelled history) (files_reached read visit.tree (walked_paths visit history)) name
-      ∙ ap (λ o. or_else (map.get (files_reached read visit.tree (walked_paths visit history)) name) (cond (not (is_covered (walked_paths visit history) name)) o None)) (get-kept history name)
+      ∙ ap (λ o. option_or (map.get (files_reached read visit.tree (walked_paths visit history)) name) (cond (not (is_covered (walked_paths visit history) name)) o None)) (get-kept history name)
       ∙ kept_joined history visit name (is_covered (walked_paths visit history) name) refl
       ∙ sym (get-kept (visit ⊳ history) name))
 
@@ -103,11 +104,11 @@ join_paths_of history visit =
     elim (cases_Bool (eqb (set.len visit.given) 0)) [
       | inl none ↦
           ap (λ b. join_paths (paths_of history) (cond b (paths_of history) (least visit.given))) none
-          ∙ least_settled _ _ (λ name. ap (λ f. f name) (union_itself (paths_of history) (paths_of history) (λ n. refl)) ∙ covered-least (all_given history) name)
-          ∙ sym (ap least (no_paths visit.given (eqb-true _ _ none) (all_given history)))
+          ∙ least_settled _ _ (λ name. ap (λ f. f name) (union_itself (paths_of history) (paths_of history) (λ n. refl)) ∙ covered-least (all_paths_given history) name)
+          ∙ sym (ap least (no_paths visit.given (eqb-true _ _ none) (all_paths_given history)))
       | inr some ↦
           ap (λ b. join_paths (paths_of history) (cond b (paths_of history) (least visit.given))) some
-          ∙ least-union (all_given history) visit.given
+          ∙ least-union (all_paths_given history) visit.given
     ]
 
 -- ---- the first job of a history

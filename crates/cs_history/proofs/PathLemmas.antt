@@ -1,7 +1,7 @@
 -- Paths as their elements, joined by slashes.
-use Rattle.std.proofs.Common.{◌≡◌, ◌≢◌, ℕ, suc, ◌+◌, ◌<◌, true, false, cond, eqb, List, [], ◌∷◌, ◌++◌, length, drop, get_or, refl, sym, ap, subst, ◌∙◌, inl, inr, arith, append_assoc, length-append}
+use Rattle.std.proofs.Common.{◌≡◌, ℕ, suc, ◌+◌, ◌<◌, cond, eqb, List, [], ◌∷◌, ◌++◌, length, drop, get_or, refl, sym, ap, subst, ◌∙◌, inl, inr, arith, append_assoc, length-append}
 use Rattle.cs_tree.specs.Pieces.{onto_first}
-use Rattle.std.proofs.lemmas.Bool.{cases_Bool, cond_both, eqb-true, eqb-false, ne_eqb}
+use Rattle.std.proofs.lemmas.Bool.{cases_Bool, cond_both, eqb-true}
 use Rattle.std.proofs.lemmas.List.{take_at, drop_at}
 use Rattle.std.proofs.lemmas.Str.{IsUtf8-append, IsUtf8-nil, IsUtf8-take, IsUtf8-drop, encode_ascii, IsCharBoundary-before_ascii, IsCharBoundary-after_ascii}
 use Rattle.std.specs.Prelude.{IsUtf8}
@@ -12,10 +12,6 @@ use Rattle.cs_tree.specs.Clean.{elements}
 -- no byte of the text is zero
 abbrev pub NoNul : List ℕ → Type 0
 NoNul text = AllByRecursion (λ b. 0 < b) text
-
--- no byte of the text is a slash
-abbrev pub NoSlash : List ℕ → Type 0
-NoSlash text = AllByRecursion (λ b. b ≢ slash) text
 
 -- the text of some elements, with a slash between each two
 abbrev pub text_of : List (List ℕ) → List ℕ
@@ -122,47 +118,3 @@ text_from_parts text all = subst IsPart (text_back text) (parts_text (elements t
 
 pub parts_of_text : (text : List ℕ) → IsPart text → AllByRecursion IsPart (elements text)
 parts_of_text text h = text_parts (elements text) (subst IsPart (sym (text_back text)) h)
-
--- ---- no element has a slash
-
-no_slash : (text : List ℕ) → AllByRecursion NoSlash (elements text)
-no_slash [] = (tt, tt)
-no_slash (b ∷ rest) =
-    cond_both (eqb b slash) ([] ∷ elements rest) (onto_first b (elements rest)) (AllByRecursion NoSlash) (λ _. (tt, no_slash rest)) (λ apart. onto (eqb-false b slash apart) (elements rest) (no_slash rest))
-  where
-    onto : b ≢ slash → (es : List (List ℕ)) → AllByRecursion NoSlash es → AllByRecursion NoSlash (onto_first b es)
-    onto h [] all = ((h, tt), tt)
-    onto h (e ∷ es) all = ((h, all.0), all.1)
-
-pub elements_apart : (text : List ℕ) → AllByRecursion NoSlash (elements text)
-elements_apart text = no_slash text
-
--- a text without a slash is its one element
-one_element : (name : List ℕ) → NoSlash name → elements name ≡ name ∷ []
-one_element [] h = refl
-one_element (b ∷ name) h =
-    ap (λ t. cond t ([] ∷ elements name) (onto_first b (elements name))) (ne_eqb b slash h.0)
-    ∙ ap (onto_first b) (one_element name h.1)
-
--- one more element
-pub elements_more : (text name : List ℕ) → NoSlash name → elements (text ++ slash ∷ name) ≡ elements text ++ name ∷ []
-elements_more [] name h = ap (λ es. [] ∷ es) (one_element name h)
-elements_more (b ∷ text) name h =
-    let rest = elements_more text name h in
-    ap (λ es. cond (eqb b slash) ([] ∷ es) (onto_first b es)) rest
-    ∙ elim (eqb b slash) as (λ t. cond t ([] ∷ (elements text ++ name ∷ [])) (onto_first b (elements text ++ name ∷ [])) ≡ cond t ([] ∷ elements text) (onto_first b (elements text)) ++ name ∷ []) [
-      | true ↦ refl
-      | false ↦ onto (elements text) (some_element text)
-    ]
-  where
-    onto : (es : List (List ℕ)) → es ≢ [] → onto_first b (es ++ name ∷ []) ≡ onto_first b es ++ name ∷ []
-    onto [] h = absurd (h refl)
-    onto (e ∷ es) h = refl
-
-    some_element : (text : List ℕ) → elements text ≢ []
-    some_element [] e = cc
-    some_element (c ∷ rest) e = cond_both (eqb c slash) ([] ∷ elements rest) (onto_first c (elements rest)) (λ es. es ≡ [] → ⊥) (λ _ e. cc) (λ _ e. first_some c (elements rest) e) e
-      where
-        first_some : (c : ℕ) (es : List (List ℕ)) → onto_first c es ≡ [] → ⊥
-        first_some c [] e = cc
-        first_some c (x ∷ es) e = cc

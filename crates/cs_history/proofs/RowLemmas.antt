@@ -11,7 +11,7 @@ use Rattle.cs_tree.specs.PathSet.{Paths}
 use Rattle.cs_tree.specs.NameOrder.{bytes_cmp}
 use Rattle.cs_tree.specs.Cover.{same, covers, least, is_covered}
 use Rattle.cs_tree.specs.Clean.{longest_path}
-use Rattle.cs_tree.specs.Folders.{child, lists, name_of}
+use Rattle.cs_tree.specs.Folders.{child, lists, last_element}
 use Rattle.cs_tree.specs.Snapshot.{Snapshot, Item, bad, missing, item_at}
 use Rattle.cs_tree.specs.Reached.{is_left_out, elements_under, leads, reaches, read_item, found_at, files_reached}
 use Rattle.cs_tree.proofs.Sets.{alike, entries_in_order}
@@ -20,7 +20,7 @@ use Rattle.cs_index.specs.Image.{Entry, image, image_of}
 use Rattle.cs_merge.specs.Join.{join_files}
 use Rattle.cs_history.specs.Shards.{files_of_both}
 use Rattle.cs_index.specs.OpenedParts.{Parts, files_read}
-use Rattle.cs_history.specs.History.{Visit, History, nothing, handed_in, ◌⊳◌, all_given, paths_of, walked_paths, kept_at, names_found, kept_files, files_of, index_of}
+use Rattle.cs_history.specs.History.{Visit, History, nothing, handed_in, ◌⊳◌, all_paths_given, paths_of, walked_paths, kept_at, names_found, kept_files, files_of, index_of}
 
 -- ---- maps
 
@@ -89,7 +89,7 @@ leads_in rows at (name ∷ names) =
     not (is_left_out name) && (nat_le (length at) longest_path && (lists (item_in rows at) name && leads_in rows (child at name) names))
 
 abbrev reaches_in : TreeRows → List ℕ → List ℕ → Bool
-reaches_in rows path name = covers path name && (not (is_left_out (name_of path)) && leads_in rows path (elements_under path name))
+reaches_in rows path name = covers path name && (not (is_left_out (last_element path)) && leads_in rows path (elements_under path name))
 
 module _ (tree : Snapshot) where
   item-rows : (path : List ℕ) → item_at tree path ≡ item_in (map'.entries tree) path
@@ -101,7 +101,7 @@ module _ (tree : Snapshot) where
       not (is_left_out name) && (nat_le (length at) longest_path && (lists (item-rows at i) name && leads-rows (child at name) names i))
 
   reaches-rows : (path name : List ℕ) → reaches tree path name ≡ reaches_in (map'.entries tree) path name
-  reaches-rows path name = ap (λ b. covers path name && (not (is_left_out (name_of path)) && b)) (leads-rows path (elements_under path name))
+  reaches-rows path name = ap (λ b. covers path name && (not (is_left_out (last_element path)) && b)) (leads-rows path (elements_under path name))
 
 module _ {X : Type 0} (read : List ℕ → Option X) where
   abbrev found_in : TreeRows → PathRows → List ℕ → Option X
@@ -149,14 +149,14 @@ given_in begun (rows ∷ before) = laid (given_in begun before ++ rows.given)
 abbrev walked_in : Option Parts → Rows → List Rows → PathRows
 walked_in begun rows before = cond (nat_eq (length rows.given) 0) (least_rows (given_in begun before)) (least_rows rows.given)
 
-given-rows : (history : History) → map'.entries (all_given history) ≡ given_in (begun_of history) (jobs_of history)
+given-rows : (history : History) → map'.entries (all_paths_given history) ≡ given_in (begun_of history) (jobs_of history)
 given-rows nothing = entries_in_order [] tt
 given-rows (handed_in bytes parts) = entries-laid (set.with_units parts.paths)
 given-rows (visit ⊳ before) =
-    entries-laid (map'.entries (all_given before) ++ map'.entries visit.given) ∙ ap (λ es. laid (es ++ map'.entries visit.given)) (given-rows before)
+    entries-laid (map'.entries (all_paths_given before) ++ map'.entries visit.given) ∙ ap (λ es. laid (es ++ map'.entries visit.given)) (given-rows before)
 
 paths-rows : (history : History) → map'.entries (paths_of history) ≡ least_rows (given_in (begun_of history) (jobs_of history))
-paths-rows history = entries-least (all_given history) ∙ ap least_rows (given-rows history)
+paths-rows history = entries-least (all_paths_given history) ∙ ap least_rows (given-rows history)
 
 walked-rows : (visit : Visit) (before : History) → map'.entries (walked_paths visit before) ≡ walked_in (begun_of before) (record { given = map'.entries visit.given; tree = map'.entries visit.tree }) (jobs_of before)
 walked-rows visit before =

@@ -14,7 +14,8 @@ use Rattle.cs_tree.specs.PathSet as set
 use Rattle.cs_tree.specs.PathSet.{Paths}
 use Rattle.cs_tree.specs.NameOrder.{bytes_cmp}
 use Rattle.cs_tree.specs.Cover.{is_covered}
-use Rattle.cs_tree.proofs.Sets.{alike, tied_is, or_else, find-append, same_set, items_in_order}
+use Rattle.cs_tree.proofs.Sets.{alike, tied_is, find-append, same_set, items_in_order}
+use Rattle.std.specs.Option.{option_or}
 use Rattle.cs_trigram.specs.Trigram.{has}
 use Rattle.cs_trigram.specs.Query.{holds}
 use Rattle.cs_trigram.specs.declared.queries.Query.{Query}
@@ -23,6 +24,7 @@ use Rattle.cs_merge.specs.Join.{join_files, join_paths}
 use Rattle.cs_merge.specs.Content.{Holds}
 use Rattle.cs_merge.proofs.JoinLemmas.{get-join_files}
 use Rattle.cs_merge.proofs.HoldingLemmas.{held_names}
+use Rattle.cs_history.specs.Meeting.{names_meeting}
 use Rattle.cs_history.specs.Shards.{AreShards, files_of_both, by_name, searched_names}
 
 -- ---- the files of the join
@@ -31,19 +33,19 @@ module _ (p : Paths) (f : Files) (q : Paths) (g : Files) (apart : AreShards p f 
   not_both : (name : List ℕ) (b : Bool) → is_covered q name ≡ b → (t u : List ℕ) → map'.get f name ≡ Some t → map'.get g name ≡ Some u → ⊥
   not_both name b e t u here there = true≢false (sym (apart.other_under name u there) ∙ apart.beside name t here)
 
-  at_name : (name : List ℕ) (x y : Option (List ℕ)) → map'.get f name ≡ x → map'.get g name ≡ y → or_else y (cond (not (is_covered q name)) x None) ≡ or_else x y
+  at_name : (name : List ℕ) (x y : Option (List ℕ)) → map'.get f name ≡ x → map'.get g name ≡ y → option_or y (cond (not (is_covered q name)) x None) ≡ option_or x y
   at_name name None None e h = elim (not (is_covered q name)) as (λ b. cond {A = Option (List ℕ)} b None None ≡ None) [ true ↦ refl | false ↦ refl ]
   at_name name None (Some u) e h = refl
   at_name name (Some t) None e h = ap (λ b. cond (not b) (Some t) None) (apart.beside name t e)
   at_name name (Some t) (Some u) e h = absurd (not_both name (is_covered q name) refl t u e h)
 
-  get-both : (name : List ℕ) → map'.get (files_of_both f g) name ≡ or_else (map'.get f name) (map'.get g name)
+  get-both : (name : List ℕ) → map'.get (files_of_both f g) name ≡ option_or (map'.get f name) (map'.get g name)
   get-both name =
       map'.get-from_entries nat_list_cmp_total _ name
       ∙ find-append name (map'.entries f) (map'.entries g)
-      ∙ (λ i. or_else (sym (map'.get-entries f name) i) (sym (map'.get-entries g name) i))
+      ∙ (λ i. option_or (sym (map'.get-entries f name) i) (sym (map'.get-entries g name) i))
 
-  get-join : (name : List ℕ) → map'.get (join_files q f g) name ≡ or_else (map'.get f name) (map'.get g name)
+  get-join : (name : List ℕ) → map'.get (join_files q f g) name ≡ option_or (map'.get f name) (map'.get g name)
   get-join name = get-join_files q f g name ∙ at_name name (map'.get f name) (map'.get g name) refl refl
 
   pub joined_files : join_files q f g ≡ files_of_both f g
@@ -143,7 +145,7 @@ module _ (passes : Entry → Bool) where
           elim (eq_by_cmp bytes_cmp name n) as (λ b. is_some (cond b (Some tt) (find bytes_cmp name (set.with_units ns))) ≡ (b || list_any (eq_by_cmp bytes_cmp name) ns)) [ true ↦ refl | false ↦ in_units ns ]
 
   module _ (p : Paths) (f : Files) (q : Paths) (g : Files) (apart : AreShards p f q g) where
-    either : (name : List ℕ) (x y : Option (List ℕ)) → map'.get f name ≡ x → map'.get g name ≡ y → passes_at name (or_else x y) ≡ (passes_at name x || passes_at name y)
+    either : (name : List ℕ) (x y : Option (List ℕ)) → map'.get f name ≡ x → map'.get g name ≡ y → passes_at name (option_or x y) ≡ (passes_at name x || passes_at name y)
     either name None y e h = refl
     either name (Some t) None e h = sym (or_false (passes (name, t)))
       where
@@ -186,6 +188,7 @@ all_pass (e ∷ es) = ap (λ rest. e ∷ rest) (all_pass es)
 
 module _ (p : Paths) (f : Files) (q : Paths) (g : Files) (apart : AreShards p f q g) where
   pub searched_joined : (query : Query) (keeps : List ℕ → Bool) → searched_names query keeps (join_files q f g) ≡ by_name (searched_names query keeps f ++ searched_names query keeps g)
+  unfolding names_meeting
   searched_joined query keeps =
       let h : Entry → Bool = λ (e : Entry). holds query (has e.1) in
       one_test h keeps (map'.entries (join_files q f g))

@@ -6,7 +6,7 @@ use Rattle.cs_trigram.specs.Text.{first_broken, too_many, skip, none_skipped, te
 use Rattle.cs_trigram.specs.declared.limits.Limits.{Limits}
 use Rattle.cs_trigram.specs.declared.scan.Reason.{Reason}
 use Rattle.cs_trigram.proofs.SetLemmas.{ascends_set}
-use Rattle.cs_trigram.proofs.TextLemmas.{or_else-none, tri_below}
+use Rattle.cs_trigram.proofs.TextLemmas.{option_or-none, tri_below}
 
 -- the set of a scan is one of an index
 rises : (ns : List ℕ) → Rises ns → Ascends ns
@@ -21,4 +21,4 @@ text_set most bytes trigrams h = by_skip (skip most bytes) refl h
     by_skip (Some reason) e h = cc
     by_skip None e h =
         let is : tri bytes ≡ trigrams = cc in
-        subst IsTrigramSet is (rises (tri bytes) (ascends_set (trigram_sequence bytes)), tri_below most bytes (or_else-none (first_broken most [] bytes) (too_many most (tri bytes)) e).0)
+        subst IsTrigramSet is (rises (tri bytes) (ascends_set (trigram_sequence bytes)), tri_below most bytes (option_or-none (first_broken most [] bytes) (too_many most (tri bytes)) e).0)

@@ -1,7 +1,7 @@
 -- What a walk finds can be held by an index, and lies under the paths that were walked.
 use Rattle.std.proofs.Common.{◌≡◌, ◌≢◌, ℕ, ◌+◌, ◌<◌, Bool, true, false, cond, not, eqb, leb, ◌&&◌, List, [], ◌∷◌, ◌++◌, length, drop, refl, sym, ap, subst, ◌∙◌, inl, inr, Option, Some, None, arith, length-append, append_assoc}
 use Rattle.cs_tree.specs.Covering.{Covers, itself, below, root}
-use Rattle.cs_tree.specs.Folders.{child, lists, is_name, HasNames, IsTree, name_of}
+use Rattle.cs_tree.specs.Folders.{child, lists, is_element, ListsElements, IsTree, last_element}
 use Rattle.cs_tree.specs.PathSet.{Paths}
 use Rattle.cs_index.specs.Image.{IsString}
 use Rattle.std.proofs.lemmas.Bool.{true≢false, cases_Bool, and_parts, or_cases, or_parts, not-true, eqb-false, both_ways}
@@ -43,23 +43,23 @@ no_zero (b ∷ name) h =
     positive : (b : ℕ) → (b ≡ 0 → ⊥) → 0 < b
     positive b h = omega (arith, h)
 
-name_part : (name : List ℕ) → is_name name ≡ true → IsUtf8 name → IsPart name
+name_part : (name : List ℕ) → is_element name ≡ true → IsUtf8 name → IsPart name
 name_part name h utf8 =
     let parts = and_parts (not (same name [])) (not (list_any (λ b. eqb b slash) name) && not (list_any (λ b. eqb b 0) name)) h in
     let more = and_parts (not (list_any (λ b. eqb b slash) name)) (not (list_any (λ b. eqb b 0) name)) parts.1 in
     record { no_nul = no_zero name (not-true _ more.1); utf8 = utf8 }
 
-listed_part : (names : List (List ℕ)) (name : List ℕ) → list_all is_name names ≡ true → AllByRecursion IsUtf8 names → list_any (λ listed. same listed name) names ≡ true → IsPart name
+listed_part : (names : List (List ℕ)) (name : List ℕ) → list_all is_element names ≡ true → AllByRecursion IsUtf8 names → list_any (λ listed. same listed name) names ≡ true → IsPart name
 listed_part [] name h utf8 there = absurd (true≢false (sym there))
 listed_part (x ∷ names) name h utf8 there =
-    let parts = and_parts (is_name x) (list_all is_name names) h in
+    let parts = and_parts (is_element x) (list_all is_element names) h in
     elim (or_cases (same x name) (list_any (λ listed. same listed name) names) there) [
       | inl here ↦ subst IsPart ((bytes_decides x name).0 here) (name_part x parts.0 utf8.0)
       | inr later ↦ listed_part names name parts.1 utf8.1 later
     ]
 
-lists_part : (item : Item) (name : List ℕ) → HasNames item → lists item name ≡ true → IsPart name
-lists_part (folder names unnamed) name h there = listed_part names name (and_parts (list_all is_name names) _ h.0).0 h.1 there
+lists_part : (item : Item) (name : List ℕ) → ListsElements item → lists item name ≡ true → IsPart name
+lists_part (folder names unnamed) name h there = listed_part names name (and_parts (list_all is_element names) _ h.0).0 h.1 there
 lists_part (file bytes) name h there = absurd (true≢false (sym there))
 lists_part (cut bytes) name h there = absurd (true≢false (sym there))
 lists_part other name h there = absurd (true≢false (sym there))
@@ -96,7 +96,7 @@ root_part path name rest tree is h apart e outer =
 reached_string : (tree : Snapshot) (path name : List ℕ) → IsTree tree → IsString path → reaches tree path name ≡ true → IsString name
 reached_string tree path name is text h =
     let a = and_parts (covers path name) _ h in
-    let b = and_parts (not (is_left_out (name_of path))) (leads tree path (elements_under path name)) a.1 in
+    let b = and_parts (not (is_left_out (last_element path))) (leads tree path (elements_under path name)) a.1 in
     elim (cases_Bool (same path name)) [
       | inl here ↦ subst IsString ((bytes_decides path name).0 here) text
       | inr apart ↦ by_covers b.1 apart (covers_says path name a.0)

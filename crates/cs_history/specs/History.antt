@@ -10,7 +10,7 @@ use Rattle.cs_tree.specs.Snapshot.{Snapshot}
 use Rattle.cs_tree.specs.Reached.{files_reached}
 use Rattle.cs_trigram.specs.Text.{text_trigrams, limits}
 use Rattle.cs_index.specs.Image.{Files, image}
-use Rattle.cs_index.specs.OpenedParts.{Parts, files_read}
+use Rattle.cs_index.specs.OpenedParts.{Parts, paths_in, files_in}
 
 -- a job that walked: the paths that it was given, cleaned, and what stood in the tree then
 pub record Visit : Type 0 where
@@ -29,14 +29,14 @@ pub data History : Type 0 where
 -- ---- the paths that remain
 
 -- all paths that were given
-abbrev pub all_given : History → Paths
-all_given nothing = set.empty
-all_given (handed_in bytes parts) = set.from_list parts.paths
-all_given (visit ⊳ before) = set.union (all_given before) visit.given
+abbrev pub all_paths_given : History → Paths
+all_paths_given nothing = set.empty
+all_paths_given (handed_in bytes parts) = paths_in parts
+all_paths_given (visit ⊳ before) = set.union (all_paths_given before) visit.given
 
 -- those that no other one covers: the paths of the index
 abbrev pub paths_of : History → Paths
-paths_of history = least (all_given history)
+paths_of history = least (all_paths_given history)
 
 -- the paths that a job walks: its own, or where it was given none, those of the index before it
 abbrev pub walked_paths : Visit → History → Paths
@@ -66,13 +66,9 @@ module _ {X : Type 0} (read : List ℕ → Option X) (spelled : Parts → map.Fi
 
 -- ---- the index
 
--- the files that an index spells: each name with the trigrams whose lists have its id
-abbrev pub files_spelled : Parts → Files
-files_spelled parts = map.from_entries (files_read parts)
-
 -- the files of the index: each name with the trigrams of the text that was last read there
 abbrev pub files_of : History → Files
-files_of history = kept_files (text_trigrams limits) files_spelled history
+files_of history = kept_files (text_trigrams limits) files_in history
 
 -- The index that the jobs amount to: built at once from the paths that remain and the files. No index
 -- of an earlier job occurs in it. Before any job it is what was handed in, and without that there is none.

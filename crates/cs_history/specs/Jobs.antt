@@ -1,16 +1,21 @@
 -- What jobs and their replies make of a history.
 -- docs/PROMISES.md, "Histories"; the comment of the command cindex.
-use Rattle.std.specs.Prelude.{◌≡◌, ℕ, Bool, false, nat_eq, if◌then◌else◌, List, [], ◌∷◌, None, map, string_bytes, length}
+use Rattle.std.specs.Prelude.{◌≡◌, ℕ, Bool, true, false, nat_eq, if◌then◌else◌, List, [], ◌∷◌, None, map, string_bytes, length}
 use Rattle.cs_tree.specs.PathSet.{Paths}
 use Rattle.std.specs.List.{AllByRecursion}
 use Rattle.cs_tree.specs.PathSet as set
 use Rattle.cs_tree.specs.Snapshot.{Snapshot}
+use Rattle.cs_tree.specs.Cover.{begins, slash}
 use Rattle.cs_tree.specs.Clean.{clean_path}
 use Rattle.cs_tree.specs.Cleaning.{clean_fault}
 use Rattle.cs_history.specs.History.{History, nothing, ◌⊳◌, Visit}
 use Rattle.cs_words.specs.declared.jobs.IndexJob.{IndexJob}
 use Rattle.cs_words.specs.declared.jobs.Reply.{Reply}
 use Rattle.cs_words.specs.declared.jobs.Reply.TheVariants.{Done, Refused}
+
+-- the folder of a job is absolute
+abbrev pub HasAbsoluteFolder : IndexJob → Type 0
+HasAbsoluteFolder job = begins (slash ∷ []) (string_bytes job.cwd) ≡ true
 
 -- ---- the paths of a job
 

@@ -1,10 +1,8 @@
 -- What public contracts rest on.
 pub use Rattle.cs_index.specs.PostingLists
-pub use Rattle.cs_index.specs.WholeLists
 pub use Rattle.cs_tree.specs.Folders
 pub use Rattle.cs_tree.specs.PathSet
 pub use Rattle.cs_tree.specs.Cover
-pub use Rattle.cs_tree.specs.LeastPaths
 pub use Rattle.cs_tree.specs.Snapshot
 pub use Rattle.cs_tree.specs.Reached
 pub use Rattle.cs_trigram.specs.Text
@@ -22,6 +20,8 @@ pub mod WellFormed
 pub mod Begun
 pub mod Jobs
 pub mod JobIndex
+pub mod FileTrigrams
+pub mod Meeting
 pub mod Left
 pub mod Replies
 pub mod Shards

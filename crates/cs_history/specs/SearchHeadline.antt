@@ -4,9 +4,8 @@
 --     over the indexed files in name order.
 use Rattle.std.specs.Prelude.{◌≡◌, ℕ, Bool, List, [], ◌∷◌, Option, Some, filter}
 use Rattle.std.specs.FinMap as map'
-use Rattle.cs_tree.specs.Snapshot.{Snapshot, item_at}
-use Rattle.cs_tree.specs.Reached.{read_item}
-use Rattle.cs_trigram.specs.Text.{text_trigrams, limits}
+use Rattle.cs_tree.specs.Snapshot.{Snapshot}
+use Rattle.cs_history.specs.FileTrigrams.{file_trigrams}
 use Rattle.cs_history.specs.History.{History, handed_in, files_of}
 use Rattle.cs_history.specs.Premises.{snapshot_told, Premises}
 
@@ -16,8 +15,7 @@ indexed_names history = map'.keys (files_of history)
 
 -- every indexed file still reads as it was indexed: at its name stands a text with the trigrams that are kept
 abbrev pub StillReads : History → Snapshot → Type 0
-StillReads history tree =
-    (name trigrams : List ℕ) → map'.get (files_of history) name ≡ Some trigrams → read_item (text_trigrams limits) (item_at tree name) ≡ Some trigrams
+StillReads history tree = (name trigrams : List ℕ) → map'.get (files_of history) name ≡ Some trigrams → file_trigrams tree name ≡ Some trigrams
 
 -- the index is one that a job built, and not just the one that was handed in, whose names may stand in another order
 abbrev pub IsByJobs : History → Type 0

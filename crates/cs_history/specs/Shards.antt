@@ -1,15 +1,14 @@
 -- Indexes that lie apart, as those of two trees, disks or machines.
 -- docs/PROMISES.md, "Histories"; docs/USE.md, "Several indexes".
-use Rattle.std.specs.Prelude.{◌≡◌, ℕ, Bool, false, List, ◌++◌, map, filter}
+use Rattle.std.specs.Prelude.{◌≡◌, ℕ, Bool, false, List, ◌++◌, filter}
 use Rattle.std.specs.FinMap as map'
 use Rattle.cs_tree.specs.PathSet as set
 use Rattle.cs_tree.specs.PathSet.{Paths}
 use Rattle.cs_tree.specs.Cover.{is_covered}
-use Rattle.cs_trigram.specs.Trigram.{has}
-use Rattle.cs_trigram.specs.Query.{holds}
 use Rattle.cs_trigram.specs.declared.queries.Query.{Query}
-use Rattle.cs_index.specs.Image.{Entry, Files}
+use Rattle.cs_index.specs.Image.{Files}
 use Rattle.cs_merge.specs.Content.{EachFile, LieUnder}
+use Rattle.cs_history.specs.Meeting.{names_meeting}
 
 -- no path covers the name of a file
 abbrev pub LieBeside : Paths → Files → Type 0
@@ -32,5 +31,4 @@ by_name names = set.items (set.from_list names)
 
 -- the names that a search goes over: of the files whose trigrams meet the query, those that are kept, in their order
 abbrev pub searched_names : Query → (List ℕ → Bool) → Files → List (List ℕ)
-searched_names query keeps files =
-    filter keeps (map (λ (e : Entry). e.0) (filter (λ (e : Entry). holds query (has e.1)) (map'.entries files)))
+searched_names query keeps files = filter keeps (names_meeting query (map'.entries files))

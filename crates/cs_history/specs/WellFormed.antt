@@ -8,7 +8,7 @@ use Rattle.cs_tree.specs.PathSet as set
 use Rattle.cs_tree.specs.Cover.{is_covered}
 use Rattle.cs_tree.specs.Cleaning.{is_settled}
 use Rattle.cs_index.specs.Spelling.{SpellsParts}
-use Rattle.cs_index.specs.OpenedParts.{Parts, are_whole}
+use Rattle.cs_index.specs.OpenedParts.{Parts, are_whole, paths_in}
 use Rattle.cs_history.specs.History.{Visit, History, nothing, handed_in, ◌⊳◌}
 
 -- ---- paths
@@ -36,7 +36,7 @@ pub record IsBeginning (bytes : List ℕ) (parts : Parts) : Type 0 where
   pub whole : are_whole parts ≡ true
   pub settled : list_all is_settled parts.paths ≡ true
   pub distinct : are_distinct parts.names ≡ true
-  pub under : list_all (is_covered (set.from_list parts.paths)) parts.names ≡ true
+  pub under : list_all (is_covered (paths_in parts)) parts.names ≡ true
 
 abbrev pub IsHistory : History → Type 0
 IsHistory nothing = Unit {0}

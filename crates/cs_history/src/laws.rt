@@ -7,19 +7,20 @@ ghost use Rattle.std.specs.List.{AllByRecursion, AllZip};
 ghost use Rattle.std.specs.FinMap as map';
 ghost use Rattle.cs_tree.specs.PathSet as set;
 ghost use Rattle.cs_tree.specs.Cover.{is_covered, least};
-ghost use Rattle.cs_tree.specs.Snapshot.{Snapshot, item_at};
-ghost use Rattle.cs_tree.specs.Reached.{files_reached, read_item};
+ghost use Rattle.cs_tree.specs.Snapshot.{Snapshot};
+ghost use Rattle.cs_tree.specs.Reached.{files_reached};
 ghost use Rattle.cs_index.specs.Image.{Files, image};
 ghost use Rattle.cs_index.specs.Opening.{opening};
-ghost use Rattle.cs_index.specs.OpenedParts.{Parts};
+ghost use Rattle.cs_index.specs.OpenedParts.{Parts, paths_in, files_in};
 ghost use Rattle.cs_trigram.specs.Text.{text_trigrams, limits};
 ghost use Rattle.cs_merge.specs.Join.{join_files, join_paths};
 ghost use Rattle.cs_merge.specs.Joinable.{joined_index};
 ghost use Rattle.cs_merge.specs.Content.{IsContent, LieUnder, Holds};
-ghost use Rattle.cs_history.specs.History.{History, nothing, handed_in, ◌⊳◌, Visit, kept_files, walked_paths, paths_of, files_spelled, files_of, index_of};
+ghost use Rattle.cs_history.specs.History.{History, nothing, handed_in, ◌⊳◌, Visit, kept_files, walked_paths, paths_of, files_of, index_of};
 ghost use Rattle.cs_history.specs.JobIndex.{files_found, tree_index, visit_index};
+ghost use Rattle.cs_history.specs.FileTrigrams.{file_trigrams};
 ghost use Rattle.cs_history.specs.WellFormed.{AreClean, IsBeginning, IsHistory};
-ghost use Rattle.cs_history.specs.Begun.{IsBegun};
+ghost use Rattle.cs_history.specs.Begun.{HasBeginning};
 ghost use Rattle.cs_history.specs.Left.{HasLeft};
 ghost use Rattle.cs_history.specs.Jobs.{given_paths, has_no_path, AreTaken, IsFitting, after, history_after};
 ghost use Rattle.cs_history.specs.Premises.{snapshot_told, Premises};
@@ -39,9 +40,9 @@ pub fn histories_may_begin_with_an_index()
     ensures index { (bytes : List ℕ) (parts : Parts) →
         index_of (handed_in bytes parts) ≡ Some bytes }
     ensures paths { (bytes : List ℕ) (parts : Parts) →
-        paths_of (handed_in bytes parts) ≡ least (set.from_list parts.paths) }
+        paths_of (handed_in bytes parts) ≡ least (paths_in parts) }
     ensures files { (bytes : List ℕ) (parts : Parts) →
-        files_of (handed_in bytes parts) ≡ files_spelled parts }
+        files_of (handed_in bytes parts) ≡ files_in parts }
 {}
 
 /// Joining what is kept with what one more job found gives what is kept after that job.
@@ -130,7 +131,7 @@ pub fn job_without_paths()
     ensures paths { (visit : Visit) (before : History) → set.len visit.given ≡ 0 →
         paths_of (visit ⊳ before) ≡ paths_of before }
     ensures files { (visit : Visit) (before : History) → set.len visit.given ≡ 0 →
-        IsBegun before → files_of (visit ⊳ before) ≡
+        HasBeginning before → files_of (visit ⊳ before) ≡
         files_reached (text_trigrams limits) visit.tree (paths_of before) }
 {}
 
@@ -156,9 +157,9 @@ pub fn walks_find_content()
 pub fn histories_have_content()
     ensures content { (history : History) → IsHistory history →
         IsContent (paths_of history) (files_of history) }
-    ensures under { (history : History) → IsBegun history →
+    ensures under { (history : History) → HasBeginning history →
         LieUnder (paths_of history) (files_of history) }
-    ensures begun { (history : History) → IsHistory history → IsBegun history }
+    ensures begun { (history : History) → IsHistory history → HasBeginning history }
 {}
 
 /// An index that some jobs left holds their paths and files, and nothing else.
@@ -179,8 +180,7 @@ pub fn still_reading_agrees()
     ensures sets { (history : History) (bytes : List ℕ) (paths : Paths) (files : Files)
         (tree : Snapshot) → HasLeft history bytes → IsByJobs history → StillReads history tree →
         (holds : Holds bytes paths files) (id : ℕ) (d : List ℕ) → id < length holds.names →
-        read_item (text_trigrams limits) (item_at tree (slice_index_or holds.names id d)) ≡
-        Some (set_at id holds.lists) }
+        file_trigrams tree (slice_index_or holds.names id d) ≡ Some (set_at id holds.lists) }
 {}
 
 /// There is no index exactly where no job is left, and none was handed in.
@@ -250,7 +250,7 @@ pub fn shards_join_by_name()
     ensures searched { (p q : Paths) (f g : Files) (query : Query) (keeps : List ℕ → Bool) →
         AreShards p f q g → searched_names query keeps (join_files q f g) ≡
         by_name (searched_names query keeps f ++ searched_names query keeps g) }
-    ensures left { (one other : History) → IsBegun one → IsBegun other →
+    ensures left { (one other : History) → HasBeginning one → HasBeginning other →
         LieBeside (paths_of other) (files_of one) → LieBeside (paths_of one) (files_of other) →
         AreShards (paths_of one) (files_of one) (paths_of other) (files_of other) }
 {}

@@ -1,11 +1,10 @@
 -- What a query asks for, member by member.
 use Rattle.std.proofs.Common.{◌≡◌, ℕ, ◌+◌, ◌<◌, Bool, true, false, not, cond, ◌&&◌, ◌||◌, eqb, List, [], ◌∷◌, length, map, Vec, Global, Option, Some, None, refl, sym, ap, subst, ◌∙◌, inl, inr, find, take, drop}
-use Rattle.cs_index.specs.Postings.{entry_of}
-use Rattle.cs_index.specs.Sifting.{nothing_read, read_for}
+use Rattle.cs_index.specs.Postings.{entry_of, nothing_read, read_for}
 use Rattle.cs_index.specs.Rising.{RiseWithin}
-use Rattle.cs_index.specs.PostingLists.{Ids, damaged, read_ids, set_at}
+use Rattle.cs_index.specs.PostingLists.{Ids, damage, read_ids, set_at}
 use Rattle.cs_trigram.specs.Trigram.{has, Ascends}
-use Rattle.std.proofs.lemmas.Bool.{true≢false, cases_Bool, cond_both, eqb-true, or_left}
+use Rattle.std.proofs.lemmas.Bool.{true≢false, cases_Bool, cond_both, eqb-true, or_left, or_parts}
 use Rattle.std.proofs.lemmas.List.Folds.{list_all-map}
 use Rattle.std.specs.Prelude.{filter, option_map, unwrap_or}
 use Rattle.std.specs.List.{AllByRecursion, list_all, list_any, range_with_len}
@@ -16,11 +15,11 @@ use Rattle.cs_tree.specs.Cover.{same}
 use Rattle.cs_index.specs.Image.{ListEntry, Posting, three_bytes}
 use Rattle.cs_index.specs.Opening.{rises}
 use Rattle.cs_index.specs.OpenedParts.{Parts, ids_read, lists_in, whole_ids}
-use Rattle.cs_index.specs.Candidates.{candidates_of, meets, names_that}
+use Rattle.cs_index.specs.Candidates.{candidates_of, meets, ids_that}
 use Rattle.cs_index.specs.Answerable.{asks_for, asks_step, is_answerable}
 use Rattle.cs_index.proofs.OpenedLemmas.{rise_read}
-use Rattle.cs_index.proofs.SiftLemmas.{ascends_filter, ascends_range, below_range, filter_all, filter_filter, filter_within, has-filter, has_below, has_range, read_rise, rise_ascends, rise_below}
-use Rattle.cs_trigram.proofs.SetLemmas.{ascends_tail, ascends_head, below_none, ascends_same}
+use Rattle.cs_index.proofs.SiftLemmas.{ascends_range, below_range, filter_all, filter_filter, has_below, has_range, read_rise, rise_ascends, rise_below}
+use Rattle.cs_trigram.proofs.SetLemmas.{ascends_tail, ascends_head, below_none, ascends_same, ascends_filter, filter_within, has-filter}
 
 -- ---- the equations of queries
 
@@ -128,9 +127,9 @@ module _ (parts : Parts) where
 
   -- ---- candidates, member by member
 
-  candidates_as : (query : Query) (test : ℕ → Bool) → ((id : ℕ) → meets parts query id ≡ test id) → candidates_of parts query ≡ names_that parts test
+  candidates_as : (query : Query) (test : ℕ → Bool) → ((id : ℕ) → meets parts query id ≡ test id) → candidates_of parts query ≡ ids_that parts test
   unfolding candidates_of
-  candidates_as query test h = ap (names_that parts) (λ i id. h id i)
+  candidates_as query test h = ap (ids_that parts) (λ i id. h id i)
 
   pub candidates-All : candidates_of parts All ≡ range_with_len 0 (length parts.names)
   candidates-All = candidates_as All (λ _. true) (λ id. holds-All _) ∙ filter_all (range_with_len 0 (length parts.names))
@@ -142,10 +141,10 @@ module _ (parts : Parts) where
       filter_none [] = refl
       filter_none (x ∷ xs) = filter_none xs
 
-  pub candidates-And : (members : Vec Query Global) → candidates_of parts (And members) ≡ names_that parts (λ id. list_all (λ m. meets parts m id) members.items)
+  pub candidates-And : (members : Vec Query Global) → candidates_of parts (And members) ≡ ids_that parts (λ id. list_all (λ m. meets parts m id) members.items)
   candidates-And members = candidates_as (And members) (λ id. list_all (λ m. meets parts m id) members.items) (λ id. holds-And _ members)
 
-  pub candidates-Or : (members : Vec Query Global) → candidates_of parts (Or members) ≡ names_that parts (λ id. list_any (λ m. meets parts m id) members.items)
+  pub candidates-Or : (members : Vec Query Global) → candidates_of parts (Or members) ≡ ids_that parts (λ id. list_any (λ m. meets parts m id) members.items)
   candidates-Or members = candidates_as (Or members) (λ id. list_any (λ m. meets parts m id) members.items) (λ id. holds-Or _ members)
 
 -- ---- the list of a trigram
@@ -153,24 +152,16 @@ module _ (parts : Parts) where
 no_set : (f : ListEntry → Ids) (g k : ℕ) (es : List ListEntry) → has (map (λ (e : ListEntry). e.trigram) es) g ≡ false → has (set_at k (map (λ (e : ListEntry). (e.trigram, whole_ids (f e))) es)) g ≡ false
 no_set f g k [] h = refl
 no_set f g k (e ∷ es) h =
-    let both = neither (eqb e.trigram g) (has (map (λ (d : ListEntry). d.trigram) es) g) h in
+    let both = or_parts (eqb e.trigram g) (has (map (λ (d : ListEntry). d.trigram) es) g) h in
     cond_both (has (whole_ids (f e)) k) ((e.trigram, whole_ids (f e)) ∷ filter (λ (p : Posting). has p.1 k) (map (λ (d : ListEntry). (d.trigram, whole_ids (f d))) es)) (filter (λ (p : Posting). has p.1 k) (map (λ (d : ListEntry). (d.trigram, whole_ids (f d))) es)) (λ ps. has (map (λ (p : Posting). p.0) ps) g ≡ false)
     (λ _. ap (λ b. b || has (set_at k (map (λ (d : ListEntry). (d.trigram, whole_ids (f d))) es)) g) both.0 ∙ no_set f g k es both.1)
     (λ _. no_set f g k es both.1)
-  where
-    neither : (a b : Bool) → (a || b) ≡ false → (a ≡ false) × (b ≡ false)
-    neither true b h = absurd (true≢false h)
-    neither false b h = (refl, h)
 
 none_asked : (whole : ListEntry → Bool) (g : ℕ) (es : List ListEntry) → has (map (λ (e : ListEntry). e.trigram) es) g ≡ false → list_all (λ (e : ListEntry). not (eqb e.trigram g) || whole e) es ≡ true
 none_asked whole g [] h = refl
 none_asked whole g (e ∷ es) h =
-    let both = neither (eqb e.trigram g) (has (map (λ (d : ListEntry). d.trigram) es) g) h in
+    let both = or_parts (eqb e.trigram g) (has (map (λ (d : ListEntry). d.trigram) es) g) h in
     (λ i. (not (both.0 i) || whole e) && none_asked whole g es both.1 i)
-  where
-    neither : (a b : Bool) → (a || b) ≡ false → (a ≡ false) × (b ≡ false)
-    neither true b h = absurd (true≢false h)
-    neither false b h = (refl, h)
 
 -- what was found of a trigram
 found_ids : (ListEntry → Ids) → List ListEntry → ℕ → Ids
@@ -225,7 +216,7 @@ module _ (parts : Parts) where
   -- what is read of an entry rises
   pub entry_rises : (e : ListEntry) → RiseWithin (length parts.names) 0 (ids_read parts e).ids
   entry_rises e =
-      cond_both (same (take 3 (drop e.offset parts.postings)) (three_bytes e.trigram)) (read_ids (length parts.names) e.count 0 (drop (e.offset + 3) parts.postings)) damaged (λ (r : Ids). RiseWithin (length parts.names) 0 r.ids)
+      cond_both (same (take 3 (drop e.offset parts.postings)) (three_bytes e.trigram)) (read_ids (length parts.names) e.count 0 (drop (e.offset + 3) parts.postings)) damage (λ (r : Ids). RiseWithin (length parts.names) 0 r.ids)
       (λ _. read_rise (length parts.names) e.count 0 (drop (e.offset + 3) parts.postings)) (λ _. tt)
 
   pub list_rises : (g : ℕ) → RiseWithin (length parts.names) 0 (read_for parts g).ids
@@ -242,7 +233,7 @@ module _ (parts : Parts) where
   pub list_below : (g : ℕ) → AllByRecursion (λ id. id < length parts.names) (read_for parts g).ids
   list_below g = rise_below (length parts.names) 0 (read_for parts g).ids (list_rises g)
 
-  pub candidates_are : (query : Query) → candidates_of parts query ≡ names_that parts (meets parts query)
+  pub candidates_are : (query : Query) → candidates_of parts query ≡ ids_that parts (meets parts query)
   unfolding candidates_of
   candidates_are query = refl
 
@@ -257,14 +248,14 @@ module _ (parts : Parts) where
 
   -- ---- each member, and some member
 
-  pub every_member : (ms : List Query) → filter (λ id. list_all (λ m. has (candidates_of parts m) id) ms) (range_with_len 0 (length parts.names)) ≡ names_that parts (λ id. list_all (λ m. meets parts m id) ms)
+  pub every_member : (ms : List Query) → filter (λ id. list_all (λ m. has (candidates_of parts m) id) ms) (range_with_len 0 (length parts.names)) ≡ ids_that parts (λ id. list_all (λ m. meets parts m id) ms)
   every_member ms = filter_within (λ id. list_all (λ m. has (candidates_of parts m) id) ms) (λ id. list_all (λ m. meets parts m id) ms) (range_with_len 0 (length parts.names)) (λ id h. ap (λ (p : Query → Bool). list_all p ms) (λ i m. has_candidate m id h i))
 
-  pub some_member : (test : ℕ → Bool) (ms : List Query) → ((id : ℕ) → test id ≡ list_any (λ m. has (candidates_of parts m) id) ms) → filter test (range_with_len 0 (length parts.names)) ≡ names_that parts (λ id. list_any (λ m. meets parts m id) ms)
+  pub some_member : (test : ℕ → Bool) (ms : List Query) → ((id : ℕ) → test id ≡ list_any (λ m. has (candidates_of parts m) id) ms) → filter test (range_with_len 0 (length parts.names)) ≡ ids_that parts (λ id. list_any (λ m. meets parts m id) ms)
   some_member test ms is = filter_within test (λ id. list_any (λ m. meets parts m id) ms) (range_with_len 0 (length parts.names)) (λ id h. is id ∙ ap (λ (p : Query → Bool). list_any p ms) (λ i m. has_candidate m id h i))
 
   -- the trigram is that of a member, so that what holds of each member holds of it
-  pub rarest_first : (g : ℕ) (ms : List Query) → ((test : Query → Bool) → list_all test ms ≡ true → test (Tri g) ≡ true) → filter (λ id. list_all (λ m. has (candidates_of parts m) id) ms) (candidates_of parts (Tri g)) ≡ names_that parts (λ id. list_all (λ m. meets parts m id) ms)
+  pub rarest_first : (g : ℕ) (ms : List Query) → ((test : Query → Bool) → list_all test ms ≡ true → test (Tri g) ≡ true) → filter (λ id. list_all (λ m. has (candidates_of parts m) id) ms) (candidates_of parts (Tri g)) ≡ ids_that parts (λ id. list_all (λ m. meets parts m id) ms)
   rarest_first g ms member =
       let all : ℕ → Bool = λ id. list_all (λ m. has (candidates_of parts m) id) ms in
       let names : List ℕ = range_with_len 0 (length parts.names) in

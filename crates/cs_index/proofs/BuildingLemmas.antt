@@ -1,36 +1,26 @@
 -- What a builder holds, and one name more.
-use Rattle.std.proofs.Common.{◌≡◌, ℕ, ◌+◌, ◌<◌, ◌≤◌, Bool, true, ◌&&◌, List, [], ◌∷◌, ◌++◌, length, Option, refl, sym, ap, subst, ◌∙◌, arith}
+use Rattle.std.proofs.Common.{◌≡◌, ℕ, ◌+◌, ◌<◌, ◌≤◌, ◌^◌, Bool, true, ◌&&◌, List, [], ◌∷◌, ◌++◌, length, Option, refl, sym, ap, subst, ◌∙◌, arith}
 use Rattle.cs_tree.specs.NameOrder.{bytes_cmp}
-use Rattle.cs_index.specs.Rising.{RiseWithin, IsPosting}
+use Rattle.cs_index.specs.Rising.{RiseWithin, IsPosting, next_after}
 use Rattle.cs_index.specs.PostingLists.{entries_of}
-use Rattle.cs_trigram.specs.Trigram.{Ascends}
+use Rattle.cs_trigram.specs.TrigramSets.{IsTrigramSet}
 use Rattle.std.proofs.lemmas.Bool.{and_parts, and_from}
 use Rattle.std.proofs.lemmas.List.{length_push}
 use Rattle.std.specs.List.{AllByRecursion}
 use Rattle.std.specs.Option.{option_map_or}
 use Rattle.std.specs.Ordering.{is_lt}
-use Rattle.std.specs.Cmp.Lexicographic.{nat_list_cmp_total}
-use Rattle.std.specs.declared.cmp.Ordering.{Ordering}
-use Rattle.std.specs.declared.cmp.Ordering.TheVariants.{Less, Equal, Greater}
 use Rattle.std.specs.FinMap as map'
-use Rattle.cs_index.specs.Image.{Entry, Posting, names_of, IsString}
-use Rattle.cs_index.specs.IdStream.{next_after}
+use Rattle.cs_index.specs.Image.{Entry, Posting, image_of, names_of, IsString}
+use Rattle.cs_index.specs.Indexable.{IsIndexable}
 use Rattle.cs_index.specs.Built.{Built, IsBuilt, with_name, is_above}
 use Rattle.cs_index.proofs.StringLemmas.{last_of, last_is}
+use Rattle.cs_tree.proofs.BeforeLemmas.{before_chain}
 
 pub names_entries : (first : ℕ) (names : List (List ℕ)) (ps : List Posting) → names_of (entries_of first names ps) ≡ names
 names_entries first [] ps = refl
 names_entries first (n ∷ names) ps = ap (λ rest. n ∷ rest) (names_entries (first + 1) names ps)
 
 -- ---- names in order
-
-less : (r : Ordering) → is_lt r ≡ true → r ≡ Less
-less Less h = refl
-less Equal h = cc
-less Greater h = cc
-
-chain : (a b c : List ℕ) → is_lt (bytes_cmp a b) ≡ true → is_lt (bytes_cmp b c) ≡ true → is_lt (bytes_cmp a c) ≡ true
-chain a b c h g = ap is_lt (nat_list_cmp_total.trans a b c (less _ h) (less _ g))
 
 abbrev below_all : List ℕ → List Entry → Bool
 below_all name [] = true
@@ -52,7 +42,7 @@ sorted_push entry first (e ∷ es) up h =
     let parts = and_parts (below_all first.0 (e ∷ es)) (map'.is_sorted bytes_cmp (e ∷ es)) up in
     let rest = sorted_push entry e es parts.1 h in
     let before = and_parts (is_lt (bytes_cmp first.0 e.0)) (below_all first.0 es) parts.0 in
-    let above = chain first.0 e.0 entry.0 before.0 rest.above in
+    let above = before_chain first.0 e.0 entry.0 before.0 rest.above in
     record {
       sorted = and_from (below_all first.0 ((e ∷ es) ++ entry ∷ [])) (map'.is_sorted bytes_cmp ((e ∷ es) ++ entry ∷ [])) (below_push first.0 (e ∷ es) entry parts.0 above) rest.sorted;
       above = above;
@@ -72,18 +62,32 @@ names_push : (es : List Entry) (entry : Entry) → names_of (es ++ entry ∷ [])
 names_push [] entry = refl
 names_push (e ∷ es) entry = ap (λ rest. e.0 ∷ rest) (names_push es entry)
 
-pub built_added : (built : Built) (name trigrams : List ℕ) → IsBuilt built → IsString name → is_above (names_of built.entries) name ≡ true → AllByRecursion (λ g. g < 16777215) trigrams → Ascends trigrams → length built.entries < 1073741824 → IsBuilt (with_name built name trigrams)
-built_added built name trigrams is text above below up few =
+pub built_added : (built : Built) (name trigrams : List ℕ) → IsBuilt built → IsString name → is_above (names_of built.entries) name ≡ true → IsTrigramSet trigrams → length built.entries < 1073741824 → IsBuilt (with_name built name trigrams)
+built_added built name trigrams is text above set few =
     let more : length (built.entries ++ (name, trigrams) ∷ []) ≡ length built.entries + 1 = length_push built.entries (name, trigrams) in
     record {
       paths = is.paths;
       each_path = is.each_path;
       each_name = subst (AllByRecursion IsString) (sym (names_push built.entries (name, trigrams))) (all_push IsString (names_of built.entries) name is.each_name text);
       ascend = ascend_push built.entries (name, trigrams) is.ascend above;
-      trigrams = all_push (λ (entry : Entry). AllByRecursion (λ g. g < 16777215) entry.1) built.entries (name, trigrams) is.trigrams below;
-      sets = all_push (λ (entry : Entry). Ascends entry.1) built.entries (name, trigrams) is.sets up;
+      sets = all_push (λ (entry : Entry). IsTrigramSet entry.1) built.entries (name, trigrams) is.sets set;
       few = omega (arith, more, few);
     }
+
+-- ---- what was built can be written
+
+sets_below : (es : List Entry) → AllByRecursion (λ (entry : Entry). IsTrigramSet entry.1) es → AllByRecursion (λ (entry : Entry). AllByRecursion (λ g. g < 16777215) entry.1) es
+sets_below [] all = tt
+sets_below (e ∷ es) all = (all.0.1, sets_below es all.1)
+
+pub built_indexable : (built : Built) (bytes : List ℕ) → IsBuilt built → bytes ≡ image_of built.paths built.entries → length bytes < 2 ^ 32 → IsIndexable built.paths built.entries
+built_indexable built bytes is written short = record {
+  each_path = is.each_path;
+  each_name = is.each_name;
+  trigrams = sets_below built.entries is.sets;
+  few = omega (arith, is.few);
+  short = subst (λ (bs : List ℕ). length bs < 2 ^ 32) written short;
+}
 
 -- ---- the lists when a name is added
 

@@ -1,13 +1,13 @@
 -- What lists give of each name, before they are in order and after.
 use Rattle.std.proofs.Common.{◌≡◌, ℕ, ◌+◌, ◌<◌, ◌≤◌, Bool, true, false, cond, eqb, ◌||◌, ◌&&◌, List, [], ◌∷◌, ◌++◌, length, refl, sym, ap, subst, ◌∙◌, inl, inr, arith}
-use Rattle.cs_index.specs.Rising.{RiseWithin, IsPosting}
+use Rattle.cs_index.specs.Rising.{RiseWithin, IsPosting, next_after}
 use Rattle.cs_index.specs.PostingLists.{set_at, entries_of}
 use Rattle.cs_trigram.specs.Trigram.{has, set_of_numbers, Ascends}
 use Rattle.std.proofs.lemmas.Bool.{true≢false, cases_Bool, eqb-true, eq-eqb, ne_eqb}
 use Rattle.std.specs.List.{AllByRecursion}
 use Rattle.cs_index.specs.Image.{Posting, Entry}
-use Rattle.cs_index.specs.IdStream.{next_after}
-use Rattle.cs_index.specs.Gathering.{keys, ids_of, with_id, ordered_lists, GiveSame}
+use Rattle.cs_index.specs.Gathering.{keys, ordered_lists, GiveSame}
+use Rattle.cs_index.specs.Laid.{ids_of, with_id}
 use Rattle.cs_index.proofs.TransposeLemmas.{has-set_at, ascends_set_at}
 use Rattle.cs_index.proofs.GatheringLemmas.{ids_new}
 use Rattle.std.proofs.Math.Bool.{or-false}

@@ -12,11 +12,10 @@ use Rattle.cs_tree.specs.Store.{part_of}
 use Rattle.cs_index.specs.Image.{ListEntry, entry_bytes}
 use Rattle.cs_index.specs.Opening.{entries_in, entry_at, is_entry, is_list_index, number_at}
 use Rattle.cs_index.specs.OpenedParts.{Parts, ids_read}
-use Rattle.cs_index.specs.Postings.{entry_of}
+use Rattle.cs_index.specs.Postings.{entry_of, nothing_read, read_for}
 use Rattle.cs_index.specs.PostingLists.{read_list}
-use Rattle.cs_index.specs.Sifting.{nothing_read, read_for}
 use Rattle.cs_index.specs.Spelling.{IsEntry}
-use Rattle.cs_index.specs.Copies.{AreBelow, AreEntries, HasCopy, IsCopied, IsCopy, IsFound, endless, piece_of}
+use Rattle.cs_index.specs.Copies.{AreBelow, AreCopiedEntries, HasCopy, IsCopied, IsCopy, IsFound, endless, piece_of}
 use Rattle.cs_index.proofs.CopyLemmas.{copy_read}
 use Rattle.cs_index.proofs.ListReadLemmas.{Small, trigram_small}
 use Rattle.cs_index.proofs.OpenedLemmas.{entries_spelled}
@@ -124,10 +123,10 @@ all_push P (d ∷ es) e all last = (all.0, all_push P es e all.1 last)
 
 -- A list index with one entry more.
 pub record Grown (list_index later postings : List ℕ) (e : ListEntry) : Type 0 where
-  pub are : AreEntries later postings
+  pub are : AreCopiedEntries later postings
   pub list : entries_in later ≡ entries_in list_index ++ e ∷ []
 
-pub grown : (list_index later postings more : List ℕ) (room : ℕ) (entries : List ListEntry) (g count offset : ℕ) → AreEntries list_index postings → AreBelow (entries_in list_index) g → IsFound room entries g count offset
+pub grown : (list_index later postings more : List ℕ) (room : ℕ) (entries : List ListEntry) (g count offset : ℕ) → AreCopiedEntries list_index postings → AreBelow (entries_in list_index) g → IsFound room entries g count offset
     → later ≡ list_index ++ entry_bytes (record { trigram = g; count = count; offset = length postings }) → 5 ≤ length more → length (postings ++ more) < 2 ^ 32
     → Grown list_index later (postings ++ more) (record { trigram = g; count = count; offset = length postings })
 grown list_index later postings more room entries g count offset are below found is long short =
@@ -136,7 +135,7 @@ grown list_index later postings more room entries g count offset are below found
     let l = length-append postings more in
     let s = are.short in
     let each : AllByRecursion (IsEntry (postings ++ more)) (es ++ copy ∷ []) =
-    all_push (IsEntry (postings ++ more)) es copy (longer postings more es are.each) (record {
+    all_push (IsEntry (postings ++ more)) es copy (longer postings more es are.entries.0) (record {
       trigram = found.small;
       count = found.few;
       offset = s;
@@ -144,13 +143,15 @@ grown list_index later postings more room entries g count offset are below found
       room = omega (arith, l, long);
     }) in
     let laid : later ≡ flat_map entry_bytes (es ++ copy ∷ []) =
-    is ∙ (λ i. are.laid i ++ sym (append-nil (entry_bytes copy)) i) ∙ sym (flat_map-append entry_bytes es (copy ∷ [])) in
+    is ∙ (λ i. are.entries.2 i ++ sym (append-nil (entry_bytes copy)) i) ∙ sym (flat_map-append entry_bytes es (copy ∷ [])) in
     let list : entries_in later ≡ es ++ copy ∷ [] = ap entries_in laid ∙ entries_spelled (postings ++ more) (es ++ copy ∷ []) each in
     record {
       are = record {
-        laid = laid ∙ ap (flat_map entry_bytes) (sym list);
-        each = subst (AllByRecursion (IsEntry (postings ++ more))) (sym list) each;
-        ascend = subst (λ ds. Ascends (map (λ (d : ListEntry). d.trigram) ds)) (sym list) (ascends_push es copy below are.ascend);
+        entries = (
+          subst (AllByRecursion (IsEntry (postings ++ more))) (sym list) each,
+          subst (λ ds. Ascends (map (λ (d : ListEntry). d.trigram) ds)) (sym list) (ascends_push es copy below are.entries.1),
+          laid ∙ ap (flat_map entry_bytes) (sym list),
+        );
         short = short;
       };
       list = list;
@@ -225,7 +226,7 @@ copies_read whole part g names fit has = on (entry_of whole.entries g) (entry_of
         ∙ copy_read whole.postings part.postings (length whole.names) e copy (leb-true (e.offset + 4) (length whole.postings) (and_parts _ (ltb e.trigram closing_trigram || eqb e.count 0) (fits e is)).0) h
 
 -- a list index with one entry more, whatever was read
-pub grown_on : (list_index later postings longer : List ℕ) (room : ℕ) (entries : List ListEntry) (g count offset start : ℕ) → AreEntries list_index postings → AreBelow (entries_in list_index) g → IsFound room entries g count offset
+pub grown_on : (list_index later postings longer : List ℕ) (room : ℕ) (entries : List ListEntry) (g count offset start : ℕ) → AreCopiedEntries list_index postings → AreBelow (entries_in list_index) g → IsFound room entries g count offset
     → later ≡ list_index ++ entry_bytes (record { trigram = g; count = count; offset = start }) → start ≡ length postings
     → ((more : List ℕ) × ((5 ≤ length more) × (longer ≡ postings ++ more))) → length longer < 2 ^ 32
     → Grown list_index later longer (record { trigram = g; count = count; offset = length postings })
@@ -240,13 +241,15 @@ none_in : entries_in [] ≡ []
 unfolding entries_in
 none_in = refl
 
-pub no_entries : (list_index postings : List ℕ) → list_index ≡ [] → postings ≡ [] → AreEntries list_index postings
+pub no_entries : (list_index postings : List ℕ) → list_index ≡ [] → postings ≡ [] → AreCopiedEntries list_index postings
 no_entries list_index postings no_list no_posting =
     let none : entries_in list_index ≡ [] = ap entries_in no_list ∙ none_in in
     record {
-      laid = no_list ∙ ap (flat_map entry_bytes) (sym none);
-      each = subst (AllByRecursion (IsEntry postings)) (sym none) tt;
-      ascend = subst (λ es. Ascends (map (λ (e : ListEntry). e.trigram) es)) (sym none) tt;
+      entries = (
+        subst (AllByRecursion (IsEntry postings)) (sym none) tt,
+        subst (λ es. Ascends (map (λ (e : ListEntry). e.trigram) es)) (sym none) tt,
+        no_list ∙ ap (flat_map entry_bytes) (sym none),
+      );
       short = let l = ap length no_posting in omega (arith, l);
     }
 

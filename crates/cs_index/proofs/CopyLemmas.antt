@@ -4,7 +4,7 @@ use Rattle.std.proofs.lemmas.List.{drop-drop, take-append-drop}
 use Rattle.std.specs.Prelude.{option_map, option_and_then}
 use Rattle.cs_tree.specs.Cover.{same}
 use Rattle.cs_index.specs.Image.{ListEntry, three_bytes}
-use Rattle.cs_index.specs.PostingLists.{Ids, after_delta, below_limit, damaged, is_zero, onto, read_ids, read_list, read_varint, varint_at}
+use Rattle.cs_index.specs.PostingLists.{Ids, after_delta, below_limit, damage, is_zero, onto, read_ids, read_list, read_varint, varint_at}
 use Rattle.cs_index.specs.Copies.{IsCopy, endless, piece_of}
 
 -- ---- numbers at the front of bytes that were cut
@@ -75,8 +75,8 @@ module _ (later : List ℕ) where
   delta_alike names next k more None (Some found) h so = absurd h
   delta_alike names next k more (Some cut) None h so = absurd h
   delta_alike names next k more (Some cut) (Some found) h so =
-      (λ i. cond (ltb 0 (h.0 i) && ltb (next + h.0 i) (names + 1)) (onto (next + h.0 i - 1) (more (next + h.0 i) (h.1.1.1 i))) damaged)
-      ∙ ap (λ r. cond (ltb 0 found.0 && ltb (next + found.0) (names + 1)) (onto (next + found.0 - 1) r) damaged) (so (next + found.0) h.1.0 found.1 h.1.1.0)
+      (λ i. cond (ltb 0 (h.0 i) && ltb (next + h.0 i) (names + 1)) (onto (next + h.0 i - 1) (more (next + h.0 i) (h.1.1.1 i))) damage)
+      ∙ ap (λ r. cond (ltb 0 found.0 && ltb (next + found.0) (names + 1)) (onto (next + found.0 - 1) r) damage) (so (next + found.0) h.1.0 found.1 h.1.1.0)
 
   -- a list is read of its first bytes alone
   pub ids_alike : (names count next k : ℕ) (bytes : List ℕ) → 5 * count + 5 ≤ k → read_ids names count next (take k bytes ++ pad) ≡ read_ids names count next bytes
@@ -89,8 +89,8 @@ module _ (later : List ℕ) where
 
 -- what is read where a piece lies, of the list that the piece was cut of
 piece_read : (names count g : ℕ) (list later : List ℕ) → 4 ≤ length list → (room : ℕ) → room ≡ 8 + 5 * count
-    → cond (same (take 3 ((take room list ++ endless) ++ later)) (three_bytes g)) (read_ids names count 0 (drop 3 ((take room list ++ endless) ++ later))) damaged
-    ≡ cond (same (take 3 list) (three_bytes g)) (read_ids names count 0 (drop 3 list)) damaged
+    → cond (same (take 3 ((take room list ++ endless) ++ later)) (three_bytes g)) (read_ids names count 0 (drop 3 ((take room list ++ endless) ++ later))) damage
+    ≡ cond (same (take 3 list) (three_bytes g)) (read_ids names count 0 (drop 3 list)) damage
 piece_read names count g [] later h room is = absurd (omega (arith, h))
 piece_read names count g (a ∷ []) later h room is = absurd (omega (arith, h))
 piece_read names count g (a ∷ b ∷ []) later h room is = absurd (omega (arith, h))
@@ -98,7 +98,7 @@ piece_read names count g (a ∷ b ∷ c ∷ rest) later h zero is = absurd (omeg
 piece_read names count g (a ∷ b ∷ c ∷ rest) later h (suc zero) is = absurd (omega (arith, is))
 piece_read names count g (a ∷ b ∷ c ∷ rest) later h (suc (suc zero)) is = absurd (omega (arith, is))
 piece_read names count g (a ∷ b ∷ c ∷ rest) later h (suc (suc (suc room))) is =
-    ap (λ r. cond (same (a ∷ b ∷ c ∷ []) (three_bytes g)) r damaged)
+    ap (λ r. cond (same (a ∷ b ∷ c ∷ []) (three_bytes g)) r damage)
     (ap (read_ids names count 0) (append_assoc (take room rest) endless later) ∙ ids_alike later names count 0 room rest (omega (arith, is)))
 
 -- what is read of an entry is read of its copy
@@ -110,7 +110,7 @@ copy_read section postings names e copy within is =
     sym (take-append-drop (length piece) (drop copy.offset postings)) ∙ ap (λ front. front ++ later) is.piece in
     let three : (at : ℕ) (bytes : List ℕ) → drop (at + 3) bytes ≡ drop 3 (drop at bytes) = λ at bytes. sym (drop-drop 3 at bytes) in
     let long = length-drop e.offset section in
-    (λ i. cond (same (take 3 (drop copy.offset postings)) (three_bytes (is.trigram i))) (read_ids names (is.count i) 0 (three copy.offset postings i)) damaged)
-    ∙ (λ i. cond (same (take 3 (there i)) (three_bytes e.trigram)) (read_ids names e.count 0 (drop 3 (there i))) damaged)
+    (λ i. cond (same (take 3 (drop copy.offset postings)) (three_bytes (is.trigram i))) (read_ids names (is.count i) 0 (three copy.offset postings i)) damage)
+    ∙ (λ i. cond (same (take 3 (there i)) (three_bytes e.trigram)) (read_ids names e.count 0 (drop 3 (there i))) damage)
     ∙ piece_read names e.count e.trigram (drop e.offset section) later (omega (arith, long, within)) (8 + 5 * e.count) refl
-    ∙ ap (λ bytes. cond (same (take 3 (drop e.offset section)) (three_bytes e.trigram)) (read_ids names e.count 0 bytes) damaged) (sym (three e.offset section))
+    ∙ ap (λ bytes. cond (same (take 3 (drop e.offset section)) (three_bytes e.trigram)) (read_ids names e.count 0 bytes) damage) (sym (three e.offset section))

@@ -5,7 +5,7 @@ use Rattle.cs_index.specs.Image.{Entry, deltas_from, ids_from, image_of, posting
 use Rattle.cs_index.specs.OpenedParts.{whole_ids}
 use Rattle.cs_index.specs.Built.{are_paths, is_above, is_storable}
 use Rattle.cs_index.specs.Ascending.{is_alone}
-use Rattle.cs_index.specs.Segments.{all_given, keys_in, listed}
+use Rattle.cs_index.specs.Segments.{ids_of_segments, keys_in, lists_from}
 use Rattle.cs_index.specs.Keys.{keys_of, with_keys}
 use Rattle.cs_index.specs.Laid.{Laid, entries_laid, last_ids, with_last_id, with_list}
 
@@ -122,8 +122,8 @@ keys_packed : keys_in (1794 ∷ 2305 ∷ []) (0 ∷ 3 ∷ 3 ∷ []) ≡ 1792 ∷
 keys_packed = refl
 
 -- where a batch begins with the id 5, and the next with 9
-ids_of_two : all_given (record { base = 5; keys = 1792 ∷ 1795 ∷ 2307 ∷ [] } ∷ record { base = 9; keys = 1793 ∷ [] } ∷ []) 7 ≡ 5 ∷ 8 ∷ 10 ∷ []
+ids_of_two : ids_of_segments (record { base = 5; keys = 1792 ∷ 1795 ∷ 2307 ∷ [] } ∷ record { base = 9; keys = 1793 ∷ [] } ∷ []) 7 ≡ 5 ∷ 8 ∷ 10 ∷ []
 ids_of_two = refl
 
-lists_in_row : listed 6 ([] ∷ (5 ∷ 8 ∷ []) ∷ [] ∷ (8 ∷ []) ∷ []) ≡ (7, 5 ∷ 8 ∷ []) ∷ (9, 8 ∷ []) ∷ []
+lists_in_row : lists_from 6 ([] ∷ (5 ∷ 8 ∷ []) ∷ [] ∷ (8 ∷ []) ∷ []) ≡ (7, 5 ∷ 8 ∷ []) ∷ (9, 8 ∷ []) ∷ []
 lists_in_row = refl

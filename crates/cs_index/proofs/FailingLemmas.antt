@@ -1,10 +1,10 @@
 -- Bytes fail a test of opening where what it tests is not there.
 use Rattle.std.proofs.Common.{◌≡◌, ℕ, ◌-◌, ◌<◌, ◌^◌, Bool, true, false, not, cond, ◌&&◌, ◌||◌, eqb, ltb, leb, List, [], ◌∷◌, ◌++◌, length, map, take, drop, Result, Ok, Err, refl, sym, ap, subst, ◌∙◌, ◌⊎◌, inl, inr, arith, length-append}
-use Rattle.std.proofs.lemmas.Bool.{true≢false, and_parts, and_from, leb-true, le-leb, ltb-true, lt-ltb}
+use Rattle.std.proofs.lemmas.Bool.{true≢false, and_parts, and_from, leb-true, le-leb, ltb-true, lt-ltb, false_from_ne_true}
 use Rattle.std.proofs.lemmas.List.{take_at, drop_at, take-append-drop}
 use Rattle.std.specs.List.{starts_with, ends_with}
 use Rattle.std.specs.Cmp.Lexicographic.{bytes_decides}
-use Rattle.cs_index.specs.Roundtrip.{AreBytes}
+use Rattle.cs_tree.specs.ByteList.{AreBytes}
 use Rattle.cs_index.specs.Image.{concat, with_nul, Sections, magic, trailer_magic, ListEntry}
 use Rattle.cs_index.specs.Opening.{cut_before, cut_of, entries_in, has_trailer, is_list_index, is_name_index, is_section, opening, parts_of, read_cut, read_sections, texts_of}
 use Rattle.cs_index.specs.OpenedParts.{Parts}
@@ -12,8 +12,7 @@ use Rattle.cs_index.specs.Failing.{HasMagic, HasTrailer, AreLaid, ArePaths, AreN
 use Rattle.cs_index.specs.declared.fault.IndexFault.{IndexFault}
 use Rattle.cs_index.specs.declared.fault.IndexFault.TheVariants.{BadMagic, BadTrailer, BadOffsets, BadPaths, BadNames, BadNameIndex, BadListIndex, BadList, Memory}
 use Rattle.cs_index.proofs.OnceLemmas.{lengths}
-use Rattle.cs_index.proofs.ListReadLemmas.{Small}
-use Rattle.cs_index.proofs.ReadingLemmas.{false_unless}
+use Rattle.cs_index.proofs.ListReadLemmas.{Small, small_bytes}
 use Rattle.cs_index.proofs.TextLemmas.{formed_spelled, section_read, section_spelled, texts_spelled}
 use Rattle.cs_index.proofs.OpenLemmas.{cut_ended, no_magic, no_trailer}
 use Rattle.cs_index.proofs.OpenedLemmas.{cut_spelled, cut_from, names_read, offsets_read, list_index_read, name_index_spelled, list_index_spelled, tail_of}
@@ -166,10 +165,10 @@ module _ (bytes : List ℕ) (s : Sections) (small : Small bytes) (is : cut_of by
 
 pub fails_so : (bytes : List ℕ) (fault : IndexFault) → AreBytes bytes → opening bytes ≡ Err fault → Fails bytes fault
 unfolding opening
-fails_so bytes fault small h = from_cut (cut_of bytes) refl h
+fails_so bytes fault are h = from_cut (cut_of bytes) refl h
   where
     from_cut : (r : Result Sections IndexFault) → cut_of bytes ≡ r → read_cut r ≡ Err fault → Fails bytes fault
-    from_cut (Ok s) is read = fails_sections bytes s small is fault read
+    from_cut (Ok s) is read = fails_sections bytes s (small_bytes bytes are) is fault read
     from_cut (Err f) is read = let same : f ≡ fault = cc in fails_cut bytes fault (is ∙ ap Err same)
 
 -- ---- what is not there fails
@@ -211,10 +210,10 @@ module _ (bytes : List ℕ) (small : Small bytes) (s : Sections) (are : AreLaid 
   past_names paths names there named = past_paths paths there ∙ goes_on (are_names s.names) BadNames from_offsets (names_tested names s.names named)
 
   no_paths : ((paths : List (List ℕ)) → ¬ (ArePaths paths s.paths)) → opening bytes ≡ Err BadPaths
-  no_paths none = opens_as ∙ fails_here (is_section (0 ∷ []) s.paths) BadPaths from_names (false_unless _ (λ t. none (texts_of s.paths) (paths_there s.paths t)))
+  no_paths none = opens_as ∙ fails_here (is_section (0 ∷ []) s.paths) BadPaths from_names (false_from_ne_true _ (λ t. none (texts_of s.paths) (paths_there s.paths t)))
 
   no_names : (paths : List (List ℕ)) → ArePaths paths s.paths → ((names : List (List ℕ)) → ¬ (AreNames names s.names)) → opening bytes ≡ Err BadNames
-  no_names paths there none = opens_as ∙ past_paths paths there ∙ fails_here (are_names s.names) BadNames from_offsets (false_unless _ (λ t. none (texts_of s.names) (names_there s.names t)))
+  no_names paths there none = opens_as ∙ past_paths paths there ∙ fails_here (are_names s.names) BadNames from_offsets (false_from_ne_true _ (λ t. none (texts_of s.names) (names_there s.names t)))
 
   module _ (paths names : List (List ℕ)) (there : ArePaths paths s.paths) (named : AreNames names s.names) where
     same_names : texts_of s.names ≡ names
@@ -223,22 +222,22 @@ module _ (bytes : List ℕ) (small : Small bytes) (s : Sections) (are : AreLaid 
     no_name_index : ¬ (AreOffsets names s.name_index) → opening bytes ≡ Err BadNameIndex
     no_name_index none =
         opens_as ∙ past_names paths names there named
-        ∙ fails_here (is_name_index s.name_index (texts_of s.names)) BadNameIndex from_lists (false_unless _ (λ t. none (subst (λ (ns : List (List ℕ)). AreOffsets ns s.name_index) same_names (offsets_there (texts_of s.names) s.name_index (cut_from bytes s small (cut_so bytes s are)).name_index t))))
+        ∙ fails_here (is_name_index s.name_index (texts_of s.names)) BadNameIndex from_lists (false_from_ne_true _ (λ t. none (subst (λ (ns : List (List ℕ)). AreOffsets ns s.name_index) same_names (offsets_there (texts_of s.names) s.name_index (cut_from bytes s small (cut_so bytes s are)).name_index t))))
 
     no_list_index : AreOffsets names s.name_index → ((entries : List ListEntry) → ¬ (AreEntries s.postings entries s.list_index)) → opening bytes ≡ Err BadListIndex
     no_list_index offsets none =
         opens_as ∙ past_names paths names there named
         ∙ goes_on (is_name_index s.name_index (texts_of s.names)) BadNameIndex from_lists (ap (is_name_index s.name_index) same_names ∙ offsets_tested names s.name_index (few_bytes names s.names named (short_names bytes s are)) offsets)
-        ∙ fails_here (is_list_index (length s.postings) s.list_index) BadListIndex (Ok (parts_of s)) (false_unless _ (λ t. none (entries_in s.list_index) (entries_there s.postings s.list_index (cut_from bytes s small (cut_so bytes s are)).list_index t)))
+        ∙ fails_here (is_list_index (length s.postings) s.list_index) BadListIndex (Ok (parts_of s)) (false_from_ne_true _ (λ t. none (entries_in s.list_index) (entries_there s.postings s.list_index (cut_from bytes s small (cut_so bytes s are)).list_index t)))
 
 pub so_fails : (bytes : List ℕ) (fault : IndexFault) → AreBytes bytes → Fails bytes fault → opening bytes ≡ Err fault
 unfolding opening
-so_fails bytes BadMagic small none = ap read_cut (no_magic bytes (false_unless _ (λ t. none (magic_there bytes t))))
-so_fails bytes BadTrailer small h = ap read_cut (no_trailer bytes (magic_tested bytes h.0) (false_unless _ (λ t. h.1 (trailer_there bytes t))))
-so_fails bytes BadOffsets small h = ap read_cut (no_offsets bytes small h.0 h.1 h.2)
-so_fails bytes BadPaths small h = no_paths bytes small h.0 h.1 h.2
-so_fails bytes BadNames small h = no_names bytes small h.0.sections h.0.are_laid h.0.paths h.0.are_paths h.1
-so_fails bytes BadNameIndex small h = no_name_index bytes small h.0.above.sections h.0.above.are_laid h.0.above.paths h.0.names h.0.above.are_paths h.0.are_names h.1
-so_fails bytes BadListIndex small h = no_list_index bytes small h.0.above.sections h.0.above.are_laid h.0.above.paths h.0.names h.0.above.are_paths h.0.are_names h.1 h.2
-so_fails bytes BadList small h = absurd h
-so_fails bytes Memory small h = absurd h
+so_fails bytes BadMagic are none = ap read_cut (no_magic bytes (false_from_ne_true _ (λ t. none (magic_there bytes t))))
+so_fails bytes BadTrailer are h = ap read_cut (no_trailer bytes (magic_tested bytes h.0) (false_from_ne_true _ (λ t. h.1 (trailer_there bytes t))))
+so_fails bytes BadOffsets are h = ap read_cut (no_offsets bytes (small_bytes bytes are) h.0 h.1 h.2)
+so_fails bytes BadPaths are h = no_paths bytes (small_bytes bytes are) h.0 h.1 h.2
+so_fails bytes BadNames are h = no_names bytes (small_bytes bytes are) h.0.sections h.0.are_laid h.0.paths h.0.are_paths h.1
+so_fails bytes BadNameIndex are h = no_name_index bytes (small_bytes bytes are) h.0.above.sections h.0.above.are_laid h.0.above.paths h.0.names h.0.above.are_paths h.0.are_names h.1
+so_fails bytes BadListIndex are h = no_list_index bytes (small_bytes bytes are) h.0.above.sections h.0.above.are_laid h.0.above.paths h.0.names h.0.above.are_paths h.0.are_names h.1 h.2
+so_fails bytes BadList are h = absurd h
+so_fails bytes Memory are h = absurd h

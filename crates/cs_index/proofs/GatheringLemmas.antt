@@ -3,7 +3,8 @@ use Rattle.std.proofs.Common.{◌≡◌, ℕ, false, cond, List, [], ◌∷◌, 
 use Rattle.cs_trigram.specs.Trigram.{has, set_of_numbers}
 use Rattle.std.proofs.lemmas.Bool.{or_parts}
 use Rattle.cs_index.specs.Image.{Posting}
-use Rattle.cs_index.specs.Gathering.{keys, ids_of, with_id, AreDistinct}
+use Rattle.cs_index.specs.Gathering.{keys, AreDistinct}
+use Rattle.cs_index.specs.Laid.{ids_of, with_id}
 use Rattle.cs_trigram.proofs.SetLemmas.{has-set_of_numbers, length-with_number}
 
 -- a trigram without a list

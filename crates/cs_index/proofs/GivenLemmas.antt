@@ -7,12 +7,11 @@ use Rattle.std.specs.List.{AllByRecursion}
 use Rattle.std.specs.Prelude.{filter}
 use Rattle.cs_trigram.specs.Trigram.{has, set_of_numbers, Ascends, closing_trigram}
 use Rattle.cs_index.specs.Image.{Posting}
-use Rattle.cs_index.specs.IdStream.{next_after}
-use Rattle.cs_index.specs.Rising.{RiseWithin, IsPosting}
-use Rattle.cs_index.specs.Gathering.{ids_of, keys, lists_of, ordered_lists, with_id}
-use Rattle.cs_index.specs.Laid.{AllBelow}
+use Rattle.cs_index.specs.Rising.{next_after, RiseWithin, IsPosting}
+use Rattle.cs_index.specs.Gathering.{keys, lists_of, ordered_lists}
+use Rattle.cs_index.specs.Laid.{ids_of, with_id, AllBelow}
 use Rattle.cs_index.specs.Keys.{trigram_of, id_of, ids_of_keys, with_keys, AreOfTrigram}
-use Rattle.cs_index.specs.Segments.{ids_given, all_given, list_of, listed, with_segments, AreAhead, AreSortedKeys, Ordered}
+use Rattle.cs_index.specs.Segments.{ids_of_segment, ids_of_segments, list_of, lists_from, with_segments, AreAhead, AreSortedKeys, SegmentKeys}
 use Rattle.cs_index.proofs.BuiltLemmas.{ids_gathered, ids_posting, ids_rise_within}
 use Rattle.cs_index.proofs.GatheringLemmas.{ids_new}
 use Rattle.cs_index.proofs.LaidLemmas.{ascend_push}
@@ -96,19 +95,19 @@ keys_ids base g lists (key ∷ keys) =
           ∙ ap (λ b. ids_of lists g ++ ids_of_keys base (cond b (key ∷ rest) rest)) (sym apart)
     ]
 
-ids_behind : (g : ℕ) (lists : List Posting) (ss : List Ordered) →
-    ids_of (with_segments lists ss) g ≡ ids_of lists g ++ all_given ss g
+ids_behind : (g : ℕ) (lists : List Posting) (ss : List SegmentKeys) →
+    ids_of (with_segments lists ss) g ≡ ids_of lists g ++ ids_of_segments ss g
 ids_behind g lists [] = sym (append-nil (ids_of lists g))
 ids_behind g lists (s ∷ ss) =
     ids_behind g (with_keys s.base lists s.keys) ss
-    ∙ ap (λ ids. ids ++ all_given ss g) (keys_ids s.base g lists s.keys)
-    ∙ append_assoc (ids_of lists g) (ids_given s g) (all_given ss g)
+    ∙ ap (λ ids. ids ++ ids_of_segments ss g) (keys_ids s.base g lists s.keys)
+    ∙ append_assoc (ids_of lists g) (ids_of_segment s g) (ids_of_segments ss g)
 
-pub segment_ids : (ss : List Ordered) (g : ℕ) → ids_of (with_segments [] ss) g ≡ all_given ss g
+pub segment_ids : (ss : List SegmentKeys) (g : ℕ) → ids_of (with_segments [] ss) g ≡ ids_of_segments ss g
 segment_ids ss g = ids_behind g [] ss
 
-pub given_rise : (names : ℕ) (ss : List Ordered) → AllByRecursion (IsPosting names) (with_segments [] ss) → (g : ℕ) →
-    RiseWithin names 0 (all_given ss g)
+pub given_rise : (names : ℕ) (ss : List SegmentKeys) → AllByRecursion (IsPosting names) (with_segments [] ss) → (g : ℕ) →
+    RiseWithin names 0 (ids_of_segments ss g)
 given_rise names ss each g = subst (RiseWithin names 0) (segment_ids ss g)
     (ids_rise_within names (with_segments [] ss) g each)
 
@@ -126,20 +125,20 @@ below_more n f = ap (λ m. lists_below m f) (add-one n)
 -- lists that stand in a row for the next trigrams
 pub below_listed : (n : ℕ) (f : ℕ → List ℕ) (lists : List (List ℕ)) →
     ((k : ℕ) → k < length lists → get_or lists k [] ≡ f (n + k)) →
-    lists_below n f ++ listed n lists ≡ lists_below (n + length lists) f
+    lists_below n f ++ lists_from n lists ≡ lists_below (n + length lists) f
 below_listed n f [] same = append-nil (lists_below n f) ∙ ap (λ m. lists_below m f) (let z : n ≡ n + 0 = omega arith in z)
 below_listed n f (ids ∷ lists) same =
     let here : ids ≡ f n = same 0 (omega arith) ∙ ap f (let z : n + 0 ≡ n = omega arith in z) in
-    sym (append_assoc (lists_below n f) (list_of n ids) (listed (n + 1) lists))
-    ∙ ap (λ is. (lists_below n f ++ list_of n is) ++ listed (n + 1) lists) here
-    ∙ ap (λ front. front ++ listed (n + 1) lists) (sym (below_more n f))
+    sym (append_assoc (lists_below n f) (list_of n ids) (lists_from (n + 1) lists))
+    ∙ ap (λ is. (lists_below n f ++ list_of n is) ++ lists_from (n + 1) lists) here
+    ∙ ap (λ front. front ++ lists_from (n + 1) lists) (sym (below_more n f))
     ∙ below_listed (n + 1) f lists (λ k h. same (suc k) (omega (arith, h)) ∙ ap f (let z : n + suc k ≡ n + 1 + k = omega arith in z))
     ∙ ap (λ m. lists_below m f) (let z : n + 1 + length lists ≡ n + length (ids ∷ lists) = omega arith in z)
 
 -- lists without ids leave no trace
-pub listed_none : (g : ℕ) (lists : List (List ℕ)) → AllByRecursion (λ ids. ids ≡ []) lists → listed g lists ≡ []
+pub listed_none : (g : ℕ) (lists : List (List ℕ)) → AllByRecursion (λ ids. ids ≡ []) lists → lists_from g lists ≡ []
 listed_none g [] none = refl
-listed_none g (ids ∷ lists) none = ap (λ is. list_of g is ++ listed (g + 1) lists) none.0 ∙ listed_none (g + 1) lists none.1
+listed_none g (ids ∷ lists) none = ap (λ is. list_of g is ++ lists_from (g + 1) lists) none.0 ∙ listed_none (g + 1) lists none.1
 
 pub keys_of_list : (n g : ℕ) (ids : List ℕ) → g < n → AllBelow (list_of g ids) n
 keys_of_list n g [] less = tt
@@ -265,30 +264,30 @@ ordered_below names most lists f each same none =
 
 -- ---- one segment more
 
-pub segments_push : (lists : List Posting) (ss : List Ordered) (s : Ordered) →
+pub segments_push : (lists : List Posting) (ss : List SegmentKeys) (s : SegmentKeys) →
     with_segments lists (ss ++ s ∷ []) ≡ with_keys s.base (with_segments lists ss) s.keys
 segments_push lists [] s = refl
 segments_push lists (t ∷ ss) s = segments_push (with_keys t.base lists t.keys) ss s
 
 -- a segment that gives a trigram what another gave stands in its place
-pub given_set : (g i : ℕ) (ss : List Ordered) (s d : Ordered) → ids_given s g ≡ ids_given (get_or ss i d) g →
-    all_given (set ss i s) g ≡ all_given ss g
+pub given_set : (g i : ℕ) (ss : List SegmentKeys) (s d : SegmentKeys) → ids_of_segment s g ≡ ids_of_segment (get_or ss i d) g →
+    ids_of_segments (set ss i s) g ≡ ids_of_segments ss g
 given_set g i [] s d same = refl
-given_set g zero (t ∷ ss) s d same = ap (λ ids. ids ++ all_given ss g) same
-given_set g (suc i) (t ∷ ss) s d same = ap (λ ids. ids_given t g ++ ids) (given_set g i ss s d same)
+given_set g zero (t ∷ ss) s d same = ap (λ ids. ids ++ ids_of_segments ss g) same
+given_set g (suc i) (t ∷ ss) s d same = ap (λ ids. ids_of_segment t g ++ ids) (given_set g i ss s d same)
 
 -- no segment gives ids to a trigram that no file has
-pub none_given : (ss : List Ordered) (g : ℕ) → AllByRecursion (λ (s : Ordered). AreSortedKeys s.keys) ss →
-    closing_trigram ≤ g → all_given ss g ≡ []
+pub none_given : (ss : List SegmentKeys) (g : ℕ) → AllByRecursion (λ (s : SegmentKeys). AreSortedKeys s.keys) ss →
+    closing_trigram ≤ g → ids_of_segments ss g ≡ []
 none_given [] g order past = refl
 none_given (s ∷ ss) g order past =
-    (λ i. given_below s.base closing_trigram g s.keys order.0.below past i ++ all_given ss g) ∙ none_given ss g order.1 past
+    (λ i. given_below s.base closing_trigram g s.keys order.0.below past i ++ ids_of_segments ss g) ∙ none_given ss g order.1 past
 
 all_ahead : (keys : List ℕ) → AreAhead 0 keys
 all_ahead [] = tt
 all_ahead (key ∷ keys) = (omega arith, all_ahead keys)
 
-pub segments_ahead : (ss : List Ordered) → AllByRecursion (λ (s : Ordered). AreAhead 0 s.keys) ss
+pub segments_ahead : (ss : List SegmentKeys) → AllByRecursion (λ (s : SegmentKeys). AreAhead 0 s.keys) ss
 segments_ahead [] = tt
 segments_ahead (s ∷ ss) = (all_ahead s.keys, segments_ahead ss)
 
@@ -316,23 +315,23 @@ list_each P (ids ∷ lists) (suc k) h all = list_each P lists k (omega (arith, h
 
 pub listed_within : (most n : ℕ) (lists : List (List ℕ)) →
     ((k : ℕ) → k < length lists → most ≤ n + k → get_or lists k [] ≡ []) →
-    AllByRecursion (λ (p : Posting). p.0 < most) (listed n lists)
+    AllByRecursion (λ (p : Posting). p.0 < most) (lists_from n lists)
 listed_within most n [] none = tt
 listed_within most n (ids ∷ lists) none =
     let rest = listed_within most (n + 1) lists (λ k h past. none (suc k) (omega (arith, h)) (omega (arith, past))) in
     elim (cases_lt n most) [
-      | inl less ↦ below_append most (list_of n ids) (listed (n + 1) lists) (keys_of_list most n ids less) rest
-      | inr past ↦ subst (λ is. AllByRecursion (λ (p : Posting). p.0 < most) (list_of n is ++ listed (n + 1) lists))
+      | inl less ↦ below_append most (list_of n ids) (lists_from (n + 1) lists) (keys_of_list most n ids less) rest
+      | inr past ↦ subst (λ is. AllByRecursion (λ (p : Posting). p.0 < most) (list_of n is ++ lists_from (n + 1) lists))
           (sym (none 0 (omega arith) (omega (arith, past)))) rest
     ]
 
 -- ---- trigrams that no segment has
 
-pub all_given_ahead : (front g : ℕ) (ss : List Ordered) → AllByRecursion (λ (s : Ordered). AreAhead front s.keys) ss →
-    g < front * 256 → all_given ss g ≡ []
+pub all_given_ahead : (front g : ℕ) (ss : List SegmentKeys) → AllByRecursion (λ (s : SegmentKeys). AreAhead front s.keys) ss →
+    g < front * 256 → ids_of_segments ss g ≡ []
 all_given_ahead front g [] ahead less = refl
 all_given_ahead front g (s ∷ ss) ahead less =
-    (λ i. given_ahead s.base front g s.keys ahead.0 less i ++ all_given ss g) ∙ all_given_ahead front g ss ahead.1 less
+    (λ i. given_ahead s.base front g s.keys ahead.0 less i ++ ids_of_segments ss g) ∙ all_given_ahead front g ss ahead.1 less
 
 pub below_skip : (n k : ℕ) (f : ℕ → List ℕ) → ((g : ℕ) → n ≤ g → g < n + k → f g ≡ []) →
     lists_below (n + k) f ≡ lists_below n f
@@ -348,12 +347,12 @@ pub ahead_less : (n m : ℕ) (keys : List ℕ) → m ≤ n → AreAhead n keys �
 ahead_less n m [] le ahead = tt
 ahead_less n m (key ∷ keys) le ahead = (omega (arith, le, ahead.0), ahead_less n m keys le ahead.1)
 
-pub each_ahead_less : (n m : ℕ) (ss : List Ordered) → m ≤ n → AllByRecursion (λ (s : Ordered). AreAhead n s.keys) ss →
-    AllByRecursion (λ (s : Ordered). AreAhead m s.keys) ss
+pub each_ahead_less : (n m : ℕ) (ss : List SegmentKeys) → m ≤ n → AllByRecursion (λ (s : SegmentKeys). AreAhead n s.keys) ss →
+    AllByRecursion (λ (s : SegmentKeys). AreAhead m s.keys) ss
 each_ahead_less n m [] le ahead = tt
 each_ahead_less n m (s ∷ ss) le ahead = (ahead_less n m s.keys le ahead.0, each_ahead_less n m ss le ahead.1)
 
-pub each_push : (P : Ordered → Type 0) (ss : List Ordered) (s : Ordered) → AllByRecursion P ss → P s →
+pub each_push : (P : SegmentKeys → Type 0) (ss : List SegmentKeys) (s : SegmentKeys) → AllByRecursion P ss → P s →
     AllByRecursion P (ss ++ s ∷ [])
 each_push P [] s all h = (h, tt)
 each_push P (t ∷ ss) s all h = (all.0, each_push P ss s all.1 h)

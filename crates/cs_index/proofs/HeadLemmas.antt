@@ -3,8 +3,8 @@ use Rattle.std.proofs.Common.{◌≡◌, ◌<◌, ℕ, List, length, get_or, ltb
 use Rattle.std.proofs.lemmas.Bool.{ltb-true}
 use Rattle.std.proofs.lemmas.List.{get_or_default}
 use Rattle.cs_index.specs.Keys.{trigram_of}
-use Rattle.cs_index.specs.Segments.{BeginsWith, Ordered}
-use Rattle.cs_index.specs.Packing.{ordered_of, IsSegment}
+use Rattle.cs_index.specs.Segments.{BeginsWith, SegmentKeys}
+use Rattle.cs_index.specs.Packing.{keys_left, IsSegment}
 use Rattle.cs_index.specs.declared.writing.segment.Segment.TheInside.{Inside}
 use Rattle.cs_index.proofs.SegmentLemmas.{first_begins, first_is, IsFirst}
 
@@ -18,9 +18,9 @@ first s lent head is same within at =
     (at ∙ ap (λ hs. get_or hs s.head head) same ∙ get_or_default s.heads.items s.head head 0 here)
     is.gaps is.packed
 
-pub begins : (s : Inside) (lent : List ℕ) (head : ℕ) (now : Ordered) → IsSegment s → ordered_of s ≡ now →
+pub begins : (s : Inside) (lent : List ℕ) (head : ℕ) (now : SegmentKeys) → IsSegment s → keys_left s ≡ now →
     lent ≡ s.heads.items → ltb s.head (length lent) ≡ true → head ≡ get_or lent s.head head →
     BeginsWith (trigram_of head) now.keys
 begins s lent head now is view same within at =
-    subst (λ (o : Ordered). BeginsWith (trigram_of head) o.keys) view
+    subst (λ (o : SegmentKeys). BeginsWith (trigram_of head) o.keys) view
     (first_begins head s.heads.items s.gaps.items s.head s.gap (first s lent head is same within at))

@@ -7,8 +7,9 @@ use Rattle.cs_trigram.specs.Trigram.{has, with_number, set_of_numbers, Ascends, 
 use Rattle.cs_trigram.specs.Scans.{AreTrigramsOnce}
 use Rattle.cs_trigram.proofs.SetLemmas.{ascends_set, ascends_tail, ascends_head, all_above, all_member, below_none, has-append, has-set_of_numbers, members_all, with_number-member, length-with_number-le, length-set_of_numbers-le}
 use Rattle.cs_index.specs.Image.{Posting}
-use Rattle.cs_index.specs.IdStream.{next_after}
-use Rattle.cs_index.specs.Gathering.{ids_of, with_id, AreDistinct, GiveSame}
+use Rattle.cs_index.specs.Rising.{next_after}
+use Rattle.cs_index.specs.Gathering.{AreDistinct, GiveSame}
+use Rattle.cs_index.specs.Laid.{ids_of, with_id}
 use Rattle.cs_index.specs.Keys.{keys_of, trigram_of, id_of, with_keys, AreWaiting}
 use Rattle.cs_index.proofs.GatheredLemmas.{rise_beyond}
 use Rattle.cs_index.proofs.GatheringLemmas.{length-ascending}

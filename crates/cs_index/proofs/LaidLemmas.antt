@@ -7,12 +7,11 @@ use Rattle.std.proofs.lemmas.List.{append-nil, length_push}
 use Rattle.std.specs.Prelude.{flat_map, filter}
 use Rattle.std.specs.List.{AllByRecursion}
 use Rattle.cs_index.specs.Image.{Entry, Posting, IsString, Sections, in_order, image_of, layout, trailer, postings_of, sections_of, with_nul, concat, starts_from, four_bytes, name_offsets}
-use Rattle.cs_index.specs.IdStream.{next_after}
-use Rattle.cs_index.specs.Rising.{ArePostings, IsPosting}
-use Rattle.cs_index.specs.Gathering.{keys, ids_of, with_id, lists_of, ordered_lists}
+use Rattle.cs_index.specs.Rising.{next_after, ArePostings, IsPosting}
+use Rattle.cs_index.specs.Gathering.{keys, lists_of, ordered_lists}
+use Rattle.cs_index.specs.Laid.{ids_of, with_id, Laid, IsLaid, IsLastList, entries_laid, with_laid_name, with_laid_id, with_list, with_posting, with_postings, AllBelow}
 use Rattle.cs_index.specs.Indexable.{IsIndexable}
 use Rattle.cs_index.specs.PostingLists.{entries_of, set_at}
-use Rattle.cs_index.specs.Laid.{Laid, IsLaid, IsBegun, entries_laid, with_laid_name, with_laid_id, with_list, with_posting, with_postings, AllBelow}
 use Rattle.cs_index.proofs.BuildingLemmas.{names_entries}
 use Rattle.cs_index.proofs.BuiltLemmas.{each_gathered}
 use Rattle.cs_index.proofs.GatheredLemmas.{length-entries_of, postings_gathered}
@@ -99,7 +98,7 @@ last_id (p ∷ lists) trigram id all =
 pub laid_given : (laid : Laid) (trigram id : ℕ) → IsLaid laid → laid.begun ≡ Some trigram →
     next_after 0 (ids_of laid.lists trigram) ≤ id → id < length laid.names → IsLaid (with_laid_id laid trigram id)
 laid_given laid trigram id is begun above named =
-    let last : IsBegun laid.lists (Some trigram) = subst (IsBegun laid.lists) begun is.last in
+    let last : IsLastList laid.lists (Some trigram) = subst (IsLastList laid.lists) begun is.last in
     record {
       each_path = is.each_path;
       each_name = is.each_name;
@@ -108,7 +107,7 @@ laid_given laid trigram id is begun above named =
         ascend = ascend_id laid.lists trigram id is.postings.ascend last.1;
         each = each_gathered (length laid.names) laid.lists trigram id is.postings.each above named;
       };
-      last = subst (IsBegun (with_id laid.lists trigram id)) (sym begun) (last.0, last_id laid.lists trigram id last.1);
+      last = subst (IsLastList (with_id laid.lists trigram id)) (sym begun) (last.0, last_id laid.lists trigram id last.1);
     }
 
 -- ---- one list more
@@ -152,7 +151,7 @@ pub laid_image : (laid : Laid) → IsLaid laid →
 laid_image laid is = λ i. layout
     (sections_of laid.paths (sym (names_entries 0 laid.names laid.lists) i) (sym (laid_postings laid is) i))
 
-below_closing : (lists : List Posting) (begun : Option ℕ) → IsBegun lists begun →
+below_closing : (lists : List Posting) (begun : Option ℕ) → IsLastList lists begun →
     AllByRecursion (λ (p : Posting). p.0 < 16777215) lists
 below_closing lists None none = subst (AllByRecursion (λ (p : Posting). p.0 < 16777215)) (sym none) tt
 below_closing lists (Some trigram) last = below lists last.1

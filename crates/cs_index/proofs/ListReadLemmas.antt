@@ -1,17 +1,27 @@
 -- The list at an entry.
-use Rattle.std.proofs.Common.{◌≡◌, ◌≢◌, ℕ, zero, suc, ◌+◌, ◌<◌, ◌≤◌, ◌^◌, cond, List, [], ◌∷◌, length, take, drop, get_or, refl, sym, ap, ◌∙◌, arith, drop-cons, length-drop, length-take}
-use Rattle.cs_index.specs.PostingLists.{damaged, read_ids, read_list}
+use Rattle.std.proofs.Common.{◌≡◌, ◌≢◌, ℕ, zero, suc, ◌+◌, ◌<◌, ◌≤◌, ◌^◌, cond, List, [], ◌∷◌, length, take, drop, get_or, refl, sym, ap, subst, ◌∙◌, inl, inr, arith, drop-cons, length-drop, length-take}
+use Rattle.cs_index.specs.PostingLists.{damage, read_ids, read_list}
+use Rattle.cs_tree.specs.ByteList.{AreBytes}
+use Rattle.std.proofs.lemmas.Bool.{cases_lt, false_from_ne_true}
 use Rattle.std.proofs.lemmas.Nat.{be_bytes_4}
+use Rattle.std.proofs.lemmas.List.{get_or_past}
+use Rattle.std.proofs.lemmas.List.Elements.{All-get_or}
 use Rattle.std.specs.Cmp.Lexicographic.{bytes_decides}
 use Rattle.cs_tree.specs.Cover.{same}
 use Rattle.cs_index.specs.Image.{three_bytes, ListEntry}
 use Rattle.cs_index.specs.Opening.{entry_at, number_at, trigram_at}
 use Rattle.cs_index.proofs.OnceLemmas.{three_once}
-use Rattle.cs_index.proofs.ReadingLemmas.{false_unless, not_longer}
+use Rattle.cs_index.proofs.ReadingLemmas.{not_longer}
 
--- each is a byte
+-- what stands at each place is a byte; beyond the end it is 0
 abbrev pub Small : List ℕ → Type 0
 Small bytes = (i : ℕ) → get_or bytes i 0 < 256
+
+pub small_bytes : (bytes : List ℕ) → AreBytes bytes → Small bytes
+small_bytes bytes all i = elim (cases_lt i (length bytes)) [
+  | inl within ↦ All-get_or (λ b. b < 256) bytes i 0 within all
+  | inr past ↦ subst (λ b. b < 256) (sym (get_or_past bytes i 0 past)) (omega arith)
+]
 
 four_small : (bytes : List ℕ) (at : ℕ) → Small bytes → Small (0 ∷ get_or bytes at 0 ∷ get_or bytes (at + 1) 0 ∷ get_or bytes (at + 2) 0 ∷ [])
 four_small bytes at h zero = omega arith
@@ -37,19 +47,19 @@ pub trigram_small : (bytes : List ℕ) (at : ℕ) → Small bytes → trigram_at
 unfolding trigram_at
 trigram_small bytes at small = let a = small at in let b = small (at + 1) in let d = small (at + 2) in omega (arith, a, b, d)
 
-pub list_short : (postings list_index : List ℕ) (at names : ℕ) → length postings < number_at list_index (at + 7) + 3 → damaged ≡ read_list postings names (entry_at list_index at)
+pub list_short : (postings list_index : List ℕ) (at names : ℕ) → length postings < number_at list_index (at + 7) + 3 → damage ≡ read_list postings names (entry_at list_index at)
 list_short postings list_index at names h =
     let e : ListEntry = entry_at list_index at in
     let cut : length (take 3 (drop e.offset postings)) < 3 = let l = length-drop e.offset postings in let m = length-take 3 (drop e.offset postings) in omega (arith, h, l, m) in
-    sym (ap (λ b. cond b (read_ids names e.count 0 (drop (e.offset + 3) postings)) damaged) (false_unless (same (take 3 (drop e.offset postings)) (three_bytes e.trigram)) (λ t. let long = not_longer (take 3 (drop e.offset postings)) (three_bytes e.trigram) t in omega (arith, cut, long))))
+    sym (ap (λ b. cond b (read_ids names e.count 0 (drop (e.offset + 3) postings)) damage) (false_from_ne_true (same (take 3 (drop e.offset postings)) (three_bytes e.trigram)) (λ t. let long = not_longer (take 3 (drop e.offset postings)) (three_bytes e.trigram) t in omega (arith, cut, long))))
 
-pub list_other : (postings list_index : List ℕ) (at names : ℕ) → number_at list_index (at + 7) + 3 ≤ length postings → Small postings → Small list_index → trigram_at postings (number_at list_index (at + 7)) ≢ trigram_at list_index at → damaged ≡ read_list postings names (entry_at list_index at)
+pub list_other : (postings list_index : List ℕ) (at names : ℕ) → number_at list_index (at + 7) + 3 ≤ length postings → Small postings → Small list_index → trigram_at postings (number_at list_index (at + 7)) ≢ trigram_at list_index at → damage ≡ read_list postings names (entry_at list_index at)
 list_other postings list_index at names h small small' apart =
     let e : ListEntry = entry_at list_index at in
-    sym (ap (λ b. cond b (read_ids names e.count 0 (drop (e.offset + 3) postings)) damaged) (false_unless (same (take 3 (drop e.offset postings)) (three_bytes e.trigram)) (λ t.
+    sym (ap (λ b. cond b (read_ids names e.count 0 (drop (e.offset + 3) postings)) damage) (false_from_ne_true (same (take 3 (drop e.offset postings)) (three_bytes e.trigram)) (λ t.
     apart (three_once (trigram_at postings e.offset) e.trigram (trigram_small postings e.offset small) (trigram_small list_index at small') (three_of postings e.offset h small ∙ (bytes_decides (take 3 (drop e.offset postings)) (three_bytes e.trigram)).0 t)))))
 
 pub list_there : (postings list_index : List ℕ) (at names : ℕ) → number_at list_index (at + 7) + 3 ≤ length postings → Small postings → trigram_at postings (number_at list_index (at + 7)) ≡ trigram_at list_index at → read_ids names (number_at list_index (at + 3)) 0 (drop (number_at list_index (at + 7) + 3) postings) ≡ read_list postings names (entry_at list_index at)
 list_there postings list_index at names h small is =
     let e : ListEntry = entry_at list_index at in
-    sym (ap (λ b. cond b (read_ids names e.count 0 (drop (e.offset + 3) postings)) damaged) ((bytes_decides (take 3 (drop e.offset postings)) (three_bytes e.trigram)).1 (sym (three_of postings e.offset h small) ∙ ap three_bytes is)))
+    sym (ap (λ b. cond b (read_ids names e.count 0 (drop (e.offset + 3) postings)) damage) ((bytes_decides (take 3 (drop e.offset postings)) (three_bytes e.trigram)).1 (sym (three_of postings e.offset h small) ∙ ap three_bytes is)))

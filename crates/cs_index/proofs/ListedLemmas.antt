@@ -1,7 +1,7 @@
 -- Each list of an index that was written is read again.
 use Rattle.std.proofs.Common.{◌≡◌, ℕ, ◌+◌, ◌<◌, ◌≤◌, ◌^◌, cond, List, [], ◌∷◌, ◌++◌, length, map, take, drop, refl, sym, ap, subst, ◌∙◌, arith, append_assoc, length-append}
 use Rattle.cs_index.specs.Rising.{RiseWithin}
-use Rattle.cs_index.specs.PostingLists.{damaged, read_ids}
+use Rattle.cs_index.specs.PostingLists.{damage, read_ids}
 use Rattle.cs_index.specs.WholeLists.{IsList}
 use Rattle.std.proofs.lemmas.List.{drop_at, drop-drop}
 use Rattle.std.specs.Prelude.{flat_map}
@@ -18,8 +18,8 @@ one_list front rest p names few up =
     let at : drop (length front) section ≡ posting_list p ++ rest = drop_at front (posting_list p ++ rest) (length front) refl in
     let after : drop (length front + 3) section ≡ (flat_map varint (deltas_from 0 p.1) ++ 0 ∷ []) ++ rest = sym (drop-drop 3 (length front) section) ∙ ap (drop 3) at in
     let after' : drop (length front + 3) section ≡ flat_map varint (deltas_from 0 p.1) ++ 0 ∷ rest = after ∙ append_assoc (flat_map varint (deltas_from 0 p.1)) (0 ∷ []) rest in
-    ap (λ bytes. cond (same (take 3 bytes) (three_bytes p.0)) (read_ids names (length p.1) 0 (drop (length front + 3) section)) damaged) at
-    ∙ ap (λ b. cond b (read_ids names (length p.1) 0 (drop (length front + 3) section)) damaged) ((bytes_decides (three_bytes p.0) (three_bytes p.0)).1 refl)
+    ap (λ bytes. cond (same (take 3 bytes) (three_bytes p.0)) (read_ids names (length p.1) 0 (drop (length front + 3) section)) damage) at
+    ∙ ap (λ b. cond b (read_ids names (length p.1) 0 (drop (length front + 3) section)) damage) ((bytes_decides (three_bytes p.0) (three_bytes p.0)).1 refl)
     ∙ ap (read_ids names (length p.1) 0) after'
     ∙ ids_read names 0 p.1 rest few up
 

@@ -1,6 +1,6 @@
 -- Bytes open where they are spelled.
 use Rattle.std.proofs.Common.{◌≡◌, ℕ, zero, suc, ◌+◌, ◌-◌, ◌*◌, ◌/◌, ◌%◌, ◌<◌, ◌≤◌, ◌^◌, Bool, true, false, not, cond, ◌&&◌, ◌||◌, eqb, ltb, leb, List, [], ◌∷◌, ◌++◌, length, map, take, drop, get_or, Result, Ok, Err, refl, sym, ap, subst, ◌∙◌, ◌⊎◌, inl, inr, arith, append_assoc, length-append, length-drop, length-take}
-use Rattle.cs_index.specs.Roundtrip.{AreBytes}
+use Rattle.cs_tree.specs.ByteList.{AreBytes}
 use Rattle.cs_index.specs.Spelling.{SpellsParts, IsEntry}
 use Rattle.cs_trigram.specs.Trigram.{Ascends}
 use Rattle.std.proofs.lemmas.Bool.{or_cases, and_parts, and_from, eqb-true, eq-eqb, leb-true, le-leb, ltb-true, ltb-false, lt-ltb}
@@ -18,7 +18,7 @@ use Rattle.cs_index.specs.Opening.{are_starts, cut_at, cut_before, cut_of, entri
 use Rattle.cs_index.specs.OpenedParts.{Parts}
 use Rattle.cs_index.proofs.OnceLemmas.{lengths, starts_fit}
 use Rattle.cs_index.proofs.PlaceLemmas.{Fits, entries_back, entries_laid, length-entries, length-fours, number_small, numbers_back, numbers_laid, slice_laid, slice_small}
-use Rattle.cs_index.proofs.ListReadLemmas.{Small, trigram_small}
+use Rattle.cs_index.proofs.ListReadLemmas.{Small, small_bytes, trigram_small}
 use Rattle.cs_index.proofs.StringLemmas.{length-starts_from}
 use Rattle.cs_index.proofs.TextLemmas.{formed_spelled, section_read, section_spelled, texts_spelled}
 
@@ -432,8 +432,8 @@ spells_parts bytes s parts cut pass =
 
 pub spells_opened : (bytes : List ℕ) (parts : Parts) → AreBytes bytes → opening bytes ≡ Ok parts → SpellsParts bytes parts
 unfolding opening
-spells_opened bytes parts small h = from_cut (cut_of bytes) refl h
+spells_opened bytes parts are h = from_cut (cut_of bytes) refl h
   where
     from_cut : (r : Result Sections IndexFault) → cut_of bytes ≡ r → read_cut r ≡ Ok parts → SpellsParts bytes parts
-    from_cut (Ok s) is read = spells_parts bytes s parts (cut_from bytes s small is) (pass_from s parts read)
+    from_cut (Ok s) is read = spells_parts bytes s parts (cut_from bytes s (small_bytes bytes are) is) (pass_from s parts read)
     from_cut (Err fault) is read = cc

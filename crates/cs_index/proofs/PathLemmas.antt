@@ -6,9 +6,8 @@ use Rattle.std.specs.List.Sorted.{IsSorted, IsStrictlySortedBy, IsBinarySearchRe
 use Rattle.std.specs.Ordering.{is_lt, is_eq, nat_cmp, ordering_reverse, ordering_then}
 use Rattle.std.specs.Cmp.{both_ways as same_tests, nat_cmp_is}
 use Rattle.std.specs.Cmp.Lexicographic.{bytes_decides, slice_cmp, nat_list_cmp_total, texts_ties}
-use Rattle.std.specs.declared.cmp.Ordering.{Ordering}
 use Rattle.std.specs.declared.cmp.Ordering.TheVariants.{Less, Equal, Greater}
-use Rattle.std.proofs.lemmas.Bool.{and_parts, and_from, or_parts, false_from_ne_true, cases_lt}
+use Rattle.std.proofs.lemmas.Bool.{and_parts, and_from, or_parts, false_from_ne_true, cases_lt, not-true, not_from_false}
 use Rattle.std.proofs.lemmas.List.{length-map}
 use Rattle.std.proofs.lemmas.List.Folds.{list_any_none, list_any_at}
 use Rattle.std.proofs.lemmas.List.Sorted.{searchable_from_sorted}
@@ -23,6 +22,7 @@ use Rattle.cs_tree.proofs.Covering.{covers_says}
 use Rattle.cs_tree.proofs.Sets.{alike}
 use Rattle.cs_index.specs.Built.{are_reduced, is_before}
 use Rattle.cs_index.specs.Ascending.{is_alone}
+use Rattle.cs_tree.proofs.BeforeLemmas.{less_from}
 
 pub list_all-map : {X Y : Type 0} (test : Y → Bool) (f : X → Y) (xs : List X) →
     list_all test (map f xs) ≡ list_all (λ x. test (f x)) xs
@@ -35,11 +35,6 @@ list_any-map test f [] = refl
 list_any-map test f (x ∷ xs) = ap (λ b. test (f x) || b) (list_any-map test f xs)
 
 -- ---- what covers a path is not above it
-
-less : (r : Ordering) → is_lt r ≡ true → r ≡ Less
-less Less h = refl
-less Equal h = cc
-less Greater h = cc
 
 not_below_itself : (p : List ℕ) → bytes_cmp p p ≡ Less → ⊥
 not_below_itself p h = let turned : Less ≡ Greater = sym h ∙ nat_list_cmp_total.antisymm p p
@@ -79,10 +74,10 @@ strictly (p ∷ []) up = (tt, tt)
 strictly (p ∷ q ∷ ps) up =
     let both = and_parts (is_lt (bytes_cmp p q)) (are_ascending (q ∷ ps)) up in
     let rest : IsStrictlySortedBy bytes_cmp (q ∷ ps) = strictly (q ∷ ps) both.1 in
-    let first : bytes_cmp p q ≡ Less = less (bytes_cmp p q) both.0 in
+    let first : bytes_cmp p q ≡ Less = less_from (bytes_cmp p q) both.0 in
     ((first, above_all p q ps first rest.0), rest)
 
-tail_up : (p : List ℕ) (ps : List (List ℕ)) → are_ascending (p ∷ ps) ≡ true → are_ascending ps ≡ true
+pub tail_up : (p : List ℕ) (ps : List (List ℕ)) → are_ascending (p ∷ ps) ≡ true → are_ascending ps ≡ true
 tail_up p [] up = refl
 tail_up p (q ∷ ps) up = (and_parts (is_lt (bytes_cmp p q)) (are_ascending (q ∷ ps)) up).1
 
@@ -101,13 +96,6 @@ reduced_up (p ∷ q ∷ ps) h =
     and_from (is_lt (bytes_cmp p q)) (are_ascending (q ∷ ps)) before.0 (reduced_up (q ∷ ps) parts.1)
 
 -- ---- paths that stand alone
-
-not_from : (b : Bool) → not b ≡ true → b ≡ false
-not_from true h = cc
-not_from false h = refl
-
-from_not : (b : Bool) → b ≡ false → not b ≡ true
-from_not b h = ap not h
 
 -- the first of some paths covers none of those above it, and none covers it
 none_covers : (p : List ℕ) (ps : List (List ℕ)) → AllByRecursion (λ q. bytes_cmp p q ≡ Less) ps →
@@ -134,7 +122,7 @@ alone_more p all [] h g = refl
 alone_more p all (q ∷ ps) h g =
     let before = and_parts (is_before p q) (list_all (is_before p) ps) h in
     let alone = and_parts (is_alone all q) (list_all (is_alone all) ps) g in
-    let apart : covers p q ≡ false = not_from (covers p q)
+    let apart : covers p q ≡ false = not-true (covers p q)
     (and_parts (is_lt (bytes_cmp p q)) (not (covers p q)) before.0).1 in
     and_from (is_alone (p ∷ all) q) (list_all (is_alone (p ∷ all)) ps)
     (ap (λ b. not ((b && not (same p q)) || list_any (other_covers q) all)) apart ∙ alone.0)
@@ -145,14 +133,14 @@ alone_fewer : (p : List ℕ) (all ps : List (List ℕ)) → AllByRecursion (λ q
 alone_fewer p all [] up h = (refl, refl)
 alone_fewer p all (q ∷ ps) up h =
     let parts = and_parts (is_alone (p ∷ all) q) (list_all (is_alone (p ∷ all)) ps) h in
-    let neither = or_parts (other_covers q p) (list_any (other_covers q) all) (not_from _ parts.0) in
+    let neither = or_parts (other_covers q p) (list_any (other_covers q) all) (not-true _ parts.0) in
     let rest = alone_fewer p all ps up.1 parts.1 in
     let uncovered : covers p q ≡ false = sym (and_true (covers p q))
     ∙ ap (λ b. covers p q && not b) (sym (apart p q up.0)) ∙ neither.0 in (
       and_from (is_before p q) (list_all (is_before p) ps)
-          (and_from (is_lt (bytes_cmp p q)) (not (covers p q)) (ap is_lt up.0) (from_not (covers p q) uncovered))
+          (and_from (is_lt (bytes_cmp p q)) (not (covers p q)) (ap is_lt up.0) (not_from_false (covers p q) uncovered))
           rest.0,
-      and_from (is_alone all q) (list_all (is_alone all) ps) (from_not (list_any (other_covers q) all) neither.1)
+      and_from (is_alone all q) (list_all (is_alone all) ps) (not_from_false (list_any (other_covers q) all) neither.1)
           rest.1,
     )
   where

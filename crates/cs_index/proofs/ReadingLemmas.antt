@@ -4,7 +4,7 @@ use Rattle.cs_tree.specs.NameOrder.{bytes_cmp}
 use Rattle.cs_tree.specs.NamesAscending.{are_ascending}
 use Rattle.cs_index.specs.SectionsRead.{HasNoText}
 use Rattle.cs_tree.specs.Pieces.{onto_first}
-use Rattle.std.proofs.lemmas.Bool.{true≢false, or_cases, eq-eqb, ne_eqb}
+use Rattle.std.proofs.lemmas.Bool.{true≢false, or_cases, eq-eqb, ne_eqb, false_from_ne_true}
 use Rattle.std.proofs.lemmas.List.{append-nil, length_push}
 use Rattle.std.specs.List.{AllByRecursion, list_all}
 use Rattle.std.specs.Str.{is_utf8}
@@ -78,16 +78,12 @@ one_text (suc b) (c ∷ text) all = ap (onto_first (suc b)) (one_text c text all
 pub not_longer : (xs ys : List ℕ) → same xs ys ≡ true → length xs ≡ length ys
 not_longer xs ys h = ap length ((bytes_decides xs ys).0 h)
 
-pub false_unless : (b : Bool) → (b ≡ true → ⊥) → b ≡ false
-false_unless true h = absurd (h refl)
-false_unless false h = refl
-
 pub open_end : (closing : List ℕ) (b : ℕ) (text : List ℕ) → AllByRecursion (λ c. 0 < c) (b ∷ text) → is_section closing (b ∷ text) ≡ false
 unfolding is_section texts_of
 open_end closing b text all =
     let texts : texts_of (b ∷ text) ≡ (b ∷ text) ∷ [] = ap before_empty (one_text b text all) in
     (λ i. same (b ∷ text) (concat (map with_nul (texts i)) ++ closing) && list_all is_utf8 (texts i))
-    ∙ ap (λ t. t && (is_utf8 (b ∷ text) && true)) (false_unless (same (b ∷ text) ((with_nul (b ∷ text) ++ []) ++ closing)) (λ h.
+    ∙ ap (λ t. t && (is_utf8 (b ∷ text) && true)) (false_from_ne_true (same (b ∷ text) ((with_nul (b ∷ text) ++ []) ++ closing)) (λ h.
     let long = not_longer (b ∷ text) ((with_nul (b ∷ text) ++ []) ++ closing) h in
     let one = length-append (with_nul (b ∷ text) ++ []) closing in
     let two : length (with_nul (b ∷ text) ++ []) ≡ length (b ∷ text) + 1 = ap length (append-nil (with_nul (b ∷ text))) ∙ length_push (b ∷ text) 0 in
@@ -161,7 +157,7 @@ none_formed section none h = closing_only section none (or_cases (is_section (0 
 
 pub not_utf8 : {X Y : Type 0} (A : X → Type 0) (B : Y → Type 0) (r : Result X Y) (bytes : List ℕ) → MatchResult r (λ x. A x × IsUtf8 bytes) (λ y. ¬ (IsUtf8 bytes) × B y) → is_err r ≡ true → is_utf8 bytes ≡ false
 not_utf8 A B (Ok x) bytes h e = absurd (true≢false (sym e))
-not_utf8 A B (Err y) bytes h e = false_unless (is_utf8 bytes) (λ t. h.0 (IsUtf8-from_is_utf8 bytes t))
+not_utf8 A B (Err y) bytes h e = false_from_ne_true (is_utf8 bytes) (λ t. h.0 (IsUtf8-from_is_utf8 bytes t))
 
 pub yes_utf8 : {X Y : Type 0} (A : X → Type 0) (B : Y → Type 0) (r : Result X Y) (bytes : List ℕ) → MatchResult r (λ x. A x × IsUtf8 bytes) (λ y. ¬ (IsUtf8 bytes) × B y) → is_err r ≡ false → is_utf8 bytes ≡ true
 yes_utf8 A B (Ok x) bytes h e = is_utf8-from_IsUtf8 bytes h.1

@@ -12,9 +12,9 @@ use Rattle.cs_index.specs.Opening.{entries_in, is_entry, is_list_index, parts_of
 use Rattle.cs_index.specs.SectionsRead.{IsRead}
 use Rattle.cs_index.specs.Spelling.{IsEntry}
 use Rattle.cs_index.specs.Starts.{AreRead, with_lists}
-use Rattle.cs_index.specs.Stored.{Held, LiesBefore, whole_of}
+use Rattle.cs_index.specs.Stored.{StoredParts, LiesBefore, whole_of}
 use Rattle.cs_index.specs.Restriction.{AnswersAs}
-use Rattle.cs_index.specs.Copies.{AreEntries, HasCopy}
+use Rattle.cs_index.specs.Copies.{AreCopiedEntries, HasCopy}
 use Rattle.cs_index.proofs.CopiesLemmas.{copies_read}
 use Rattle.cs_index.proofs.OpenedLemmas.{list_index_spelled}
 use Rattle.cs_index.proofs.OpenLemmas.{entries_rise}
@@ -37,9 +37,9 @@ few_entries postings (e ∷ es) all up =
     let long = length-trigrams es in
     omega (arith, short, long)
 
-module _ (p n i l list_index postings : List ℕ) (start room : ℕ) (read : AreRead p n i l room) (are : AreEntries list_index postings) where
+module _ (p n i l list_index postings : List ℕ) (start room : ℕ) (read : AreRead p n i l room) (are : AreCopiedEntries list_index postings) where
   entries_are : is_list_index (length postings) list_index ≡ true
-  entries_are = list_index_spelled postings list_index (entries_in list_index) are.laid are.each are.ascend
+  entries_are = list_index_spelled postings list_index (entries_in list_index) are.entries.2 are.entries.0 are.entries.1
 
   pub made_read : length i < 2 ^ 32 → IsRead (with_lists p n i list_index postings)
   made_read few = record {
@@ -48,10 +48,10 @@ module _ (p n i l list_index postings : List ℕ) (start room : ℕ) (read : Are
     name_index = read.offsets;
     list_index = entries_are;
     few_names = few;
-    few_lists = let a = ap length are.laid in let b = length-entries (entries_in list_index) in let d = few_entries postings (entries_in list_index) are.each are.ascend in omega (arith, a, b, d);
+    few_lists = let a = ap length are.entries.2 in let b = length-entries (entries_in list_index) in let d = few_entries postings (entries_in list_index) are.entries.0 are.entries.1 in omega (arith, a, b, d);
   }
 
-  abbrev held : Held
+  abbrev held : StoredParts
   held = record { paths = texts_of p; names = texts_of n; entries = entries_in l; start = start; room = room }
 
   answers : (query : Query) (bytes : List ℕ) → ((g : ℕ) → asks_for query g ≡ true → HasCopy (part_of bytes start room) (entries_in l) postings (entries_in list_index) g) → LiesBefore held (length bytes)
@@ -63,8 +63,8 @@ module _ (p n i l list_index postings : List ℕ) (start room : ℕ) (read : Are
       answers_as (whole_of bytes held) (parts_of (with_lists p n i list_index postings)) (entries_rise room l read.entries) (entries_rise (length postings) list_index entries_are) query refl refl
       (λ g asks. copies_read (whole_of bytes held) (parts_of (with_lists p n i list_index postings)) g refl fit (copies g asks))
 
-  pub answers_held : (query : Query) (bytes : List ℕ) (now : Held) → held ≡ now → ((g : ℕ) → asks_for query g ≡ true → HasCopy (part_of bytes now.start now.room) now.entries postings (entries_in list_index) g) → LiesBefore now (length bytes)
+  pub answers_held : (query : Query) (bytes : List ℕ) (now : StoredParts) → held ≡ now → ((g : ℕ) → asks_for query g ≡ true → HasCopy (part_of bytes now.start now.room) now.entries postings (entries_in list_index) g) → LiesBefore now (length bytes)
       → AnswersAs query (whole_of bytes now) (parts_of (with_lists p n i list_index postings))
   answers_held query bytes now is =
-      subst (λ (h : Held). ((g : ℕ) → asks_for query g ≡ true → HasCopy (part_of bytes h.start h.room) h.entries postings (entries_in list_index) g) → LiesBefore h (length bytes) → AnswersAs query (whole_of bytes h) (parts_of (with_lists p n i list_index postings))) is
+      subst (λ (h : StoredParts). ((g : ℕ) → asks_for query g ≡ true → HasCopy (part_of bytes h.start h.room) h.entries postings (entries_in list_index) g) → LiesBefore h (length bytes) → AnswersAs query (whole_of bytes h) (parts_of (with_lists p n i list_index postings))) is
       (answers query bytes)

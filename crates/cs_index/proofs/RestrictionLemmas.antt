@@ -1,6 +1,6 @@
 -- What a query answers depends on the lists that it asks for alone.
-use Rattle.std.proofs.Common.{◌≡◌, ℕ, Bool, true, false, ◌&&◌, ◌||◌, List, [], ◌∷◌, length, map, Vec, Global, refl, sym, ap, subst, ◌∙◌}
-use Rattle.std.proofs.lemmas.Bool.{eq-eqb, or_left}
+use Rattle.std.proofs.Common.{◌≡◌, ℕ, true, ◌&&◌, ◌||◌, List, [], ◌∷◌, length, map, Vec, Global, refl, sym, ap, subst, ◌∙◌}
+use Rattle.std.proofs.lemmas.Bool.{eq-eqb, or_left, or_right}
 use Rattle.std.specs.List.{list_all, list_any, range_with_len}
 use Rattle.std.specs.Prelude.{filter}
 use Rattle.cs_trigram.specs.Trigram.{has}
@@ -11,7 +11,7 @@ use Rattle.cs_index.specs.Opening.{rises}
 use Rattle.cs_index.specs.OpenedParts.{Parts, whole_ids}
 use Rattle.cs_index.specs.Candidates.{meets}
 use Rattle.cs_index.specs.Answerable.{asks_for, is_answerable}
-use Rattle.cs_index.specs.Sifting.{read_for}
+use Rattle.cs_index.specs.Postings.{read_for}
 use Rattle.cs_index.specs.Restriction.{AnswersAs, ReadAlike}
 use Rattle.cs_index.proofs.AskedLemmas.{asks-And, asks-Or, asks-Tri, holds-All, holds-And, holds-Nothing, holds-Or, holds-Tri, set_is, candidates_are, answerable-All, answerable-And, answerable-Nothing, answerable-Or, answerable-Tri}
 
@@ -34,15 +34,11 @@ module _ (whole part : Parts) (up : rises whole.entries ≡ true) (up' : rises p
   abbrev ReadAll : List Query → Type 0
   ReadAll ms = (g : ℕ) → list_any (λ q. asks_for q g) ms ≡ true → read_for part g ≡ read_for whole g
 
-  later : (a b : Bool) → b ≡ true → (a || b) ≡ true
-  later true b e = refl
-  later false b e = e
-
   first : (m : Member) (ms : List Member) → ReadAll (queries (m ∷ ms)) → Alike m.0
   first m ms read = m.1 (λ g asks. read g (or_left (asks_for m.0 g) (list_any (λ q. asks_for q g) (queries ms)) asks))
 
   rest : (m : Member) (ms : List Member) → ReadAll (queries (m ∷ ms)) → ReadAll (queries ms)
-  rest m ms read g asks = read g (later (asks_for m.0 g) (list_any (λ q. asks_for q g) (queries ms)) asks)
+  rest m ms read g asks = read g (or_right (asks_for m.0 g) (list_any (λ q. asks_for q g) (queries ms)) asks)
 
   each_meets : (ms : List Member) → ReadAll (queries ms) → (id : ℕ) → list_all (λ q. meets part q id) (queries ms) ≡ list_all (λ q. meets whole q id) (queries ms)
   each_meets [] read id = refl

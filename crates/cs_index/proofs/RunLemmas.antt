@@ -5,7 +5,7 @@ use Rattle.std.specs.List.{AllByRecursion}
 use Rattle.cs_trigram.specs.Trigram.{Ascends}
 use Rattle.cs_trigram.proofs.SetLemmas.{ascends_tail}
 use Rattle.cs_index.specs.Image.{Posting}
-use Rattle.cs_index.specs.Gathering.{with_id}
+use Rattle.cs_index.specs.Laid.{with_id}
 use Rattle.cs_index.specs.Keys.{trigram_of, id_of, with_keys, AreOfTrigram, AreWaiting}
 use Rattle.cs_index.proofs.KeyLemmas.{waiting_after}
 

@@ -11,13 +11,13 @@ use Rattle.std.specs.Prelude.{Result, IfOk, flat_map}
 use Rattle.cs_index.specs.declared.fault.BuildFault.{BuildFault}
 use Rattle.cs_index.specs.Indexable.{IsIndexable}
 use Rattle.cs_index.specs.Image.{Posting, ListEntry, concat, four_bytes, image_of, layout, list_entries, posting_list, sections_of, three_bytes, varint, deltas_from}
-use Rattle.cs_index.specs.IdStream.{most_ids, next_after, stream_of, ids_in, IsStream}
-use Rattle.cs_index.specs.Rising.{RiseWithin, IsPosting, moved}
-use Rattle.cs_index.specs.Gathering.{keys, ids_of, with_id}
-use Rattle.cs_index.specs.Laid.{Laid, IsLaid, entries_laid, last_ids, with_laid_id, with_last_id, with_last_ids, with_posting, AllBelow}
+use Rattle.cs_index.specs.IdStream.{most_ids, stream_of, ids_in, IsStream}
+use Rattle.cs_index.specs.Rising.{next_after, RiseWithin, IsPosting, ids_onward}
+use Rattle.cs_index.specs.Gathering.{keys}
+use Rattle.cs_index.specs.Laid.{ids_of, with_id, Laid, IsLaid, entries_laid, last_ids, with_laid_id, with_last_id, with_last_ids, with_posting, AllBelow}
 use Rattle.cs_index.specs.Laying.{front_of, ids_at, lists_at, IsFresh, IsOpen, IsSections, hand_of, bytes_of, lists_of_fields, begun_of, laid_of}
-use Rattle.cs_index.proofs.StreamLemmas.{decoded-stream_of, stream_from, written_push, next_push, rise_push, rise_length}
-use Rattle.cs_index.proofs.StretchLemmas.{moved_from, moved_last, moved_stream}
+use Rattle.cs_index.proofs.StreamLemmas.{decoded-stream_of, stream_from, written_push, next_push, rise_push, rise_length, rise_append}
+use Rattle.cs_index.proofs.StretchLemmas.{onward_from, onward_last, onward_stream}
 use Rattle.cs_index.proofs.ListedLemmas.{lists_are}
 use Rattle.cs_index.proofs.WrittenLemmas.{lists_back}
 use Rattle.cs_index.proofs.LaidLemmas.{laid_begun, laid_given, laid_image, laid_indexable}
@@ -462,25 +462,20 @@ laid_all laid closed g ids (id ∷ more) is begun lists apart up =
 
 -- bytes, ids and places of ids behind others
 written_more : (next : ℕ) (ids more : List ℕ) →
-    flat_map varint (deltas_from next (ids ++ moved (next_after next ids) more))
+    flat_map varint (deltas_from next (ids ++ ids_onward (next_after next ids) more))
     ≡ flat_map varint (deltas_from next ids) ++ stream_of more
-written_more next [] more = moved_stream next more
+written_more next [] more = onward_stream next more
 written_more next (id ∷ ids) more = ap (λ rest. varint (id + 1 - next) ++ rest) (written_more (id + 1) ids more)
     ∙ sym (append_assoc (varint (id + 1 - next)) _ _)
 
 next_more : (next : ℕ) (ids more : List ℕ) →
-    next_after next (ids ++ moved (next_after next ids) more) ≡ next_after next ids + next_after 0 more
-next_more next [] more = moved_last next more
+    next_after next (ids ++ ids_onward (next_after next ids) more) ≡ next_after next ids + next_after 0 more
+next_more next [] more = onward_last next more
 next_more next (id ∷ ids) more = next_more (id + 1) ids more
-
-rise_behind : (names next : ℕ) (ids more : List ℕ) → RiseWithin names next ids →
-    RiseWithin names (next_after next ids) more → RiseWithin names next (ids ++ more)
-rise_behind names next [] more up rest = rest
-rise_behind names next (id ∷ ids) more up rest = (up.0, up.1, rise_behind names (id + 1) ids more up.2 rest)
 
 pub record GivenAll (s : Inside) (now : Laid) (out : Vec ℕ Global) (count next : ℕ) (more : List ℕ) : Type 0 where
   pub holds : IsSections (after_ids s out count next)
-  pub is : laid_of (after_ids s out count next) ≡ with_last_ids now (moved (next_after 0 (last_ids now)) more)
+  pub is : laid_of (after_ids s out count next) ≡ with_last_ids now (ids_onward (next_after 0 (last_ids now)) more)
 
 pub given_all : (s : Inside) (now : Laid) (out : Vec ℕ Global) (count next : ℕ) (more : List ℕ) → laid_of s ≡ now →
     IsSections s → last_ids now ≢ [] → next_after 0 (last_ids now) + next_after 0 more ≤ length now.names →
@@ -496,7 +491,7 @@ given_all s now out count next more view is has_last named rise written counted 
         opened = λ _. now_open.opened;
       };
       is = same ∙ ap (λ (l : Laid). with_last_ids l new) view
-          ∙ ap (λ n. with_last_ids now (moved n more)) (ap (next_after 0) (sym known.last));
+          ∙ ap (λ n. with_last_ids now (ids_onward n more)) (ap (next_after 0) (sym known.last));
     }
   where
     t : Inside
@@ -512,7 +507,7 @@ given_all s now out count next more view is has_last named rise written counted 
     ids = ids_at_hand s
 
     new : List ℕ
-    new = moved (next_after 0 ids) more
+    new = ids_onward (next_after 0 ids) more
 
     fits : next_after 0 ids + next_after 0 more ≤ length s.names
     fits =
@@ -521,7 +516,7 @@ given_all s now out count next more view is has_last named rise written counted 
         omega (arith, named, at, here)
 
     new_rise : RiseWithin (length s.names) (next_after 0 ids) new
-    new_rise = moved_from most_ids (length s.names) (next_after 0 ids) more rise fits
+    new_rise = onward_from most_ids (length s.names) (next_after 0 ids) more rise fits
 
     laid : List ℕ
     laid = concat (map posting_list (closed_of s))
@@ -544,7 +539,7 @@ given_all s now out count next more view is has_last named rise written counted 
       starts = known.held.starts;
       follows = follows ∙ ap (λ n. n + next_after 0 more) known.held.follows ∙ sym (next_more 0 ids more);
     }) known.closed_rise
-        (rise_behind most_ids 0 ids new known.ids_rise (rise_more (length s.names) most_ids (next_after 0 ids) new is.laid.few new_rise))
+        (rise_append most_ids 0 ids new known.ids_rise (rise_more (length s.names) most_ids (next_after 0 ids) new is.laid.few new_rise))
 
     same : laid_of t ≡ with_last_ids (laid_of s) new
     same =

@@ -6,30 +6,29 @@ use Rattle.std.specs.Prelude.{flat_map}
 use Rattle.cs_trigram.specs.Trigram.{Ascends}
 use Rattle.cs_trigram.proofs.SetLemmas.{all_above, ascends_tail}
 use Rattle.cs_index.specs.Image.{deltas_from, varint}
-use Rattle.cs_index.specs.IdStream.{next_after}
-use Rattle.cs_index.specs.Rising.{RiseWithin}
+use Rattle.cs_index.specs.Rising.{next_after, RiseWithin}
 use Rattle.cs_index.specs.Keys.{trigram_of, ids_of_keys, AreOfTrigram}
-use Rattle.cs_index.specs.Segments.{risen, gaps_of, run_in, keys_in, AreAhead, AreHeads, AreSortedKeys, ArePacked, BeginsWith}
+use Rattle.cs_index.specs.Segments.{sums_from, gaps_of, run_in, keys_in, AreAhead, AreHeads, AreSortedKeys, ArePacked, BeginsWith}
 use Rattle.cs_index.proofs.StreamLemmas.{short_varint}
 
 -- ---- numbers that rise by gaps
 
-pub length-risen : (from : ℕ) (gaps : List ℕ) → length (risen from gaps) ≡ length gaps
-length-risen from [] = refl
-length-risen from (gap ∷ gaps) = ap suc (length-risen (from + gap) gaps)
+pub length-sums_from : (from : ℕ) (gaps : List ℕ) → length (sums_from from gaps) ≡ length gaps
+length-sums_from from [] = refl
+length-sums_from from (gap ∷ gaps) = ap suc (length-sums_from (from + gap) gaps)
 
 pub length-gaps_of : (from : ℕ) (ns : List ℕ) → length (gaps_of from ns) ≡ length ns
 length-gaps_of from [] = refl
 length-gaps_of from (n ∷ ns) = ap suc (length-gaps_of n ns)
 
 -- numbers are told by their gaps
-pub risen_gaps : (from : ℕ) (ns : List ℕ) → AllByRecursion (λ n. from ≤ n) ns → Ascends ns →
-    risen from (gaps_of from ns) ≡ ns
-risen_gaps from [] all up = refl
-risen_gaps from (n ∷ ns) all up =
+pub sums_of_gaps : (from : ℕ) (ns : List ℕ) → AllByRecursion (λ n. from ≤ n) ns → Ascends ns →
+    sums_from from (gaps_of from ns) ≡ ns
+sums_of_gaps from [] all up = refl
+sums_of_gaps from (n ∷ ns) all up =
     let at : from + (n - from) ≡ n = omega (arith, all.0) in
-    (λ i. at i ∷ risen (at i) (gaps_of n ns))
-    ∙ ap (λ rest. n ∷ rest) (risen_gaps n ns (later n ns (all_above n ns up)) (ascends_tail n ns up))
+    (λ i. at i ∷ sums_from (at i) (gaps_of n ns))
+    ∙ ap (λ rest. n ∷ rest) (sums_of_gaps n ns (later n ns (all_above n ns up)) (ascends_tail n ns up))
   where
     later : (n : ℕ) (ms : List ℕ) → AllByRecursion (λ m. n < m) ms → AllByRecursion (λ m. n ≤ m) ms
     later n [] above = tt
@@ -107,7 +106,7 @@ pub pushed : (heads gaps new_heads new_gaps run : List ℕ) (g head : ℕ) → A
 pushed heads gaps new_heads new_gaps run g head are short one near up some few at more_heads more_gaps =
     let close = near_run g run one near in
     let more : List ℕ = gaps_of (g * 256) run in
-    let back : risen (g * 256) more ≡ run = risen_gaps (g * 256) run (lower (g * 256) run close) up in
+    let back : sums_from (g * 256) more ≡ run = sums_of_gaps (g * 256) run (lower (g * 256) run close) up in
     let trigram : trigram_of head ≡ g = omega (arith, at, few) in
     let count : head % 256 ≡ length run = omega (arith, at, few) in
     let long : length more ≡ head % 256 = length-gaps_of (g * 256) run ∙ sym count in
@@ -125,39 +124,39 @@ pushed heads gaps new_heads new_gaps run g head are short one near up some few a
 -- ---- the ids of a run
 
 -- as far as keys have one trigram, their ids rise as they do
-ids_from : (base g place : ℕ) (gaps : List ℕ) → AreOfTrigram g (risen (g * 256 + place) gaps) →
-    ids_of_keys base (risen (g * 256 + place) gaps) ≡ risen (base + place) gaps
+ids_from : (base g place : ℕ) (gaps : List ℕ) → AreOfTrigram g (sums_from (g * 256 + place) gaps) →
+    ids_of_keys base (sums_from (g * 256 + place) gaps) ≡ sums_from (base + place) gaps
 ids_from base g place [] one = refl
 ids_from base g place (gap ∷ gaps) one =
     let key : g * 256 + place + gap ≡ g * 256 + (place + gap) = omega arith in
     let id : base + (g * 256 + place + gap) % 256 ≡ base + place + gap = omega (arith, one.0) in
     let on : base + (place + gap) ≡ base + place + gap = omega arith in
-    let rest = ids_from base g (place + gap) gaps (subst (λ n. AreOfTrigram g (risen n gaps)) key one.1) in
-    (λ i. id i ∷ ids_of_keys base (risen (key i) gaps)) ∙ (λ i. (base + place + gap) ∷ rest i)
-    ∙ ap (λ n. (base + place + gap) ∷ risen n gaps) on
+    let rest = ids_from base g (place + gap) gaps (subst (λ n. AreOfTrigram g (sums_from n gaps)) key one.1) in
+    (λ i. id i ∷ ids_of_keys base (sums_from (key i) gaps)) ∙ (λ i. (base + place + gap) ∷ rest i)
+    ∙ ap (λ n. (base + place + gap) ∷ sums_from n gaps) on
 
 pub ids_of_run : (base g : ℕ) (gaps : List ℕ) → AreOfTrigram g (run_in g gaps) →
-    ids_of_keys base (run_in g gaps) ≡ risen base gaps
+    ids_of_keys base (run_in g gaps) ≡ sums_from base gaps
 ids_of_run base g gaps one =
     let none : g * 256 ≡ g * 256 + 0 = omega arith in
     let from : base + 0 ≡ base = omega arith in
-    ap (λ n. ids_of_keys base (risen n gaps)) none
-    ∙ ids_from base g 0 gaps (subst (λ n. AreOfTrigram g (risen n gaps)) none one)
-    ∙ ap (λ n. risen n gaps) from
+    ap (λ n. ids_of_keys base (sums_from n gaps)) none
+    ∙ ids_from base g 0 gaps (subst (λ n. AreOfTrigram g (sums_from n gaps)) none one)
+    ∙ ap (λ n. sums_from n gaps) from
 
 -- ---- the bytes of ids
 
 gaps_written : (from : ℕ) (gaps : List ℕ) → AllByRecursion (λ gap. gap < 128) gaps →
-    flat_map varint (deltas_from (from + 1) (risen from gaps)) ≡ gaps
+    flat_map varint (deltas_from (from + 1) (sums_from from gaps)) ≡ gaps
 gaps_written from [] short = refl
 gaps_written from (gap ∷ gaps) short =
     let delta : from + gap + 1 - (from + 1) ≡ gap = omega arith in
-    (λ i. varint (delta i) ++ flat_map varint (deltas_from (from + gap + 1) (risen (from + gap) gaps)))
+    (λ i. varint (delta i) ++ flat_map varint (deltas_from (from + gap + 1) (sums_from (from + gap) gaps)))
     ∙ (λ i. short_varint gap short.0 i ++ gaps_written (from + gap) gaps short.1 i)
 
 -- behind the first varint stand the gaps
 pub ids_written : (next from : ℕ) (gaps : List ℕ) → 0 < length gaps → AllByRecursion (λ gap. gap < 128) gaps →
-    flat_map varint (deltas_from next (risen from gaps)) ≡ varint (from + get_or gaps 0 0 + 1 - next) ++ drop 1 gaps
+    flat_map varint (deltas_from next (sums_from from gaps)) ≡ varint (from + get_or gaps 0 0 + 1 - next) ++ drop 1 gaps
 ids_written next from [] some short = absurd (omega (arith, some))
 ids_written next from (gap ∷ gaps) some short =
     ap (λ rest. varint (from + gap + 1 - next) ++ rest) (gaps_written (from + gap) gaps short.1)
@@ -166,16 +165,16 @@ pub ids_below : (names next : ℕ) (ids : List ℕ) → RiseWithin names next id
 ids_below names next [] up = tt
 ids_below names next (id ∷ ids) up = (up.1, ids_below names (id + 1) ids up.2)
 
-pub next_risen : (next from : ℕ) (gaps : List ℕ) → 0 < length gaps →
-    next_after next (risen from gaps) ≡ next_after (from + 1) (risen from gaps)
-next_risen next from [] some = absurd (omega (arith, some))
-next_risen next from (gap ∷ gaps) some = refl
+pub next_sum : (next from : ℕ) (gaps : List ℕ) → 0 < length gaps →
+    next_after next (sums_from from gaps) ≡ next_after (from + 1) (sums_from from gaps)
+next_sum next from [] some = absurd (omega (arith, some))
+next_sum next from (gap ∷ gaps) some = refl
 
 -- the first id is not below the next one that is free
-pub first_risen : (names next from : ℕ) (gaps : List ℕ) → 0 < length gaps → RiseWithin names next (risen from gaps) →
+pub first_sum : (names next from : ℕ) (gaps : List ℕ) → 0 < length gaps → RiseWithin names next (sums_from from gaps) →
     (next ≤ from + get_or gaps 0 0) × (from + get_or gaps 0 0 < names)
-first_risen names next from [] some up = absurd (omega (arith, some))
-first_risen names next from (gap ∷ gaps) some up = (up.0, up.1)
+first_sum names next from [] some up = absurd (omega (arith, some))
+first_sum names next from (gap ∷ gaps) some up = (up.0, up.1)
 
 -- ---- the first head that is left
 
@@ -236,7 +235,7 @@ pub first_begins : (head : ℕ) (heads gaps : List ℕ) (at from : ℕ) → IsFi
     BeginsWith (trigram_of head) (keys_in (drop at heads) (drop from gaps))
 first_begins head heads gaps at from is =
     let run : List ℕ = run_in (trigram_of head) (take (head % 256) (drop from gaps)) in
-    let long = length-risen (trigram_of head * 256) (take (head % 256) (drop from gaps)) in
+    let long = length-sums_from (trigram_of head * 256) (take (head % 256) (drop from gaps)) in
     let taken = length-take (head % 256) (drop from gaps) in
     let left = length-drop from gaps in
     subst (BeginsWith (trigram_of head)) (sym is.keys)

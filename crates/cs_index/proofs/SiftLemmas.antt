@@ -1,7 +1,7 @@
 -- Ids that pass a test, and ids of two lists.
 use Rattle.std.proofs.Common.{◌≡◌, ℕ, zero, suc, ◌+◌, ◌-◌, ◌<◌, ◌≤◌, Bool, true, false, cond, ◌&&◌, ◌||◌, eqb, ltb, List, [], ◌∷◌, ◌++◌, length, take, drop, get_or, set, refl, sym, ap, subst, ◌∙◌, ◌⊎◌, inl, inr, arith, Option, Some, None, append_assoc, length-drop, drop-cons}
 use Rattle.cs_index.specs.Rising.{RiseWithin}
-use Rattle.cs_index.specs.PostingLists.{read_varint, Ids, damaged, onto, after_delta, read_ids}
+use Rattle.cs_index.specs.PostingLists.{read_varint, Ids, damage, onto, after_delta, read_ids}
 use Rattle.cs_trigram.specs.Trigram.{has, Ascends}
 use Rattle.std.proofs.lemmas.Bool.{true≢false, and_parts, ltb-true, cases_Bool, cond_both, cases_order, eqb-true, eq-eqb, ne_eqb, lt-ltb, le-ltb, or_left}
 use Rattle.std.proofs.lemmas.List.{drop-drop, drop-set-lt, drop_all, get_or-drop, take_more_set}
@@ -21,54 +21,6 @@ filter_filter p q (x ∷ xs) = elim (q x) as (λ b. filter p (cond b (x ∷ filt
   | true ↦ ap (λ ys. cond (p x) (x ∷ ys) ys) (filter_filter p q xs)
   | false ↦ filter_filter p q xs
 ]
-
-pub filter_within : (p q : ℕ → Bool) (xs : List ℕ) → ((x : ℕ) → has xs x ≡ true → p x ≡ q x) → filter p xs ≡ filter q xs
-filter_within p q [] h = refl
-filter_within p q (x ∷ xs) h =
-    let here : p x ≡ q x = h x (or_left (eqb x x) (has xs x) (eq-eqb x x refl)) in
-    let rest = filter_within p q xs (λ y e. h y (later (eqb x y) (has xs y) e)) in
-    λ i. cond (here i) (x ∷ rest i) (rest i)
-  where
-    later : (a b : Bool) → b ≡ true → (a || b) ≡ true
-    later true b e = refl
-    later false b e = e
-
-above_filter : (p : ℕ → Bool) (n : ℕ) (xs : List ℕ) → Above n xs → Ascends xs → Above n (filter p xs)
-above_filter p n [] h up = tt
-above_filter p n (x ∷ xs) h up =
-    cond_both (p x) (x ∷ filter p xs) (filter p xs) (Above n) (λ _. h) (λ _. above_filter p n xs (further xs (ascends_head x xs up)) (ascends_tail x xs up))
-  where
-    further : (ks : List ℕ) → Above x ks → Above n ks
-    further [] a = tt
-    further (k ∷ ks) a = omega (arith, h, a)
-
-pub ascends_filter : (p : ℕ → Bool) (xs : List ℕ) → Ascends xs → Ascends (filter p xs)
-ascends_filter p [] up = tt
-ascends_filter p (x ∷ xs) up =
-    let rest = ascends_filter p xs (ascends_tail x xs up) in
-    cond_both (p x) (x ∷ filter p xs) (filter p xs) Ascends (λ _. ascends_cons x (filter p xs) (above_filter p x xs (ascends_head x xs up) (ascends_tail x xs up)) rest) (λ _. rest)
-
-pub has-filter : (p : ℕ → Bool) (xs : List ℕ) (k : ℕ) → has (filter p xs) k ≡ (has xs k && p k)
-has-filter p [] k = refl
-has-filter p (x ∷ xs) k = elim (cases_Bool (eqb x k)) [
-  | inl here ↦
-      let is : x ≡ k = eqb-true x k here in
-      elim (cases_Bool (p k)) [
-        | inl passes ↦
-            ap (λ b. has (cond b (x ∷ filter p xs) (filter p xs)) k) (ap p is ∙ passes) ∙ or_left (eqb x k) (has (filter p xs) k) here
-            ∙ sym (λ i. (here i || has xs k) && passes i)
-        | inr fails ↦
-            ap (λ b. has (cond b (x ∷ filter p xs) (filter p xs)) k) (ap p is ∙ fails) ∙ has-filter p xs k ∙ ap (λ b. has xs k && b) fails ∙ and_false (has xs k)
-            ∙ sym (λ i. (here i || has xs k) && fails i)
-      ]
-  | inr apart ↦
-      cond_both (p x) (x ∷ filter p xs) (filter p xs) (λ ys. has ys k ≡ (has xs k && p k)) (λ _. ap (λ b. b || has (filter p xs) k) apart ∙ has-filter p xs k) (λ _. has-filter p xs k)
-      ∙ sym (ap (λ b. (b || has xs k) && p k) apart)
-]
-  where
-    and_false : (b : Bool) → (b && false) ≡ false
-    and_false true = refl
-    and_false false = refl
 
 -- ---- ranges
 
@@ -129,7 +81,7 @@ read_rise names (suc count) next bytes = rise_after (λ delta rest. read_rise na
     rise_after : ((delta : ℕ) (rest : List ℕ) → RiseWithin names (next + delta) (read_ids names count (next + delta) rest).ids) → (found : Option (ℕ × List ℕ)) → RiseWithin names next (after_delta names next (read_ids names count) found).ids
     rise_after more None = tt
     rise_after more (Some (delta, rest)) =
-        cond_both (ltb 0 delta && ltb (next + delta) (names + 1)) (onto (next + delta - 1) (read_ids names count (next + delta) rest)) damaged (λ (r : Ids). RiseWithin names next r.ids)
+        cond_both (ltb 0 delta && ltb (next + delta) (names + 1)) (onto (next + delta - 1) (read_ids names count (next + delta) rest)) damage (λ (r : Ids). RiseWithin names next r.ids)
         (λ t.
         let both = and_parts (ltb 0 delta) (ltb (next + delta) (names + 1)) t in
         let above = ltb-true 0 delta both.0 in

@@ -1,7 +1,7 @@
 -- A step of the reading of ids.
 use Rattle.std.proofs.Common.{◌≡◌, ℕ, zero, suc, ◌+◌, ◌-◌, ◌<◌, ◌≤◌, cond, ltb, ◌&&◌, true, false, Bool, List, [], ◌∷◌, Some, Ok, Err, refl, sym, ap, ◌∙◌, inl, inr, ◌⊎◌, arith}
 use Rattle.cs_index.specs.Postings.{ids_given}
-use Rattle.cs_index.specs.PostingLists.{read_varint, Ids, damaged, onto, after_delta, read_ids}
+use Rattle.cs_index.specs.PostingLists.{read_varint, Ids, damage, onto, after_delta, read_ids}
 use Rattle.std.proofs.lemmas.Bool.{lt-ltb, le-ltb, and_from}
 use Rattle.cs_index.specs.declared.fault.IndexFault.TheVariants.{BadList}
 use Rattle.cs_index.specs.ListRest.{left_of}
@@ -14,7 +14,7 @@ step_ok ended names (suc left) next delta bytes rest rest' now runs some is read
     let fits : (ltb 0 delta && ltb (next + delta) (names + 1)) ≡ true = and_from (ltb 0 delta) (ltb (next + delta) (names + 1)) (lt-ltb 0 delta (omega (arith, above))) (lt-ltb (next + delta) (names + 1) (omega (arith, within, order))) in
     ap ids_given (sym is ∙ ap (λ e. left_of e names (suc left) next bytes) runs
     ∙ ap (after_delta names next (read_ids names left)) read
-    ∙ ap (λ b. cond b (onto (next + delta - 1) (read_ids names left (next + delta) rest)) damaged) fits)
+    ∙ ap (λ b. cond b (onto (next + delta - 1) (read_ids names left (next + delta) rest)) damage) fits)
     ∙ ap (λ r. Ok (next + delta - 1) ∷ ids_given r) (sym (ap (λ e. left_of e names (suc left - 1) (next + delta) rest') runs ∙ (λ i. read_ids names (down i) (next + delta) (same i))))
 
 pub step_bad : (ended : Bool) (names left next delta : ℕ) (bytes rest : List ℕ) (now : Ids) → ended ≡ false → (left ≡ 0 → ⊥) → left_of ended names left next bytes ≡ now → read_varint bytes ≡ Some (delta, rest) → next ≤ names → (delta ≡ 0) ⊎ (names - next < delta) → ids_given now ≡ Err BadList ∷ []
@@ -23,7 +23,7 @@ step_bad ended names (suc left) next delta bytes rest now runs some is read orde
     let fails : (ltb 0 delta && ltb (next + delta) (names + 1)) ≡ false = refused bad in
     ap ids_given (sym is ∙ ap (λ e. left_of e names (suc left) next bytes) runs
     ∙ ap (after_delta names next (read_ids names left)) read
-    ∙ ap (λ b. cond b (onto (next + delta - 1) (read_ids names left (next + delta) rest)) damaged) fails)
+    ∙ ap (λ b. cond b (onto (next + delta - 1) (read_ids names left (next + delta) rest)) damage) fails)
   where
     refused : (delta ≡ 0) ⊎ (names - next < delta) → (ltb 0 delta && ltb (next + delta) (names + 1)) ≡ false
     refused (inl none) = ap (λ b. b && ltb (next + delta) (names + 1)) (le-ltb 0 delta (omega (arith, none)))

@@ -8,7 +8,7 @@ use Rattle.cs_index.specs.declared.fault.IndexFault.TheVariants.{BadPaths, BadNa
 use Rattle.cs_index.specs.declared.reading.starts.Starts.{Starts}
 use Rattle.cs_index.specs.Opening.{cut_of, entries_in, is_list_index, opening, parts_of, read_cut, read_sections, texts_of}
 use Rattle.cs_index.specs.Starts.{AreInOrder, AreRead, sections_at, with_lists}
-use Rattle.cs_index.specs.Stored.{Held, LiesBefore, OpensAs, ReadsAs, whole_of}
+use Rattle.cs_index.specs.Stored.{StoredParts, LiesBefore, OpensAs, SectionsOpenAs, whole_of}
 use Rattle.cs_index.proofs.OpenedLemmas.{rise_from}
 
 -- ---- what a store tells, while it tells the same
@@ -59,7 +59,7 @@ module _ (s : Starts) (order : AreInOrder s) (p n i l bytes : List ℕ) (within 
   pub fault_read : (fault : IndexFault) → ((postings : List ℕ) → length postings ≡ s.name_index - s.postings → read_sections (with_lists p n i l postings) ≡ Err fault) → read_sections (sections_at bytes s) ≡ Err fault
   fault_read fault so = ap read_sections (sym sections_are) ∙ so lists lists_long
 
-  abbrev held : Held
+  abbrev held : StoredParts
   held = record { paths = texts_of p; names = texts_of n; entries = entries_in l; start = s.postings; room = s.name_index - s.postings }
 
   pub held_read : AreRead p n i l (s.name_index - s.postings) → read_sections (sections_at bytes s) ≡ Ok (whole_of bytes held)
@@ -77,7 +77,7 @@ were_told s p n i l t1 t2 t3 t4 e2 e3 e4 a b c d =
 
 -- ---- the whole
 
-pub opened : (bytes : List ℕ) (s : Starts) (answer : Result Held IndexFault) → cut_of bytes ≡ Ok (sections_at bytes s) → s.trailer ≤ length bytes → ReadsAs bytes (sections_at bytes s) answer → IfOk answer (λ held. LiesBefore held s.trailer) → OpensAs bytes answer
+pub opened : (bytes : List ℕ) (s : Starts) (answer : Result StoredParts IndexFault) → cut_of bytes ≡ Ok (sections_at bytes s) → s.trailer ≤ length bytes → SectionsOpenAs bytes (sections_at bytes s) answer → IfOk answer (λ held. LiesBefore held s.trailer) → OpensAs bytes answer
 unfolding opening
 opened bytes s (Ok held) cut within read before = (ap read_cut cut ∙ read, omega (arith, within, before))
 opened bytes s (Err fault) cut within read before = ap read_cut cut ∙ read

@@ -1,13 +1,13 @@
 -- One more id at the end of a stream.
 use Rattle.std.proofs.Common.{◌≡◌, ℕ, suc, ◌+◌, ◌-◌, ◌*◌, ◌/◌, ◌%◌, ◌^◌, ◌<◌, ◌≤◌, Bool, true, cond, List, [], ◌∷◌, ◌++◌, length, refl, sym, ap, subst, ◌∙◌, arith, append_assoc, length-append, take, set}
-use Rattle.cs_index.specs.Rising.{RiseWithin}
+use Rattle.cs_index.specs.Rising.{RiseWithin, next_after}
 use Rattle.cs_index.specs.PostingLists.{Ids}
 use Rattle.std.proofs.lemmas.Bool.{lt-ltb, le-ltb}
 use Rattle.std.proofs.lemmas.List.{append-nil, take_more_set}
 use Rattle.std.proofs.Math.Nat.{mul-le-mul_right}
 use Rattle.std.specs.Prelude.{flat_map}
 use Rattle.cs_index.specs.Image.{varint, varint_within, deltas_from}
-use Rattle.cs_index.specs.IdStream.{most_ids, next_after, stream_of, ids_in, IsStream}
+use Rattle.cs_index.specs.IdStream.{most_ids, stream_of, ids_in, IsStream}
 use Rattle.cs_index.proofs.VarintLemmas.{ids_read}
 
 pub written_push : (next : ℕ) (ids : List ℕ) (id : ℕ) → flat_map varint (deltas_from next (ids ++ id ∷ [])) ≡ flat_map varint (deltas_from next ids) ++ varint (id + 1 - next_after next ids)
@@ -43,11 +43,11 @@ written_append : (next : ℕ) (xs ys : List ℕ) → flat_map varint (deltas_fro
 written_append next [] ys = refl
 written_append next (x ∷ xs) ys = ap (λ rest. varint (x + 1 - next) ++ rest) (written_append (x + 1) xs ys) ∙ sym (append_assoc (varint (x + 1 - next)) _ _)
 
-rise_append : (next : ℕ) (xs ys : List ℕ) → RiseWithin most_ids next xs → RiseWithin most_ids (next_after next xs) ys → RiseWithin most_ids next (xs ++ ys)
-rise_append next [] ys up more = more
-rise_append next (x ∷ xs) ys up more = (up.0, up.1, rise_append (x + 1) xs ys up.2 more)
+pub rise_append : (names next : ℕ) (xs ys : List ℕ) → RiseWithin names next xs → RiseWithin names (next_after next xs) ys → RiseWithin names next (xs ++ ys)
+rise_append names next [] ys up more = more
+rise_append names next (x ∷ xs) ys up more = (up.0, up.1, rise_append names (x + 1) xs ys up.2 more)
 
-next_append : (next : ℕ) (xs ys : List ℕ) → next_after next (xs ++ ys) ≡ next_after (next_after next xs) ys
+pub next_append : (next : ℕ) (xs ys : List ℕ) → next_after next (xs ++ ys) ≡ next_after (next_after next xs) ys
 next_append next [] ys = refl
 next_append next (x ∷ xs) ys = next_append (x + 1) xs ys
 
@@ -69,7 +69,7 @@ pub stream_more : (stream : List ℕ) (count next : ℕ) (more : List ℕ) → I
 stream_more stream count next more h rise =
     let ids : List ℕ = ids_in stream count in
     let all : List ℕ = ids ++ more in
-    let up : RiseWithin most_ids 0 all = rise_append 0 ids more h.rise (subst (λ n. RiseWithin most_ids n more) h.follows rise) in
+    let up : RiseWithin most_ids 0 all = rise_append most_ids 0 ids more h.rise (subst (λ n. RiseWithin most_ids n more) h.follows rise) in
     let bytes : stream ++ flat_map varint (deltas_from next more) ≡ stream_of all = ap (λ n. stream ++ flat_map varint (deltas_from n more)) h.follows ∙ ap (λ s. s ++ flat_map varint (deltas_from (next_after 0 ids) more)) h.written ∙ sym (written_append 0 ids more) in
     let many : count + length more ≡ length all = ap (λ n. n + length more) h.counted ∙ sym (length-append ids more) in
     let at : next_after 0 all ≡ next_after next more = next_append 0 ids more ∙ ap (λ n. next_after n more) (sym h.follows) in

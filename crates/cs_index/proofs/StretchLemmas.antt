@@ -6,56 +6,56 @@ use Rattle.std.proofs.Math.Seq.{take-add}
 use Rattle.std.specs.List.{AllByRecursion}
 use Rattle.std.specs.Prelude.{flat_map, fold, sum}
 use Rattle.cs_index.specs.Image.{varint, varint_within, deltas_from}
-use Rattle.cs_index.specs.IdStream.{most_ids, next_after, ids_in, stream_of, IsStream}
-use Rattle.cs_index.specs.PostingLists.{Ids, read_ids, read_varint, after_delta, onto, damaged}
+use Rattle.cs_index.specs.IdStream.{most_ids, ids_in, stream_of, IsStream}
+use Rattle.cs_index.specs.Rising.{next_after, RiseWithin, ids_onward}
+use Rattle.cs_index.specs.PostingLists.{Ids, read_ids, read_varint, after_delta, onto, damage}
 use Rattle.cs_index.specs.ListRest.{left_of}
-use Rattle.cs_index.specs.Rising.{RiseWithin, moved}
 use Rattle.cs_index.proofs.StreamLemmas.{rise_length, short_varint, stream_from, stream_more}
 use Rattle.cs_index.proofs.VarintLemmas.{varint_read}
 
 -- ---- ids that are counted from a number on
 
-pub moved_next : (from next : ℕ) (ids : List ℕ) → next_after (from + next) (moved from ids) ≡ from + next_after next ids
-moved_next from next [] = refl
-moved_next from next (id ∷ ids) =
+pub onward_next : (from next : ℕ) (ids : List ℕ) → next_after (from + next) (ids_onward from ids) ≡ from + next_after next ids
+onward_next from next [] = refl
+onward_next from next (id ∷ ids) =
     let at : from + id + 1 ≡ from + (id + 1) = omega arith in
-    ap (λ n. next_after n (moved from ids)) at ∙ moved_next from (id + 1) ids
+    ap (λ n. next_after n (ids_onward from ids)) at ∙ onward_next from (id + 1) ids
 
-pub moved_rise : (most names from next : ℕ) (ids : List ℕ) → RiseWithin most next ids →
-    from + next_after next ids ≤ names → RiseWithin names (from + next) (moved from ids)
-moved_rise most names from next [] up h = tt
-moved_rise most names from next (id ∷ ids) up h =
+pub onward_rise : (most names from next : ℕ) (ids : List ℕ) → RiseWithin most next ids →
+    from + next_after next ids ≤ names → RiseWithin names (from + next) (ids_onward from ids)
+onward_rise most names from next [] up h = tt
+onward_rise most names from next (id ∷ ids) up h =
     let long = rise_length most (id + 1) ids up.2 in
     let at : from + (id + 1) ≡ from + id + 1 = omega arith in (
       omega (arith, up.0),
       omega (arith, long, h),
-      subst (λ n. RiseWithin names n (moved from ids)) at (moved_rise most names from (id + 1) ids up.2 h),
+      subst (λ n. RiseWithin names n (ids_onward from ids)) at (onward_rise most names from (id + 1) ids up.2 h),
     )
 
-pub moved_deltas : (from next : ℕ) (ids : List ℕ) → deltas_from (from + next) (moved from ids) ≡ deltas_from next ids
-moved_deltas from next [] = refl
-moved_deltas from next (id ∷ ids) =
+pub onward_deltas : (from next : ℕ) (ids : List ℕ) → deltas_from (from + next) (ids_onward from ids) ≡ deltas_from next ids
+onward_deltas from next [] = refl
+onward_deltas from next (id ∷ ids) =
     let first : from + id + 1 - (from + next) ≡ id + 1 - next = omega arith in
     let at : from + id + 1 ≡ from + (id + 1) = omega arith in
-    let rest : deltas_from (from + id + 1) (moved from ids) ≡ deltas_from (id + 1) ids = ap (λ n. deltas_from n (moved from ids)) at ∙ moved_deltas from (id + 1) ids in
+    let rest : deltas_from (from + id + 1) (ids_onward from ids) ≡ deltas_from (id + 1) ids = ap (λ n. deltas_from n (ids_onward from ids)) at ∙ onward_deltas from (id + 1) ids in
     λ i. first i ∷ rest i
 
 -- their bytes are those of the ids themselves
-pub moved_stream : (from : ℕ) (ids : List ℕ) → flat_map varint (deltas_from from (moved from ids)) ≡ stream_of ids
-moved_stream from ids =
+pub onward_stream : (from : ℕ) (ids : List ℕ) → flat_map varint (deltas_from from (ids_onward from ids)) ≡ stream_of ids
+onward_stream from ids =
     let at : from ≡ from + 0 = omega arith in
-    ap (λ n. flat_map varint (deltas_from n (moved from ids))) at ∙ ap (flat_map varint) (moved_deltas from 0 ids)
+    ap (λ n. flat_map varint (deltas_from n (ids_onward from ids))) at ∙ ap (flat_map varint) (onward_deltas from 0 ids)
 
-pub moved_last : (from : ℕ) (ids : List ℕ) → next_after from (moved from ids) ≡ from + next_after 0 ids
-moved_last from ids =
+pub onward_last : (from : ℕ) (ids : List ℕ) → next_after from (ids_onward from ids) ≡ from + next_after 0 ids
+onward_last from ids =
     let at : from ≡ from + 0 = omega arith in
-    ap (λ n. next_after n (moved from ids)) at ∙ moved_next from 0 ids
+    ap (λ n. next_after n (ids_onward from ids)) at ∙ onward_next from 0 ids
 
-pub moved_from : (most names from : ℕ) (ids : List ℕ) → RiseWithin most 0 ids → from + next_after 0 ids ≤ names →
-    RiseWithin names from (moved from ids)
-moved_from most names from ids up h =
+pub onward_from : (most names from : ℕ) (ids : List ℕ) → RiseWithin most 0 ids → from + next_after 0 ids ≤ names →
+    RiseWithin names from (ids_onward from ids)
+onward_from most names from ids up h =
     let at : from + 0 ≡ from = omega arith in
-    subst (λ n. RiseWithin names n (moved from ids)) at (moved_rise most names from 0 ids up h)
+    subst (λ n. RiseWithin names n (ids_onward from ids)) at (onward_rise most names from 0 ids up h)
 
 -- ---- ids at the front of a list that is read
 
@@ -76,7 +76,7 @@ read_front names next more (id ∷ ids) rest few up =
     ap (λ n. read_ids names n next (flat_map varint (deltas_from next (id ∷ ids)) ++ rest)) one
     ∙ ap (after_delta names next (read_ids names (length ids + more)))
     (ap read_varint (append_assoc (varint delta) (flat_map varint (deltas_from (id + 1) ids)) rest) ∙ varint_read delta _ fits)
-    ∙ ap (λ b. cond b (onto (next + delta - 1) (read_ids names (length ids + more) (next + delta) (flat_map varint (deltas_from (id + 1) ids) ++ rest))) damaged)
+    ∙ ap (λ b. cond b (onto (next + delta - 1) (read_ids names (length ids + more) (next + delta) (flat_map varint (deltas_from (id + 1) ids) ++ rest))) damage)
     (and_from (ltb 0 delta) (ltb (next + delta) (names + 1)) (lt-ltb 0 delta (omega (arith, up.0))) (lt-ltb (next + delta) (names + 1) (omega (arith, at, up.1))))
     ∙ ap (λ m. onto (m - 1) (read_ids names (length ids + more) m (flat_map varint (deltas_from (id + 1) ids) ++ rest))) at
     ∙ ap (onto (id + 1 - 1)) (read_front names (id + 1) more ids rest few up.2)
@@ -85,14 +85,14 @@ read_front names next more (id ∷ ids) rest few up =
 pub left_front : (names next left : ℕ) (bytes rest ids : List ℕ) → names < 2 ^ 31 → RiseWithin most_ids 0 ids →
     next + next_after 0 ids ≤ names → length ids ≤ left → bytes ≡ stream_of ids ++ rest →
     read_ids names left next bytes
-    ≡ before (moved next ids) (read_ids names (left - length ids) (next + next_after 0 ids) rest)
+    ≡ before (ids_onward next ids) (read_ids names (left - length ids) (next + next_after 0 ids) rest)
 left_front names next left bytes rest ids few up within count is =
     let long = length-map ids (λ id. next + id) in
-    let all : left ≡ length (moved next ids) + (left - length ids) = omega (arith, long, count) in
-    let written : bytes ≡ flat_map varint (deltas_from next (moved next ids)) ++ rest = is ∙ ap (λ s. s ++ rest) (sym (moved_stream next ids)) in
+    let all : left ≡ length (ids_onward next ids) + (left - length ids) = omega (arith, long, count) in
+    let written : bytes ≡ flat_map varint (deltas_from next (ids_onward next ids)) ++ rest = is ∙ ap (λ s. s ++ rest) (sym (onward_stream next ids)) in
     (λ i. read_ids names (all i) next (written i))
-    ∙ read_front names next (left - length ids) (moved next ids) rest (omega (arith, few)) (moved_from most_ids names next ids up within)
-    ∙ ap (λ n. before (moved next ids) (read_ids names (left - length ids) n rest)) (moved_last next ids)
+    ∙ read_front names next (left - length ids) (ids_onward next ids) rest (omega (arith, few)) (onward_from most_ids names next ids up within)
+    ∙ ap (λ n. before (ids_onward next ids) (read_ids names (left - length ids) n rest)) (onward_last next ids)
 
 -- ids that rise no further than to a number are below it, also where they are counted from another
 pub all_below : (most from end next : ℕ) (ids : List ℕ) → RiseWithin most next ids → next_after next ids ≤ end - from →
@@ -110,16 +110,16 @@ pub joined : (bytes : List ℕ) (len count next size ids end : ℕ) → IsStream
     IsStream (take (len + size) bytes) (count + ids) (next + end)
 joined bytes len count next size ids end is more fits =
     let some : List ℕ = ids_in (take size (drop len bytes)) ids in
-    let rise : RiseWithin most_ids next (moved next some) =
-    moved_from most_ids most_ids next some more.rise (omega (arith, fits, more.follows)) in
-    let push = stream_more (take len bytes) count next (moved next some) is rise in
-    let all : take len bytes ++ flat_map varint (deltas_from next (moved next some)) ≡ take (len + size) bytes =
-    ap (λ s. take len bytes ++ s) (moved_stream next some ∙ sym more.written) ∙ sym (take-add len size bytes) in
-    let many : count + length (moved next some) ≡ count + ids = ap (λ n. count + n) (length-map some (λ id. next + id) ∙ sym more.counted) in
-    let at : next_after next (moved next some) ≡ next + end = moved_last next some ∙ ap (λ n. next + n) (sym more.follows) in
+    let rise : RiseWithin most_ids next (ids_onward next some) =
+    onward_from most_ids most_ids next some more.rise (omega (arith, fits, more.follows)) in
+    let push = stream_more (take len bytes) count next (ids_onward next some) is rise in
+    let all : take len bytes ++ flat_map varint (deltas_from next (ids_onward next some)) ≡ take (len + size) bytes =
+    ap (λ s. take len bytes ++ s) (onward_stream next some ∙ sym more.written) ∙ sym (take-add len size bytes) in
+    let many : count + length (ids_onward next some) ≡ count + ids = ap (λ n. count + n) (length-map some (λ id. next + id) ∙ sym more.counted) in
+    let at : next_after next (ids_onward next some) ≡ next + end = onward_last next some ∙ ap (λ n. next + n) (sym more.follows) in
     subst (IsStream (take (len + size) bytes) (count + ids)) at
-    (subst (λ n. IsStream (take (len + size) bytes) n (next_after next (moved next some))) many
-    (subst (λ s. IsStream s (count + length (moved next some)) (next_after next (moved next some))) all push.is))
+    (subst (λ n. IsStream (take (len + size) bytes) n (next_after next (ids_onward next some))) many
+    (subst (λ s. IsStream s (count + length (ids_onward next some)) (next_after next (ids_onward next some))) all push.is))
 
 -- the stream of one id
 pub one_stream : (bytes : List ℕ) (size delta : ℕ) → 0 < delta → delta ≤ most_ids → take size bytes ≡ varint delta →
@@ -218,9 +218,9 @@ pub passed : (ended : Bool) (names left next last len on : ℕ) (bytes rest ids 
     left_of ended names left next bytes ≡ now → ended ≡ false → next ≡ last + 1 → names < 2 ^ 31 →
     RiseWithin most_ids 0 ids → next + on ≤ names → len ≡ length ids → len ≤ left → on ≡ next_after 0 ids →
     bytes ≡ stream_of ids ++ rest →
-    now ≡ before (moved (last + 1) ids) (left_of ended names (left - len) (next + on) rest)
+    now ≡ before (ids_onward (last + 1) ids) (left_of ended names (left - len) (next + on) rest)
 passed ended names left next last len on bytes rest ids now view off at few up within count fits go is =
     sym view
     ∙ ap (λ b. left_of b names left next bytes) off
     ∙ left_front names next left bytes rest ids few up (omega (arith, within, go)) (omega (arith, fits, count)) is
-    ∙ (λ i. before (moved (at i) ids) (left_of (sym off i) names (left - sym count i) (next + sym go i) rest))
+    ∙ (λ i. before (ids_onward (at i) ids) (left_of (sym off i) names (left - sym count i) (next + sym go i) rest))

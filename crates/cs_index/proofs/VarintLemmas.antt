@@ -1,7 +1,7 @@
 -- What is written as varints is read again.
 use Rattle.std.proofs.Common.{◌≡◌, ℕ, zero, suc, ◌+◌, ◌-◌, ◌*◌, ◌/◌, ◌%◌, ◌^◌, ◌<◌, true, false, cond, ltb, List, [], ◌∷◌, ◌++◌, length, refl, ap, subst, ◌∙◌, inl, inr, Some, None, arith, append_assoc}
 use Rattle.cs_index.specs.Rising.{RiseWithin}
-use Rattle.cs_index.specs.PostingLists.{varint_at, below_limit, read_varint, Ids, damaged, onto, after_delta, read_ids}
+use Rattle.cs_index.specs.PostingLists.{varint_at, below_limit, read_varint, Ids, damage, onto, after_delta, read_ids}
 use Rattle.std.proofs.lemmas.Bool.{lt-ltb, le-ltb, cases_lt, and_from}
 use Rattle.std.proofs.Math.Nat.{pow-succ'}
 use Rattle.std.specs.Prelude.{option_map, option_and_then, flat_map}
@@ -46,7 +46,7 @@ ids_read names next (id ∷ ids) rest few up =
     let at : next + delta ≡ id + 1 = omega (arith, up.0) in
     ap (after_delta names next (read_ids names (length ids)))
     (ap read_varint (append_assoc (varint delta) (flat_map varint (deltas_from (id + 1) ids)) (0 ∷ rest)) ∙ varint_read delta _ fits)
-    ∙ ap (λ b. cond b (onto (next + delta - 1) (read_ids names (length ids) (next + delta) (flat_map varint (deltas_from (id + 1) ids) ++ 0 ∷ rest))) damaged)
+    ∙ ap (λ b. cond b (onto (next + delta - 1) (read_ids names (length ids) (next + delta) (flat_map varint (deltas_from (id + 1) ids) ++ 0 ∷ rest))) damage)
     (and_from (ltb 0 delta) (ltb (next + delta) (names + 1)) (lt-ltb 0 delta (omega (arith, up.0))) (lt-ltb (next + delta) (names + 1) (omega (arith, at, up.1))))
     ∙ ap (λ m. onto (m - 1) (read_ids names (length ids) m (flat_map varint (deltas_from (id + 1) ids) ++ 0 ∷ rest))) at
     ∙ ap (onto (id + 1 - 1)) (ids_read names (id + 1) ids rest few up.2)

@@ -1,9 +1,9 @@
 -- What a builder holds, and what it refuses.
 -- docs/FORMAT.md, "The index as it is written".
-use Rattle.std.specs.Prelude.{◌≡◌, ℕ, ◌-◌, ◌<◌, ◌≤◌, Bool, true, false, not, ◌&&◌, nat_eq, nat_lt, List, [], ◌∷◌, ◌++◌, length, slice_get}
+use Rattle.std.specs.Prelude.{◌≡◌, ℕ, ◌-◌, ◌≤◌, Bool, true, false, not, ◌&&◌, nat_eq, nat_lt, List, [], ◌∷◌, ◌++◌, length, slice_get}
 use Rattle.cs_tree.specs.PathSet.{Paths}
 use Rattle.cs_tree.specs.NameOrder.{bytes_cmp}
-use Rattle.cs_trigram.specs.Trigram.{Ascends, closing_trigram}
+use Rattle.cs_trigram.specs.TrigramSets.{IsTrigramSet}
 use Rattle.std.specs.Option.{option_map_or}
 use Rattle.std.specs.List.{list_all, AllByRecursion}
 use Rattle.std.specs.Ordering.{is_lt}
@@ -68,6 +68,5 @@ pub record IsBuilt (built : Built) : Type 0 where
   pub each_name : AllByRecursion IsString (names_of built.entries)
   -- names strictly ascend
   pub ascend : map'.is_sorted bytes_cmp built.entries ≡ true
-  pub trigrams : AllByRecursion (λ (entry : Entry). AllByRecursion (λ g. g < closing_trigram) entry.1) built.entries
-  pub sets : AllByRecursion (λ (entry : Entry). Ascends entry.1) built.entries
+  pub sets : AllByRecursion (λ (entry : Entry). IsTrigramSet entry.1) built.entries
   pub few : length built.entries ≤ most_names

@@ -13,9 +13,9 @@ abbrev pub meets : Parts → Query → ℕ → Bool
 meets parts query id = holds query (λ g. has (set_at id (lists_in parts)) g)
 
 -- the ids of the names that pass a test, ascending
-abbrev pub names_that : Parts → (ℕ → Bool) → List ℕ
-names_that parts test = filter test (range_with_len 0 (length parts.names))
+abbrev pub ids_that : Parts → (ℕ → Bool) → List ℕ
+ids_that parts test = filter test (range_with_len 0 (length parts.names))
 
 -- the ids of the names whose trigrams meet the query, ascending
 unfoldable pub candidates_of : Parts → Query → List ℕ
-candidates_of parts query = names_that parts (meets parts query)
+candidates_of parts query = ids_that parts (meets parts query)

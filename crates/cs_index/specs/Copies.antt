@@ -1,12 +1,12 @@
 -- Lists that were read of a store, one after the other, and the entries that they have there.
-use Rattle.std.specs.Prelude.{◌≡◌, ◌≤◌, ◌<◌, ◌^◌, ℕ, ◌+◌, ◌*◌, List, [], ◌∷◌, ◌++◌, length, map, flat_map, Option, Some, None}
+use Rattle.std.specs.Prelude.{◌≡◌, ◌≤◌, ◌<◌, ◌^◌, ℕ, ◌+◌, ◌*◌, List, [], ◌∷◌, ◌++◌, length, Option, Some, None}
 use Rattle.std.specs.List.{AllByRecursion}
-use Rattle.cs_trigram.specs.Trigram.{Ascends, closing_trigram}
+use Rattle.cs_trigram.specs.Trigram.{closing_trigram}
 use Rattle.cs_tree.specs.Store.{part_of}
-use Rattle.cs_index.specs.Image.{ListEntry, entry_bytes}
+use Rattle.cs_index.specs.Image.{ListEntry}
 use Rattle.cs_index.specs.Opening.{entries_in}
 use Rattle.cs_index.specs.Postings.{entry_of}
-use Rattle.cs_index.specs.Spelling.{IsEntry}
+use Rattle.cs_index.specs.Failing.{AreEntries}
 
 -- five bytes in which no number ends
 abbrev pub endless : List ℕ
@@ -34,10 +34,8 @@ abbrev pub HasCopy : List ℕ → List ListEntry → List ℕ → List ListEntry
 HasCopy section entries postings copies g = IsCopied section postings (entry_of entries g) (entry_of copies g)
 
 -- Bytes of a list index of their own, for these lists.
-pub record AreEntries (list_index postings : List ℕ) : Type 0 where
-  pub laid : list_index ≡ flat_map entry_bytes (entries_in list_index)
-  pub each : AllByRecursion (IsEntry postings) (entries_in list_index)
-  pub ascend : Ascends (map (λ (e : ListEntry). e.trigram) (entries_in list_index))
+pub record AreCopiedEntries (list_index postings : List ℕ) : Type 0 where
+  pub entries : AreEntries postings (entries_in list_index) list_index
   pub short : length postings < 2 ^ 32
 
 -- the trigram of each entry is below this one

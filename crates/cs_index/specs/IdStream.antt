@@ -1,17 +1,12 @@
 -- The ids of a list as a stream of varints.
-use Rattle.std.specs.Prelude.{◌≡◌, ℕ, ◌+◌, List, [], ◌∷◌, ◌++◌, length, flat_map}
-use Rattle.cs_index.specs.Rising.{RiseWithin}
+use Rattle.std.specs.Prelude.{◌≡◌, ℕ, List, [], ◌∷◌, ◌++◌, length, flat_map}
+use Rattle.cs_index.specs.Rising.{RiseWithin, next_after}
 use Rattle.cs_index.specs.PostingLists.{read_ids}
 use Rattle.cs_index.specs.Image.{varint, deltas_from}
 
 -- each id is below this number: no index that fits has more names
 abbrev pub most_ids : ℕ
 most_ids = 2147483648
-
--- one more than the last id, or the number given
-abbrev pub next_after : ℕ → List ℕ → ℕ
-next_after next [] = next
-next_after next (id ∷ ids) = next_after (id + 1) ids
 
 abbrev pub stream_of : List ℕ → List ℕ
 stream_of ids = flat_map varint (deltas_from 0 ids)

@@ -1,11 +1,10 @@
 -- What `Sections` lays out as an index: paths, names, and lists of ids.
 -- docs/FORMAT.md, "The index as it is written".
-use Rattle.std.specs.Prelude.{◌≡◌, ℕ, ◌<◌, ◌≤◌, ◌^◌, List, [], ◌∷◌, ◌++◌, length, Option, None, Some}
+use Rattle.std.specs.Prelude.{◌≡◌, ℕ, ◌<◌, ◌≤◌, ◌^◌, nat_eq, if◌then◌else◌, List, [], ◌∷◌, ◌++◌, length, Option, None, Some}
 use Rattle.std.specs.List.{AllByRecursion}
 use Rattle.std.specs.Option.{option_map_or}
 use Rattle.cs_trigram.specs.Trigram.{closing_trigram}
 use Rattle.cs_index.specs.Image.{Entry, Posting, IsString}
-use Rattle.cs_index.specs.Gathering.{ids_of, with_id}
 use Rattle.cs_index.specs.PostingLists.{entries_of}
 use Rattle.cs_index.specs.Rising.{ArePostings}
 
@@ -15,6 +14,16 @@ pub record Laid : Type 0 where
   pub names : List (List ℕ)
   pub lists : List Posting
   pub begun : Option ℕ
+
+-- the ids of a trigram
+abbrev pub ids_of : List Posting → ℕ → List ℕ
+ids_of [] g = []
+ids_of (p ∷ ps) g = if nat_eq p.0 g then p.1 else ids_of ps g
+
+-- the lists after a trigram was given one more id
+abbrev pub with_id : List Posting → ℕ → ℕ → List Posting
+with_id [] g id = (g, id ∷ []) ∷ []
+with_id (p ∷ ps) g id = if nat_eq p.0 g then (p.0, p.1 ++ id ∷ []) ∷ ps else p ∷ with_id ps g id
 
 -- each name with the trigrams whose list has its id
 abbrev pub entries_laid : Laid → List Entry
@@ -60,9 +69,9 @@ abbrev pub AllBelow : List Posting → ℕ → Type 0
 AllBelow lists trigram = AllByRecursion (λ (p : Posting). p.0 < trigram) lists
 
 -- the list that was begun last comes after all lists but its own
-abbrev pub IsBegun : List Posting → Option ℕ → Type 0
-IsBegun lists None = lists ≡ []
-IsBegun lists (Some trigram) = (trigram < closing_trigram) × AllByRecursion (λ (p : Posting). p.0 ≤ trigram) lists
+abbrev pub IsLastList : List Posting → Option ℕ → Type 0
+IsLastList lists None = lists ≡ []
+IsLastList lists (Some trigram) = (trigram < closing_trigram) × AllByRecursion (λ (p : Posting). p.0 ≤ trigram) lists
 
 -- What is true of whatever is laid out.
 pub record IsLaid (laid : Laid) : Type 0 where
@@ -70,4 +79,4 @@ pub record IsLaid (laid : Laid) : Type 0 where
   pub each_name : AllByRecursion IsString laid.names
   pub few : length laid.names ≤ 2 ^ 31
   pub postings : ArePostings (length laid.names) laid.lists
-  pub last : IsBegun laid.lists laid.begun
+  pub last : IsLastList laid.lists laid.begun

@@ -3,7 +3,10 @@
 use Rattle.std.specs.Prelude.{ℕ, Bool, List, [], length, map, if◌then◌else◌}
 use Rattle.cs_index.specs.PostingLists.{Ids, read_list, entries_of}
 use Rattle.std.specs.List.{list_all}
-use Rattle.cs_index.specs.Image.{Entry, ListEntry, Posting}
+use Rattle.std.specs.FinMap as map
+use Rattle.cs_tree.specs.PathSet.{Paths}
+use Rattle.cs_tree.specs.PathSet as set
+use Rattle.cs_index.specs.Image.{Entry, Files, ListEntry, Posting}
 
 -- What an index holds: its paths, its names, the entries of its list index, and the section that has the lists.
 pub record Parts : Type 0 where
@@ -31,3 +34,11 @@ are_whole parts = list_all (λ (e : ListEntry). (ids_read parts e).whole) parts.
 -- each name with the trigrams whose list has its id
 abbrev pub files_read : Parts → List Entry
 files_read parts = entries_of 0 parts.names (lists_in parts)
+
+-- the set of its paths
+abbrev pub paths_in : Parts → Paths
+paths_in parts = set.from_list parts.paths
+
+-- its files
+abbrev pub files_in : Parts → Files
+files_in parts = map.from_entries (files_read parts)

@@ -23,8 +23,8 @@ pub record Ids : Type 0 where
   pub ids : List ℕ
   pub whole : Bool
 
-abbrev pub damaged : Ids
-damaged = record { ids = []; whole = false }
+abbrev pub damage : Ids
+damage = record { ids = []; whole = false }
 
 abbrev pub onto : ℕ → Ids → Ids
 onto id rest = record { ids = id ∷ rest.ids; whole = rest.whole }
@@ -35,9 +35,9 @@ is_zero (Some found) = nat_eq found.0 0
 
 -- no delta, a delta of zero, or an id that no name has, is damage
 abbrev pub after_delta : ℕ → ℕ → (ℕ → List ℕ → Ids) → Option (ℕ × List ℕ) → Ids
-after_delta names next more None = damaged
+after_delta names next more None = damage
 after_delta names next more (Some found) =
-    if nat_lt 0 found.0 && nat_lt (next + found.0) (names + 1) then onto (next + found.0 - 1) (more (next + found.0) found.1) else damaged
+    if nat_lt 0 found.0 && nat_lt (next + found.0) (names + 1) then onto (next + found.0 - 1) (more (next + found.0) found.1) else damage
 
 abbrev pub read_ids : ℕ → ℕ → ℕ → List ℕ → Ids
 read_ids names zero next bytes = record { ids = []; whole = is_zero (read_varint bytes) }
@@ -46,7 +46,7 @@ read_ids names (suc count) next bytes = after_delta names next (read_ids names c
 -- the list at an entry: its trigram, and then the ids
 abbrev pub read_list : List ℕ → ℕ → ListEntry → Ids
 read_list postings names e =
-    if same (take 3 (drop e.offset postings)) (three_bytes e.trigram) then read_ids names e.count 0 (drop (e.offset + 3) postings) else damaged
+    if same (take 3 (drop e.offset postings)) (three_bytes e.trigram) then read_ids names e.count 0 (drop (e.offset + 3) postings) else damage
 
 -- the trigrams whose list has the id
 abbrev pub set_at : ℕ → List Posting → List ℕ

@@ -5,7 +5,7 @@ use Rattle.cs_trigram.specs.declared.queries.Query.{Query}
 use Rattle.cs_index.specs.OpenedParts.{Parts}
 use Rattle.cs_index.specs.Candidates.{candidates_of}
 use Rattle.cs_index.specs.Answerable.{asks_for, is_answerable}
-use Rattle.cs_index.specs.Sifting.{read_for}
+use Rattle.cs_index.specs.Postings.{read_for}
 
 -- The part answers the query as the whole does: it has the paths and the names, the same ids meet the query, and
 -- lists that the query asks for are whole here where they are there.

@@ -9,9 +9,14 @@ abbrev pub RiseWithin : ℕ → ℕ → List ℕ → Type 0
 RiseWithin names next [] = Unit {0}
 RiseWithin names next (id ∷ ids) = (next ≤ id) × (id < names) × RiseWithin names (id + 1) ids
 
+-- one more than the last id, or the number given
+abbrev pub next_after : ℕ → List ℕ → ℕ
+next_after next [] = next
+next_after next (id ∷ ids) = next_after (id + 1) ids
+
 -- ids that are counted from a number on
-abbrev pub moved : ℕ → List ℕ → List ℕ
-moved from ids = map (λ id. from + id) ids
+abbrev pub ids_onward : ℕ → List ℕ → List ℕ
+ids_onward from ids = map (λ id. from + id) ids
 
 -- a list that some name has, of ids in order
 abbrev pub IsPosting : ℕ → Posting → Type 0

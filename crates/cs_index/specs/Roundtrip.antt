@@ -1,14 +1,10 @@
 -- What is written is read back.
 -- docs/FORMAT.md, "The index as it is written" and "The index as it is read".
-use Rattle.std.specs.Prelude.{◌≡◌, ℕ, true, List, slice_index, ◌<◌}
+use Rattle.std.specs.Prelude.{◌≡◌, ℕ, true, List}
 use Rattle.cs_trigram.specs.Trigram.{Ascends}
 use Rattle.std.specs.List.{AllByRecursion}
 use Rattle.cs_index.specs.Image.{sections_of, Entry, names_of, list_entries, postings_of}
 use Rattle.cs_index.specs.OpenedParts.{Parts, lists_in, are_whole, files_read}
-
--- each is a byte
-abbrev pub AreBytes : List ℕ → Type 0
-AreBytes bytes = (at : ℕ) → slice_index bytes at < 256
 
 -- what an index has that is written of paths and entries
 unfoldable pub parts_written : List (List ℕ) → List Entry → Parts

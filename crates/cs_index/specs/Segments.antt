@@ -6,9 +6,9 @@ use Rattle.cs_index.specs.Image.{Posting}
 use Rattle.cs_index.specs.Keys.{ids_of_keys, trigram_of, with_keys, AreOfTrigram}
 
 -- the numbers that rise from one on by some gaps
-abbrev pub risen : ℕ → List ℕ → List ℕ
-risen from [] = []
-risen from (gap ∷ gaps) = (from + gap) ∷ risen (from + gap) gaps
+abbrev pub sums_from : ℕ → List ℕ → List ℕ
+sums_from from [] = []
+sums_from from (gap ∷ gaps) = (from + gap) ∷ sums_from (from + gap) gaps
 
 -- the gaps by which numbers rise from one on
 abbrev pub gaps_of : ℕ → List ℕ → List ℕ
@@ -17,7 +17,7 @@ gaps_of from (n ∷ ns) = (n - from) ∷ gaps_of n ns
 
 -- the keys of one trigram that gaps stand for
 abbrev pub run_in : ℕ → List ℕ → List ℕ
-run_in trigram gaps = risen (trigram * 256) gaps
+run_in trigram gaps = sums_from (trigram * 256) gaps
 
 -- the keys that heads and gaps stand for: a head is a trigram, and below it how many gaps it has
 abbrev pub keys_in : List ℕ → List ℕ → List ℕ
@@ -44,22 +44,22 @@ pub record ArePacked (heads gaps : List ℕ) : Type 0 where
   pub order : AreSortedKeys (keys_in heads gaps)
 
 -- The keys of a segment, and the id of the first file of its batch.
-pub record Ordered : Type 0 where
+pub record SegmentKeys : Type 0 where
   pub base : ℕ
   pub keys : List ℕ
 
 -- the lists after some segments gave their keys
-abbrev pub with_segments : List Posting → List Ordered → List Posting
+abbrev pub with_segments : List Posting → List SegmentKeys → List Posting
 with_segments lists [] = lists
 with_segments lists (s ∷ ss) = with_segments (with_keys s.base lists s.keys) ss
 
 -- the ids that a segment gives a trigram
-abbrev pub ids_given : Ordered → ℕ → List ℕ
-ids_given s g = ids_of_keys s.base (filter (λ key. nat_eq (trigram_of key) g) s.keys)
+abbrev pub ids_of_segment : SegmentKeys → ℕ → List ℕ
+ids_of_segment s g = ids_of_keys s.base (filter (λ key. nat_eq (trigram_of key) g) s.keys)
 
 -- the ids that segments give it, one after the other
-abbrev pub all_given : List Ordered → ℕ → List ℕ
-all_given segments g = flat_map (λ (s : Ordered). ids_given s g) segments
+abbrev pub ids_of_segments : List SegmentKeys → ℕ → List ℕ
+ids_of_segments segments g = flat_map (λ (s : SegmentKeys). ids_of_segment s g) segments
 
 -- the first key is one of the trigram
 abbrev pub BeginsWith : ℕ → List ℕ → Type 0
@@ -76,6 +76,6 @@ list_of g [] = []
 list_of g (id ∷ ids) = (g, id ∷ ids) ∷ []
 
 -- the lists of the trigrams from one on, one after the other
-abbrev pub listed : ℕ → List (List ℕ) → List Posting
-listed g [] = []
-listed g (ids ∷ lists) = list_of g ids ++ listed (g + 1) lists
+abbrev pub lists_from : ℕ → List (List ℕ) → List Posting
+lists_from g [] = []
+lists_from g (ids ∷ lists) = list_of g ids ++ lists_from (g + 1) lists

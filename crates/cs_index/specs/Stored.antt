@@ -8,7 +8,7 @@ use Rattle.cs_index.specs.Opening.{opening, read_sections}
 use Rattle.cs_index.specs.OpenedParts.{Parts}
 
 -- Paths, names and entries; where the section of the lists begins, and how long it is.
-pub record Held : Type 0 where
+pub record StoredParts : Type 0 where
   pub paths : List (List ℕ)
   pub names : List (List ℕ)
   pub entries : List ListEntry
@@ -16,19 +16,19 @@ pub record Held : Type 0 where
   pub room : ℕ
 
 -- the index that this is part of, where the lists lie in these bytes
-abbrev pub whole_of : List ℕ → Held → Parts
+abbrev pub whole_of : List ℕ → StoredParts → Parts
 whole_of bytes held = record { paths = held.paths; names = held.names; entries = held.entries; postings = part_of bytes held.start held.room }
 
 -- the lists end at this place or before it
-abbrev pub LiesBefore : Held → ℕ → Type 0
+abbrev pub LiesBefore : StoredParts → ℕ → Type 0
 LiesBefore held end = held.start + held.room ≤ end
 
 -- Sections of bytes are read as that index, or have that fault.
-abbrev pub ReadsAs : List ℕ → Sections → Result Held IndexFault → Type 0
-ReadsAs bytes sections (Ok held) = read_sections sections ≡ Ok (whole_of bytes held)
-ReadsAs bytes sections (Err fault) = read_sections sections ≡ Err fault
+abbrev pub SectionsOpenAs : List ℕ → Sections → Result StoredParts IndexFault → Type 0
+SectionsOpenAs bytes sections (Ok held) = read_sections sections ≡ Ok (whole_of bytes held)
+SectionsOpenAs bytes sections (Err fault) = read_sections sections ≡ Err fault
 
 -- Bytes open as that index, or have that fault.
-abbrev pub OpensAs : List ℕ → Result Held IndexFault → Type 0
+abbrev pub OpensAs : List ℕ → Result StoredParts IndexFault → Type 0
 OpensAs bytes (Ok held) = (opening bytes ≡ Ok (whole_of bytes held)) × LiesBefore held (length bytes)
 OpensAs bytes (Err fault) = opening bytes ≡ Err fault

@@ -2,8 +2,8 @@
 ghost use Rattle.std.specs.Prelude.{◌≡◌, ◌<◌, ◌≤◌, ◌+◌, ◌++◌, [], length, sum, take};
 ghost use Rattle.std.specs.List.{AllByRecursion};
 ghost use Rattle.cs_index.specs.Image.{varint};
-ghost use Rattle.cs_index.specs.Rising.{RiseWithin};
-ghost use Rattle.cs_index.specs.IdStream.{most_ids, next_after, stream_of, IsStream};
+ghost use Rattle.cs_index.specs.Rising.{RiseWithin, next_after};
+ghost use Rattle.cs_index.specs.IdStream.{most_ids, stream_of, IsStream};
 
 use std::marker::Model;
 

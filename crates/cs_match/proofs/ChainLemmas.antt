@@ -5,10 +5,11 @@ use Rattle.std.proofs.lemmas.List.Elements.{All-nil, All-cons, All-head, All-tai
 use Rattle.std.proofs.lemmas.Nat.{le_or_l, or_of_16}
 use Rattle.std.proofs.lemmas.Bool.{eqb-true, cases_lt}
 use Rattle.std.specs.Prelude.{IsTrue, ◌↔◌}
+use Rattle.cs_tree.specs.ByteList.{AreBytes}
 use Rattle.cs_match.specs.Lines.{newline, ended_lines}
 use Rattle.cs_match.specs.LineParts.{IsPart}
 use Rattle.cs_match.specs.Skipping.{AreWhole, NoneFound, ArePassed}
-use Rattle.cs_match.specs.Chains.{row_after, first_noisy, IsQuiet, AreBytes, Absorbs, TellsLines}
+use Rattle.cs_match.specs.Chains.{row_after, first_noisy, IsQuiet, Absorbs, ShowsLines}
 use Rattle.cs_match.proofs.LinesLemmas.{ended_lines-part, ended_lines-line, IsPart-append}
 use Rattle.cs_match.proofs.WholeLemmas.{whole_between, none_between, whole_line, ended_line}
 
@@ -84,7 +85,7 @@ module _ (cells : List ℕ) (fits : (at : ℕ) → at < 65536 → get_or cells a
             absurd (omega (arith, high, after_parts cells 0 m text, quiet))
       ]
 
-module _ (finds : List ℕ → Bool) (cells : List ℕ) (fits : (at : ℕ) → Fits w16 (get_or cells at 0)) (tells : TellsLines finds cells) where
+module _ (finds : List ℕ → Bool) (cells : List ℕ) (fits : (at : ℕ) → Fits w16 (get_or cells at 0)) (tells : ShowsLines finds cells) where
   -- a run that is quiet behind the end of a line was quiet there
   quiet_before : (part text : List ℕ) → AreBytes text → row_after cells (row_after cells 0 (part ++ newline ∷ [])) text < first_noisy → IsQuiet cells (part ++ newline ∷ [])
   unfolding row_after
@@ -210,7 +211,7 @@ module _ (block : List ℕ) where
 
 module _ (cells block : List ℕ) (fits : (at : ℕ) → Fits w16 (get_or cells at 0)) (bytes : (at : ℕ) → Fits w8 (get_or block at 0)) where
   abbrev AreQuiet : ℕ → ℕ → Type 0
-  AreQuiet from to = ArePassed (λ finds. TellsLines finds cells) block from to
+  AreQuiet from to = ArePassed (λ finds. ShowsLines finds cells) block from to
 
   quiet_part : (from to : ℕ) → from ≤ to → to ≤ length block → AreWhole (take (to - from) (drop from block)) → IsQuiet cells (take (to - from) (drop from block)) → AreQuiet from to
   quiet_part from to low high whole quiet =
@@ -220,10 +221,10 @@ module _ (cells block : List ℕ) (fits : (at : ℕ) → Fits w16 (get_or cells 
 
   -- the first n of the parts are quiet
   pub passed_parts : (from : ℕ) (ends : List ℕ) (n : ℕ) → from ≤ length block → AreCuts block from ends → n ≤ length ends → ((k : ℕ) → k < n → get_or (map (row_after cells 0) (parts block from ends)) k 0 < first_noisy) → AreQuiet from (get_or (from ∷ ends) n 0)
-  passed_parts from ends zero within cuts most quiet = passed_none (λ finds. TellsLines finds cells) block from within
+  passed_parts from ends zero within cuts most quiet = passed_none (λ finds. ShowsLines finds cells) block from within
   passed_parts from [] (suc n) within cuts most quiet = let no : ⊥ = omega (arith, most) in absurd no
   passed_parts from (to ∷ ends) (suc n) within cuts most quiet =
-      passed_append (λ finds. TellsLines finds cells) block from to (get_or (to ∷ ends) n 0)
+      passed_append (λ finds. ShowsLines finds cells) block from to (get_or (to ∷ ends) n 0)
       (quiet_part from to cuts.0.0 cuts.0.1 cuts.0.2 (quiet 0 (omega arith)))
       (passed_parts to ends n cuts.0.1 cuts.1 (omega arith) (λ k low. quiet (suc k) (omega arith)))
 

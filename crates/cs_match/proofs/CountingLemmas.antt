@@ -8,12 +8,13 @@ use Rattle.std.specs.Prelude.{IsTrue, ◌↔◌}
 use mir.Val.{bool_byte}
 use Rattle.std.proofs.lemmas.Nat.{le_or_l, or_of_16}
 use Rattle.std.proofs.lemmas.Bool.{eqb-true, ne_eqb}
+use Rattle.cs_tree.specs.ByteList.{AreBytes}
 use Rattle.cs_match.specs.declared.counting.Count.{Count}
 use Rattle.cs_match.specs.Lines.{newline, ended_lines}
 use Rattle.cs_match.specs.LineParts.{IsPart}
 use Rattle.cs_match.specs.Skipping.{AreWhole, ArePassed}
-use Rattle.cs_match.specs.Chains.{row_after, first_noisy, AreBytes}
-use Rattle.cs_match.specs.Counting.{found_row, unknown_row, nothing_counted, counted_in, counted_on, count_after, CountsLines, AreCounted}
+use Rattle.cs_match.specs.Chains.{row_after, found_row, unknown_row, first_noisy}
+use Rattle.cs_match.specs.Counting.{nothing_counted, count_in_row, count_onward, count_after, CountsLines, AreCounted}
 use Rattle.cs_match.proofs.ChainLemmas.{IsByte, after_append, small_row}
 use Rattle.cs_match.proofs.LinesLemmas.{ended_lines-part, ended_lines-line, IsPart-append}
 use Rattle.cs_match.proofs.WholeLemmas.{between_by, whole_between, whole_line, ended_line, ended_lines-whole}
@@ -27,18 +28,18 @@ module _ (cells : List ℕ) where
   count_append : (from : Count) (xs ys : List ℕ) → count_after cells from (xs ++ ys) ≡ count_after cells (count_after cells from xs) ys
   unfolding count_after
   count_append from [] ys = refl
-  count_append from (x ∷ xs) ys = count_append (counted_on cells from x) xs ys
+  count_append from (x ∷ xs) ys = count_append (count_onward cells from x) xs ys
 
   count_parts : (from : Count) (n : ℕ) (text : List ℕ) → count_after cells (count_after cells from (take n text)) (drop n text) ≡ count_after cells from text
   unfolding count_after
   count_parts from zero text = refl
   count_parts from (suc n) [] = refl
-  count_parts from (suc n) (b ∷ text) = count_parts (counted_on cells from b) n text
+  count_parts from (suc n) (b ∷ text) = count_parts (count_onward cells from b) n text
 
   pub count_all : (from : Count) (text : List ℕ) → count_after cells from (take (length text) text) ≡ count_after cells from text
   unfolding count_after
   count_all from [] = refl
-  count_all from (b ∷ text) = count_all (counted_on cells from b) text
+  count_all from (b ∷ text) = count_all (count_onward cells from b) text
 
   -- a count, and what a run over the rest comes to
   pub count_rest : (count end : Count) (i n : ℕ) (text : List ℕ) → end ≡ count_after cells count (take (length text - n) (drop n text)) → count ≡ count_after cells nothing_counted (take i text) → i ≡ n → end ≡ count_after cells nothing_counted text
@@ -48,13 +49,13 @@ module _ (cells : List ℕ) where
       ∙ count_parts nothing_counted n text
 
   -- one byte more
-  pub count_more : (from : Count) (text : List ℕ) (i : ℕ) → i < length text → count_after cells from (take (i + 1) text) ≡ counted_on cells (count_after cells from (take i text)) (get_or text i 0)
+  pub count_more : (from : Count) (text : List ℕ) (i : ℕ) → i < length text → count_after cells from (take (i + 1) text) ≡ count_onward cells (count_after cells from (take i text)) (get_or text i 0)
   unfolding count_after
   count_more from text i l = ap (count_after cells from) (take_more text i 0 l) ∙ count_append from (take i text) (get_or text i 0 ∷ [])
 
-  pub count_next : (from count next : Count) (text : List ℕ) (i byte : ℕ) → count ≡ count_after cells from (take i text) → byte ≡ get_or text i 0 → i < length text → next ≡ counted_on cells count byte → next ≡ count_after cells from (take (i + 1) text)
+  pub count_next : (from count next : Count) (text : List ℕ) (i byte : ℕ) → count ≡ count_after cells from (take i text) → byte ≡ get_or text i 0 → i < length text → next ≡ count_onward cells count byte → next ≡ count_after cells from (take (i + 1) text)
   count_next from count next text i byte is here l made =
-      made ∙ ap (λ c. counted_on cells c byte) is ∙ ap (counted_on cells (count_after cells from (take i text))) here ∙ sym (count_more from text i l)
+      made ∙ ap (λ c. count_onward cells c byte) is ∙ ap (count_onward cells (count_after cells from (take i text))) here ∙ sym (count_more from text i l)
 
   -- each byte counts one line at most
   count_by_one : (t : Bool) (row hits : ℕ) → (counted_if t row hits).hits ≤ hits + 1
@@ -66,7 +67,7 @@ module _ (cells : List ℕ) where
   count_few from [] = omega arith
   count_few from (b ∷ text) =
       let row = get_or cells (bit_or from.row b) 0 in
-      omega (arith, count_few (counted_on cells from b) text, count_by_one (nat_eq b newline && nat_eq row found_row) row from.hits)
+      omega (arith, count_few (count_onward cells from b) text, count_by_one (nat_eq b newline && nat_eq row found_row) row from.hits)
 
   pub count_few_in : (count : Count) (text : List ℕ) (i : ℕ) → count ≡ count_after cells nothing_counted (take i text) → count.hits ≤ i
   count_few_in count text i is =
@@ -84,8 +85,8 @@ module _ (finds : List ℕ → Bool) (cells : List ℕ) (fits : (at : ℕ) → F
   lost hits (b ∷ text) bytes =
       let byte : b < 256 = All-head IsByte b text bytes in
       let here : get_or cells (bit_or unknown_row b) 0 ≡ unknown_row = given.stays (bit_or unknown_row b) (omega (arith, le_or_l unknown_row b)) (or_of_16 unknown_row b (omega arith) (omega arith)) in
-      let next : counted_in unknown_row b hits ≡ record { row = unknown_row; hits = hits } = same_row (nat_eq b newline) in
-      ap (λ row. (count_after cells (counted_in row b hits) text).row) here
+      let next : count_in_row unknown_row b hits ≡ record { row = unknown_row; hits = hits } = same_row (nat_eq b newline) in
+      ap (λ row. (count_after cells (count_in_row row b hits) text).row) here
       ∙ ap (λ c. (count_after cells c text).row) next
       ∙ lost hits text (All-tail IsByte b text bytes)
     where
@@ -101,17 +102,17 @@ module _ (finds : List ℕ → Bool) (cells : List ℕ) (fits : (at : ℕ) → F
   unfolding row_after
   one_more part b = after_append cells 0 part (b ∷ [])
 
-  in_line : (row b hits : ℕ) → nat_eq b newline ≡ false → counted_in row b hits ≡ record { row = row; hits = hits }
+  in_line : (row b hits : ℕ) → nat_eq b newline ≡ false → count_in_row row b hits ≡ record { row = row; hits = hits }
   in_line row b hits e = rw e refl
 
-  at_end_missed : (row b hits : ℕ) → nat_eq row found_row ≡ false → counted_in row b hits ≡ record { row = row; hits = hits }
+  at_end_missed : (row b hits : ℕ) → nat_eq row found_row ≡ false → count_in_row row b hits ≡ record { row = row; hits = hits }
   at_end_missed row b hits e = ap (λ t. counted_if (nat_eq b newline && t) row hits) e ∙ both (nat_eq b newline)
     where
       both : (t : Bool) → counted_if (t && false) row hits ≡ record { row = row; hits = hits }
       both true = refl
       both false = refl
 
-  at_end_found : (row b hits : ℕ) → b ≡ newline → row ≡ found_row → counted_in row b hits ≡ record { row = 0; hits = hits + 1 }
+  at_end_found : (row b hits : ℕ) → b ≡ newline → row ≡ found_row → count_in_row row b hits ≡ record { row = 0; hits = hits + 1 }
   at_end_found row b hits e f = rw (e, f) refl
 
   -- the newline of a line
@@ -120,22 +121,22 @@ module _ (finds : List ℕ → Bool) (cells : List ℕ) (fits : (at : ℕ) → F
   line b text part hits p low more e behind =
       let at = bit_or (row_after cells 0 part) b in
       let row = get_or cells at 0 in
-      let small : row_after cells 0 part < 65536 = small_row cells (λ at _. omega (arith, fits at)) given.tells.absorbs 0 part (omega arith) low in
+      let small : row_after cells 0 part < 65536 = small_row cells (λ at _. omega (arith, fits at)) given.shows.absorbs 0 part (omega arith) low in
       let here : row_after cells 0 (part ++ newline ∷ []) ≡ row = one_more part newline ∙ ap (λ c. get_or cells (bit_or (row_after cells 0 part) c) 0) (sym e) in
       let lines : (t : Bool) → finds part ≡ t → count_by finds (ended_lines (part ++ b ∷ text)) ≡ cond t 1 0 + count_by finds (ended_lines text) = λ t is.
       ap (λ c. count_by finds (ended_lines (part ++ c ∷ text))) e ∙ ap (count_by finds) (ended_lines-line part text p) ∙ count_cons finds part (ended_lines text) t is in
       elim (given.kinds at (or_of_16 (row_after cells 0 part) b (omega arith) (omega (arith, e)))) [
         | inl quiet ↦
             let quiet_run : row_after cells 0 (part ++ newline ∷ []) < first_noisy = omega (arith, here, quiet) in
-            let none = given.tells.none part low p quiet_run in
-            let start : row ≡ 0 = sym here ∙ given.tells.back part low p quiet_run in
-            let next : counted_in row b hits ≡ record { row = 0; hits = hits } = at_end_missed row b hits (ne_eqb row found_row (λ f. omega (arith, f, quiet))) ∙ ap (λ r. record { row = r; hits = hits }) start in
+            let none = given.shows.none part low p quiet_run in
+            let start : row ≡ 0 = sym here ∙ given.shows.back part low p quiet_run in
+            let next : count_in_row row b hits ≡ record { row = 0; hits = hits } = at_end_missed row b hits (ne_eqb row found_row (λ f. omega (arith, f, quiet))) ∙ ap (λ r. record { row = r; hits = hits }) start in
             subst (Counts text hits (ended_lines (part ++ b ∷ text))) (sym next) (λ ends. omega (arith, behind hits ends, lines false none))
         | inr (inl hit) ↦
             let some = given.found part low p (here ∙ hit) in
             subst (Counts text hits (ended_lines (part ++ b ∷ text))) (sym (at_end_found row b hits e hit)) (λ ends. omega (arith, behind (hits + 1) ends, lines true some))
         | inr (inr unknown) ↦
-            let next : counted_in row b hits ≡ record { row = unknown_row; hits = hits } = at_end_missed row b hits (ne_eqb row found_row (λ f. omega (arith, f, unknown))) ∙ ap (λ r. record { row = r; hits = hits }) unknown in
+            let next : count_in_row row b hits ≡ record { row = unknown_row; hits = hits } = at_end_missed row b hits (ne_eqb row found_row (λ f. omega (arith, f, unknown))) ∙ ap (λ r. record { row = r; hits = hits }) unknown in
             subst (Counts text hits (ended_lines (part ++ b ∷ text))) (sym next) (λ ends. absurd (omega (arith, ends, lost hits text more)))
       ]
 
@@ -152,8 +153,8 @@ module _ (finds : List ℕ → Bool) (cells : List ℕ) (fits : (at : ℕ) → F
       elim (nat_eq b newline) as (λ t. nat_eq b newline ≡ t → Counts (b ∷ text) hits (ended_lines (part ++ b ∷ text)) (record { row = row_after cells 0 part; hits = hits })) [
         | true ↦ λ e. line b text part hits p low more (eqb-true b newline e) (λ n. counts_behind text [] n tt (All-nil IsByte) more)
         | false ↦ λ e.
-            let next : record { row = row_after cells 0 (part ++ b ∷ []); hits = hits } ≡ counted_in row b hits = ap (λ r. record { row = r; hits = hits }) (one_more part b) ∙ sym (in_line row b hits e) in
-            subst (λ all. Counts text hits (ended_lines all) (counted_in row b hits)) (append_assoc part (b ∷ []) text)
+            let next : record { row = row_after cells 0 (part ++ b ∷ []); hits = hits } ≡ count_in_row row b hits = ap (λ r. record { row = r; hits = hits }) (one_more part b) ∙ sym (in_line row b hits e) in
+            subst (λ all. Counts text hits (ended_lines all) (count_in_row row b hits)) (append_assoc part (b ∷ []) text)
             (subst (Counts text hits (ended_lines ((part ++ b ∷ []) ++ text))) next
             (counts_behind text (part ++ b ∷ []) hits (IsPart-append part (b ∷ []) p (e, tt)) (All-append IsByte part (b ∷ []) low byte) more))
       ] refl

@@ -3,10 +3,10 @@ use Rattle.std.proofs.Common.{◌≡◌, ◌+◌, true, false, [], ◌∷◌, re
 use Rattle.std.specs.Prelude.{None, slice_index}
 use Rattle.cs_sieve.specs.declared.window.Window.{Window}
 use Rattle.cs_syntax.specs.Matching.{Tree, one_of, cat, rep, none, more, word_edge, line_end, member}
-use Rattle.cs_syntax.specs.Lowering.{lowered}
+use Rattle.cs_syntax.specs.Lowering.{utf8_tree}
 use Rattle.cs_match.specs.declared.around.Around.{Around}
 use Rattle.cs_match.specs.Lines.{lines, ended_lines}
-use Rattle.cs_match.specs.Marks.{marks_of, shifted, meet}
+use Rattle.cs_match.specs.Marks.{marks_of, shift_and, meet}
 use Rattle.cs_match.specs.Places.{places, repeats, round_ends}
 use Rattle.cs_match.specs.Shifts.{lasts_by}
 use Rattle.cs_match.specs.Skipping.{AreWhole}
@@ -40,7 +40,7 @@ unfolding marks_of
 five_marks_the_first_and_the_third = refl
 
 -- phrases of two places and of one: the first mark goes on, and the third place does not take the byte
-marks_go_on : shifted false (true ∷ false ∷ true ∷ []) (true ∷ true ∷ false ∷ []) (true ∷ false ∷ true ∷ []) ≡ true ∷ true ∷ false ∷ []
+marks_go_on : shift_and false (true ∷ false ∷ true ∷ []) (true ∷ true ∷ false ∷ []) (true ∷ false ∷ true ∷ []) ≡ true ∷ true ∷ false ∷ []
 marks_go_on = refl
 
 a_phrase_ends_where_the_next_begins : lasts_by (true ∷ false ∷ true ∷ []) ≡ false ∷ true ∷ true ∷ []
@@ -142,8 +142,8 @@ window_of_three_bytes line found =
 
 -- all characters have 21 places, as many as all but a newline; `é` has two, and so has a block of 64
 lowered_places :
-    (places (lowered ((0, 1114111) ∷ [])) ≡ 21)
-    × (places (lowered ((0, 9) ∷ (11, 1114111) ∷ [])) ≡ 21)
-    × (places (lowered ((233, 233) ∷ [])) ≡ 2)
-    × (places (lowered ((192, 255) ∷ [])) ≡ 2)
+    (places (utf8_tree ((0, 1114111) ∷ [])) ≡ 21)
+    × (places (utf8_tree ((0, 9) ∷ (11, 1114111) ∷ [])) ≡ 21)
+    × (places (utf8_tree ((233, 233) ∷ [])) ≡ 2)
+    × (places (utf8_tree ((192, 255) ∷ [])) ≡ 2)
 lowered_places = (refl, refl, refl, refl)

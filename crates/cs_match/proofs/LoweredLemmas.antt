@@ -6,7 +6,7 @@ use Rattle.std.proofs.lemmas.Bool.{cases_lt, cond-false}
 use Rattle.std.proofs.lemmas.Bool.Decides.{nat_tests}
 use Rattle.cs_syntax.specs.ByteSet.{set_of}
 use Rattle.cs_syntax.specs.Ranges.{is_in_ranges}
-use Rattle.cs_syntax.specs.Lowering.{part, parts, with_last_byte, forms, forms_within, wide_forms, all_wide_forms, ascii_forms, lowered, any_of}
+use Rattle.cs_syntax.specs.Lowering.{part, parts, with_last_byte, forms, forms_within, wide_forms, all_wide_forms, ascii_forms, utf8_tree, any_of}
 use Rattle.cs_syntax.specs.Matching.{Tree, Trees, one_of, none, more}
 use Rattle.cs_syntax.specs.TreeList.{append}
 use Rattle.cs_match.specs.Places.{places, places_of, repeats, repeats_of, IsLooped, AreLooped}
@@ -46,7 +46,7 @@ all_wide_looped : (runs : List (ℕ × ℕ)) → AreLooped (all_wide_forms runs)
 all_wide_looped [] = tt
 all_wide_looped (run ∷ runs) = append_looped _ _ (wide_looped run) (all_wide_looped runs)
 
-pub lowered_looped : (runs : List (ℕ × ℕ)) → IsLooped (lowered runs)
+pub lowered_looped : (runs : List (ℕ × ℕ)) → IsLooped (utf8_tree runs)
 lowered_looped runs =
     any_looped _ (append_looped _ _ (chosen_looped (list_any (λ run. nat_lt run.0 128) runs) (one_of (set_of (λ b. nat_lt b 128 && is_in_ranges runs b))) tt) (all_wide_looped runs))
 
@@ -85,7 +85,7 @@ all_wide_repeats : (runs : List (ℕ × ℕ)) → repeats_of (all_wide_forms run
 all_wide_repeats [] = refl
 all_wide_repeats (run ∷ runs) = append_repeats _ _ (wide_repeats run) (all_wide_repeats runs)
 
-pub lowered_repeats : (runs : List (ℕ × ℕ)) → repeats (lowered runs) ≡ 0
+pub lowered_repeats : (runs : List (ℕ × ℕ)) → repeats (utf8_tree runs) ≡ 0
 lowered_repeats runs =
     any_repeats _
     ∙ append_repeats _ _ (chosen_repeats (list_any (λ run. nat_lt run.0 128) runs) (one_of (set_of (λ b. nat_lt b 128 && is_in_ranges runs b))) refl) (all_wide_repeats runs)
@@ -245,7 +245,7 @@ ascii_places (run ∷ runs) = chosen (list_any (λ r. nat_lt r.0 128) (run ∷ r
     chosen false set = omega arith
 
 -- a lowered set has at most 55 places for each of its runs
-pub lowered_places : (runs : List (ℕ × ℕ)) → places (lowered runs) ≤ 55 * length runs
+pub lowered_places : (runs : List (ℕ × ℕ)) → places (utf8_tree runs) ≤ 55 * length runs
 lowered_places runs =
     omega (
       arith,

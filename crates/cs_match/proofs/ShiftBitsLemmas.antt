@@ -7,26 +7,26 @@ use Rattle.std.proofs.lemmas.Nat.{and_le_l, and_le_r}
 use Rattle.std.proofs.lemmas.Nat.Bits.{bit_at-lt, bit_at-suc, bit_at-zero, bit_at_lowest, bit_at_above, bit_at_cat_low, bit_at_and, bit_at_or, bit_at-trailing_zeros}
 use Rattle.std.specs.Int.{bit_at, trailing_zeros}
 use Rattle.cs_syntax.specs.Bits.{has_bit}
-use Rattle.cs_match.specs.Marks.{marks_of, AreMarks, shifted, meet}
+use Rattle.cs_match.specs.Marks.{marks_of, AreMarks, shift_and, meet}
 use Rattle.cs_match.proofs.BitsLemmas.{length-marks_of, get_or-marks_of}
 
 -- lists of marks, place by place
-pub length-shifted : (before : Bool) (firsts takers marks : List Bool) → length firsts ≡ length marks → length takers ≡ length marks →
-    length (shifted before firsts takers marks) ≡ length marks
-length-shifted before [] takers marks f t = f
-length-shifted before (first ∷ firsts) [] marks f t = t
-length-shifted before (first ∷ firsts) (taker ∷ takers) [] f t = refl
-length-shifted before (first ∷ firsts) (taker ∷ takers) (mark ∷ marks) f t =
-    ap suc (length-shifted mark firsts takers marks (omega (arith, f)) (omega (arith, t)))
+pub length-shift_and : (before : Bool) (firsts takers marks : List Bool) → length firsts ≡ length marks → length takers ≡ length marks →
+    length (shift_and before firsts takers marks) ≡ length marks
+length-shift_and before [] takers marks f t = f
+length-shift_and before (first ∷ firsts) [] marks f t = t
+length-shift_and before (first ∷ firsts) (taker ∷ takers) [] f t = refl
+length-shift_and before (first ∷ firsts) (taker ∷ takers) (mark ∷ marks) f t =
+    ap suc (length-shift_and mark firsts takers marks (omega (arith, f)) (omega (arith, t)))
 
-pub get_or-shifted : (before : Bool) (firsts takers marks : List Bool) (k : ℕ) → k < length firsts → k < length takers → k < length marks →
-    get_or (shifted before firsts takers marks) k false ≡ (get_or (before ∷ marks) k false || get_or firsts k false) && get_or takers k false
-get_or-shifted before [] takers marks k f t m = absurd (omega (arith, f))
-get_or-shifted before (first ∷ firsts) [] marks k f t m = absurd (omega (arith, t))
-get_or-shifted before (first ∷ firsts) (taker ∷ takers) [] k f t m = absurd (omega (arith, m))
-get_or-shifted before (first ∷ firsts) (taker ∷ takers) (mark ∷ marks) zero f t m = refl
-get_or-shifted before (first ∷ firsts) (taker ∷ takers) (mark ∷ marks) (suc k) f t m =
-    get_or-shifted mark firsts takers marks k (omega (arith, f)) (omega (arith, t)) (omega (arith, m))
+pub get_or-shift_and : (before : Bool) (firsts takers marks : List Bool) (k : ℕ) → k < length firsts → k < length takers → k < length marks →
+    get_or (shift_and before firsts takers marks) k false ≡ (get_or (before ∷ marks) k false || get_or firsts k false) && get_or takers k false
+get_or-shift_and before [] takers marks k f t m = absurd (omega (arith, f))
+get_or-shift_and before (first ∷ firsts) [] marks k f t m = absurd (omega (arith, t))
+get_or-shift_and before (first ∷ firsts) (taker ∷ takers) [] k f t m = absurd (omega (arith, m))
+get_or-shift_and before (first ∷ firsts) (taker ∷ takers) (mark ∷ marks) zero f t m = refl
+get_or-shift_and before (first ∷ firsts) (taker ∷ takers) (mark ∷ marks) (suc k) f t m =
+    get_or-shift_and mark firsts takers marks k (omega (arith, f)) (omega (arith, t)) (omega (arith, m))
 
 pub meet_at : (marks others : List Bool) (k : ℕ) → get_or marks k false ≡ true → get_or others k false ≡ true → meet marks others ≡ true
 meet_at [] others k a b = (cc)
@@ -162,8 +162,8 @@ module _ (new old firsts takers : List ℕ) (count : ℕ) (old-are : AreMarks ol
       let place : k / 64 * 64 + k % 64 ≡ k = omega arith in
       in-word (k / 64) (k % 64) (omega arith) h ∙ ap (λ x. (previous old x || has_bit firsts k) && has_bit takers k) place
 
-  pub AreMarks-shifted : AreMarks new count
-  AreMarks-shifted = record {
+  pub AreMarks-shift_and : AreMarks new count
+  AreMarks-shift_and = record {
     enough = size ∙ old-are.enough;
     fit = All-from_get_or (λ word. word < 2 ^ 64) new 0 (λ k h.
         let within : k < length old = omega (arith, size) in
@@ -179,17 +179,17 @@ module _ (new old firsts takers : List ℕ) (count : ℕ) (old-are : AreMarks ol
   previous-mark zero h = refl
   previous-mark (suc k) h = get_or-marks_of old count k (omega (arith, h))
 
-  pub marks_of-shifted : marks_of new count ≡ shifted false (marks_of firsts count) (marks_of takers count) (marks_of old count)
-  marks_of-shifted =
+  pub marks_of-shift_and : marks_of new count ≡ shift_and false (marks_of firsts count) (marks_of takers count) (marks_of old count)
+  marks_of-shift_and =
       let n = length-marks_of new count in
       let o = length-marks_of old count in
       let f = length-marks_of firsts count in
       let t = length-marks_of takers count in
-      ext_get_or false _ _ (n ∙ sym (length-shifted false (marks_of firsts count) (marks_of takers count) (marks_of old count) (f ∙ sym o) (t ∙ sym o) ∙ o)) (λ k h.
+      ext_get_or false _ _ (n ∙ sym (length-shift_and false (marks_of firsts count) (marks_of takers count) (marks_of old count) (f ∙ sym o) (t ∙ sym o) ∙ o)) (λ k h.
       let within : k < count = omega (arith, h, n) in
       get_or-marks_of new count k within
       ∙ at-place k (omega (arith, within, old-are.enough))
-      ∙ sym (get_or-shifted false (marks_of firsts count) (marks_of takers count) (marks_of old count) k (omega (arith, within, f)) (omega (arith, within, t)) (omega (arith, within, o))
+      ∙ sym (get_or-shift_and false (marks_of firsts count) (marks_of takers count) (marks_of old count) k (omega (arith, within, f)) (omega (arith, within, t)) (omega (arith, within, o))
       ∙ ap (λ x. (x || get_or (marks_of firsts count) k false) && get_or (marks_of takers count) k false) (previous-mark k within)
       ∙ ap (λ x. (previous old k || x) && get_or (marks_of takers count) k false) (get_or-marks_of firsts count k within)
       ∙ ap (λ x. (previous old k || has_bit firsts k) && x) (get_or-marks_of takers count k within)))

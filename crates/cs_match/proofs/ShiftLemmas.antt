@@ -8,7 +8,7 @@ use Rattle.cs_match.specs.declared.around.Around.{Around}
 use Rattle.cs_match.specs.declared.shifts.Shifts.{Shifts}
 use Rattle.cs_match.specs.declared.phrases.Phrases.{Phrases}
 use Rattle.cs_match.specs.Places.{places, places_of, nullable, nullable_all, nullable_some, leaves, leaves_all, leaves_some, exits, step, step_all, step_each}
-use Rattle.cs_match.specs.Marks.{shifted, meet}
+use Rattle.cs_match.specs.Marks.{shift_and, meet}
 use Rattle.cs_match.specs.Shifts.{is_phrase, are_phrases, place_sets, place_sets_of, first_of, firsts_of, ArePhrases, branches, lasts_by, takers_by, takers_of, AreShifts}
 use Rattle.cs_match.specs.Phrases.{IsSpelled, AreAdded, HasPhrases, AreShiftsOf}
 use Rattle.cs_match.proofs.MarksLemmas.{cat_bools, alt_bools}
@@ -23,17 +23,17 @@ last_or-append before [] ys = refl
 last_or-append before (x ∷ xs) ys = last_or-append x xs ys
 
 -- marks are shifted part by part
-shifted-append : (before : Bool) (fs gs ts us xs ys : List Bool) → length fs ≡ length xs → length ts ≡ length xs →
-    shifted before (fs ++ gs) (ts ++ us) (xs ++ ys) ≡ shifted before fs ts xs ++ shifted (last_or before xs) gs us ys
-shifted-append before [] gs [] us [] ys f t = refl
-shifted-append before [] gs [] us (x ∷ xs) ys f t = absurd (omega arith)
-shifted-append before [] gs (u ∷ ts) us [] ys f t = absurd (omega arith)
-shifted-append before [] gs (u ∷ ts) us (x ∷ xs) ys f t = absurd (omega arith)
-shifted-append before (g ∷ fs) gs [] us [] ys f t = absurd (omega arith)
-shifted-append before (g ∷ fs) gs [] us (x ∷ xs) ys f t = absurd (omega arith)
-shifted-append before (g ∷ fs) gs (u ∷ ts) us [] ys f t = absurd (omega arith)
-shifted-append before (g ∷ fs) gs (u ∷ ts) us (x ∷ xs) ys f t =
-    ap (λ rest. ((before || g) && u) ∷ rest) (shifted-append x fs gs ts us xs ys (omega arith) (omega arith))
+shift_and-append : (before : Bool) (fs gs ts us xs ys : List Bool) → length fs ≡ length xs → length ts ≡ length xs →
+    shift_and before (fs ++ gs) (ts ++ us) (xs ++ ys) ≡ shift_and before fs ts xs ++ shift_and (last_or before xs) gs us ys
+shift_and-append before [] gs [] us [] ys f t = refl
+shift_and-append before [] gs [] us (x ∷ xs) ys f t = absurd (omega arith)
+shift_and-append before [] gs (u ∷ ts) us [] ys f t = absurd (omega arith)
+shift_and-append before [] gs (u ∷ ts) us (x ∷ xs) ys f t = absurd (omega arith)
+shift_and-append before (g ∷ fs) gs [] us [] ys f t = absurd (omega arith)
+shift_and-append before (g ∷ fs) gs [] us (x ∷ xs) ys f t = absurd (omega arith)
+shift_and-append before (g ∷ fs) gs (u ∷ ts) us [] ys f t = absurd (omega arith)
+shift_and-append before (g ∷ fs) gs (u ∷ ts) us (x ∷ xs) ys f t =
+    ap (λ rest. ((before || g) && u) ∷ rest) (shift_and-append x fs gs ts us xs ys (omega arith) (omega arith))
 
 meet-append : (xs ys us vs : List Bool) → length xs ≡ length us → meet (xs ++ ys) (us ++ vs) ≡ (meet xs us || meet ys vs)
 meet-append [] ys [] vs e = refl
@@ -79,18 +79,18 @@ mutual
 -- of a phrase's marks each goes on to the next place, and the first place is entered
 record Moves (t : Tree) (a : Around) (b : ℕ) : Type 0 where
   moves : (enter : Bool) (ms : List Bool) → length ms ≡ places t →
-      step t enter ms a b ≡ shifted enter (replicate (places t) false) (takers_by (place_sets t) b) ms
+      step t enter ms a b ≡ shift_and enter (replicate (places t) false) (takers_by (place_sets t) b) ms
   left : (enter : Bool) (ms : List Bool) → length ms ≡ places t → exits t enter ms a ≡ last_or enter ms
 
 record MoveAll (ts : Trees) (a : Around) (b : ℕ) : Type 0 where
   moves : (enter : Bool) (ms : List Bool) → length ms ≡ places_of ts →
-      step_all ts enter ms a b ≡ shifted enter (replicate (places_of ts) false) (takers_by (place_sets_of ts) b) ms
+      step_all ts enter ms a b ≡ shift_and enter (replicate (places_of ts) false) (takers_by (place_sets_of ts) b) ms
   left : (enter : Bool) (ms : List Bool) → length ms ≡ places_of ts → exits (cat ts) enter ms a ≡ last_or enter ms
 
 one_moves : (set : List Bool) (a : Around) (b : ℕ) → Moves (one_of set) a b
 one_moves set a b = record { moves = moves'; left = left' }
   where
-    moves' : (enter : Bool) (ms : List Bool) → length ms ≡ 1 → step (one_of set) enter ms a b ≡ shifted enter (false ∷ []) (member set b ∷ []) ms
+    moves' : (enter : Bool) (ms : List Bool) → length ms ≡ 1 → step (one_of set) enter ms a b ≡ shift_and enter (false ∷ []) (member set b ∷ []) ms
     moves' enter [] e = absurd (omega arith)
     moves' enter (m ∷ ms) e = ap (λ x. (x && member set b) ∷ []) (sym (or-false enter))
 
@@ -105,7 +105,7 @@ one_moves set a b = record { moves = moves'; left = left' }
 none_move : (a : Around) (b : ℕ) → MoveAll none a b
 none_move a b = record { moves = moves'; left = left' }
   where
-    moves' : (enter : Bool) (ms : List Bool) → length ms ≡ 0 → step_all none enter ms a b ≡ shifted enter [] [] ms
+    moves' : (enter : Bool) (ms : List Bool) → length ms ≡ 0 → step_all none enter ms a b ≡ shift_and enter [] [] ms
     moves' enter ms e = refl
 
     left' : (enter : Bool) (ms : List Bool) → length ms ≡ 0 → exits (cat none) enter ms a ≡ last_or enter ms
@@ -117,7 +117,7 @@ more_move : (t : Tree) (ts : Trees) (a : Around) (b : ℕ) → is_phrase t ≡ t
 more_move t ts a b is one others = record { moves = moves'; left = left' }
   where
     moves' : (enter : Bool) (ms : List Bool) → length ms ≡ places t + places_of ts →
-        step_all (more t ts) enter ms a b ≡ shifted enter (replicate (places t + places_of ts) false) (takers_by (place_sets t ++ place_sets_of ts) b) ms
+        step_all (more t ts) enter ms a b ≡ shift_and enter (replicate (places t + places_of ts) false) (takers_by (place_sets t ++ place_sets_of ts) b) ms
     moves' enter ms e =
         let xs = take (places t) ms in
         let ys = drop (places t) ms in
@@ -128,10 +128,10 @@ more_move t ts a b is one others = record { moves = moves'; left = left' }
         let us = takers_by (place_sets t) b in
         let vs = takers_by (place_sets_of ts) b in
         rw (one.moves enter xs of-t, one.left enter xs of-t, others.moves (last_or enter xs) ys of-ts)
-        (sym (shifted-append enter fs gs us vs xs ys (length-replicate (places t) false ∙ sym of-t) (length-map (place_sets t) (λ set. member set b) ∙ length-sets t is ∙ sym of-t))
-        ∙ ap (λ hs. shifted enter hs (us ++ vs) (xs ++ ys)) (replicate-append-replicate (places t) (places_of ts) false)
-        ∙ ap (λ ws. shifted enter (replicate (places t + places_of ts) false) ws (xs ++ ys)) (sym (map-append (λ set. member set b) (place_sets t) (place_sets_of ts)))
-        ∙ ap (λ zs. shifted enter (replicate (places t + places_of ts) false) (takers_by (place_sets t ++ place_sets_of ts) b) zs) (take-append-drop (places t) ms))
+        (sym (shift_and-append enter fs gs us vs xs ys (length-replicate (places t) false ∙ sym of-t) (length-map (place_sets t) (λ set. member set b) ∙ length-sets t is ∙ sym of-t))
+        ∙ ap (λ hs. shift_and enter hs (us ++ vs) (xs ++ ys)) (replicate-append-replicate (places t) (places_of ts) false)
+        ∙ ap (λ ws. shift_and enter (replicate (places t + places_of ts) false) ws (xs ++ ys)) (sym (map-append (λ set. member set b) (place_sets t) (place_sets_of ts)))
+        ∙ ap (λ zs. shift_and enter (replicate (places t + places_of ts) false) (takers_by (place_sets t ++ place_sets_of ts) b) zs) (take-append-drop (places t) ms))
 
     left' : (enter : Bool) (ms : List Bool) → length ms ≡ places t + places_of ts → exits (cat (more t ts)) enter ms a ≡ last_or enter ms
     left' enter ms e =
@@ -165,16 +165,16 @@ mutual
       more_move t ts a b p.0 (phrase_moves t a b p.0) (phrases_move ts a b p.1)
 
 -- a phrase that is entered begins, whatever stands before it
-begun : (n : ℕ) → 0 < n → (before : Bool) (ts xs : List Bool) → shifted true (replicate n false) ts xs ≡ shifted before (first_of n) ts xs
+begun : (n : ℕ) → 0 < n → (before : Bool) (ts xs : List Bool) → shift_and true (replicate n false) ts xs ≡ shift_and before (first_of n) ts xs
 begun zero h before ts xs = absurd (omega arith)
 begun (suc n) h before ts xs =
     let e : n ≡ suc n - 1 = omega arith in
-    same ts xs ∙ ap (λ k. shifted before (true ∷ replicate k false) ts xs) e
+    same ts xs ∙ ap (λ k. shift_and before (true ∷ replicate k false) ts xs) e
   where
-    same : (ts xs : List Bool) → shifted true (false ∷ replicate n false) ts xs ≡ shifted before (true ∷ replicate n false) ts xs
+    same : (ts xs : List Bool) → shift_and true (false ∷ replicate n false) ts xs ≡ shift_and before (true ∷ replicate n false) ts xs
     same [] xs = refl
     same (t ∷ ts) [] = refl
-    same (t ∷ ts) (x ∷ xs) = ap (λ b. (b && t) ∷ shifted x (replicate n false) ts xs) (sym (or-true before))
+    same (t ∷ ts) (x ∷ xs) = ap (λ b. (b && t) ∷ shift_and x (replicate n false) ts xs) (sym (or-true before))
 
 -- of n places the last
 abbrev last_of : ℕ → List Bool
@@ -207,7 +207,7 @@ meet_last (m ∷ k ∷ ms) n before e h =
     with_false false x = refl
 
 choice_moves : (ts : Trees) → ArePhrases ts → (before : Bool) (ms : List Bool) (a : Around) (b : ℕ) → length ms ≡ places_of ts →
-    step_each ts true ms a b ≡ shifted before (firsts_of ts) (takers_by (place_sets_of ts) b) ms
+    step_each ts true ms a b ≡ shift_and before (firsts_of ts) (takers_by (place_sets_of ts) b) ms
 choice_moves none are before ms a b e = refl
 choice_moves (more t ts) are before ms a b e =
     let xs = take (places t) ms in
@@ -217,9 +217,9 @@ choice_moves (more t ts) are before ms a b e =
     let us = takers_by (place_sets t) b in
     let vs = takers_by (place_sets_of ts) b in
     rw ((phrase_moves t a b are.0).moves true xs of-t, begun (places t) are.1 before us xs, choice_moves ts are.2 (last_or before xs) ys a b of-ts)
-    (sym (shifted-append before (first_of (places t)) (firsts_of ts) us vs xs ys (omega (arith, length-replicate (places t - 1) false, are.1, of-t)) (length-map (place_sets t) (λ set. member set b) ∙ length-sets t are.0 ∙ sym of-t))
-    ∙ ap (λ ws. shifted before (firsts_of (more t ts)) ws (xs ++ ys)) (sym (map-append (λ set. member set b) (place_sets t) (place_sets_of ts)))
-    ∙ ap (λ zs. shifted before (firsts_of (more t ts)) (takers_by (place_sets_of (more t ts)) b) zs) (take-append-drop (places t) ms))
+    (sym (shift_and-append before (first_of (places t)) (firsts_of ts) us vs xs ys (omega (arith, length-replicate (places t - 1) false, are.1, of-t)) (length-map (place_sets t) (λ set. member set b) ∙ length-sets t are.0 ∙ sym of-t))
+    ∙ ap (λ ws. shift_and before (firsts_of (more t ts)) ws (xs ++ ys)) (sym (map-append (λ set. member set b) (place_sets t) (place_sets_of ts)))
+    ∙ ap (λ zs. shift_and before (firsts_of (more t ts)) (takers_by (place_sets_of (more t ts)) b) zs) (take-append-drop (places t) ms))
 
 choice_left : (ts : Trees) → ArePhrases ts → (ms : List Bool) (a : Around) → length ms ≡ places_of ts → exits (alt ts) true ms a ≡ meet ms (lasts_of ts)
 choice_left none are [] a e = refl
@@ -301,7 +301,7 @@ are_shifts t phrases shifts choice some laid =
       takers = λ b low. ap length (takers b low) ∙ length-takers_by ts choice.are b ∙ sym same.size;
       moves = λ ms a b e low.
           same.same_step ms a b e ∙ choice_moves ts choice.are false ms a b (e ∙ same.size)
-          ∙ ap (λ fs. shifted false fs (takers_by (place_sets_of ts) b) ms) (sym firsts) ∙ ap (λ us. shifted false shifts.firsts us ms) (sym (takers b low));
+          ∙ ap (λ fs. shift_and false fs (takers_by (place_sets_of ts) b) ms) (sym firsts) ∙ ap (λ us. shift_and false shifts.firsts us ms) (sym (takers b low));
       left = λ ms a e. same.same_left ms a e ∙ choice_left ts choice.are ms a (e ∙ same.size) ∙ ap (meet ms) (sym lasts);
     }
   where

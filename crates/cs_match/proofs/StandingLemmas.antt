@@ -7,15 +7,15 @@ use Rattle.cs_match.proofs.MarksLemmas.{length-step, length-marks}
 use Rattle.cs_syntax.specs.Matching.{Tree, is_word, differ, word_before, word_after, at_word_edge}
 use Rattle.cs_match.specs.declared.standing.Standing.{Standing}
 use Rattle.cs_match.specs.Places.{around, places, exits, marks, exit_at}
-use Rattle.cs_match.specs.Standings.{start, ahead, at_end, moved, moved_all, standing, after, is_left_before}
+use Rattle.cs_match.specs.Standings.{start, ahead, at_end, next_standing, standing_through, standing, standing_beyond, is_left_before}
 
-moved_all-append : (t : Tree) (n : Standing) (xs ys : List ℕ) → moved_all t n (xs ++ ys) ≡ moved_all t (moved_all t n xs) ys
-moved_all-append t n [] ys = refl
-moved_all-append t n (x ∷ xs) ys = moved_all-append t (moved t n x) xs ys
+standing_through-append : (t : Tree) (n : Standing) (xs ys : List ℕ) → standing_through t n (xs ++ ys) ≡ standing_through t (standing_through t n xs) ys
+standing_through-append t n [] ys = refl
+standing_through-append t n (x ∷ xs) ys = standing_through-append t (next_standing t n x) xs ys
 
 -- each standing of a run has a mark for each place
-pub length-after : (t : Tree) (n : Standing) (b : ℕ) → length (after t n b).marks ≡ places t
-length-after t n b =
+pub length-standing_beyond : (t : Tree) (n : Standing) (b : ℕ) → length (standing_beyond t n b).marks ≡ places t
+length-standing_beyond t n b =
     elim (cases_eq b 10) [
       | inl e ↦ rw (eq-eqb b 10 e) (length-replicate (places t) false)
       | inr other ↦ rw (ne_eqb b 10 other) (length-step t true n.marks (ahead n b) b)
@@ -47,8 +47,8 @@ module _ (t : Tree) (s : List ℕ) where
   unfolding at_word_edge
   ahead_is i lt = rw (word_at i lt, not_last i lt) refl
 
-  moved_is : (i : ℕ) → i < length s → moved t (at_place i) (slice_index s i) ≡ at_place (suc i)
-  moved_is i lt = rw (ahead_is i lt, word_behind i lt, ne_eqb (suc i) 0 (λ e. omega arith)) refl
+  next_is : (i : ℕ) → i < length s → next_standing t (at_place i) (slice_index s i) ≡ at_place (suc i)
+  next_is i lt = rw (ahead_is i lt, word_behind i lt, ne_eqb (suc i) 0 (λ e. omega arith)) refl
 
   pub standing_is : (i : ℕ) → i ≤ length s → standing t (take i s) ≡ at_place i
   unfolding word_before
@@ -58,24 +58,24 @@ module _ (t : Tree) (s : List ℕ) where
       let lt : i < length s = omega arith in
       ap (λ n. standing t (take n s)) next
       ∙ ap (standing t) (take_more s i 0 lt)
-      ∙ moved_all-append t (start (places t)) (take i s) (slice_index s i ∷ [])
-      ∙ ap (λ n. moved t n (slice_index s i)) (standing_is i (omega arith))
-      ∙ moved_is i lt
+      ∙ standing_through-append t (start (places t)) (take i s) (slice_index s i ∷ [])
+      ∙ ap (λ n. next_standing t n (slice_index s i)) (standing_is i (omega arith))
+      ∙ next_is i lt
 
   pub length-standing : (i : ℕ) → i ≤ length s → length (standing t (take i s)).marks ≡ places t
   length-standing i le = ap (λ n. length n.marks) (standing_is i le) ∙ length-marks s t (λ _. true) i
 
   -- one byte more of the line
-  pub moved_more : (i : ℕ) → i < length s → moved t (standing t (take i s)) (slice_index s i) ≡ standing t (take (i + 1) s)
-  moved_more i lt = sym (ap (standing t) (take_more s i 0 lt) ∙ moved_all-append t (start (places t)) (take i s) (slice_index s i ∷ []))
+  pub next_more : (i : ℕ) → i < length s → next_standing t (standing t (take i s)) (slice_index s i) ≡ standing t (take (i + 1) s)
+  next_more i lt = sym (ap (standing t) (take_more s i 0 lt) ∙ standing_through-append t (start (places t)) (take i s) (slice_index s i ∷ []))
 
   pub left_ahead : (i : ℕ) → i < length s →
       exits t true (standing t (take i s)).marks (ahead (standing t (take i s)) (slice_index s i)) ≡ exit_at s t (λ _. true) i
   left_ahead i lt = rw (standing_is i (omega arith), ahead_is i lt) refl
 
   -- the same for a byte that is no newline
-  pub after_more : (i : ℕ) → i < length s → slice_index s i ≢ 10 → after t (standing t (take i s)) (slice_index s i) ≡ standing t (take (i + 1) s)
-  after_more i lt other = rw (ne_eqb (slice_index s i) 10 other) (moved_more i lt)
+  pub beyond_more : (i : ℕ) → i < length s → slice_index s i ≢ 10 → standing_beyond t (standing t (take i s)) (slice_index s i) ≡ standing t (take (i + 1) s)
+  beyond_more i lt other = rw (ne_eqb (slice_index s i) 10 other) (next_more i lt)
 
   pub left_in_line : (i : ℕ) → i < length s → slice_index s i ≢ 10 → is_left_before t (standing t (take i s)) (slice_index s i) ≡ exit_at s t (λ _. true) i
   left_in_line i lt other = rw (ne_eqb (slice_index s i) 10 other) (left_ahead i lt)

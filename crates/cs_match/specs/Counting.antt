@@ -1,42 +1,35 @@
 -- Counting runs over a table of cells: as other runs (`Chains`), but a line in which something is found is counted at
 -- its newline, and the run goes on at the start of the next.
 use Rattle.std.specs.Prelude.{ℕ, ◌≡◌, ◌+◌, ◌-◌, ◌<◌, ◌≤◌, ◌⊎◌, Bool, true, ◌&&◌, List, [], ◌∷◌, ◌++◌, nat_eq, if◌then◌else◌, length, take, drop, count_by, slice_index, bit_or}
+use Rattle.cs_tree.specs.ByteList.{AreBytes}
 use Rattle.cs_match.specs.declared.counting.Count.{Count}
 use Rattle.cs_match.specs.Lines.{newline, ended_lines}
 use Rattle.cs_match.specs.LineParts.{IsPart}
 use Rattle.cs_match.specs.Skipping.{AreWhole}
-use Rattle.cs_match.specs.Chains.{row_after, first_noisy, AreBytes, TellsLines}
-
--- the row of a line in which something is found
-abbrev pub found_row : ℕ
-found_row = 65024
-
--- the row of a line of which nothing is known
-abbrev pub unknown_row : ℕ
-unknown_row = 65280
+use Rattle.cs_match.specs.Chains.{row_after, found_row, unknown_row, first_noisy, ShowsLines}
 
 -- at the start of a line
 abbrev pub nothing_counted : Count
 nothing_counted = record { row = 0; hits = 0 }
 
 -- in this row behind the byte b, where so many lines are counted before
-abbrev pub counted_in : ℕ → ℕ → ℕ → Count
-counted_in row b hits =
+abbrev pub count_in_row : ℕ → ℕ → ℕ → Count
+count_in_row row b hits =
     if nat_eq b newline && nat_eq row found_row then record { row = 0; hits = hits + 1 } else record { row = row; hits = hits }
 
 -- one byte more
-abbrev pub counted_on : List ℕ → Count → ℕ → Count
-counted_on cells from b = counted_in (slice_index cells (bit_or from.row b)) b from.hits
+abbrev pub count_onward : List ℕ → Count → ℕ → Count
+count_onward cells from b = count_in_row (slice_index cells (bit_or from.row b)) b from.hits
 
 -- what a counting run over the text comes to
 unfoldable pub count_after : List ℕ → Count → List ℕ → Count
 count_after cells from [] = from
-count_after cells from (b ∷ text) = count_after cells (counted_on cells from b) text
+count_after cells from (b ∷ text) = count_after cells (count_onward cells from b) text
 
 -- The cells tell of a line where nothing is found in it, and where something is. Each leads to a set of places or to one
 -- of the two rows that are none, and nothing leads out of the row of which nothing is known.
 pub record CountsLines (finds : List ℕ → Bool) (cells : List ℕ) : Type 0 where
-  pub tells : TellsLines finds cells
+  pub shows : ShowsLines finds cells
   pub kinds : (at : ℕ) → at < 65536 →
       (slice_index cells at < first_noisy) ⊎ (slice_index cells at ≡ found_row) ⊎ (slice_index cells at ≡ unknown_row)
   pub stays : (at : ℕ) → unknown_row ≤ at → at < 65536 → slice_index cells at ≡ unknown_row

@@ -4,7 +4,7 @@
 use Rattle.std.specs.Prelude.{ℕ, zero, suc, ◌-◌, Option, Some, None, nat_le, if◌then◌else◌}
 use Rattle.cs_syntax.specs.Matching.{Tree, Trees, empty, one_of, one_char, cat, alt, rep, line_start, line_end, word_edge, not_word_edge, none, more}
 use Rattle.cs_syntax.specs.TreeList.{append}
-use Rattle.cs_syntax.specs.Lowering.{lowered}
+use Rattle.cs_syntax.specs.Lowering.{utf8_tree}
 
 -- n copies of t, and then the rest
 abbrev pub copies : ℕ → Tree → Trees → Trees
@@ -35,7 +35,7 @@ abbrev mutual
   pub expansion : Tree → Tree
   expansion empty = empty
   expansion (one_of set) = one_of set
-  expansion (one_char runs) = lowered runs
+  expansion (one_char runs) = utf8_tree runs
   expansion (cat ts) = cat (expansions ts)
   expansion (alt ts) = alt (expansions ts)
   expansion (rep x n m) = repeat_expansion (expansion x) n m

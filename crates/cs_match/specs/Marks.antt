@@ -14,12 +14,12 @@ pub record AreMarks (words : List ℕ) (count : ℕ) : Type 0 where
   pub no_other : (at : ℕ) → count ≤ at → has_bit words at ≡ false
 
 -- each mark goes on to the next place, or one of the first places is marked there; it stays where the place is a taker
-abbrev pub shifted : Bool → List Bool → List Bool → List Bool → List Bool
-shifted before [] takers marks = []
-shifted before (first ∷ firsts) [] marks = []
-shifted before (first ∷ firsts) (taker ∷ takers) [] = []
-shifted before (first ∷ firsts) (taker ∷ takers) (mark ∷ marks) =
-    ((before || first) && taker) ∷ shifted mark firsts takers marks
+abbrev pub shift_and : Bool → List Bool → List Bool → List Bool → List Bool
+shift_and before [] takers marks = []
+shift_and before (first ∷ firsts) [] marks = []
+shift_and before (first ∷ firsts) (taker ∷ takers) [] = []
+shift_and before (first ∷ firsts) (taker ∷ takers) (mark ∷ marks) =
+    ((before || first) && taker) ∷ shift_and mark firsts takers marks
 
 -- some place has both marks
 abbrev pub meet : List Bool → List Bool → Bool

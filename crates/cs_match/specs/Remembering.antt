@@ -6,7 +6,7 @@ use Rattle.cs_match.specs.declared.standing.Standing.{Standing}
 use Rattle.cs_match.specs.declared.table.Table.{Table}
 use Rattle.cs_match.specs.Places.{places, repeats, IsLooped}
 use Rattle.cs_match.specs.Shifts.{AreShifts}
-use Rattle.cs_match.specs.Standings.{after, is_left_before}
+use Rattle.cs_match.specs.Standings.{standing_beyond, is_left_before}
 use Rattle.cs_match.specs.Table as table
 use Rattle.cs_match.specs.Needle.{IsNeeded}
 
@@ -38,12 +38,12 @@ is_left_from t number b = is_left_before (tree_in t) (standing_in t number) b
 
 -- the standing after the byte, from the row with this number
 abbrev pub standing_after : Table → ℕ → ℕ → Standing
-standing_after t number b = after (tree_in t) (standing_in t number) b
+standing_after t number b = standing_beyond (tree_in t) (standing_in t number) b
 
 -- the number of a row in use, which has this standing
 abbrev pub HasRow : Table → ℕ → Standing → Type 0
 HasRow t number standing = table.IsRow (tree_in t) t.rows.items t.used number standing
 
 -- what the number says of the standing and the byte
-abbrev pub TellsIn : Table → Standing → ℕ → ℕ → Type 0
-TellsIn t standing b number = table.Tells (tree_in t) t.rows.items t.used standing b number
+abbrev pub LeadsIn : Table → Standing → ℕ → ℕ → Type 0
+LeadsIn t standing b number = table.Leads (tree_in t) t.rows.items t.used standing b number

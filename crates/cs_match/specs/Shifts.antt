@@ -5,7 +5,7 @@ use Rattle.cs_syntax.specs.Matching.{Tree, Trees, empty, one_of, one_char, cat, 
 use Rattle.cs_match.specs.declared.around.Around.{Around}
 use Rattle.cs_match.specs.declared.shifts.Shifts.{Shifts}
 use Rattle.cs_match.specs.Places.{places, step, exits}
-use Rattle.cs_match.specs.Marks.{shifted, meet}
+use Rattle.cs_match.specs.Marks.{shift_and, meet}
 
 abbrev mutual
   pub is_phrase : Tree → Bool
@@ -88,5 +88,5 @@ pub record AreShifts (t : Tree) (shifts : Shifts) : Type 0 where
   pub all : length shifts.takers.items ≡ 256
   pub takers : (b : ℕ) → b < 256 → length (takers_of shifts b) ≡ places t
   pub moves : (marks : List Bool) (a : Around) (b : ℕ) → length marks ≡ places t → b < 256 →
-      step t true marks a b ≡ shifted false shifts.firsts (takers_of shifts b) marks
+      step t true marks a b ≡ shift_and false shifts.firsts (takers_of shifts b) marks
   pub left : (marks : List Bool) (a : Around) → length marks ≡ places t → exits t true marks a ≡ meet marks shifts.lasts

@@ -4,6 +4,7 @@ use Rattle.std.specs.Prelude.{ℕ, Bool, true, false, List, [], ◌∷◌, repli
 use Rattle.cs_syntax.specs.Matching.{Tree, is_word, differ}
 use Rattle.cs_match.specs.declared.around.Around.{Around}
 use Rattle.cs_match.specs.declared.standing.Standing.{Standing}
+use Rattle.cs_match.specs.Lines.{newline}
 use Rattle.cs_match.specs.Places.{places, step, exits}
 
 -- at the start of a line, over a tree of n places
@@ -19,25 +20,25 @@ abbrev pub at_end : Standing → Around
 at_end standing = record { first = standing.first; last = true; edge = standing.word }
 
 -- the standing after the byte b of the line
-abbrev pub moved : Tree → Standing → ℕ → Standing
-moved t standing b = record { marks = step t true standing.marks (ahead standing b) b; first = false; word = is_word b }
+abbrev pub next_standing : Tree → Standing → ℕ → Standing
+next_standing t standing b = record { marks = step t true standing.marks (ahead standing b) b; first = false; word = is_word b }
 
 -- the standing after the bytes, from another on
-abbrev pub moved_all : Tree → Standing → List ℕ → Standing
-moved_all t standing [] = standing
-moved_all t standing (b ∷ bs) = moved_all t (moved t standing b) bs
+abbrev pub standing_through : Tree → Standing → List ℕ → Standing
+standing_through t standing [] = standing
+standing_through t standing (b ∷ bs) = standing_through t (next_standing t standing b) bs
 
 -- the standing after these bytes of a line
 abbrev pub standing : Tree → List ℕ → Standing
-standing t line = moved_all t (start (places t)) line
+standing t line = standing_through t (start (places t)) line
 
 -- what stands around the place before the byte b, where the newline is the end of the line
 abbrev pub before : Standing → ℕ → Around
-before standing b = if nat_eq b 10 then at_end standing else ahead standing b
+before standing b = if nat_eq b newline then at_end standing else ahead standing b
 
 -- the standing after the byte b, where the newline ends the line, and the next line starts
-abbrev pub after : Tree → Standing → ℕ → Standing
-after t standing b = if nat_eq b 10 then start (places t) else moved t standing b
+abbrev pub standing_beyond : Tree → Standing → ℕ → Standing
+standing_beyond t standing b = if nat_eq b newline then start (places t) else next_standing t standing b
 
 -- the tree can be left before the byte b
 abbrev pub is_left_before : Tree → Standing → ℕ → Bool

@@ -4,13 +4,16 @@ ghost use Rattle.std.specs.Prelude.{◌≡◌, ◌≤◌, ◌<◌, ◌+◌, ◌-
 ghost use Rattle.cs_match.specs.Lines.{newline, ended_lines};
 ghost use Rattle.cs_match.specs.LineParts.{IsPart};
 ghost use Rattle.cs_match.specs.Skipping.{AreWhole, NoneFound, ArePassed};
-ghost use Rattle.cs_match.specs.Chains.{row_after, first_noisy, IsQuiet, TellsLines};
+ghost use Rattle.cs_match.specs.Chains.{row_after, first_noisy, IsQuiet, ShowsLines};
 
 use crate::finding::whole_lines;
 use memchr::memchr;
 
+/// The row in which something is found, whatever follows in the line.
+pub(crate) const FOUND: u16 = 0xFE00;
+
 /// From this row on, a row is no set of places: something is found, or nothing is known.
-pub(crate) const FIRST_NOISY: u16 = 0xFE00;
+pub(crate) const FIRST_NOISY: u16 = FOUND;
 
 /// How many bytes a part has at least, where there are as many.
 const PART: usize = 512;
@@ -125,7 +128,7 @@ fn pass_group(cells: &[u16], block: &[u8], from: usize) -> Passed
     requires full { length cells.now ≡ 65536 }
     requires within { from ≤ length block.now }
     requires whole { AreWhole (drop from block.now) }
-    ensures passed { ArePassed (λ finds. TellsLines finds cells.now) block.now from result.to }
+    ensures passed { ArePassed (λ finds. ShowsLines finds cells.now) block.now from result.to }
     ensures moves { result.all ≡ true → from < length block.now → from < result.to }
 {
     let a = cut(block, from);
@@ -161,7 +164,7 @@ pub(crate) fn pass_quiet(cells: &[u16], block: &[u8], from: usize) -> usize
     ensures high { result ≤ length block.now }
     ensures whole { AreWhole (take (result - from) (drop from block.now)) }
     ensures rest { AreWhole (drop result block.now) }
-    ensures none { (finds : List ℕ → Bool) → TellsLines finds cells.now →
+    ensures none { (finds : List ℕ → Bool) → ShowsLines finds cells.now →
         NoneFound finds (ended_lines (take (result - from) (drop from block.now))) }
 {
     let mut at = from;
@@ -197,7 +200,7 @@ fn quiet_len(cells: &[u16], text: &[u8]) -> usize
 pub(crate) fn pass_run(cells: &[u16], block: &[u8], from: usize) -> usize
     requires full { length cells.now ≡ 65536 }
     requires within { from ≤ length block.now }
-    ensures { ArePassed (λ finds. TellsLines finds cells.now) block.now from result }
+    ensures { ArePassed (λ finds. ShowsLines finds cells.now) block.now from result }
 {
     let quiet = quiet_len(cells, &block[from..]);
     from + whole_lines(&block[from..from + quiet])

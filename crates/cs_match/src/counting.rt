@@ -2,12 +2,9 @@
 // know nothing of patterns. `specs/Counting.antt` says what such a run comes to, and what a table has to tell.
 ghost use Rattle.std.specs.Prelude.{◌≡◌, ◌≤◌, ◌<◌, ◌+◌, ◌-◌, ◌^◌, ℕ, Bool, List, IfSome, length, take, drop};
 ghost use Rattle.cs_match.specs.Skipping.{AreWhole};
-ghost use Rattle.cs_match.specs.Counting.{counted_on, count_after, nothing_counted, CountsLines, AreCounted};
+ghost use Rattle.cs_match.specs.Counting.{count_onward, count_after, nothing_counted, CountsLines, AreCounted};
 
-use crate::chains::{FIRST_NOISY, cut};
-
-/// The row in which something is found, whatever follows in the line.
-const FOUND: u16 = 0xFE00;
+use crate::chains::{FIRST_NOISY, FOUND, cut};
 
 /// What a counting run has come to: a row, and how many lines are counted.
 #[derive(Clone, Copy)]
@@ -21,7 +18,7 @@ pub(crate) struct Count {
 fn step(cells: &[u16], from: Count, byte: u8) -> Count
     requires full { length cells.now ≡ 65536 }
     requires room { from.hits + 1 < 2 ^ 64 }
-    ensures { result ≡ counted_on cells.now from byte }
+    ensures { result ≡ count_onward cells.now from byte }
 {
     let row = cells[(from.row | u16::from(byte)) as usize];
     if byte == b'\n' && row == FOUND {

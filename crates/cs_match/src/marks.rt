@@ -1,7 +1,7 @@
 // Marks of the places of a tree.
 ghost use Rattle.std.specs.Prelude.{◌≡◌, ◌≢◌, ◌↔◌, ℕ, ◌+◌, ◌<◌, ◌∷◌, ◌++◌, ◌==◌, false, IsTrue, IfOk, length, take, drop, replicate, slice_index_or};
 ghost use Rattle.std.specs.Int.{bit_at};
-ghost use Rattle.cs_match.specs.Marks.{shifted, meet};
+ghost use Rattle.cs_match.specs.Marks.{shift_and, meet};
 
 use std::alloc::{AllocError, Global};
 use std::marker::Model;
@@ -97,7 +97,7 @@ impl Marks {
     pub(crate) fn shift(&mut self, firsts: &Marks, takers: &Marks)
         requires firsts { length firsts.now ≡ length self.old }
         requires takers { length takers.now ≡ length self.old }
-        ensures { self.new ≡ shifted false firsts.now takers.now self.old }
+        ensures { self.new ≡ shift_and false firsts.now takers.now self.old }
     {
         let mut carried = 0;
         for at in 0..self.words.len() {

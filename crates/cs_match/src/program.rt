@@ -21,11 +21,17 @@ use std::marker::Model;
 /// takes.
 #[derive(Drop)]
 pub struct Program {
+    /// The tree that is walked over.
     root: Node,
+    /// How many places the tree has.
     count: usize,
+    /// How many repeats the tree has.
     repeats: usize,
+    /// A word that each line has in which something is found.
     needle: Vec<u8>,
+    /// Windows of which each such line has one, where some are known.
     sieve: Option<Sieve>,
+    /// How the marks of all places are moved at once, where the tree is a choice of phrases.
     shifts: Option<Shifts>,
 }
 

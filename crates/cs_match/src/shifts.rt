@@ -2,7 +2,7 @@
 ghost use Rattle.std.specs.Prelude.{◌≡◌, IfOk, IfSome, length, true, false};
 ghost use Rattle.cs_syntax.specs.Node.{tree_of};
 ghost use Rattle.cs_match.specs.Places.{places, repeats, exits, step};
-ghost use Rattle.cs_match.specs.Marks.{shifted, meet};
+ghost use Rattle.cs_match.specs.Marks.{shift_and, meet};
 ghost use Rattle.cs_match.specs.Shifts.{takers_of, AreShifts};
 
 use crate::around::Around;
@@ -54,7 +54,7 @@ impl Shifts {
         requires takers { length (takers_of self.now byte) ≡ length marks.old }
         ensures left { result ≡ meet marks.old self.now.lasts }
         ensures marks { marks.new
-            ≡ shifted false self.now.firsts (takers_of self.now byte) marks.old }
+            ≡ shift_and false self.now.firsts (takers_of self.now byte) marks.old }
     {
         let left = marks.meets(&self.lasts);
         marks.shift(&self.firsts, &self.takers[byte as usize]);

@@ -4,7 +4,7 @@ ghost use Rattle.cs_syntax.specs.Matching.{Found};
 ghost use Rattle.cs_syntax.specs.Node.{tree_of};
 ghost use Rattle.cs_match.specs.Places.{places, repeats, exits, IsLooped};
 ghost use Rattle.cs_match.specs.Shifts.{AreShifts};
-ghost use Rattle.cs_match.specs.Standings.{start, ahead, at_end, moved, after, is_left_before};
+ghost use Rattle.cs_match.specs.Standings.{start, ahead, at_end, next_standing, standing_beyond, is_left_before};
 
 use crate::around::{Around, is_word_byte};
 use crate::marks::Marks;
@@ -108,7 +108,7 @@ impl Standing {
         requires one_each { length self.old.marks ≡ places (tree_of root.now) }
         requires loops { length loops.old ≡ repeats (tree_of root.now) }
         ensures left { result ≡ is_left_before (tree_of root.now) self.old byte }
-        ensures moved { self.new ≡ after (tree_of root.now) self.old byte }
+        ensures moved { self.new ≡ standing_beyond (tree_of root.now) self.old byte }
         ensures loops { length loops.new ≡ length loops.old }
     {
         if byte == b'\n' {
@@ -130,7 +130,7 @@ impl Standing {
         requires one_each { length self.old.marks ≡ places (tree_of root.now) }
         requires loops { length loops.old ≡ repeats (tree_of root.now) }
         ensures left { result ≡ exits (tree_of root.now) true self.old.marks (ahead self.old byte) }
-        ensures moved { self.new ≡ moved (tree_of root.now) self.old byte }
+        ensures moved { self.new ≡ next_standing (tree_of root.now) self.old byte }
         ensures loops { length loops.new ≡ length loops.old }
     {
         let here = self.ahead(byte);

@@ -2,22 +2,23 @@
 ghost use Rattle.std.specs.Prelude.{◌≡◌, ◌≢◌, ◌↔◌, ◌+◌, ◌<◌, ◌≤◌, ◌*◌, ◌/◌, ℕ, IfOk, IfSome, IsTrue, MatchOption, EachIndex, length, vec_len, replicate, slice_index, slice_index_or, slice_set, true, false};
 ghost use Rattle.cs_syntax.specs.Node.{tree_of};
 ghost use Rattle.cs_syntax.specs.Matching.{Found};
+ghost use Rattle.cs_match.specs.Lines.{newline};
 ghost use Rattle.cs_match.specs.Places.{places, repeats, IsLooped};
 ghost use Rattle.cs_match.specs.Shifts.{AreShifts};
-ghost use Rattle.cs_match.specs.Standings.{start, after, is_left_before};
+ghost use Rattle.cs_match.specs.Standings.{start, standing_beyond, is_left_before};
 ghost use Rattle.cs_match.specs.Table.{blank_cell};
 ghost use Rattle.cs_match.specs.declared.standing.Standing.{Standing};
-ghost use Rattle.cs_match.specs.Remembering.{IsRight, HasRow, TellsIn, tree_in, standing_in, is_left_from, standing_after};
+ghost use Rattle.cs_match.specs.Remembering.{IsRight, HasRow, LeadsIn, tree_in, standing_in, is_left_from, standing_after};
 
+use crate::chains::FOUND;
 use crate::program::Program;
 use crate::shifts::Shifts;
 use crate::standing::Standing;
 use cs_syntax::Node;
 use std::alloc::{AllocError, Global};
 
-/// In a cell: the tree can be left before the byte. No row has this number.
-const FOUND: u16 = 0xFE00;
-/// In a cell: nothing is known. No row has this number.
+/// In a cell: nothing is known. No row has this number, and none has `FOUND`, which says that the tree can be left
+/// before the byte.
 const UNKNOWN: u16 = 0xFF00;
 /// At most so many rows.
 const MOST: usize = 254;
@@ -118,7 +119,7 @@ fn pass_from(
     requires room { length now.old.marks ≡ places (tree_of root.now) }
     requires loops { length loops.old ≡ repeats (tree_of root.now) }
     ensures left { result ≡ is_left_before (tree_of root.now) from.now byte }
-    ensures moved { now.new ≡ after (tree_of root.now) from.now byte }
+    ensures moved { now.new ≡ standing_beyond (tree_of root.now) from.now byte }
     ensures loops { length loops.new ≡ length loops.old }
 {
     now.copy_from(from);
@@ -154,7 +155,7 @@ impl<'a> Table<'a> {
     pub(crate) fn next(&mut self, from: u16, byte: u8) -> u16
         requires right { IsRight self.old }
         requires row { HasRow self.old from (standing_in self.old from) }
-        ensures told { TellsIn self.new (standing_in self.old from) byte result }
+        ensures leads { LeadsIn self.new (standing_in self.old from) byte result }
         ensures right { IsRight self.new }
         ensures same { tree_in self.new ≡ tree_in self.old }
     {
@@ -206,7 +207,7 @@ impl<'a> Table<'a> {
     fn fill(&mut self, from: u16, byte: u8) -> u16
         requires right { IsRight self.old }
         requires row { HasRow self.old from (standing_in self.old from) }
-        ensures told { TellsIn self.new (standing_in self.old from) byte result }
+        ensures leads { LeadsIn self.new (standing_in self.old from) byte result }
         ensures right { IsRight self.new }
         ensures same { tree_in self.new ≡ tree_in self.old }
     {
@@ -232,10 +233,10 @@ impl<'a> Table<'a> {
     fn next_row(&mut self, from: u16, byte: u8) -> u16
         requires right { IsRight self.old }
         requires row { HasRow self.old from (standing_in self.old from) }
-        requires within { byte ≢ 10 }
+        requires within { byte ≢ newline }
         requires stays { is_left_from self.old from byte ≡ false }
         requires now { self.old.now ≡ standing_after self.old from byte }
-        ensures told { TellsIn self.new (standing_in self.old from) byte result }
+        ensures leads { LeadsIn self.new (standing_in self.old from) byte result }
         ensures right { IsRight self.new }
         ensures same { tree_in self.new ≡ tree_in self.old }
     {
@@ -259,8 +260,8 @@ impl<'a> Table<'a> {
     fn put(&mut self, from: u16, byte: u8, next: u16)
         requires right { IsRight self.old }
         requires row { HasRow self.old from (standing_in self.old from) }
-        requires told { TellsIn self.old (standing_in self.old from) byte next }
-        ensures told { TellsIn self.new (standing_in self.old from) byte next }
+        requires leads { LeadsIn self.old (standing_in self.old from) byte next }
+        ensures leads { LeadsIn self.new (standing_in self.old from) byte next }
         ensures right { IsRight self.new }
         ensures same { tree_in self.new ≡ tree_in self.old }
     {

@@ -5,9 +5,10 @@ use Rattle.std.proofs.lemmas.List.{append-nil}
 use Rattle.std.specs.List.{AllByRecursion}
 use Rattle.cs_trigram.specs.Trigram.{has}
 use Rattle.cs_index.specs.Image.{Posting}
-use Rattle.cs_index.specs.Gathering.{ids_of, with_id}
+use Rattle.cs_index.specs.Laid.{ids_of, with_id}
 use Rattle.cs_index.specs.PostingLists.{set_at}
-use Rattle.cs_merge.specs.Renumbering.{NewIds, new_id, renumbered, AreRenumberings, AreCarried, list_of}
+use Rattle.cs_merge.specs.Renumbering.{NewIds, new_id, new_ids_of, AreRenumberings, AreCarried}
+use Rattle.cs_index.specs.Segments.{list_of}
 use Rattle.cs_merge.proofs.ReadLemmas.{set_push}
 use Rattle.cs_merge.proofs.RenumberingLemmas.{has_renumbered, has_no_renumbered}
 
@@ -40,7 +41,7 @@ all_below_more trigram next (p ∷ lists) ids all h = (let below : p.0 < trigram
 
 -- ---- one trigram more
 
-module _ (count trigram : ℕ) (older newer : NewIds) (are : AreRenumberings count older newer) (given : List Posting) (some others ids : List ℕ) (both : (n : ℕ) → has ids n ≡ (has (renumbered older some) n || has (renumbered newer others) n)) where
+module _ (count trigram : ℕ) (older newer : NewIds) (are : AreRenumberings count older newer) (given : List Posting) (some others ids : List ℕ) (both : (n : ℕ) → has ids n ≡ (has (new_ids_of older some) n || has (new_ids_of newer others) n)) where
   pub older_has : (id new : ℕ) → new_id older id ≡ Some new → has ids new ≡ has some id
   older_has id new h =
       both new

@@ -16,8 +16,7 @@ use Rattle.cs_tree.specs.Cover.{begins, covers, is_among, is_covered, least, sam
 use Rattle.cs_tree.specs.Reducing.{lies_below}
 use Rattle.cs_tree.proofs.ReduceLemmas.{items-from_list}
 use Rattle.cs_tree.proofs.Sets.{some_member, member_passes, tied_same, same_set, contains-union}
-use Rattle.cs_index.specs.OpenedParts.{Parts}
-use Rattle.cs_merge.specs.Content.{paths_in}
+use Rattle.cs_index.specs.OpenedParts.{Parts, paths_in}
 use Rattle.cs_merge.specs.Join.{join_paths}
 use Rattle.cs_merge.proofs.HoldingLemmas.{from_list_all, marked_items}
 
@@ -52,7 +51,6 @@ covered_list ps name = same_tests _ _ down up
     up h = passes_on (set.from_list ps) (λ path. covers path name) ps (λ q m. contains_listed ps q ∙ m) h
 
 pub covered_in : (parts : Parts) (name : List ℕ) → is_covered (paths_in parts) name ≡ list_any (λ path. covers path name) parts.paths
-unfolding paths_in
 covered_in parts name = covered_list parts.paths name
 
 -- ---- tests of lists, item by item
@@ -97,5 +95,4 @@ listed_union ps qs = same_set (set.from_list (ps ++ qs)) (set.union (set.from_li
     ∙ sym (contains-union (set.from_list ps) (set.from_list qs) q))
 
 pub paths_joined : (old newer : Parts) → least (set.from_list (old.paths ++ newer.paths)) ≡ join_paths (paths_in old) (paths_in newer)
-unfolding paths_in
 paths_joined old newer = ap least (listed_union old.paths newer.paths)

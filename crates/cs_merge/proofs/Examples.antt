@@ -4,7 +4,7 @@ use Rattle.std.specs.Prelude.{codes}
 use Rattle.cs_tree.specs.Folders.{are_distinct}
 use Rattle.cs_tree.specs.NamesAscending.{are_ascending}
 use Rattle.cs_merge.specs.Ranked.{names_in}
-use Rattle.cs_merge.specs.Renumbering.{NewIds, renumbered}
+use Rattle.cs_merge.specs.Renumbering.{NewIds, new_ids_of}
 
 -- the names of an index in the order of a walk
 abbrev walk_order : List (List ℕ)
@@ -26,5 +26,5 @@ ids_put_names_in_order = refl
 abbrev three : NewIds
 three = Some 1 ∷ None ∷ Some 0 ∷ []
 
-new_ids_come_in_the_order_of_the_list : renumbered three (0 ∷ 1 ∷ 2 ∷ []) ≡ 1 ∷ 0 ∷ []
+new_ids_come_in_the_order_of_the_list : new_ids_of three (0 ∷ 1 ∷ 2 ∷ []) ≡ 1 ∷ 0 ∷ []
 new_ids_come_in_the_order_of_the_list = refl

@@ -2,7 +2,7 @@
 use Rattle.std.proofs.Common.{◌≡◌, ℕ, zero, suc, ◌+◌, ◌<◌, ◌^◌, Bool, true, false, cond, ◌||◌, List, [], ◌∷◌, ◌++◌, length, map, take, drop, get_or, refl, sym, ap, subst, ◌∙◌, inl, inr, ◌⊎◌, Some, arith}
 use Rattle.cs_tree.specs.PathSet.{Paths}
 use Rattle.cs_tree.specs.NameOrder.{bytes_cmp}
-use Rattle.cs_index.specs.PostingLists.{damaged, read_ids, set_at, entries_of}
+use Rattle.cs_index.specs.PostingLists.{damage, read_ids, set_at, entries_of}
 use Rattle.cs_index.specs.WholeLists.{IsList}
 use Rattle.cs_trigram.specs.Trigram.{has, Ascends}
 use Rattle.cs_trigram.specs.TrigramSets.{IsTrigramSet}
@@ -22,6 +22,8 @@ use Rattle.cs_index.proofs.OnceLemmas.{sections_once, spelled_once}
 use Rattle.cs_index.proofs.ListedLemmas.{image_lists}
 use Rattle.cs_merge.specs.Content.{IsContent, IsListOf, Holds}
 use Rattle.cs_merge.proofs.ContentLemmas.{each_of_map, content_indexable, content_spelled, read_back, ascending_sets}
+use Rattle.cs_trigram.proofs.SetLemmas.{all_above, ascends_tail}
+use Rattle.cs_index.proofs.BuildingLemmas.{names_entries}
 
 -- ---- maps and sets made of lists
 
@@ -135,8 +137,8 @@ Fits p = (p.0 < 16777215) ⊎ (p.1 ≡ [])
 no_ids : (section ids : List ℕ) (names : ℕ) (e : ListEntry) → e.count ≡ 0 → IsList section names e ids → ids ≡ []
 no_ids section ids names e none h = by_count e.count none (ap (λ r. r.ids) h)
   where
-    by_count : (count : ℕ) → count ≡ 0 → (cond (same (take 3 (drop e.offset section)) (three_bytes e.trigram)) (read_ids names count 0 (drop (e.offset + 3) section)) damaged).ids ≡ ids → ids ≡ []
-    by_count zero z h = sym h ∙ elim (same (take 3 (drop e.offset section)) (three_bytes e.trigram)) as (λ t. (cond t (read_ids names 0 0 (drop (e.offset + 3) section)) damaged).ids ≡ []) [ true ↦ refl | false ↦ refl ]
+    by_count : (count : ℕ) → count ≡ 0 → (cond (same (take 3 (drop e.offset section)) (three_bytes e.trigram)) (read_ids names count 0 (drop (e.offset + 3) section)) damage).ids ≡ ids → ids ≡ []
+    by_count zero z h = sym h ∙ elim (same (take 3 (drop e.offset section)) (three_bytes e.trigram)) as (λ t. (cond t (read_ids names 0 0 (drop (e.offset + 3) section)) damage).ids ≡ []) [ true ↦ refl | false ↦ refl ]
     by_count (suc count) z h = absurd (omega (arith, z))
 
 all_fit : (section : List ℕ) (names : ℕ) (es : List ListEntry) (ps : List Posting) → AllByRecursion (IsEntry section) es → AllZip (IsListOf section names) es ps → AllByRecursion Fits ps
@@ -173,18 +175,6 @@ set_fits id (p ∷ ps) all = by_test (has p.1 id) refl (set_fits id ps all.1)
 
 -- ---- what is left of an ascending list ascends
 
-all_above : (n : ℕ) (ms : List ℕ) → Ascends (n ∷ ms) → AllByRecursion (λ m. n < m) ms
-all_above n [] up = tt
-all_above n (m ∷ ms) up = (up.0, all_above n ms (skip ms up.0 up.1))
-  where
-    skip : (ks : List ℕ) → n < m → Ascends (m ∷ ks) → Ascends (n ∷ ks)
-    skip [] h up = tt
-    skip (k ∷ ks) h up = (let g = up.0 in omega (arith, h, g), up.1)
-
-tail_ascends : (n : ℕ) (ms : List ℕ) → Ascends (n ∷ ms) → Ascends ms
-tail_ascends n [] up = tt
-tail_ascends n (m ∷ ms) up = up.1
-
 ascends_from : (n : ℕ) (ms : List ℕ) → AllByRecursion (λ m. n < m) ms → Ascends ms → Ascends (n ∷ ms)
 ascends_from n [] above up = tt
 ascends_from n (m ∷ ms) above up = (above.0, up)
@@ -200,7 +190,7 @@ set_above n id (p ∷ ps) above =
 pub set_ascends : (id : ℕ) (ps : List Posting) → Ascends (map (λ (p : Posting). p.0) ps) → Ascends (set_at id ps)
 set_ascends id [] up = tt
 set_ascends id (p ∷ ps) up =
-    let rest = set_ascends id ps (tail_ascends p.0 (map (λ (q : Posting). q.0) ps) up) in
+    let rest = set_ascends id ps (ascends_tail p.0 (map (λ (q : Posting). q.0) ps) up) in
     elim (has p.1 id) as (λ t. Ascends (map (λ (q : Posting). q.0) (cond t (p ∷ filter (λ (q : Posting). has q.1 id) ps) (filter (λ (q : Posting). has q.1 id) ps)))) [
       | true ↦ ascends_from p.0 (set_at id ps) (set_above p.0 id ps (all_above p.0 (map (λ (q : Posting). q.0) ps) up)) rest
       | false ↦ rest
@@ -225,15 +215,11 @@ held_content bytes paths files h =
       sets_are = λ name trigrams there. (each name trigrams there).1;
     }
 
-names_of-entries_of : (first : ℕ) (names : List (List ℕ)) (ps : List Posting) → names_of (entries_of first names ps) ≡ names
-names_of-entries_of first [] ps = refl
-names_of-entries_of first (name ∷ names) ps = ap (λ rest. name ∷ rest) (names_of-entries_of (first + 1) names ps)
-
 held_entries : (bytes : List ℕ) (paths : Paths) (files : Files) (h : Holds bytes paths files) → map'.entries files ≡ entries_of 0 h.names h.lists
 held_entries bytes paths files h = ap map'.entries h.files_are ∙ entries_in_order (entries_of 0 h.names h.lists) (subst T (sym h.ascend) tt)
 
 pub held_names : (bytes : List ℕ) (paths : Paths) (files : Files) (h : Holds bytes paths files) → map'.keys files ≡ h.names
-held_names bytes paths files h = ap (map (λ (e : Entry). e.0)) (held_entries bytes paths files h) ∙ names_of-entries_of 0 h.names h.lists
+held_names bytes paths files h = ap (map (λ (e : Entry). e.0)) (held_entries bytes paths files h) ∙ names_entries 0 h.names h.lists
 
 -- what holds of each entry holds of the name and the set with an id
 at_id : (P : List ℕ → List ℕ → Type 0) (first : ℕ) (names : List (List ℕ)) (ps : List Posting) (k : ℕ) (d : List ℕ) → AllByRecursion (λ (e : Entry). P e.0 e.1) (entries_of first names ps) → k < length names → P (get_or names k d) (set_at (first + k) ps)

@@ -7,23 +7,24 @@ use Rattle.std.specs.Cmp.Lexicographic.{nat_list_cmp_total}
 use Rattle.std.specs.FinMap as map
 use Rattle.cs_tree.specs.PathSet as set
 use Rattle.cs_tree.specs.Cover.{is_covered, least}
-use Rattle.cs_tree.proofs.Sets.{alike, or_else, find-append, contains-union}
+use Rattle.cs_tree.proofs.Sets.{alike, find-append, contains-union}
+use Rattle.std.specs.Option.{option_or}
 use Rattle.cs_tree.proofs.Least.{least_says, least_settled, covered-least, covered-union}
 use Rattle.cs_merge.specs.Join.{join_files, join_paths}
 use Rattle.cs_merge.specs.Replacing.{IsCoveredBy}
 
 module _ {X : Type 0} where
-  pub get-join_files : (paths : Paths) (old newer : map.FinMap bytes_cmp X) (name : List ℕ) → map.get (join_files paths old newer) name ≡ or_else (map.get newer name) (cond (not (is_covered paths name)) (map.get old name) None)
+  pub get-join_files : (paths : Paths) (old newer : map.FinMap bytes_cmp X) (name : List ℕ) → map.get (join_files paths old newer) name ≡ option_or (map.get newer name) (cond (not (is_covered paths name)) (map.get old name) None)
   get-join_files paths old newer name =
       map.get-from_entries nat_list_cmp_total _ name
       ∙ find-append name (map.entries newer) (map.entries kept)
-      ∙ ap (λ o. or_else o (map.find bytes_cmp name (map.entries kept))) (sym (map.get-entries newer name))
-      ∙ ap (or_else (map.get newer name)) (sym (map.get-entries kept name) ∙ map.get-retain_keys old _ name (λ x e. ap (λ n. not (is_covered paths n)) (sym (alike name x e))))
+      ∙ ap (λ o. option_or o (map.find bytes_cmp name (map.entries kept))) (sym (map.get-entries newer name))
+      ∙ ap (option_or (map.get newer name)) (sym (map.get-entries kept name) ∙ map.get-retain_keys old _ name (λ x e. ap (λ n. not (is_covered paths n)) (sym (alike name x e))))
     where
       kept : map.FinMap bytes_cmp X
       kept = map.retain_keys old (λ n. not (is_covered paths n))
 
-  pub or_none : (o : Option X) → or_else o None ≡ o
+  pub or_none : (o : Option X) → option_or o None ≡ o
   or_none None = refl
   or_none (Some x) = refl
 
@@ -31,15 +32,15 @@ module _ {X : Type 0} where
   pub newer_at : (paths : Paths) (old newer : map.FinMap bytes_cmp X) (name : List ℕ) → is_covered paths name ≡ true → map.get (join_files paths old newer) name ≡ map.get newer name
   newer_at paths old newer name h =
       get-join_files paths old newer name
-      ∙ ap (λ b. or_else (map.get newer name) (cond (not b) (map.get old name) None)) h
+      ∙ ap (λ b. option_or (map.get newer name) (cond (not b) (map.get old name) None)) h
       ∙ or_none (map.get newer name)
 
   -- at any other name the newer one has nothing, so that the old one stays
   pub old_at : (paths : Paths) (old newer : map.FinMap bytes_cmp X) (name : List ℕ) → map.get newer name ≡ None → is_covered paths name ≡ false → map.get (join_files paths old newer) name ≡ map.get old name
   old_at paths old newer name none h =
       get-join_files paths old newer name
-      ∙ ap (λ b. or_else (map.get newer name) (cond (not b) (map.get old name) None)) h
-      ∙ ap (λ o. or_else o (map.get old name)) none
+      ∙ ap (λ b. option_or (map.get newer name) (cond (not b) (map.get old name) None)) h
+      ∙ ap (λ o. option_or o (map.get old name)) none
 
   -- a name that stands in a map lies under the paths
   pub old_under : (paths : Paths) (old newer : map.FinMap bytes_cmp X) (name : List ℕ) → ((q : List ℕ) (x : X) → map.get newer q ≡ Some x → is_covered paths q ≡ true) → is_covered paths name ≡ false → map.get (join_files paths old newer) name ≡ map.get old name
@@ -53,7 +54,7 @@ module _ {X : Type 0} where
   pub joined_from : (paths : Paths) (old newer : map.FinMap bytes_cmp X) (name : List ℕ) (x : X) → map.get (join_files paths old newer) name ≡ Some x → (map.get newer name ≡ Some x) ⊎ (map.get old name ≡ Some x)
   joined_from paths old newer name x h = parts (map.get newer name) (map.get old name) (not (is_covered paths name)) (sym (get-join_files paths old newer name) ∙ h)
     where
-      parts : (n o : Option X) (b : Bool) → or_else n (cond b o None) ≡ Some x → (n ≡ Some x) ⊎ (o ≡ Some x)
+      parts : (n o : Option X) (b : Bool) → option_or n (cond b o None) ≡ Some x → (n ≡ Some x) ⊎ (o ≡ Some x)
       parts (Some y) o b e = inl e
       parts None o true e = inr e
       parts None o false e = cc
@@ -93,6 +94,6 @@ files_replaced {X} p q old newer by under =
     by_cover name true h = newer_at q old newer name h
     by_cover name false h =
         get-join_files q old newer name
-        ∙ ap (λ b. or_else (map.get newer name) (cond (not b) (map.get old name) None)) h
-        ∙ ap (or_else (map.get newer name)) (nothing_old name (map.get old name) refl h)
+        ∙ ap (λ b. option_or (map.get newer name) (cond (not b) (map.get old name) None)) h
+        ∙ ap (option_or (map.get newer name)) (nothing_old name (map.get old name) refl h)
         ∙ or_none (map.get newer name)

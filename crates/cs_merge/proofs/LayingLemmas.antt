@@ -8,7 +8,7 @@ use Rattle.cs_tree.specs.NameOrder.{bytes_cmp}
 use Rattle.cs_index.specs.Built.{is_storable}
 use Rattle.cs_index.specs.Image.{IsString}
 use Rattle.cs_index.specs.Laid.{Laid, with_laid_name}
-use Rattle.cs_merge.specs.Content.{paths_in}
+use Rattle.cs_index.specs.OpenedParts.{paths_in}
 use Rattle.cs_merge.specs.Joinable.{AreTested}
 use Rattle.cs_merge.specs.Ranked.{Ranked, names_by, IsRanked}
 use Rattle.cs_merge.specs.Renumbering.{NewIds, AreNamed, IsNaming}

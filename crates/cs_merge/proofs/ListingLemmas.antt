@@ -6,15 +6,15 @@ use Rattle.std.proofs.lemmas.List.{append-nil}
 use Rattle.std.specs.List.{AllByRecursion}
 use Rattle.std.specs.Option.{option_map_or}
 use Rattle.cs_index.specs.Image.{Posting}
-use Rattle.cs_index.proofs.StretchLemmas.{moved_last}
+use Rattle.cs_index.proofs.StretchLemmas.{onward_last}
 use Rattle.cs_trigram.specs.Trigram.{has}
-use Rattle.cs_index.specs.Gathering.{ids_of, with_id}
-use Rattle.cs_index.specs.IdStream.{next_after}
-use Rattle.cs_index.specs.Laid.{Laid, AllBelow, last_ids, with_laid_id, with_last_id, with_last_ids}
-use Rattle.cs_index.specs.Rising.{RiseWithin, moved}
-use Rattle.cs_merge.specs.Renumbering.{list_of}
+use Rattle.cs_index.specs.Laid.{ids_of, with_id, Laid, AllBelow, last_ids, with_laid_id, with_last_id, with_last_ids}
+use Rattle.cs_index.specs.Rising.{next_after, RiseWithin, ids_onward}
+use Rattle.cs_index.specs.Segments.{list_of}
 use Rattle.cs_merge.specs.SideBySide.{lower_of, without_number, IsStretchOfOne, of_older, of_newer, IsGiven}
 use Rattle.cs_merge.proofs.CarryingLemmas.{with_one_more, ids_of_more}
+use Rattle.cs_index.proofs.StreamLemmas.{next_append}
+use Rattle.cs_index.proofs.GivenLemmas.{rise_behind}
 
 -- ---- the lower one of two first ids
 
@@ -184,27 +184,19 @@ has_both (one ∷ ids) more n = ap (λ b. eqb one n || b) (has_both ids more n) 
     or_assoc true b c = refl
     or_assoc false b c = refl
 
-next_both : (next : ℕ) (ids more : List ℕ) → next_after next (ids ++ more) ≡ next_after (next_after next ids) more
-next_both next [] more = refl
-next_both next (one ∷ ids) more = next_both (one + 1) ids more
-
-rise_tail : (count next : ℕ) (ids more : List ℕ) → RiseWithin count next (ids ++ more) → RiseWithin count (next_after next ids) more
-rise_tail count next [] more up = up
-rise_tail count next (one ∷ ids) more up = rise_tail count (one + 1) ids more up.2
-
 rise_ends : (count next : ℕ) (ids more : List ℕ) → next ≤ count → RiseWithin count next (ids ++ more) → next_after next ids ≤ count
 rise_ends count next [] more within up = within
 rise_ends count next (one ∷ ids) more within up = rise_ends count (one + 1) ids more (omega (arith, up.1)) up.2
 
 -- ids that are below a number end there
-pub next_below : (id next most : ℕ) (run : List ℕ) → next ≤ most → AllByRecursion (λ other. id + 1 + other < most) run → next_after next (moved (id + 1) run) ≤ most
+pub next_below : (id next most : ℕ) (run : List ℕ) → next ≤ most → AllByRecursion (λ other. id + 1 + other < most) run → next_after next (ids_onward (id + 1) run) ≤ most
 next_below id next most [] within all = within
 next_below id next most (one ∷ run) within all =
     let below : id + 1 + one < most = all.0 in
     next_below id (id + 1 + one + 1) most run (omega (arith, below)) all.1
 
 -- what is left of the others stands behind a run that ends before them
-others_behind : (count id : ℕ) (run others : List ℕ) → AtLeast id others → RiseWithin count (id + 1) (without_number id others) → ((most : ℕ) → slice_get others 0 ≡ Some most → AllByRecursion (λ other. id + 1 + other < most) run) → RiseWithin count (next_after (id + 1) (moved (id + 1) run)) (without_number id others)
+others_behind : (count id : ℕ) (run others : List ℕ) → AtLeast id others → RiseWithin count (id + 1) (without_number id others) → ((most : ℕ) → slice_get others 0 ≡ Some most → AllByRecursion (λ other. id + 1 + other < most) run) → RiseWithin count (next_after (id + 1) (ids_onward (id + 1) run)) (without_number id others)
 others_behind count id [] others from up below = up
 others_behind count id (one ∷ run) [] from up below = tt
 others_behind count id (one ∷ run) (other ∷ others) from up below =
@@ -212,7 +204,7 @@ others_behind count id (one ∷ run) (other ∷ others) from up below =
     let first : id + 1 + one < other = all.0 in
     let differs : cond (eqb other id) others (other ∷ others) ≡ other ∷ others = ap (λ b. cond b others (other ∷ others)) (ne_eqb other id (λ e. absurd (omega (arith, e, first)))) in
     let up' : RiseWithin count (id + 1) (other ∷ others) = subst (RiseWithin count (id + 1)) differs up in
-    subst (RiseWithin count (next_after (id + 1) (moved (id + 1) (one ∷ run)))) (sym differs)
+    subst (RiseWithin count (next_after (id + 1) (ids_onward (id + 1) (one ∷ run)))) (sym differs)
     (next_below id (id + 1) other (one ∷ run) (omega (arith, first)) all, up'.1, up'.2)
 
 -- ids of one of both go from those that are left to those that are given
@@ -280,19 +272,19 @@ module _ (trigram : ℕ) (before now laid : Laid) (older newer older_left newer_
   within : id + 1 ≤ length before.names
   within = let b = bounds trigram before now older newer older_left newer_left state below begun id next in omega (arith, b.1)
 
-  run_ends : next_after (id + 1) (moved (id + 1) run) ≤ length before.names
+  run_ends : next_after (id + 1) (ids_onward (id + 1) run) ≤ length before.names
   run_ends = by_side are
     where
-      by_side : IsStretchOfOne id run older_left newer_left older_rest newer_rest → next_after (id + 1) (moved (id + 1) run) ≤ length before.names
-      by_side (of_older r same) = rise_ends (length before.names) (id + 1) (moved (id + 1) run) (without_number id older_rest) within (subst (RiseWithin (length before.names) (id + 1)) r.ids_are older_up)
-      by_side (of_newer r same) = rise_ends (length before.names) (id + 1) (moved (id + 1) run) (without_number id newer_rest) within (subst (RiseWithin (length before.names) (id + 1)) r.ids_are newer_up)
+      by_side : IsStretchOfOne id run older_left newer_left older_rest newer_rest → next_after (id + 1) (ids_onward (id + 1) run) ≤ length before.names
+      by_side (of_older r same) = rise_ends (length before.names) (id + 1) (ids_onward (id + 1) run) (without_number id older_rest) within (subst (RiseWithin (length before.names) (id + 1)) r.ids_are older_up)
+      by_side (of_newer r same) = rise_ends (length before.names) (id + 1) (ids_onward (id + 1) run) (without_number id newer_rest) within (subst (RiseWithin (length before.names) (id + 1)) r.ids_are newer_up)
 
   pub run_named : next_after 0 (last_ids laid) + next_after 0 run ≤ length laid.names
   run_named =
-      let end : next_after (id + 1) (moved (id + 1) run) ≡ id + 1 + next_after 0 run = moved_last (id + 1) run in
+      let end : next_after (id + 1) (ids_onward (id + 1) run) ≡ id + 1 + next_after 0 run = onward_last (id + 1) run in
       omega (arith, last_one, run_ends, names, end)
 
-  pub run_given : (after : Laid) → after ≡ with_last_ids laid (moved (next_after 0 (last_ids laid)) run) → IsGiven trigram before after older newer (without_number id older_rest) (without_number id newer_rest)
+  pub run_given : (after : Laid) → after ≡ with_last_ids laid (ids_onward (next_after 0 (last_ids laid)) run) → IsGiven trigram before after older newer (without_number id older_rest) (without_number id newer_rest)
   run_given after e = record {
     given = one.given ++ ids;
     paths = ap (λ (l : Laid). l.paths) all ∙ one.paths;
@@ -304,13 +296,13 @@ module _ (trigram : ℕ) (before now laid : Laid) (older newer older_left newer_
   }
     where
       ids : List ℕ
-      ids = moved (id + 1) run
+      ids = ids_onward (id + 1) run
 
       all : after ≡ record { paths = laid.paths; names = laid.names; lists = before.lists ++ list_of trigram (one.given ++ ids); begun = laid.begun }
-      all = e ∙ ap (λ n. with_last_ids laid (moved n run)) last_one ∙ with_more trigram laid before.lists one.given ids begun_one one.lists below
+      all = e ∙ ap (λ n. with_last_ids laid (ids_onward n run)) last_one ∙ with_more trigram laid before.lists one.given ids begun_one one.lists below
 
       ends : next_after 0 (one.given ++ ids) ≡ next_after (id + 1) ids
-      ends = next_both 0 one.given ids ∙ ap (λ n. next_after n ids) next_one
+      ends = next_append 0 one.given ids ∙ ap (λ n. next_after n ids) next_one
 
       by_each : IsStretchOfOne id run older_left newer_left older_rest newer_rest → (n : ℕ) → (has (one.given ++ ids) n || (has (without_number id older_rest) n || has (without_number id newer_rest) n)) ≡ (has one.given n || (has (without_number id older_left) n || has (without_number id newer_left) n))
       by_each (of_older r same) n =
@@ -323,12 +315,12 @@ module _ (trigram : ℕ) (before now laid : Laid) (older newer older_left newer_
           ∙ (λ i. has one.given n || (has (without_number id (same i)) n || (sym (has_both ids (without_number id newer_rest) n) ∙ ap (λ l. has l n) (sym r.ids_are)) i))
 
       older_behind : IsStretchOfOne id run older_left newer_left older_rest newer_rest → RiseWithin (length before.names) (next_after (id + 1) ids) (without_number id older_rest)
-      older_behind (of_older r same) = rise_tail (length before.names) (id + 1) ids (without_number id older_rest) (subst (RiseWithin (length before.names) (id + 1)) r.ids_are older_up)
+      older_behind (of_older r same) = rise_behind (length before.names) (id + 1) ids (without_number id older_rest) (subst (RiseWithin (length before.names) (id + 1)) r.ids_are older_up)
       older_behind (of_newer r same) = subst (λ l. RiseWithin (length before.names) (next_after (id + 1) ids) (without_number id l)) (sym same) (others_behind (length before.names) id run older_left least.some_from older_up r.below)
 
       newer_behind : IsStretchOfOne id run older_left newer_left older_rest newer_rest → RiseWithin (length before.names) (next_after (id + 1) ids) (without_number id newer_rest)
       newer_behind (of_older r same) = subst (λ l. RiseWithin (length before.names) (next_after (id + 1) ids) (without_number id l)) (sym same) (others_behind (length before.names) id run newer_left least.others_from newer_up r.below)
-      newer_behind (of_newer r same) = rise_tail (length before.names) (id + 1) ids (without_number id newer_rest) (subst (RiseWithin (length before.names) (id + 1)) r.ids_are newer_up)
+      newer_behind (of_newer r same) = rise_behind (length before.names) (id + 1) ids (without_number id newer_rest) (subst (RiseWithin (length before.names) (id + 1)) r.ids_are newer_up)
 
   -- and fewer are left
   pub run_shorter : length (without_number id older_rest) + length (without_number id newer_rest) < length older_left + length newer_left
@@ -346,8 +338,8 @@ module _ (trigram : ℕ) (before now laid : Laid) (older newer older_left newer_
       shorter [] there = cc
       shorter (other ∷ ids) there = let e = ap (λ b. length (cond b ids (other ∷ ids))) (eq-eqb other id (same_Some other id there)) in omega (arith, e)
 
-      behind : (ids rest : List ℕ) → without_number id ids ≡ moved (id + 1) run ++ without_number id rest → length (without_number id rest) ≤ length (without_number id ids)
-      behind ids rest is = let long = ap length is in let both = length-append (moved (id + 1) run) (without_number id rest) in omega (arith, long, both)
+      behind : (ids rest : List ℕ) → without_number id ids ≡ ids_onward (id + 1) run ++ without_number id rest → length (without_number id rest) ≤ length (without_number id ids)
+      behind ids rest is = let long = ap length is in let both = length-append (ids_onward (id + 1) run) (without_number id rest) in omega (arith, long, both)
 
       by_side : (slice_get older_left 0 ≡ Some id) ⊎ (slice_get newer_left 0 ≡ Some id) → IsStretchOfOne id run older_left newer_left older_rest newer_rest → length (without_number id older_rest) + length (without_number id newer_rest) < length older_left + length newer_left
       by_side (inl there) (of_older r same) = let a = shorter older_left there in let b = behind older_left older_rest r.ids_are in let d = no_longer newer_left in let e = ap (λ ids. length (without_number id ids)) same in omega (arith, a, b, d, e)
@@ -355,7 +347,7 @@ module _ (trigram : ℕ) (before now laid : Laid) (older newer older_left newer_
       by_side (inr there) (of_older r same) = let a = shorter newer_left there in let b = behind older_left older_rest r.ids_are in let d = no_longer older_left in let e = ap (λ ids. length (without_number id ids)) same in omega (arith, a, b, d, e)
       by_side (inr there) (of_newer r same) = let a = shorter newer_left there in let b = behind newer_left newer_rest r.ids_are in let d = no_longer older_left in let e = ap (λ ids. length (without_number id ids)) same in omega (arith, a, b, d, e)
 
-  pub run_begun : (after : Laid) → after ≡ with_last_ids laid (moved (next_after 0 (last_ids laid)) run) → after.begun ≡ Some trigram
+  pub run_begun : (after : Laid) → after ≡ with_last_ids laid (ids_onward (next_after 0 (last_ids laid)) run) → after.begun ≡ Some trigram
   run_begun after e =
-      ap (λ (l : Laid). l.begun) (e ∙ ap (λ n. with_last_ids laid (moved n run)) last_one ∙ with_more trigram laid before.lists one.given (moved (id + 1) run) begun_one one.lists below)
+      ap (λ (l : Laid). l.begun) (e ∙ ap (λ n. with_last_ids laid (ids_onward n run)) last_one ∙ with_more trigram laid before.lists one.given (ids_onward (id + 1) run) begun_one one.lists below)
       ∙ begun_one

@@ -10,9 +10,10 @@ use Rattle.cs_tree.specs.NamesAscending.{are_ascending}
 use Rattle.cs_index.specs.Built.{is_above}
 use Rattle.cs_index.proofs.StringLemmas.{last_of, last_is}
 use Rattle.cs_merge.specs.Renumbering.{NewIds, AreApart, AreRenumbered, AreRenumberings, IsOfOne, new, kept, AreNamed}
-use Rattle.cs_merge.proofs.OrderLemmas.{chain, turned}
+use Rattle.cs_merge.proofs.OrderLemmas.{turned}
 use Rattle.cs_merge.proofs.RankedLemmas.{distinct_once}
 use Rattle.cs_merge.proofs.RenumberingLemmas.{get_behind, get_push, are_placed_more, placed_push, kept_at, ascends_at, one_to_one, stay_below}
+use Rattle.cs_tree.proofs.BeforeLemmas.{before_chain}
 
 length-push : {X : Type 0} (xs : List X) (x : X) → length (xs ++ x ∷ []) ≡ length xs + 1
 length-push xs x = length-append xs (x ∷ [])
@@ -101,7 +102,7 @@ module _ (is_dropped : List ℕ → Bool) (older newer : List (List ℕ)) where
         left place other h there =
             elim (first_left newer (length newer_ids) place other h there) [
               | inl at ↦ below other (ap (slice_get newer) at ∙ there)
-              | inr first ↦ chain name (get_or newer (length newer_ids) []) other (below (get_or newer (length newer_ids) []) first.1) (ascends_at newer (length newer_ids) place (get_or newer (length newer_ids) []) other newer_up first.0 first.1 there)
+              | inr first ↦ before_chain name (get_or newer (length newer_ids) []) other (below (get_or newer (length newer_ids) []) first.1) (ascends_at newer (length newer_ids) place (get_or newer (length newer_ids) []) other newer_up first.0 first.1 there)
             ]
 
     -- of a newer name, above which stands what is left of the old ones
@@ -129,7 +130,7 @@ module _ (is_dropped : List ℕ → Bool) (older newer : List (List ℕ)) where
               | inl at ↦ true≢false (sym lower ∙ above other (ap (slice_get older) at ∙ there))
               | inr first ↦
                   let next : List ℕ = get_or older (length older_ids) [] in
-                  true≢false (sym (chain next other name (ascends_at older (length older_ids) place next other up first.0 first.1 there) lower) ∙ above next first.1)
+                  true≢false (sym (before_chain next other name (ascends_at older (length older_ids) place next other up first.0 first.1 there) lower) ∙ above next first.1)
             ]
 
         left : (place : ℕ) (other : List ℕ) → length older_ids ≤ place → slice_get older place ≡ Some other → is_dropped other ≡ false → is_lt (bytes_cmp name other) ≡ true

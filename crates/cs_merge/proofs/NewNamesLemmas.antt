@@ -13,11 +13,11 @@ use Rattle.cs_tree.specs.Folders.{are_distinct}
 use Rattle.cs_tree.specs.NameOrder.{bytes_cmp}
 use Rattle.cs_tree.specs.PathSet.{Paths}
 use Rattle.cs_tree.specs.PathSet as set
-use Rattle.cs_tree.proofs.Sets.{alike, tied_is, tied_same, entries_in_order, or_else}
+use Rattle.cs_tree.proofs.Sets.{alike, tied_is, tied_same, entries_in_order}
+use Rattle.std.specs.Option.{option_or}
 use Rattle.cs_index.specs.Image.{Posting, image, image_of}
-use Rattle.cs_index.specs.OpenedParts.{Parts, files_read, lists_in}
+use Rattle.cs_index.specs.OpenedParts.{Parts, files_read, lists_in, files_in, paths_in}
 use Rattle.cs_index.specs.PostingLists.{set_at, entries_of}
-use Rattle.cs_merge.specs.Content.{files_in, paths_in}
 use Rattle.cs_merge.specs.Join.{join_files, join_paths}
 use Rattle.cs_merge.specs.Joinable.{are_covered, joined_index, AreTested}
 use Rattle.cs_merge.specs.Renumbering.{NewIds, AreCarried, IsOfOne, new, kept, AreRenumbered}
@@ -111,11 +111,11 @@ module _ (older newer : Parts) (names : List (List ℕ)) (older_ids newer_ids : 
 
   -- what both have at a name
   abbrev both_have : List ℕ → Option (List ℕ)
-  both_have name = or_else (find bytes_cmp name (files_read newer)) (cond (not (is_covered (paths_in newer) name)) (find bytes_cmp name (files_read older)) None)
+  both_have name = option_or (find bytes_cmp name (files_read newer)) (cond (not (is_covered (paths_in newer) name)) (find bytes_cmp name (files_read older)) None)
 
   -- where the newer index does not have the name
   old_has : (name : List ℕ) (is_dropped : Bool) → ((place : ℕ) → slice_get newer.names place ≡ Some name → ⊥) → is_covered (paths_in newer) name ≡ is_dropped → both_have name ≡ cond (not is_dropped) (find bytes_cmp name (files_read older)) None
-  old_has name is_dropped none e = λ i. or_else (find_nowhere newer.names 0 name (lists_in newer) none i) (cond (not (e i)) (find bytes_cmp name (files_read older)) None)
+  old_has name is_dropped none e = λ i. option_or (find_nowhere newer.names 0 name (lists_in newer) none i) (cond (not (e i)) (find bytes_cmp name (files_read older)) None)
 
   found_newer : (id : ℕ) (name : List ℕ) → slice_get newer.names id ≡ Some name → find bytes_cmp name (entries_of 0 names given) ≡ both_have name
   found_newer id name there = by_new (get_or newer_ids id None) (slice_get-get_or newer_ids id None (let within = slice_get_within newer.names id name there in let all = laid.named.newer_long in omega (arith, within, all)))
@@ -126,7 +126,7 @@ module _ (older newer : Parts) (names : List (List ℕ)) (older_ids newer_ids : 
           let placed = laid.named.newer_placed id name (Some found) there is in
           found_at names found name given named_once placed.1
           ∙ ap Some (laid.newer_sets id found (ap (option_and_then (λ (o : Option ℕ). o)) is))
-          ∙ sym (ap (λ o. or_else o (cond (not (is_covered (paths_in newer) name)) (find bytes_cmp name (files_read older)) None)) (found_at newer.names id name (lists_in newer) onces.1 there))
+          ∙ sym (ap (λ o. option_or o (cond (not (is_covered (paths_in newer) name)) (find bytes_cmp name (files_read older)) None)) (found_at newer.names id name (lists_in newer) onces.1 there))
 
   found_older : (id : ℕ) (name : List ℕ) → ((place : ℕ) → slice_get newer.names place ≡ Some name → ⊥) → is_covered (paths_in newer) name ≡ false → slice_get older.names id ≡ Some name → find bytes_cmp name (entries_of 0 names given) ≡ both_have name
   found_older id name none stays there = by_new (get_or older_ids id None) (slice_get-get_or older_ids id None (let within = slice_get_within older.names id name there in let all = laid.named.older_long in omega (arith, within, all)))
@@ -165,12 +165,11 @@ module _ (older newer : Parts) (names : List (List ℕ)) (older_ids newer_ids : 
       ]
 
   laid_files : map'.from_entries {R = bytes_cmp} (entries_of 0 names given) ≡ join_files (paths_in newer) (files_in older) (files_in newer)
-  unfolding files_in
   laid_files =
       map'.same_map nat_list_cmp_total alike (map'.from_entries (entries_of 0 names given)) (join_files (paths_in newer) (map'.from_entries (files_read older)) (map'.from_entries (files_read newer))) (λ name.
       map'.get-from_entries nat_list_cmp_total (entries_of 0 names given) name
       ∙ found name
-      ∙ (λ i. or_else (sym (map'.get-from_entries nat_list_cmp_total (files_read newer) name) i) (cond (not (is_covered (paths_in newer) name)) (sym (map'.get-from_entries nat_list_cmp_total (files_read older) name) i) None))
+      ∙ (λ i. option_or (sym (map'.get-from_entries nat_list_cmp_total (files_read newer) name) i) (cond (not (is_covered (paths_in newer) name)) (sym (map'.get-from_entries nat_list_cmp_total (files_read older) name) i) None))
       ∙ sym (get-join_files (paths_in newer) (map'.from_entries (files_read older)) (map'.from_entries (files_read newer)) name))
 
   true_T : (b : Bool) → b ≡ true → T b

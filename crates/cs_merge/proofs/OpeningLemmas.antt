@@ -3,7 +3,7 @@ use Rattle.std.proofs.Common.{◌≡◌, ℕ, ◌+◌, ◌<◌, ◌^◌, true, c
 use Rattle.cs_tree.specs.PathSet.{Paths}
 use Rattle.cs_tree.specs.NameOrder.{bytes_cmp}
 use Rattle.cs_tree.specs.NamesAscending.{are_ascending}
-use Rattle.cs_index.specs.Roundtrip.{AreBytes}
+use Rattle.cs_tree.specs.ByteList.{AreBytes}
 use Rattle.cs_index.specs.Spelling.{SpellsParts}
 use Rattle.cs_index.specs.PostingLists.{Ids, entries_of}
 use Rattle.std.proofs.lemmas.Bool.{and_from, and_parts}
@@ -13,10 +13,10 @@ use Rattle.std.specs.Ordering.{is_lt}
 use Rattle.cs_tree.specs.PathSet as set
 use Rattle.cs_index.specs.Image.{Files, ListEntry, Posting, Sections}
 use Rattle.cs_index.specs.Opening.{opening}
-use Rattle.cs_index.specs.OpenedParts.{Parts, are_whole, ids_read, lists_in, whole_ids}
+use Rattle.cs_index.specs.OpenedParts.{Parts, are_whole, ids_read, lists_in, whole_ids, files_in, paths_in}
 use Rattle.cs_index.proofs.OnceLemmas.{sections_once, spelled_once}
 use Rattle.cs_index.proofs.OpenedLemmas.{opens_spelled, spells_opened}
-use Rattle.cs_merge.specs.Content.{IsListOf, Holds, HasContent, Opens, files_in, paths_in}
+use Rattle.cs_merge.specs.Content.{IsListOf, Holds, HasContent, Opens}
 use Rattle.cs_merge.proofs.ReadLemmas.{read_posting}
 use Rattle.cs_merge.proofs.OrderLemmas.{Up, sorted_up, up_named, up_sorted}
 
@@ -52,7 +52,6 @@ whole_lists parts (e ∷ es) h =
     ((refl, all), whole_lists parts es both.1)
 
 has_content : (bytes : List ℕ) (parts : Parts) (paths : Paths) (files : Files) → SpellsParts bytes parts → Holds bytes paths files → HasContent parts paths files
-unfolding paths_in files_in
 has_content bytes parts paths files s h =
     let once = spelled_once bytes parts.paths h.path_list parts.names h.names parts.entries h.entries s.spelled h.spells in
     let sections = sections_once s.spelled.sections h.spells.sections (subst (λ bs. length bs < 2 ^ 32) s.spelled.laid s.spelled.short) (subst (λ bs. length bs < 2 ^ 32) h.spells.laid h.spells.short) (sym s.spelled.laid ∙ h.spells.laid) in
@@ -70,7 +69,6 @@ has_content bytes parts paths files s h =
     }
 
 holds_from : (bytes : List ℕ) (parts : Parts) → SpellsParts bytes parts → are_ascending parts.names ≡ true → are_whole parts ≡ true → Holds bytes (paths_in parts) (files_in parts)
-unfolding paths_in files_in
 holds_from bytes parts s ascend whole = record {
   path_list = parts.paths;
   names = parts.names;
@@ -98,9 +96,9 @@ held_opens bytes paths files h =
     record { parts = parts; opened = opens_spelled bytes parts spells; has = has_content bytes parts paths files spells h }
 
 pub opens_held : (bytes : List ℕ) (paths : Paths) (files : Files) → AreBytes bytes → Opens bytes paths files → Holds bytes paths files
-opens_held bytes paths files small o =
+opens_held bytes paths files are o =
     subst (Holds bytes paths) o.has.files_are
-    (subst (λ p. Holds bytes p (files_in o.parts)) o.has.paths_are (holds_from bytes o.parts (spells_opened bytes o.parts small o.opened) o.has.ascend o.has.whole))
+    (subst (λ p. Holds bytes p (files_in o.parts)) o.has.paths_are (holds_from bytes o.parts (spells_opened bytes o.parts are o.opened) o.has.ascend o.has.whole))
 
 pub opened_has : (bytes : List ℕ) (parts : Parts) (paths : Paths) (files : Files) → AreBytes bytes → opening bytes ≡ Ok parts → Holds bytes paths files → HasContent parts paths files
-opened_has bytes parts paths files small e h = has_content bytes parts paths files (spells_opened bytes parts small e) h
+opened_has bytes parts paths files are e h = has_content bytes parts paths files (spells_opened bytes parts are e) h

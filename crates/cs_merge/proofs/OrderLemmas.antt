@@ -1,5 +1,5 @@
 -- Names and files in order.
-use Rattle.std.proofs.Common.{◌≡◌, ℕ, ◌+◌, true, false, List, [], ◌∷◌, refl, sym, ap, ◌∙◌}
+use Rattle.std.proofs.Common.{◌≡◌, ℕ, ◌+◌, true, false, List, [], ◌∷◌, refl, ap, ◌∙◌}
 use Rattle.cs_tree.specs.NameOrder.{bytes_cmp}
 use Rattle.cs_tree.specs.NamesAscending.{are_ascending}
 use Rattle.cs_index.specs.PostingLists.{entries_of}
@@ -12,6 +12,8 @@ use Rattle.std.specs.declared.cmp.Ordering.{Ordering}
 use Rattle.std.specs.declared.cmp.Ordering.TheVariants.{Less, Equal, Greater}
 use Rattle.cs_tree.proofs.Sets.{alike}
 use Rattle.cs_index.specs.Image.{Entry, Posting}
+use Rattle.cs_tree.proofs.BeforeLemmas.{before_chain}
+use Rattle.cs_index.proofs.PathLemmas.{tail_up}
 
 -- the file stands above a name
 abbrev pub Above : List ℕ → Entry → Type 0
@@ -46,14 +48,6 @@ sorted_up (file ∷ files) up = and_from (below_all bytes_cmp file.0 files) (is_
 
 -- ---- order
 
-less : (o : Ordering) → is_lt o ≡ true → o ≡ Less
-less Less h = refl
-less Equal h = absurd (true≢false (sym h))
-less Greater h = absurd (true≢false (sym h))
-
-pub chain : (a b c : List ℕ) → is_lt (bytes_cmp a b) ≡ true → is_lt (bytes_cmp b c) ≡ true → is_lt (bytes_cmp a c) ≡ true
-chain a b c h g = ap is_lt (nat_list_cmp_total.trans a b c (less (bytes_cmp a b) h) (less (bytes_cmp b c) g))
-
 -- names of which one is not below the other, and which differ
 pub turned : (a b : List ℕ) → is_lt (bytes_cmp a b) ≡ false → (a ≡ b → ⊥) → is_lt (bytes_cmp b a) ≡ true
 turned a b h apart = by_order (bytes_cmp a b) refl h
@@ -73,16 +67,12 @@ names_above name (next ∷ names) h =
   where
     over : (others : List (List ℕ)) → AllByRecursion (λ other. is_lt (bytes_cmp next other) ≡ true) others → is_lt (bytes_cmp name next) ≡ true → AllByRecursion (λ other. is_lt (bytes_cmp name other) ≡ true) others
     over [] all g = tt
-    over (other ∷ others) all g = (chain name next other g all.0, over others all.1 g)
+    over (other ∷ others) all g = (before_chain name next other g all.0, over others all.1 g)
 
 pub each_named : (P : List ℕ → Type 0) (first : ℕ) (names : List (List ℕ)) (lists : List Posting) → AllByRecursion P names → AllByRecursion (λ (file : Entry). P file.0) (entries_of first names lists)
 each_named P first [] lists all = tt
 each_named P first (name ∷ names) lists all = (all.0, each_named P (first + 1) names lists all.1)
 
-names_tail : (name : List ℕ) (names : List (List ℕ)) → are_ascending (name ∷ names) ≡ true → are_ascending names ≡ true
-names_tail name [] h = refl
-names_tail name (next ∷ names) h = (and_parts (is_lt (bytes_cmp name next)) (are_ascending (next ∷ names)) h).1
-
 pub up_named : (first : ℕ) (names : List (List ℕ)) (lists : List Posting) → are_ascending names ≡ true → Up (entries_of first names lists)
 up_named first [] lists h = tt
-up_named first (name ∷ names) lists h = (each_named (λ other. is_lt (bytes_cmp name other) ≡ true) (first + 1) names lists (names_above name names h), up_named (first + 1) names lists (names_tail name names h))
+up_named first (name ∷ names) lists h = (each_named (λ other. is_lt (bytes_cmp name other) ≡ true) (first + 1) names lists (names_above name names h), up_named (first + 1) names lists (tail_up name names h))

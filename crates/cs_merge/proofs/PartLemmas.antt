@@ -11,12 +11,12 @@ use Rattle.std.specs.Option.{option_eq}
 use Rattle.std.specs.Prelude.{option_map}
 use Rattle.std.specs.List.Sorted.{IsNonDecreasingBy, IsPermutation}
 use Rattle.cs_trigram.specs.Trigram.{has}
-use Rattle.cs_index.specs.IdStream.{next_after}
-use Rattle.cs_index.specs.Rising.{RiseWithin, moved}
-use Rattle.cs_merge.specs.Renumbering.{NewIds, new_id, renumbered, AreMoved, AreOnce, IsOneToOne, MoveTogether, RiseUnder}
+use Rattle.cs_index.specs.Rising.{next_after, RiseWithin, ids_onward}
+use Rattle.cs_merge.specs.Renumbering.{NewIds, new_id, new_ids_of, AreMoved, AreOnce, IsOneToOne, MoveTogether, RiseUnder}
 use Rattle.cs_merge.specs.SideBySide.{lower_of, part_ids, parts_ids, without_number, AreGathered, AreIds, IsMove, IsStretchOf, IsStretchOfOne, of_older, Part}
 use Rattle.cs_merge.proofs.ListingLemmas.{has_both, next_below}
 use Rattle.cs_merge.proofs.SortedLemmas.{has_many, many, once_few, one}
+use Rattle.cs_index.proofs.StreamLemmas.{rise_append}
 
 or_true : (b : Bool) → (b || true) ≡ true
 or_true true = refl
@@ -95,12 +95,12 @@ module _ (new_ids : NewIds) where
   under_from low next [] from up = tt
   under_from low next (n ∷ ns) from up = (up.0, let above = up.1 in omega (arith, from, above), up.2, up.3)
 
-  pub rise_under : (count next : ℕ) (ids : List ℕ) → RiseWithin count next ids → RiseUnder new_ids next (renumbered new_ids ids)
+  pub rise_under : (count next : ℕ) (ids : List ℕ) → RiseWithin count next ids → RiseUnder new_ids next (new_ids_of new_ids ids)
   rise_under count next [] up = tt
   rise_under count next (id ∷ ids) up = by_new (new_id new_ids id) refl (rise_under count (id + 1) ids up.2)
     where
-      by_new : (o : Option ℕ) → new_id new_ids id ≡ o → RiseUnder new_ids (id + 1) (renumbered new_ids ids) → RiseUnder new_ids next (cons_option o (renumbered new_ids ids))
-      by_new None e rest = under_from next (id + 1) (renumbered new_ids ids) (let from : next ≤ id = up.0 in omega (arith, from)) rest
+      by_new : (o : Option ℕ) → new_id new_ids id ≡ o → RiseUnder new_ids (id + 1) (new_ids_of new_ids ids) → RiseUnder new_ids next (cons_option o (new_ids_of new_ids ids))
+      by_new None e rest = under_from next (id + 1) (new_ids_of new_ids ids) (let from : next ≤ id = up.0 in omega (arith, from)) rest
       by_new (Some new) e rest = (id, up.0, e, rest)
 
   has_under : (next n : ℕ) (ns : List ℕ) → RiseUnder new_ids next ns → has ns n ≡ true → (id : ℕ) × (next ≤ id) × (new_id new_ids id ≡ Some n)
@@ -160,11 +160,11 @@ module _ (new_ids : NewIds) (once : IsOneToOne new_ids) (part : Part) (move : Is
       part.0 ≤ n → n < next_after part.0 (part_ids part) → has (part_ids part) n ≡ true
   same_list_alone before after up n h from to =
       elim ends [
-        | inl first ↦ ap (λ b. b || has (moved (part.0 + 1) part.1) n) (eq-eqb part.0 n (sym (first n from to)))
+        | inl first ↦ ap (λ b. b || has (ids_onward (part.0 + 1) part.1) n) (eq-eqb part.0 n (sym (first n from to)))
         | inr end ↦
             elim (or_cases (has before n) (has (part_ids part ++ after) n) (sym (has_both before (part_ids part ++ after) n) ∙ h)) [
               | inl earlier ↦
-                  let t = in_turn new_ids 0 n part.0 before (part_ids part ++ after) up earlier (here part.0 (moved (part.0 + 1) part.1 ++ after)) in
+                  let t = in_turn new_ids 0 n part.0 before (part_ids part ++ after) up earlier (here part.0 (ids_onward (part.0 + 1) part.1 ++ after)) in
                   let low = came_of n t.0 from (omega (arith, to, end)) t.3 in
                   let high = came_of part.0 t.1 (omega arith) (omega (arith, from, to, end)) t.4 in
                   let turn : t.0 < t.1 = t.2 in
@@ -173,7 +173,7 @@ module _ (new_ids : NewIds) (once : IsOneToOne new_ids) (part : Part) (move : Is
                   elim (or_cases (has (part_ids part) n) (has after n) (sym (has_both (part_ids part) after n) ∙ there)) [
                     | inl in_part ↦ in_part
                     | inr later ↦
-                        let l = last_of part.0 part.0 (moved (part.0 + 1) part.1) in
+                        let l = last_of part.0 part.0 (ids_onward (part.0 + 1) part.1) in
                         let last : next_after part.0 (part_ids part) ≡ l.0 + 1 = l.1 in
                         let t = in_turn new_ids 0 l.0 n (part_ids part) after (under_tail new_ids 0 before (part_ids part ++ after) up) l.2 later in
                         let low = came_of l.0 t.0 (omega (arith, from, to, last)) (omega (arith, last, end)) t.3 in
@@ -184,31 +184,31 @@ module _ (new_ids : NewIds) (once : IsOneToOne new_ids) (part : Part) (move : Is
             ]
       ]
 
-  run_rises : (count next : ℕ) (run : List ℕ) → part.0 ≤ next → RiseUnder new_ids (move.moved.from + (next - part.0)) (moved (part.0 + 1) run) → AllByRecursion (λ other. part.0 + 1 + other < move.end) run →
-      ((n : ℕ) → has (moved (part.0 + 1) run) n ≡ true → n < count) → RiseWithin count next (moved (part.0 + 1) run)
+  run_rises : (count next : ℕ) (run : List ℕ) → part.0 ≤ next → RiseUnder new_ids (move.moved.from + (next - part.0)) (ids_onward (part.0 + 1) run) → AllByRecursion (λ other. part.0 + 1 + other < move.end) run →
+      ((n : ℕ) → has (ids_onward (part.0 + 1) run) n ≡ true → n < count) → RiseWithin count next (ids_onward (part.0 + 1) run)
   run_rises count next [] from up all below = tt
   run_rises count next (other ∷ run) from up all below =
       let of = came_of (part.0 + 1 + other) up.0 (omega arith) all.0 up.2 in
       let above : move.moved.from + (next - part.0) ≤ up.0 = up.1 in (
         omega (arith, of, above, from),
-        below (part.0 + 1 + other) (here (part.0 + 1 + other) (moved (part.0 + 1) run)),
-        run_rises count (part.0 + 1 + other + 1) run (omega arith) (under_from new_ids (move.moved.from + (part.0 + 1 + other + 1 - part.0)) (up.0 + 1) (moved (part.0 + 1) run) (omega (arith, of)) up.3) all.1
+        below (part.0 + 1 + other) (here (part.0 + 1 + other) (ids_onward (part.0 + 1) run)),
+        run_rises count (part.0 + 1 + other + 1) run (omega arith) (under_from new_ids (move.moved.from + (part.0 + 1 + other + 1 - part.0)) (up.0 + 1) (ids_onward (part.0 + 1) run) (omega (arith, of)) up.3) all.1
             (λ n h. below n (ap (λ b. eqb (part.0 + 1 + other) n || b) h ∙ or_true (eqb (part.0 + 1 + other) n))),
       )
 
   part_rises : (count : ℕ) → RiseUnder new_ids 0 (part_ids part) → ((n : ℕ) → has (part_ids part) n ≡ true → n < count) → RiseWithin count part.0 (part_ids part)
   part_rises count up below = (
     omega arith,
-    below part.0 (here part.0 (moved (part.0 + 1) part.1)),
+    below part.0 (here part.0 (ids_onward (part.0 + 1) part.1)),
     by_run part.1 move.below up.3 (λ n h. below n (ap (λ b. eqb part.0 n || b) h ∙ or_true (eqb part.0 n))),
   )
     where
-      by_run : (run : List ℕ) → AllByRecursion (λ other. part.0 + 1 + other < move.end) run → RiseUnder new_ids (up.0 + 1) (moved (part.0 + 1) run) → ((n : ℕ) → has (moved (part.0 + 1) run) n ≡ true → n < count) → RiseWithin count (part.0 + 1) (moved (part.0 + 1) run)
+      by_run : (run : List ℕ) → AllByRecursion (λ other. part.0 + 1 + other < move.end) run → RiseUnder new_ids (up.0 + 1) (ids_onward (part.0 + 1) run) → ((n : ℕ) → has (ids_onward (part.0 + 1) run) n ≡ true → n < count) → RiseWithin count (part.0 + 1) (ids_onward (part.0 + 1) run)
       by_run [] all rest low = tt
       by_run (one ∷ run) all rest low =
           let first : part.0 + 1 + one < move.end = all.0 in
           let of = came_of part.0 up.0 (omega arith) (omega (arith, first)) up.2 in
-          run_rises count (part.0 + 1) (one ∷ run) (omega arith) (under_from new_ids (move.moved.from + (part.0 + 1 - part.0)) (up.0 + 1) (moved (part.0 + 1) (one ∷ run)) (omega (arith, of)) rest) all low
+          run_rises count (part.0 + 1) (one ∷ run) (omega arith) (under_from new_ids (move.moved.from + (part.0 + 1 - part.0)) (up.0 + 1) (ids_onward (part.0 + 1) (one ∷ run)) (omega (arith, of)) rest) all low
 
 -- ---- parts of both
 
@@ -260,10 +260,6 @@ parts_both (part ∷ parts) more =
 
 -- ---- parts put in order
 
-rise_both : (count next : ℕ) (ids more : List ℕ) → RiseWithin count next ids → RiseWithin count (next_after next ids) more → RiseWithin count next (ids ++ more)
-rise_both count next [] more up then = then
-rise_both count next (id ∷ ids) more up then = (up.0, up.1, rise_both count (id + 1) ids more up.2 then)
-
 many_parts : (n : ℕ) (parts : List Part) → many n (parts_ids parts) ≡ sum_by (λ (part : Part). many n (part_ids part)) parts
 many_parts n [] = refl
 many_parts n (part ∷ parts) =
@@ -278,7 +274,7 @@ parts_rise : (count next : ℕ) (all : List ℕ) (parts : List Part) → IsNonDe
     ((n : ℕ) → many n (parts_ids parts) ≤ 1) → ((n : ℕ) → has (parts_ids parts) n ≡ true → has all n ≡ true) → ((n : ℕ) (m : List Part) (run : List ℕ) → parts ≡ (n, run) ∷ m → next ≤ n) → RiseWithin count next (parts_ids parts)
 parts_rise count next all [] up closed few among from = tt
 parts_rise count next all (part ∷ parts) up closed few among from =
-    rise_both count next (part_ids part) (parts_ids parts) own
+    rise_append count next (part_ids part) (parts_ids parts) own
     (parts_rise count (next_after next (part_ids part)) all parts
     (λ i j d h k. up (suc i) (suc j) d (omega (arith, h)) (omega (arith, k)))
     closed.1
@@ -298,7 +294,7 @@ parts_rise count next all (part ∷ parts) up closed few among from =
     behind n m run ((k, ns) ∷ rest) is up few among =
         let same : k ≡ n = ap first_of is in
         let over : part.0 ≤ k = up 0 1 part (omega arith) (omega arith) in
-        let there : has (parts_ids ((k, ns) ∷ rest)) k ≡ true = here k (moved (k + 1) ns ++ parts_ids rest) in
+        let there : has (parts_ids ((k, ns) ∷ rest)) k ≡ true = here k (ids_onward (k + 1) ns ++ parts_ids rest) in
         elim (cases_lt k (next_after part.0 (part_ids part))) [
           | inl within ↦
               let inside = closed.0.alone k (among k (has_both (part_ids part) (parts_ids ((k, ns) ∷ rest)) k ∙ ap (λ b. has (part_ids part) k || b) there ∙ or_true (has (part_ids part) k))) over within in
@@ -394,8 +390,8 @@ module _ (parts : List Part) (place : ℕ) (part : Part) (h : place < length par
   is_stretch = of_older record {
     ids_are =
         ap (without_number part.0) (first_part parts place part h is)
-        ∙ without_first (moved (part.0 + 1) part.1 ++ parts_ids (drop (place + 1) parts))
-        ∙ ap (λ ids. moved (part.0 + 1) part.1 ++ ids) (sym rest_is);
+        ∙ without_first (ids_onward (part.0 + 1) part.1 ++ parts_ids (drop (place + 1) parts))
+        ∙ ap (λ ids. ids_onward (part.0 + 1) part.1 ++ ids) (sym rest_is);
     below = λ most e. absurd (none most e);
   } refl
     where

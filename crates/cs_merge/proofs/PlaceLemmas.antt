@@ -13,7 +13,8 @@ use Rattle.cs_index.specs.OpenedParts.{Parts, are_whole, ids_read, lists_in}
 use Rattle.cs_index.specs.Parts.{AreParts}
 use Rattle.cs_index.specs.PostingLists.{Ids, set_at}
 use Rattle.cs_index.specs.Rising.{RiseWithin}
-use Rattle.cs_merge.specs.SideBySide.{list_ids, lower_of, no_ids, place_after, list_trigram}
+use Rattle.cs_merge.specs.SideBySide.{list_ids, lower_of, place_after, list_trigram}
+use Rattle.cs_index.specs.Postings.{nothing_read}
 use Rattle.cs_merge.proofs.ReadLemmas.{list_rises, lists_push, one_damaged, read_posting, set_push, whole_push}
 use Rattle.cs_merge.proofs.ReadyLemmas.{none_read}
 
@@ -21,10 +22,10 @@ module _ (parts : Parts) (place trigram : ℕ) where
   -- The list is that of the trigram, or it is not.
   data Taking : Type 0 where
     takes : (entry : ListEntry) → slice_get parts.entries place ≡ Some entry → entry.trigram ≡ trigram → list_ids parts place trigram ≡ ids_read parts entry → place_after parts place trigram ≡ place + 1 → Taking
-    stays : list_ids parts place trigram ≡ no_ids → place_after parts place trigram ≡ place → ((entry : ListEntry) → slice_get parts.entries place ≡ Some entry → entry.trigram ≡ trigram → ⊥) → Taking
+    stays : list_ids parts place trigram ≡ nothing_read → place_after parts place trigram ≡ place → ((entry : ListEntry) → slice_get parts.entries place ≡ Some entry → entry.trigram ≡ trigram → ⊥) → Taking
 
   abbrev ids_for : Option ListEntry → Ids
-  ids_for o = option_map_or (λ (e : ListEntry). cond (eqb e.trigram trigram) (ids_read parts e) no_ids) o no_ids
+  ids_for o = option_map_or (λ (e : ListEntry). cond (eqb e.trigram trigram) (ids_read parts e) nothing_read) o nothing_read
 
   abbrev place_for : Option ListEntry → ℕ
   place_for o = option_map_or (λ (e : ListEntry). cond (eqb e.trigram trigram) (place + 1) place) o place
@@ -39,9 +40,9 @@ module _ (parts : Parts) (place trigram : ℕ) where
           none entry f = cc
       by_entry (Some entry) e =
           elim (cases_Bool (eqb entry.trigram trigram)) [
-            | inl same ↦ takes entry e (eqb-true entry.trigram trigram same) (ap ids_for e ∙ ap (λ b. cond b (ids_read parts entry) no_ids) same) (ap place_for e ∙ ap (λ b. cond b (place + 1) place) same)
+            | inl same ↦ takes entry e (eqb-true entry.trigram trigram same) (ap ids_for e ∙ ap (λ b. cond b (ids_read parts entry) nothing_read) same) (ap place_for e ∙ ap (λ b. cond b (place + 1) place) same)
             | inr apart ↦
-                stays (ap ids_for e ∙ ap (λ b. cond b (ids_read parts entry) no_ids) apart) (ap place_for e ∙ ap (λ b. cond b (place + 1) place) apart)
+                stays (ap ids_for e ∙ ap (λ b. cond b (ids_read parts entry) nothing_read) apart) (ap place_for e ∙ ap (λ b. cond b (place + 1) place) apart)
                 (λ other there same. true≢false (sym (eq-eqb entry.trigram trigram (ap (λ (d : ListEntry). d.trigram) (same_Some entry other (sym e ∙ there)) ∙ same)) ∙ apart))
           ]
 

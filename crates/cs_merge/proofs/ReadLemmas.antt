@@ -1,10 +1,10 @@
 -- What is read of lists.
-use Rattle.std.proofs.Common.{◌≡◌, ℕ, zero, suc, ◌+◌, ◌-◌, Bool, true, false, cond, ◌&&◌, ltb, inl, inr, Some, None, List, [], ◌∷◌, ◌++◌, length, map, take, drop, Result, Ok, Err, refl, sym, ap, subst, ◌∙◌, arith, slice_get}
+use Rattle.std.proofs.Common.{◌≡◌, ℕ, zero, suc, ◌+◌, Bool, true, false, cond, ◌&&◌, Some, List, [], ◌∷◌, ◌++◌, length, map, take, drop, Result, Ok, Err, refl, ap, ◌∙◌, arith, slice_get}
 use Rattle.cs_index.specs.Postings.{ids_given}
 use Rattle.cs_index.specs.Rising.{RiseWithin}
-use Rattle.cs_index.specs.PostingLists.{read_varint, Ids, damaged, onto, after_delta, read_ids, set_at}
+use Rattle.cs_index.specs.PostingLists.{Ids, damage, read_ids, set_at}
 use Rattle.cs_trigram.specs.Trigram.{has}
-use Rattle.std.proofs.lemmas.Bool.{ltb-true, and_parts, and_from, cases_Bool}
+use Rattle.std.proofs.lemmas.Bool.{and_parts, and_from}
 use Rattle.std.specs.Prelude.{filter}
 use Rattle.std.specs.List.{list_all}
 use Rattle.cs_tree.specs.Cover.{same}
@@ -12,30 +12,12 @@ use Rattle.cs_index.specs.declared.fault.IndexFault.{IndexFault}
 use Rattle.cs_index.specs.declared.fault.IndexFault.TheVariants.{BadList}
 use Rattle.cs_index.specs.Image.{ListEntry, Posting, three_bytes}
 use Rattle.cs_index.specs.OpenedParts.{Parts, ids_read, lists_in, whole_ids}
+use Rattle.cs_index.proofs.SiftLemmas.{read_rise}
 
 -- ---- what an iterator of ids gives
 
 abbrev told : List ℕ → Bool → List (Result ℕ IndexFault)
 told ids whole = map (λ id. Ok id) ids ++ cond whole [] (Err BadList ∷ [])
-
-told_once : (a b : List ℕ) (v w : Bool) → told a v ≡ told b w → (a ≡ b) × (v ≡ w)
-told_once [] [] true true e = (refl, refl)
-told_once [] [] true false e = cc
-told_once [] [] false true e = cc
-told_once [] [] false false e = (refl, refl)
-told_once [] (b ∷ bs) true w e = cc
-told_once [] (b ∷ bs) false w e = cc
-told_once (a ∷ us) [] v true e = cc
-told_once (a ∷ us) [] v false e = cc
-told_once (a ∷ us) (b ∷ bs) v w e =
-    let head : a ≡ b = cc in
-    let tail : told us v ≡ told bs w = cc in
-    let rest = told_once us bs v w tail in
-    (λ i. head i ∷ rest.0 i, rest.1)
-
--- an id is the next one
-pub told_id : (r s : Ids) (id : ℕ) → ids_given r ≡ Ok id ∷ ids_given s → (r.ids ≡ id ∷ s.ids) × (r.whole ≡ s.whole)
-told_id r s id e = told_once r.ids (id ∷ s.ids) r.whole s.whole e
 
 -- a fault comes of a damaged list
 pub told_fault : (r : Ids) (fault : IndexFault) (rest : List (Result ℕ IndexFault)) → ids_given r ≡ Err fault ∷ rest → r.whole ≡ false
@@ -50,10 +32,6 @@ pub told_no_id : (r s : Ids) (x : Result ℕ IndexFault) → ids_given r ≡ x �
 told_no_id r s (Ok id) e none = absurd (none id refl)
 told_no_id r s (Err fault) e none = told_fault r fault (ids_given s) e
 
--- where nothing more comes the list is whole
-pub told_end : (r : Ids) → ids_given r ≡ [] → (r.ids ≡ []) × (r.whole ≡ true)
-told_end r e = told_once r.ids [] r.whole true e
-
 -- ---- what the ids of a list give is what the list says
 
 pub set_push : (id : ℕ) (lists : List Posting) (trigram : ℕ) (ids : List ℕ) → set_at id (lists ++ (trigram, ids) ∷ []) ≡ set_at id lists ++ cond (has ids id) (trigram ∷ []) []
@@ -66,30 +44,10 @@ set_push id (p ∷ lists) trigram ids =
 
 -- ---- ids that are read rise and stay below the number of names
 
-fits_rises : (names next delta : ℕ) (rest : Ids) → RiseWithin names (next + delta) rest.ids → RiseWithin names next (cond (ltb 0 delta && ltb (next + delta) (names + 1)) (onto (next + delta - 1) rest) damaged).ids
-fits_rises names next delta rest up =
-    elim (cases_Bool (ltb 0 delta && ltb (next + delta) (names + 1))) [
-      | inl fits ↦
-          let both = and_parts (ltb 0 delta) (ltb (next + delta) (names + 1)) fits in
-          let some = ltb-true 0 delta both.0 in
-          let within = ltb-true (next + delta) (names + 1) both.1 in
-          let up' : RiseWithin names (next + delta - 1 + 1) rest.ids = subst (λ n. RiseWithin names n rest.ids) (let z : next + delta ≡ next + delta - 1 + 1 = omega (arith, some) in z) up in
-          subst (λ b. RiseWithin names next (cond b (onto (next + delta - 1) rest) damaged).ids) (sym fits) (omega (arith, some), omega (arith, some, within), up')
-      | inr none ↦ subst (λ b. RiseWithin names next (cond b (onto (next + delta - 1) rest) damaged).ids) (sym none) tt
-    ]
-
-read_rises : (names count next : ℕ) (bytes : List ℕ) → RiseWithin names next (read_ids names count next bytes).ids
-read_rises names zero next bytes = tt
-read_rises names (suc count) next bytes =
-    elim (read_varint bytes) as (λ found. RiseWithin names next (after_delta names next (read_ids names count) found).ids) [
-      | None ↦ tt
-      | Some found ↦ fits_rises names next found.0 (read_ids names count (next + found.0) found.1) (read_rises names count (next + found.0) found.1)
-    ]
-
 pub list_rises : (parts : Parts) (entry : ListEntry) → RiseWithin (length parts.names) 0 (ids_read parts entry).ids
 list_rises parts entry =
-    elim (same (take 3 (drop entry.offset parts.postings)) (three_bytes entry.trigram)) as (λ b. RiseWithin (length parts.names) 0 (cond b (read_ids (length parts.names) entry.count 0 (drop (entry.offset + 3) parts.postings)) damaged).ids) [
-      | true ↦ read_rises (length parts.names) entry.count 0 (drop (entry.offset + 3) parts.postings)
+    elim (same (take 3 (drop entry.offset parts.postings)) (three_bytes entry.trigram)) as (λ b. RiseWithin (length parts.names) 0 (cond b (read_ids (length parts.names) entry.count 0 (drop (entry.offset + 3) parts.postings)) damage).ids) [
+      | true ↦ read_rise (length parts.names) entry.count 0 (drop (entry.offset + 3) parts.postings)
       | false ↦ tt
     ]
 

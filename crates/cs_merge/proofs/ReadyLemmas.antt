@@ -2,7 +2,7 @@
 use Rattle.std.proofs.Common.{◌≡◌, ℕ, ◌+◌, ◌<◌, true, false, not, cond, eqb, ltb, List, [], ◌∷◌, length, map, take, drop, refl, sym, ap, ◌∙◌, inl, inr, arith}
 use Rattle.cs_tree.specs.PathSet.{Paths}
 use Rattle.cs_tree.specs.NameOrder.{bytes_cmp}
-use Rattle.cs_index.specs.PostingLists.{damaged, read_ids}
+use Rattle.cs_index.specs.PostingLists.{damage, read_ids}
 use Rattle.std.proofs.lemmas.Bool.{true≢false, and_parts, and_from, or_cases, cases_Bool, ne_eqb, lt-ltb}
 use Rattle.std.specs.Prelude.{is_some}
 use Rattle.std.specs.FinMap as map'
@@ -17,9 +17,8 @@ use Rattle.cs_tree.proofs.Least.{IsLeast, least_says}
 use Rattle.cs_tree.proofs.Sets.{contains-union, tied_same}
 use Rattle.cs_index.specs.Image.{ListEntry, three_bytes, IsString}
 use Rattle.cs_index.specs.Built.{are_paths, are_reduced, is_before, is_storable}
-use Rattle.cs_index.specs.OpenedParts.{Parts, ids_read}
+use Rattle.cs_index.specs.OpenedParts.{Parts, ids_read, paths_in}
 use Rattle.cs_index.specs.Parts.{AreParts}
-use Rattle.cs_merge.specs.Content.{paths_in}
 use Rattle.cs_merge.specs.Join.{join_paths}
 use Rattle.cs_merge.proofs.ContentLemmas.{all_paths, each_of_map}
 use Rattle.cs_merge.proofs.HoldingLemmas.{from_list_all, is_true}
@@ -28,7 +27,7 @@ use Rattle.cs_merge.proofs.HoldingLemmas.{from_list_all, is_true}
 
 pub none_read : (parts : Parts) (e : ListEntry) → e.count ≡ 0 → (ids_read parts e).ids ≡ []
 none_read parts e h =
-    elim (same (take 3 (drop e.offset parts.postings)) (three_bytes e.trigram)) as (λ b. (cond b (read_ids (length parts.names) e.count 0 (drop (e.offset + 3) parts.postings)) damaged).ids ≡ []) [
+    elim (same (take 3 (drop e.offset parts.postings)) (three_bytes e.trigram)) as (λ b. (cond b (read_ids (length parts.names) e.count 0 (drop (e.offset + 3) parts.postings)) damage).ids ≡ []) [
       | true ↦ ap (λ n. (read_ids (length parts.names) n 0 (drop (e.offset + 3) parts.postings)).ids) h
       | false ↦ refl
     ]
@@ -79,7 +78,6 @@ least_listed paths are =
 
 -- the paths of both can be those of an index
 pub paths_listed : (old newer : Parts) → AreParts old → AreParts newer → are_paths (set.items (join_paths (paths_in old) (paths_in newer))) ≡ true
-unfolding paths_in
 paths_listed old newer a b =
     least_listed (set.union (set.from_list old.paths) (set.from_list newer.paths)) (λ path h.
     elim (or_cases (set.contains (set.from_list old.paths) path) (set.contains (set.from_list newer.paths) path) (sym (contains-union (set.from_list old.paths) (set.from_list newer.paths) path) ∙ h)) [

@@ -11,8 +11,9 @@ use Rattle.cs_tree.specs.NamesAscending.{are_ascending}
 use Rattle.cs_tree.proofs.Sets.{tied_same}
 use Rattle.cs_trigram.specs.Trigram.{has}
 use Rattle.cs_index.specs.Rising.{RiseWithin}
-use Rattle.cs_merge.specs.Renumbering.{NewIds, new_id, renumbered, IsOneToOne, KeepsOrder, StayBelow, IsPlaced, ArePlaced}
-use Rattle.cs_merge.proofs.OrderLemmas.{chain}
+use Rattle.cs_merge.specs.Renumbering.{NewIds, new_id, new_ids_of, IsOneToOne, KeepsOrder, StayBelow, IsPlaced, ArePlaced}
+use Rattle.cs_tree.proofs.BeforeLemmas.{before_chain}
+use Rattle.cs_index.proofs.PathLemmas.{tail_up}
 
 -- ---- items of lists
 
@@ -83,10 +84,6 @@ kept_at is_dropped own names new_ids id new few placed h =
 
 -- ---- names that ascend
 
-pub tail_ascends : (name : List ℕ) (names : List (List ℕ)) → are_ascending (name ∷ names) ≡ true → are_ascending names ≡ true
-tail_ascends name [] h = refl
-tail_ascends name (next ∷ names) h = (and_parts (is_lt (bytes_cmp name next)) (are_ascending (next ∷ names)) h).1
-
 pub first_below : (name : List ℕ) (names : List (List ℕ)) (k : ℕ) (other : List ℕ) → are_ascending (name ∷ names) ≡ true → slice_get names k ≡ Some other → is_lt (bytes_cmp name other) ≡ true
 first_below name [] k other h is = cc
 first_below name (next ∷ names) zero other h is =
@@ -94,7 +91,7 @@ first_below name (next ∷ names) zero other h is =
     subst (λ n. is_lt (bytes_cmp name n) ≡ true) same (and_parts (is_lt (bytes_cmp name next)) (are_ascending (next ∷ names)) h).0
 first_below name (next ∷ names) (suc k) other h is =
     let both = and_parts (is_lt (bytes_cmp name next)) (are_ascending (next ∷ names)) h in
-    chain name next other both.0 (first_below next names k other both.1 is)
+    before_chain name next other both.0 (first_below next names k other both.1 is)
 
 pub ascends_at : (names : List (List ℕ)) (low high : ℕ) (a b : List ℕ) → are_ascending names ≡ true → low < high → slice_get names low ≡ Some a → slice_get names high ≡ Some b → is_lt (bytes_cmp a b) ≡ true
 ascends_at [] low high a b up h left right = cc
@@ -102,7 +99,7 @@ ascends_at (name ∷ names) low zero a b up h left right = absurd (omega (arith,
 ascends_at (name ∷ names) zero (suc high) a b up h left right =
     let same : name ≡ a = same_Some name a left in
     subst (λ n. is_lt (bytes_cmp n b) ≡ true) same (first_below name names high b up right)
-ascends_at (name ∷ names) (suc low) (suc high) a b up h left right = ascends_at names low high a b (tail_ascends name names up) (omega (arith, h)) left right
+ascends_at (name ∷ names) (suc low) (suc high) a b up h left right = ascends_at names low high a b (tail_up name names up) (omega (arith, h)) left right
 
 pub never_below : (name : List ℕ) → is_lt (bytes_cmp name name) ≡ true → ⊥
 never_below name h = apart (bytes_cmp name name) h (tied_same name)
@@ -141,41 +138,41 @@ module _ (new_ids : NewIds) where
   none_some : {new : ℕ} → None ≡ Some new → ⊥
   none_some f = cc
 
-  pub has_renumbered : (ids : List ℕ) (id new : ℕ) → IsOneToOne new_ids → new_id new_ids id ≡ Some new → has (renumbered new_ids ids) new ≡ has ids id
+  pub has_renumbered : (ids : List ℕ) (id new : ℕ) → IsOneToOne new_ids → new_id new_ids id ≡ Some new → has (new_ids_of new_ids ids) new ≡ has ids id
   has_renumbered [] id new once h = refl
   has_renumbered (other ∷ ids) id new once h = by_new (new_id new_ids other) refl (has_renumbered ids id new once h)
     where
-      by_new : (o : Option ℕ) → new_id new_ids other ≡ o → has (renumbered new_ids ids) new ≡ has ids id → has (cons_option o (renumbered new_ids ids)) new ≡ (eqb other id || has ids id)
+      by_new : (o : Option ℕ) → new_id new_ids other ≡ o → has (new_ids_of new_ids ids) new ≡ has ids id → has (cons_option o (new_ids_of new_ids ids)) new ≡ (eqb other id || has ids id)
       by_new None e rest =
           let differs : eqb other id ≡ false = ne_eqb other id (λ is. none_some (sym e ∙ ap (new_id new_ids) is ∙ h)) in
           rest ∙ sym (ap (λ b. b || has ids id) differs)
       by_new (Some found) e rest = (λ i. same_id id other new found once h e i || rest i)
 
   -- what comes of no id is not among the new ids
-  pub has_no_renumbered : (ids : List ℕ) (new : ℕ) → ((other : ℕ) → new_id new_ids other ≡ Some new → ⊥) → has (renumbered new_ids ids) new ≡ false
+  pub has_no_renumbered : (ids : List ℕ) (new : ℕ) → ((other : ℕ) → new_id new_ids other ≡ Some new → ⊥) → has (new_ids_of new_ids ids) new ≡ false
   has_no_renumbered [] new none = refl
   has_no_renumbered (other ∷ ids) new none = by_new (new_id new_ids other) refl (has_no_renumbered ids new none)
     where
-      by_new : (o : Option ℕ) → new_id new_ids other ≡ o → has (renumbered new_ids ids) new ≡ false → has (cons_option o (renumbered new_ids ids)) new ≡ false
+      by_new : (o : Option ℕ) → new_id new_ids other ≡ o → has (new_ids_of new_ids ids) new ≡ false → has (cons_option o (new_ids_of new_ids ids)) new ≡ false
       by_new None e rest = rest
       by_new (Some found) e rest =
           let differs : eqb found new ≡ false = ne_eqb found new (λ is. none other (e ∙ ap Some is)) in
-          ap (λ b. b || has (renumbered new_ids ids) new) differs ∙ rest
+          ap (λ b. b || has (new_ids_of new_ids ids) new) differs ∙ rest
 
   -- what is among the new ids comes of an id
-  pub renumbered_from : (ids : List ℕ) (new : ℕ) → has (renumbered new_ids ids) new ≡ true → (id : ℕ) × (new_id new_ids id ≡ Some new)
+  pub renumbered_from : (ids : List ℕ) (new : ℕ) → has (new_ids_of new_ids ids) new ≡ true → (id : ℕ) × (new_id new_ids id ≡ Some new)
   renumbered_from [] new h = absurd (true≢false (sym h))
   renumbered_from (other ∷ ids) new h = by_new (new_id new_ids other) refl (renumbered_from ids new) h
     where
-      by_new : (o : Option ℕ) → new_id new_ids other ≡ o → (has (renumbered new_ids ids) new ≡ true → (id : ℕ) × (new_id new_ids id ≡ Some new)) → has (cons_option o (renumbered new_ids ids)) new ≡ true → (id : ℕ) × (new_id new_ids id ≡ Some new)
+      by_new : (o : Option ℕ) → new_id new_ids other ≡ o → (has (new_ids_of new_ids ids) new ≡ true → (id : ℕ) × (new_id new_ids id ≡ Some new)) → has (cons_option o (new_ids_of new_ids ids)) new ≡ true → (id : ℕ) × (new_id new_ids id ≡ Some new)
       by_new None e rest g = rest g
       by_new (Some found) e rest g =
           elim (cases_Bool (eqb found new)) [
             | inl is ↦ (other, e ∙ ap Some (eqb-true found new is))
-            | inr differs ↦ rest (sym (ap (λ b. b || has (renumbered new_ids ids) new) differs) ∙ g)
+            | inr differs ↦ rest (sym (ap (λ b. b || has (new_ids_of new_ids ids) new) differs) ∙ g)
           ]
 
-  pub rise_renumbered : (count names next least : ℕ) (ids : List ℕ) → KeepsOrder new_ids → StayBelow count new_ids → RiseWithin names next ids → ((id new : ℕ) → next ≤ id → new_id new_ids id ≡ Some new → least ≤ new) → RiseWithin count least (renumbered new_ids ids)
+  pub rise_renumbered : (count names next least : ℕ) (ids : List ℕ) → KeepsOrder new_ids → StayBelow count new_ids → RiseWithin names next ids → ((id new : ℕ) → next ≤ id → new_id new_ids id ≡ Some new → least ≤ new) → RiseWithin count least (new_ids_of new_ids ids)
   rise_renumbered count names next least [] order below up low = tt
   rise_renumbered count names next least (id ∷ ids) order below up low =
       by_new (new_id new_ids id) refl (λ most more. rise_renumbered count names (id + 1) most ids order below up.2 more)
@@ -183,7 +180,7 @@ module _ (new_ids : NewIds) where
       from : next ≤ id
       from = up.0
 
-      by_new : (o : Option ℕ) → new_id new_ids id ≡ o → ((most : ℕ) → ((other new : ℕ) → id + 1 ≤ other → new_id new_ids other ≡ Some new → most ≤ new) → RiseWithin count most (renumbered new_ids ids)) → RiseWithin count least (cons_option o (renumbered new_ids ids))
+      by_new : (o : Option ℕ) → new_id new_ids id ≡ o → ((most : ℕ) → ((other new : ℕ) → id + 1 ≤ other → new_id new_ids other ≡ Some new → most ≤ new) → RiseWithin count most (new_ids_of new_ids ids)) → RiseWithin count least (cons_option o (new_ids_of new_ids ids))
       by_new None e rest = rest least (λ other new h f. low other new (omega (arith, h, from)) f)
       by_new (Some new) e rest = (
         low id new from e,

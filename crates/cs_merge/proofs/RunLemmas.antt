@@ -4,8 +4,8 @@ use Rattle.std.proofs.lemmas.Bool.{cases_lt, eq-eqb}
 use Rattle.std.specs.List.{cons_option, AllByRecursion}
 use Rattle.std.specs.Prelude.{option_map}
 use Rattle.cs_index.specs.PostingLists.{Ids}
-use Rattle.cs_index.specs.Rising.{moved}
-use Rattle.cs_merge.specs.Renumbering.{NewIds, new_id, renumbered, AreEndsOfMoves, MoveTogether}
+use Rattle.cs_index.specs.Rising.{ids_onward}
+use Rattle.cs_merge.specs.Renumbering.{NewIds, new_id, new_ids_of, AreEndsOfMoves, MoveTogether}
 use Rattle.cs_merge.specs.SideBySide.{without_number, IsCarried, IsStretchOf}
 use Rattle.cs_merge.proofs.RenumberingLemmas.{get_push}
 
@@ -60,22 +60,22 @@ module _ (new_ids : NewIds) where
   -- where the ids of a run are kept
   pub renumbered_run : (last end new : ℕ) (run rest : List ℕ) → new_id new_ids last ≡ Some new → MoveTogether new_ids last end →
       AllByRecursion (λ id. last + 1 + id < end) run →
-      renumbered new_ids (moved (last + 1) run ++ rest) ≡ moved (new + 1) run ++ renumbered new_ids rest
+      new_ids_of new_ids (ids_onward (last + 1) run ++ rest) ≡ ids_onward (new + 1) run ++ new_ids_of new_ids rest
   renumbered_run last end new [] rest is together all = refl
   renumbered_run last end new (id ∷ run) rest is together all =
       let below : last + 1 + id < end = all.0 in
       let at : new + (last + 1 + id - last) ≡ new + 1 + id = omega arith in
-      ap (λ o. cons_option o (renumbered new_ids (moved (last + 1) run ++ rest))) (together (last + 1 + id) (omega arith) below ∙ ap (option_map (λ n. n + (last + 1 + id - last))) is ∙ ap Some at)
+      ap (λ o. cons_option o (new_ids_of new_ids (ids_onward (last + 1) run ++ rest))) (together (last + 1 + id) (omega arith) below ∙ ap (option_map (λ n. n + (last + 1 + id - last))) is ∙ ap Some at)
       ∙ ap (λ ids. (new + 1 + id) ∷ ids) (renumbered_run last end new run rest is together all.1)
 
   -- where they are dropped
   pub renumbered_none : (last end : ℕ) (run rest : List ℕ) → new_id new_ids last ≡ None → MoveTogether new_ids last end →
       AllByRecursion (λ id. last + 1 + id < end) run →
-      renumbered new_ids (moved (last + 1) run ++ rest) ≡ renumbered new_ids rest
+      new_ids_of new_ids (ids_onward (last + 1) run ++ rest) ≡ new_ids_of new_ids rest
   renumbered_none last end [] rest is together all = refl
   renumbered_none last end (id ∷ run) rest is together all =
       let below : last + 1 + id < end = all.0 in
-      ap (λ o. cons_option o (renumbered new_ids (moved (last + 1) run ++ rest))) (together (last + 1 + id) (omega arith) below ∙ ap (option_map (λ n. n + (last + 1 + id - last))) is)
+      ap (λ o. cons_option o (new_ids_of new_ids (ids_onward (last + 1) run ++ rest))) (together (last + 1 + id) (omega arith) below ∙ ap (option_map (λ n. n + (last + 1 + id - last))) is)
       ∙ renumbered_none last end run rest is together all.1
 
 -- ---- a run behind the first id
@@ -84,16 +84,16 @@ all_weaker : (P Q : ℕ → Type 0) → ((n : ℕ) → P n → Q n) → (ns : Li
 all_weaker P Q h [] all = tt
 all_weaker P Q h (n ∷ ns) all = (h n all.0, all_weaker P Q h ns all.1)
 
-module _ (new_ids : NewIds) (first : Option ℕ) (last id : ℕ) (rest : Ids) (is : IsCarried new_ids first last rest) (there : slice_get (cons_option first (renumbered new_ids rest.ids)) 0 ≡ Some id) where
+module _ (new_ids : NewIds) (first : Option ℕ) (last id : ℕ) (rest : Ids) (is : IsCarried new_ids first last rest) (there : slice_get (cons_option first (new_ids_of new_ids rest.ids)) 0 ≡ Some id) where
   pub has_first : first ≡ Some id
   has_first = by_first first refl
     where
       by_first : (o : Option ℕ) → first ≡ o → first ≡ Some id
-      by_first None e = absurd (none (sym (λ i. slice_get (cons_option (e i) (renumbered new_ids ((is.end e).0 i))) 0) ∙ there))
+      by_first None e = absurd (none (sym (λ i. slice_get (cons_option (e i) (new_ids_of new_ids ((is.end e).0 i))) 0) ∙ there))
         where
           none : None ≡ Some id → ⊥
           none f = cc
-      by_first (Some n) e = e ∙ sym (ap (λ o. slice_get (cons_option o (renumbered new_ids rest.ids)) 0) e) ∙ there
+      by_first (Some n) e = e ∙ sym (ap (λ o. slice_get (cons_option o (new_ids_of new_ids rest.ids)) 0) e) ∙ there
 
   pub still_carried : (left : Ids) → IsCarried new_ids first last left
   still_carried left = record { first_is = is.first_is; end = λ e. absurd (none (sym e ∙ has_first)) }
@@ -101,19 +101,19 @@ module _ (new_ids : NewIds) (first : Option ℕ) (last id : ℕ) (rest : Ids) (i
       none : None ≡ Some id → ⊥
       none f = cc
 
-  pub is_run : (limit : Option ℕ) (end most : ℕ) (run left : List ℕ) → rest.ids ≡ moved (last + 1) run ++ left → MoveTogether new_ids last end →
+  pub is_run : (limit : Option ℕ) (end most : ℕ) (run left : List ℕ) → rest.ids ≡ ids_onward (last + 1) run ++ left → MoveTogether new_ids last end →
       AllByRecursion (λ other. last + 1 + other < min end most) run → ((least : ℕ) → limit ≡ Some least → most ≤ last + (least - id)) →
-      IsStretchOf id limit run (cons_option first (renumbered new_ids rest.ids)) (cons_option first (renumbered new_ids left))
+      IsStretchOf id limit run (cons_option first (new_ids_of new_ids rest.ids)) (cons_option first (new_ids_of new_ids left))
   is_run limit end most run left ids together all short =
       record {
         ids_are =
-            ap (λ o. without_number id (cons_option o (renumbered new_ids rest.ids))) has_first
-            ∙ ap (λ b. cond b (renumbered new_ids rest.ids) (id ∷ renumbered new_ids rest.ids)) (eq-eqb id id refl)
-            ∙ ap (renumbered new_ids) ids
+            ap (λ o. without_number id (cons_option o (new_ids_of new_ids rest.ids))) has_first
+            ∙ ap (λ b. cond b (new_ids_of new_ids rest.ids) (id ∷ new_ids_of new_ids rest.ids)) (eq-eqb id id refl)
+            ∙ ap (new_ids_of new_ids) ids
             ∙ renumbered_run new_ids last end id run left (is.first_is id has_first) together
             (all_weaker (λ other. last + 1 + other < min end most) (λ other. last + 1 + other < end) (λ n h. omega (arith, h)) run all)
-            ∙ ap (λ ids. moved (id + 1) run ++ ids)
-            (sym (ap (λ b. cond b (renumbered new_ids left) (id ∷ renumbered new_ids left)) (eq-eqb id id refl))
-            ∙ sym (ap (λ o. without_number id (cons_option o (renumbered new_ids left))) has_first));
+            ∙ ap (λ ids. ids_onward (id + 1) run ++ ids)
+            (sym (ap (λ b. cond b (new_ids_of new_ids left) (id ∷ new_ids_of new_ids left)) (eq-eqb id id refl))
+            ∙ sym (ap (λ o. without_number id (cons_option o (new_ids_of new_ids left))) has_first));
         below = λ least e. let h = short least e in all_weaker (λ other. last + 1 + other < min end most) (λ other. id + 1 + other < least) (λ n g. omega (arith, g, h)) run all;
       }

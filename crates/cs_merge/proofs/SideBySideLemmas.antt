@@ -1,6 +1,6 @@
 -- The lists of both, trigram after trigram.
 use Rattle.std.proofs.Common.{◌≡◌, ℕ, ◌+◌, ◌<◌, ◌≤◌, Bool, true, false, cond, ◌&&◌, ◌||◌, List, [], length, take, refl, sym, ap, subst, ◌∙◌, ◌⊎◌, inl, inr, Option, Some, None, arith, slice_get, get_or, ltb}
-use Rattle.std.proofs.lemmas.Bool.{and_from, cases_lt}
+use Rattle.std.proofs.lemmas.Bool.{and_from, cases_lt, and_cases, and_right, and_left}
 use Rattle.std.proofs.lemmas.List.{length-map}
 use Rattle.std.proofs.lemmas.Option.{same_Some, slice_get-get_or}
 use Rattle.std.proofs.Math.Seq.{take-length}
@@ -15,7 +15,7 @@ use Rattle.cs_index.specs.Postings.{IsListFault}
 use Rattle.cs_index.specs.Rising.{RiseWithin}
 use Rattle.cs_index.specs.declared.fault.IndexFault.{IndexFault}
 use Rattle.cs_merge.specs.Joinable.{both_whole}
-use Rattle.cs_merge.specs.Renumbering.{NewIds, renumbered, KeepsOrder, StayBelow, AreCarried, AreRenumberings}
+use Rattle.cs_merge.specs.Renumbering.{NewIds, new_ids_of, KeepsOrder, StayBelow, AreCarried, AreRenumberings}
 use Rattle.cs_merge.specs.SideBySide.{list_ids, lower_of, place_after, list_trigram, AreListed, IsGiven}
 use Rattle.cs_merge.proofs.CarryingLemmas.{all_below_more, newer_carried, older_carried}
 use Rattle.cs_merge.proofs.PlaceLemmas.{closing_has_none, damage_found, entry_trigram, ids_rise, is_lower, moves, moves_within, next_above, sets_grow, whole_so_far}
@@ -23,28 +23,17 @@ use Rattle.cs_merge.proofs.RenumberingLemmas.{rise_renumbered}
 
 -- ---- what is damaged
 
-and_false : (a b : Bool) → (a && b) ≡ false → (a ≡ false) ⊎ (b ≡ false)
-and_false true b h = inr h
-and_false false b h = inl refl
-
-second_false : (a b : Bool) → b ≡ false → (a && b) ≡ false
-second_false true b h = h
-second_false false b h = refl
-
-first_false : (a b : Bool) → a ≡ false → (a && b) ≡ false
-first_false a b h = ap (λ t. t && b) h
-
 pub older_damaged : (older newer : Parts) → are_whole older ≡ false → both_whole older newer ≡ false
-older_damaged older newer h = first_false (are_whole older) (are_whole newer) h
+older_damaged older newer h = and_left (are_whole older) (are_whole newer) h
 
 pub newer_damaged : (older newer : Parts) → are_whole newer ≡ false → both_whole older newer ≡ false
-newer_damaged older newer h = second_false (are_whole older) (are_whole newer) h
+newer_damaged older newer h = and_right (are_whole older) (are_whole newer) h
 
 pub fault_of_list : (older newer : Parts) (a b trigram : ℕ) (some others : Bool) (fault : IndexFault) → some ≡ (list_ids older a trigram).whole → others ≡ (list_ids newer b trigram).whole → IsListFault (some && others) fault → IsListFault (both_whole older newer) fault
 fault_of_list older newer a b trigram some others fault e f (inl damaged) =
     inl (
       damaged.0,
-      elim (and_false some others damaged.1) [
+      elim (and_cases some others damaged.1) [
         | inl first ↦ older_damaged older newer (damage_found older a trigram (sym e ∙ first))
         | inr second ↦ newer_damaged older newer (damage_found newer b trigram (sym f ∙ second))
       ],
@@ -54,7 +43,7 @@ fault_of_list older newer a b trigram some others fault e f (inr memory) = inr m
 -- ---- one trigram more
 
 -- new ids of a list rise
-pub carried_rise : (parts : Parts) (place trigram count : ℕ) (new_ids : NewIds) → KeepsOrder new_ids → StayBelow count new_ids → RiseWithin count 0 (renumbered new_ids (list_ids parts place trigram).ids)
+pub carried_rise : (parts : Parts) (place trigram count : ℕ) (new_ids : NewIds) → KeepsOrder new_ids → StayBelow count new_ids → RiseWithin count 0 (new_ids_of new_ids (list_ids parts place trigram).ids)
 carried_rise parts place trigram count new_ids order below =
     rise_renumbered new_ids count (length parts.names) 0 0 (list_ids parts place trigram).ids order below (ids_rise parts place trigram) (λ id new h e. omega arith)
 
@@ -77,11 +66,11 @@ module _ (older newer : Parts) (older_ids newer_ids : NewIds) (before now : Laid
         by_side (inl e) = of_entry older a state.older_left e
         by_side (inr e) = of_entry newer b state.newer_left e
 
-    pub list_fits : (trigram < closing_trigram) ⊎ ((renumbered older_ids (list_ids older a trigram).ids ≡ []) × (renumbered newer_ids (list_ids newer b trigram).ids ≡ []))
+    pub list_fits : (trigram < closing_trigram) ⊎ ((new_ids_of older_ids (list_ids older a trigram).ids ≡ []) × (new_ids_of newer_ids (list_ids newer b trigram).ids ≡ []))
     list_fits =
         elim (cases_lt trigram closing_trigram) [
           | inl below ↦ inl below
-          | inr from ↦ inr (ap (renumbered older_ids) (closing_has_none older a trigram older_are from), ap (renumbered newer_ids) (closing_has_none newer b trigram newer_are from))
+          | inr from ↦ inr (ap (new_ids_of older_ids) (closing_has_none older a trigram older_are from), ap (new_ids_of newer_ids) (closing_has_none newer b trigram newer_are from))
         ]
 
     older_least : (entry : ListEntry) → slice_get older.entries a ≡ Some entry → trigram ≤ entry.trigram
@@ -105,7 +94,7 @@ module _ (older newer : Parts) (older_ids newer_ids : NewIds) (before now : Laid
           second.1,
         )
 
-    pub listed_more : (count : ℕ) (after : Laid) (some others : List ℕ) → AreRenumberings count older_ids newer_ids → some ≡ renumbered older_ids (list_ids older a trigram).ids → others ≡ renumbered newer_ids (list_ids newer b trigram).ids → (list_ids older a trigram).whole ≡ true → (list_ids newer b trigram).whole ≡ true → IsGiven trigram now after some others [] [] → AreListed older newer older_ids newer_ids before after (place_after older a trigram) (place_after newer b trigram)
+    pub listed_more : (count : ℕ) (after : Laid) (some others : List ℕ) → AreRenumberings count older_ids newer_ids → some ≡ new_ids_of older_ids (list_ids older a trigram).ids → others ≡ new_ids_of newer_ids (list_ids newer b trigram).ids → (list_ids older a trigram).whole ≡ true → (list_ids newer b trigram).whole ≡ true → IsGiven trigram now after some others [] [] → AreListed older newer older_ids newer_ids before after (place_after older a trigram) (place_after newer b trigram)
     listed_more count after some others are e f whole whole' given =
         record {
           paths = given.paths ∙ state.paths;
@@ -126,7 +115,7 @@ module _ (older newer : Parts) (older_ids newer_ids : NewIds) (before now : Laid
         or_none true = refl
         or_none false = refl
 
-        both : (n : ℕ) → has given.given n ≡ (has (renumbered older_ids (list_ids older a trigram).ids) n || has (renumbered newer_ids (list_ids newer b trigram).ids) n)
+        both : (n : ℕ) → has given.given n ≡ (has (new_ids_of older_ids (list_ids older a trigram).ids) n || has (new_ids_of newer_ids (list_ids newer b trigram).ids) n)
         both n = sym (or_none (has given.given n)) ∙ given.each n ∙ (λ i. has (e i) n || has (f i) n)
 
   -- ---- the end

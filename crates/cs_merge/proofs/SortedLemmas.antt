@@ -7,8 +7,9 @@ use Rattle.std.specs.List.{cons_option, sum_by}
 use Rattle.cs_trigram.specs.Trigram.{has}
 use Rattle.cs_index.specs.Laid.{Laid, with_list}
 use Rattle.cs_index.specs.Rising.{RiseWithin}
-use Rattle.cs_merge.specs.Renumbering.{NewIds, new_id, renumbered, AreApart, IsOneToOne, StayBelow}
-use Rattle.cs_merge.specs.SideBySide.{AreIds, IsGiven, StandOnce}
+use Rattle.cs_merge.specs.Renumbering.{NewIds, new_id, new_ids_of, AreApart, IsOneToOne, StayBelow}
+use Rattle.cs_merge.specs.SideBySide.{AreIds, IsGiven}
+use Rattle.cs_index.specs.Gathering.{AreDistinct}
 use Rattle.cs_merge.proofs.ListingLemmas.{has_both}
 use Rattle.cs_merge.proofs.RenumberingLemmas.{has_no_renumbered, has_renumbered, renumbered_from}
 
@@ -47,7 +48,7 @@ none_many (m ∷ ns) n h =
           omega (arith, many-more n m ns, away, rest)
     ]
 
-pub once_few : (ns : List ℕ) (n : ℕ) → StandOnce ns → many n ns ≤ 1
+pub once_few : (ns : List ℕ) (n : ℕ) → AreDistinct ns → many n ns ≤ 1
 once_few [] n once = omega arith
 once_few (m ∷ ns) n once =
     elim (cases_Bool (eqb m n)) [
@@ -70,15 +71,15 @@ none_before count next id (other ∷ ids) up h =
     ap (λ b. b || has ids id) (ne_eqb other id (λ e. absurd (omega (arith, e, from, h))))
     ∙ none_before count (other + 1) id ids up.2 (omega (arith, from, h))
 
-once_renumbered : (new_ids : NewIds) (count next : ℕ) (ids : List ℕ) → IsOneToOne new_ids → RiseWithin count next ids → StandOnce (renumbered new_ids ids)
+once_renumbered : (new_ids : NewIds) (count next : ℕ) (ids : List ℕ) → IsOneToOne new_ids → RiseWithin count next ids → AreDistinct (new_ids_of new_ids ids)
 once_renumbered new_ids count next [] once up = tt
 once_renumbered new_ids count next (id ∷ ids) once up = by_new (new_id new_ids id) refl (once_renumbered new_ids count (id + 1) ids once up.2)
   where
-    by_new : (o : Option ℕ) → new_id new_ids id ≡ o → StandOnce (renumbered new_ids ids) → StandOnce (cons_option o (renumbered new_ids ids))
+    by_new : (o : Option ℕ) → new_id new_ids id ≡ o → AreDistinct (new_ids_of new_ids ids) → AreDistinct (cons_option o (new_ids_of new_ids ids))
     by_new None e rest = rest
     by_new (Some new) e rest = (has_renumbered new_ids ids id new once e ∙ none_before count (id + 1) id ids up.2 (omega arith), rest)
 
-once_both : (ns more : List ℕ) → StandOnce ns → StandOnce more → ((n : ℕ) → has ns n ≡ true → has more n ≡ false) → StandOnce (ns ++ more)
+once_both : (ns more : List ℕ) → AreDistinct ns → AreDistinct more → ((n : ℕ) → has ns n ≡ true → has more n ≡ false) → AreDistinct (ns ++ more)
 once_both [] more once again apart = again
 once_both (m ∷ ns) more once again apart = (
   has_both ns more m ∙ ap (λ b. b || has more m) once.0 ∙ apart m (ap (λ b. b || has ns m) (eq-eqb m m refl)),
@@ -89,13 +90,13 @@ once_both (m ∷ ns) more once again apart = (
     or_true true = refl
     or_true false = refl
 
-pub new_ids_of_both : (count some others : ℕ) (older newer : NewIds) (ids more : List ℕ) → IsOneToOne older → IsOneToOne newer → AreApart older newer → StayBelow count older → StayBelow count newer → RiseWithin some 0 ids → RiseWithin others 0 more → AreIds count (renumbered older ids ++ renumbered newer more)
+pub new_ids_of_both : (count some others : ℕ) (older newer : NewIds) (ids more : List ℕ) → IsOneToOne older → IsOneToOne newer → AreApart older newer → StayBelow count older → StayBelow count newer → RiseWithin some 0 ids → RiseWithin others 0 more → AreIds count (new_ids_of older ids ++ new_ids_of newer more)
 new_ids_of_both count some others older newer ids more once newer_once apart below newer_below up newer_up = record {
-  below = λ id h. elim (or_cases (has (renumbered older ids) id) (has (renumbered newer more) id) (sym (has_both (renumbered older ids) (renumbered newer more) id) ∙ h)) [
+  below = λ id h. elim (or_cases (has (new_ids_of older ids) id) (has (new_ids_of newer more) id) (sym (has_both (new_ids_of older ids) (new_ids_of newer more) id) ∙ h)) [
     | inl here ↦ let from = renumbered_from older ids id here in below from.0 id from.1
     | inr there ↦ let from = renumbered_from newer more id there in newer_below from.0 id from.1
   ];
-  once = once_both (renumbered older ids) (renumbered newer more) (once_renumbered older some 0 ids once up) (once_renumbered newer others 0 more newer_once newer_up)
+  once = once_both (new_ids_of older ids) (new_ids_of newer more) (once_renumbered older some 0 ids once up) (once_renumbered newer others 0 more newer_once newer_up)
       (λ n h. let from = renumbered_from older ids n h in has_no_renumbered newer more n (λ other e. apart from.0 other n from.1 e));
 }
 

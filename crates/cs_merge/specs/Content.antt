@@ -13,7 +13,7 @@ use Rattle.cs_tree.specs.PathSet as set
 use Rattle.cs_tree.specs.Cover.{is_covered}
 use Rattle.cs_index.specs.Image.{Files, ListEntry, Posting, IsString}
 use Rattle.cs_index.specs.Opening.{opening as opened_as}
-use Rattle.cs_index.specs.OpenedParts.{Parts, are_whole, files_read}
+use Rattle.cs_index.specs.OpenedParts.{Parts, are_whole, paths_in, files_in}
 use Rattle.cs_index.specs.Spelling.{Spells}
 
 -- ---- what can be held
@@ -52,14 +52,6 @@ pub record Holds (bytes : List ℕ) (paths : Paths) (files : Files) : Type 0 whe
   pub files_are : files ≡ map.from_entries (entries_of 0 names lists)
 
 -- ---- what an index that was opened holds
-
--- its paths
-unfoldable pub paths_in : Parts → Paths
-paths_in parts = set.from_list parts.paths
-
--- its files
-unfoldable pub files_in : Parts → Files
-files_in parts = map.from_entries (files_read parts)
 
 -- The parts have these paths and files, their names ascend and their lists are whole.
 pub record HasContent (parts : Parts) (paths : Paths) (files : Files) : Type 0 where

@@ -6,8 +6,7 @@ use Rattle.cs_tree.specs.NamesAscending.{are_ascending}
 use Rattle.std.specs.List.{list_all}
 use Rattle.cs_tree.specs.Cover.{is_covered}
 use Rattle.cs_index.specs.Image.{image}
-use Rattle.cs_index.specs.OpenedParts.{Parts, are_whole}
-use Rattle.cs_merge.specs.Content.{files_in, paths_in}
+use Rattle.cs_index.specs.OpenedParts.{Parts, are_whole, files_in, paths_in}
 use Rattle.cs_merge.specs.Join.{join_files, join_paths}
 
 -- the names of both strictly ascend

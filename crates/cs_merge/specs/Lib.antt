@@ -1,12 +1,10 @@
 -- What public contracts rest on.
-pub use Rattle.cs_index.specs.Roundtrip
 pub use Rattle.cs_index.specs.Spelling
 pub use Rattle.cs_index.specs.PostingLists
 pub use Rattle.cs_index.specs.WholeLists
-pub use Rattle.cs_index.specs.Indexable
 pub use Rattle.cs_tree.specs.PathSet
+pub use Rattle.cs_tree.specs.ByteList
 pub use Rattle.cs_tree.specs.Cover
-pub use Rattle.cs_tree.specs.LeastPaths
 pub use Rattle.cs_index.specs.Image
 pub use Rattle.cs_index.specs.Opening
 pub use Rattle.cs_index.specs.OpenedParts
@@ -15,8 +13,8 @@ pub mod Content
 pub mod Joinable
 pub mod Joining
 pub mod Replacing
--- What functions inside promise each other.
 pub mod ListFault
+-- What functions inside promise each other.
 pub mod SomePaths
 pub mod Ranked
 pub mod Renumbering

@@ -6,7 +6,7 @@ use Rattle.cs_tree.specs.NamesAscending.{are_ascending}
 use Rattle.cs_tree.specs.Cover.{is_covered}
 use Rattle.cs_index.specs.Built.{is_above}
 use Rattle.cs_index.specs.Laid.{Laid}
-use Rattle.cs_merge.specs.Content.{paths_in}
+use Rattle.cs_index.specs.OpenedParts.{paths_in}
 use Rattle.cs_merge.specs.Ranked.{Ranked, id_at, names_by}
 use Rattle.cs_index.specs.Image.{Posting}
 use Rattle.cs_index.specs.PostingLists.{Ids, set_at}
@@ -20,12 +20,12 @@ abbrev pub new_id : NewIds → ℕ → Option ℕ
 new_id new_ids id = option_and_then (λ new. new) (slice_get new_ids id)
 
 -- the new ids of some, without those that are dropped
-abbrev pub renumbered : NewIds → List ℕ → List ℕ
-renumbered new_ids ids = filter_map (new_id new_ids) ids
+abbrev pub new_ids_of : NewIds → List ℕ → List ℕ
+new_ids_of new_ids ids = filter_map (new_id new_ids) ids
 
 -- the same of ids that are read
-abbrev pub renumbered_ids : NewIds → Ids → Ids
-renumbered_ids new_ids read = record { ids = renumbered new_ids read.ids; whole = read.whole }
+abbrev pub new_ids_read : NewIds → Ids → Ids
+new_ids_read new_ids read = record { ids = new_ids_of new_ids read.ids; whole = read.whole }
 
 -- ids that ascend stay so
 abbrev pub KeepsOrder : NewIds → Type 0
@@ -100,11 +100,6 @@ ArePlaced is_dropped own names new_ids =
 -- each file that is kept has, by its new id, the trigrams that it had
 abbrev pub AreCarried : NewIds → List Posting → List Posting → Type 0
 AreCarried new_ids lists given = (id new : ℕ) → new_id new_ids id ≡ Some new → set_at new given ≡ set_at id lists
-
--- a list of ids, which leaves no trace where it has none
-abbrev pub list_of : ℕ → List ℕ → List Posting
-list_of trigram [] = []
-list_of trigram (id ∷ ids) = (trigram, id ∷ ids) ∷ []
 
 -- ---- names side by side
 

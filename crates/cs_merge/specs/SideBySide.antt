@@ -1,15 +1,17 @@
 -- The lists of both, side by side in the order of their trigrams.
-use Rattle.std.specs.Prelude.{◌≡◌, ℕ, ◌+◌, ◌<◌, ◌≤◌, true, false, nat_eq, nat_lt, if◌then◌else◌, ◌||◌, List, [], ◌∷◌, ◌++◌, length, take, Option, Some, None, slice_get, option_map}
+use Rattle.std.specs.Prelude.{◌≡◌, ℕ, ◌+◌, ◌<◌, ◌≤◌, true, nat_eq, nat_lt, if◌then◌else◌, ◌||◌, List, [], ◌∷◌, ◌++◌, length, take, Option, Some, None, slice_get, option_map}
 use Rattle.std.specs.List.{list_all, AllByRecursion}
 use Rattle.std.specs.Option.{option_map_or}
 use Rattle.cs_trigram.specs.Trigram.{has}
-use Rattle.cs_index.specs.IdStream.{next_after}
+use Rattle.cs_index.specs.Rising.{next_after, RiseWithin, ids_onward}
 use Rattle.cs_index.specs.Image.{ListEntry}
 use Rattle.cs_index.specs.Laid.{Laid, AllBelow}
 use Rattle.cs_index.specs.OpenedParts.{Parts, ids_read, lists_in}
+use Rattle.cs_index.specs.Gathering.{AreDistinct}
 use Rattle.cs_index.specs.PostingLists.{Ids}
-use Rattle.cs_index.specs.Rising.{RiseWithin, moved}
-use Rattle.cs_merge.specs.Renumbering.{NewIds, new_id, AreCarried, AreMoved, list_of}
+use Rattle.cs_index.specs.Postings.{nothing_read}
+use Rattle.cs_index.specs.Segments.{list_of}
+use Rattle.cs_merge.specs.Renumbering.{NewIds, new_id, AreCarried, AreMoved}
 
 -- the lower one of two numbers, either of which may be missing
 abbrev pub lower_of : Option ℕ → Option ℕ → Option ℕ
@@ -26,10 +28,6 @@ without_number number (one ∷ rest) = if nat_eq one number then rest else one �
 abbrev pub ids_after : ℕ → Ids → Ids
 ids_after id read = record { ids = without_number id read.ids; whole = read.whole }
 
--- no ids, and no damage
-abbrev pub no_ids : Ids
-no_ids = record { ids = []; whole = true }
-
 -- the new id of an id that is kept
 abbrev pub new_of : Option (ℕ × ℕ) → Option ℕ
 new_of next = option_map (λ (kept : ℕ × ℕ). kept.1) next
@@ -41,7 +39,7 @@ pub record IsCarried (new_ids : NewIds) (first : Option ℕ) (last : ℕ) (rest 
 
 -- Ids that follow an id, counted from it, are the first of some behind it, and below a limit if there is one.
 pub record IsStretchOf (id : ℕ) (limit : Option ℕ) (run ids rest : List ℕ) : Type 0 where
-  pub ids_are : without_number id ids ≡ moved (id + 1) run ++ without_number id rest
+  pub ids_are : without_number id ids ≡ ids_onward (id + 1) run ++ without_number id rest
   pub below : (most : ℕ) → limit ≡ Some most → AllByRecursion (λ other. id + 1 + other < most) run
 
 -- A stretch of one of both: of the one that has the id, up to the first id of the other.
@@ -57,7 +55,7 @@ list_trigram parts place = option_map (λ (e : ListEntry). e.trigram) (slice_get
 
 -- the ids of the list at a place, where it is that of the trigram
 abbrev pub list_ids : Parts → ℕ → ℕ → Ids
-list_ids parts place trigram = option_map_or (λ (e : ListEntry). if nat_eq e.trigram trigram then ids_read parts e else no_ids) (slice_get parts.entries place) no_ids
+list_ids parts place trigram = option_map_or (λ (e : ListEntry). if nat_eq e.trigram trigram then ids_read parts e else nothing_read) (slice_get parts.entries place) nothing_read
 
 -- the place behind it
 abbrev pub place_after : Parts → ℕ → ℕ → ℕ
@@ -79,7 +77,7 @@ Part = ℕ × List ℕ
 
 -- its ids
 abbrev pub part_ids : Part → List ℕ
-part_ids part = part.0 ∷ moved (part.0 + 1) part.1
+part_ids part = part.0 ∷ ids_onward (part.0 + 1) part.1
 
 abbrev pub parts_ids : List Part → List ℕ
 parts_ids [] = []
@@ -98,15 +96,10 @@ pub record AreGathered (new_ids : NewIds) (before now : List Part) (ids left : L
   pub ids_are : ids ≡ parts_ids more ++ left
   pub each : AllByRecursion (IsMove new_ids) more
 
--- each number stands once
-abbrev pub StandOnce : List ℕ → Type 0
-StandOnce [] = Unit {0}
-StandOnce (n ∷ ns) = (has ns n ≡ false) × StandOnce ns
-
 -- Ids of an index with so many names, in any order.
 pub record AreIds (count : ℕ) (ids : List ℕ) : Type 0 where
   pub below : (id : ℕ) → has ids id ≡ true → id < count
-  pub once : StandOnce ids
+  pub once : AreDistinct ids
 
 -- The lists of both that stand before these places are laid.
 pub record AreListed (older newer : Parts) (older_ids newer_ids : NewIds) (before now : Laid) (older_place newer_place : ℕ) : Type 0 where

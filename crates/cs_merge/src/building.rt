@@ -10,7 +10,7 @@ use cs_index::{BuildFault, Sections};
 use std::alloc::Global;
 
 /// The sections of an index of the paths.
-pub(crate) fn begun(alloc: Global, paths: &[String]) -> Result<Sections, MergeFault>
+pub(crate) fn begin(alloc: Global, paths: &[String]) -> Result<Sections, MergeFault>
     requires { are_paths (map string_bytes paths.now) ≡ true }
     ensures paths { IfOk result (λ sections. sections.paths ≡ map string_bytes paths.now) }
     ensures names { IfOk result (λ sections. sections.names ≡ []) }
@@ -19,12 +19,12 @@ pub(crate) fn begun(alloc: Global, paths: &[String]) -> Result<Sections, MergeFa
 {
     match Sections::new(alloc, paths) {
         Ok(sections) => Ok(sections),
-        Err(fault) => Err(refused(fault)),
+        Err(fault) => Err(merge_fault(fault)),
     }
 }
 
 /// The index that was laid out, unless it has more than a number of bytes.
-pub(crate) fn finished(sections: Sections, most: u32) -> Result<Vec<u8>, MergeFault>
+pub(crate) fn finish(sections: Sections, most: u32) -> Result<Vec<u8>, MergeFault>
     ensures ok { IfOk result (λ index. IsWithin most
         (image_of sections.paths (entries_laid sections)) index.items) }
     ensures fault { IfErr result (λ fault. IsBuildFault most
@@ -32,12 +32,12 @@ pub(crate) fn finished(sections: Sections, most: u32) -> Result<Vec<u8>, MergeFa
 {
     match sections.finish_within(most) {
         Ok(index) => Ok(index),
-        Err(fault) => Err(refused(fault)),
+        Err(fault) => Err(merge_fault(fault)),
     }
 }
 
 /// What is refused of the files of two indexes.
-fn refused(fault: BuildFault) -> MergeFault
+fn merge_fault(fault: BuildFault) -> MergeFault
     requires { (fault ≡ BuildFault.TooLarge) ⊎ (fault ≡ BuildFault.Memory) }
     ensures too_large { fault ≡ BuildFault.TooLarge → result ≡ MergeFault.TooLarge }
     ensures memory { fault ≡ BuildFault.Memory → result ≡ MergeFault.Memory }

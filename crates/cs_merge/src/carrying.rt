@@ -1,9 +1,10 @@
 // The ids of a list under their new ids.
 ghost use Rattle.std.specs.Prelude.{◌≡◌, ◌+◌, ◌<◌, ◌++◌, [], true, false, Some, None, slice_get, IfOk, IfErr, IfSome, OnOk, MatchResult};
 ghost use Rattle.std.specs.List.{cons_option, AllByRecursion};
-ghost use Rattle.cs_index.specs.Rising.{moved};
-ghost use Rattle.cs_merge.specs.Renumbering.{new_id as new_id', renumbered, renumbered_ids};
-ghost use Rattle.cs_merge.specs.SideBySide.{ids_after, new_of, no_ids, IsStretchOf};
+ghost use Rattle.cs_index.specs.Rising.{ids_onward};
+ghost use Rattle.cs_merge.specs.Renumbering.{new_id as new_id', new_ids_of, new_ids_read};
+ghost use Rattle.cs_merge.specs.SideBySide.{ids_after, new_of, IsStretchOf};
+ghost use Rattle.cs_index.specs.Postings.{nothing_read};
 
 use crate::runs::Runs;
 use cs_index::{IndexFault, Postings, Stretch};
@@ -22,13 +23,13 @@ pub(crate) struct Carried<'a, 'b> {
 impl<'a, 'b> Model for Carried<'a, 'b> {
     ghost use Rattle.std.specs.List.{cons_option};
     ghost use Rattle.cs_index.specs.PostingLists.{Ids};
-    ghost use Rattle.cs_merge.specs.Renumbering.{renumbered};
+    ghost use Rattle.cs_merge.specs.Renumbering.{new_ids_of};
     ghost use Rattle.cs_merge.specs.SideBySide.{IsCarried};
 
     ghost Value = { Ids };
 
     ghost view = { λ s. record {
-      ids = cons_option s.first (renumbered s.runs.now s.rest.ids);
+      ids = cons_option s.first (new_ids_of s.runs.now s.rest.ids);
       whole = s.rest.whole;
     } };
 
@@ -38,7 +39,7 @@ impl<'a, 'b> Model for Carried<'a, 'b> {
 impl<'a, 'b> Carried<'a, 'b> {
     /// Of the ids of a list.
     pub(crate) fn new(ids: Postings<'a>, runs: &'b Runs<'b>) -> Result<Self, IndexFault>
-        ensures { MatchResult result (λ carried. carried ≡ renumbered_ids runs.now ids.entry)
+        ensures { MatchResult result (λ carried. carried ≡ new_ids_read runs.now ids.entry)
             (λ fault. (fault ≡ IndexFault.BadList) × (ids.entry.whole ≡ false)) }
     {
         let mut rest = ids;
@@ -54,7 +55,7 @@ impl<'a, 'b> Carried<'a, 'b> {
 
     /// Of no list.
     pub(crate) fn none(runs: &'b Runs<'b>) -> Self
-        ensures { result ≡ no_ids }
+        ensures { result ≡ nothing_read }
     {
         Carried {
             first: None,
@@ -122,8 +123,8 @@ fn parts(next: Option<(u32, u32)>) -> (u32, Option<u32>)
 /// The next one that is kept, and its new id. Ids that are dropped with others are passed as they are written.
 fn next_kept(ids: &mut Postings<'_>, runs: &Runs<'_>) -> Result<Option<(u32, u32)>, IndexFault>
     ensures ids { IfOk result (λ next.
-        cons_option (new_of next) (renumbered runs.now ids.new.ids)
-        ≡ renumbered runs.now ids.old.ids) }
+        cons_option (new_of next) (new_ids_of runs.now ids.new.ids)
+        ≡ new_ids_of runs.now ids.old.ids) }
     ensures kept { IfOk result (λ next.
         IfSome next (λ kept. new_id' runs.now kept.0 ≡ Some kept.1)) }
     ensures whole { OnOk result (ids.new.whole ≡ ids.old.whole) }

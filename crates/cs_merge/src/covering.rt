@@ -7,7 +7,7 @@ ghost use Rattle.cs_tree.specs.NameOrder.{bytes_cmp};
 ghost use Rattle.cs_tree.specs.PathParts.{texts};
 ghost use Rattle.cs_tree.specs.PathSet as set;
 ghost use Rattle.cs_tree.specs.Reducing.{lies_below};
-ghost use Rattle.cs_merge.specs.Content.{paths_in};
+ghost use Rattle.cs_index.specs.OpenedParts.{paths_in};
 ghost use Rattle.cs_merge.specs.SomePaths.{AreAmong};
 ghost use Rattle.cs_merge.specs.Joinable.{are_covered};
 

@@ -1,13 +1,13 @@
 // The joining of an index with a newer one.
 ghost use Rattle.std.specs.Prelude.{◌≡◌, ◌<◌, ◌≤◌, ◌^◌, ◌++◌, true, false, Err, length, map, string_bytes, IfOk, OnOk, MatchResult};
 ghost use Rattle.cs_tree.specs.PathSet as set;
-ghost use Rattle.cs_merge.specs.Content.{paths_in};
+ghost use Rattle.cs_index.specs.OpenedParts.{paths_in};
 ghost use Rattle.cs_merge.specs.Join.{join_paths};
 ghost use Rattle.cs_merge.specs.Joinable.{are_covered, both_ascend, both_distinct, both_whole, joined_index, AreJoinable, AreTested};
 ghost use Rattle.cs_merge.specs.Joining.{IsJoined, IsJoinFault};
 ghost use Rattle.cs_merge.specs.Ranked.{IsRanked};
 
-use crate::building::{begun, finished};
+use crate::building::{begin, finish};
 use crate::covering::is_under;
 use crate::fault::MergeFault;
 use crate::listing::lay_lists;
@@ -80,10 +80,10 @@ fn join(
     let older = old.index();
     let later = newer.index();
     let paths = joined_paths(alloc, older, later)?;
-    let mut sections = begun(alloc, &paths)?;
+    let mut sections = begin(alloc, &paths)?;
     let ids = lay_names(alloc, &mut sections, old, newer)?;
     lay_lists(alloc, &mut sections, older, later, &ids)?;
-    finished(sections, most)
+    finish(sections, most)
 }
 
 /// The paths of both that no other one of both covers, ascending.

@@ -2,7 +2,7 @@
 ghost use Rattle.std.specs.Prelude.{◌≡◌, ◌<◌, ◌^◌, ◌||◌, ◌↔◌, List, ℕ, true, false, Some, Ok, length, slice_index_or};
 ghost use Rattle.cs_tree.specs.PathSet.{Paths};
 ghost use Rattle.cs_tree.specs.NameOrder.{bytes_cmp};
-ghost use Rattle.cs_index.specs.Roundtrip.{AreBytes};
+ghost use Rattle.cs_tree.specs.ByteList.{AreBytes};
 ghost use Rattle.cs_index.specs.PostingLists.{set_at};
 ghost use Rattle.std.specs.FinMap as map;
 ghost use Rattle.cs_tree.specs.PathSet as set;

@@ -7,7 +7,7 @@ ghost use Rattle.cs_index.specs.Rising.{RiseWithin};
 ghost use Rattle.cs_index.specs.OpenedParts.{lists_in};
 ghost use Rattle.cs_index.specs.Parts.{AreParts};
 ghost use Rattle.cs_merge.specs.Joinable.{both_whole};
-ghost use Rattle.cs_merge.specs.Renumbering.{renumbered_ids, AreCarried, AreOnce, AreRenumberings, KeepsOrder, RiseUnder};
+ghost use Rattle.cs_merge.specs.Renumbering.{new_ids_read, AreCarried, AreOnce, AreRenumberings, KeepsOrder, RiseUnder};
 ghost use Rattle.cs_merge.specs.SideBySide.{list_ids, lower_of, place_after, list_trigram, parts_ids, AreGathered, AreIds, IsStretchOfOne, IsGiven};
 
 use crate::carrying::Carried;
@@ -107,7 +107,7 @@ fn take_list<'a, 'b>(
 ) -> Result<Carried<'a, 'b>, IndexFault>
     ensures place { OnOk result (place.new ≡ place_after index.now place.old trigram) }
     ensures ids { MatchResult result
-        (λ ids. ids ≡ renumbered_ids runs.now (list_ids index.now place.old trigram))
+        (λ ids. ids ≡ new_ids_read runs.now (list_ids index.now place.old trigram))
         (λ fault. (fault ≡ IndexFault.BadList)
         × ((list_ids index.now place.old trigram).whole ≡ false)) }
 {

@@ -7,7 +7,7 @@ ghost use Rattle.cs_tree.specs.PathSet as set;
 ghost use Rattle.cs_index.specs.Built.{is_above, is_storable};
 ghost use Rattle.cs_index.specs.Laid.{with_laid_name};
 ghost use Rattle.cs_tree.specs.Cover.{is_covered};
-ghost use Rattle.cs_merge.specs.Content.{paths_in};
+ghost use Rattle.cs_index.specs.OpenedParts.{paths_in};
 ghost use Rattle.cs_merge.specs.Joinable.{AreTested};
 ghost use Rattle.cs_merge.specs.Ranked.{names_by, IsRanked};
 ghost use Rattle.cs_merge.specs.Renumbering.{AreRenumbered, IsNaming};

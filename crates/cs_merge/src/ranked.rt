@@ -76,7 +76,7 @@ impl<'a, 'b> Ranked<'a, 'b> {
     {
         match &self.order {
             None => Ok(ranks),
-            Some(ids) => ranks.placed(alloc, ids),
+            Some(ids) => ranks.place(alloc, ids),
         }
     }
 }

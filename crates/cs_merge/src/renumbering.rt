@@ -54,7 +54,7 @@ impl Renumbering {
     }
 
     /// The new ids of these ids, from those of their places.
-    pub(crate) fn placed(&self, alloc: Global, ids: &[u32]) -> Result<Renumbering, AllocError>
+    pub(crate) fn place(&self, alloc: Global, ids: &[u32]) -> Result<Renumbering, AllocError>
         requires all { length self.now ≡ length ids.now }
         requires order { IsOrdering ids.now }
         ensures long { IfOk result (λ new_ids. length new_ids ≡ length self.now) }

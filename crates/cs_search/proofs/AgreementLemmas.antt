@@ -17,7 +17,7 @@ use Rattle.cs_trigram.specs.Text.{rule_broken, first_broken, too_many, skip, non
 use Rattle.cs_trigram.specs.declared.limits.Limits.{Limits}
 use Rattle.cs_trigram.specs.declared.scan.Reason.{Reason}
 use Rattle.cs_trigram.specs.declared.scan.Reason.TheVariants.{Nul, Utf8, TooLong as TooManyBytes, LongLine}
-use Rattle.cs_trigram.proofs.TextLemmas.{or_else-none}
+use Rattle.cs_trigram.proofs.TextLemmas.{option_or-none}
 use Rattle.cs_trigram.proofs.LawLemmas.{has-part_of}
 use Rattle.cs_trigram.specs.Query.{holds, HasTrigrams, LosesNoLine}
 use Rattle.cs_trigram.specs.declared.queries.Query.{Query}
@@ -27,11 +27,11 @@ use Rattle.cs_words.specs.declared.jobs.Style.{Style}
 use Rattle.cs_search.specs.declared.grep_fault.ReadFault.{ReadFault}
 use Rattle.cs_search.specs.declared.grep_fault.ReadFault.TheVariants.{TooLong}
 use Rattle.cs_search.specs.declared.report.TheConstants.{MOST_SEARCHED}
-use Rattle.cs_search.specs.Csearch.{ReadsAs}
+use Rattle.cs_search.specs.Csearch.{ReadAsIndexed}
 use Rattle.cs_match.specs.Lines.{newline, lines}
-use Rattle.cs_search.specs.Report.{Hit, hits_from, some_hit, name_line, count_line, printed, report}
+use Rattle.cs_search.specs.Report.{Hit, hits_from, some_hit, name_line, count_line, hits_output, report}
 use Rattle.cs_search.specs.InputReport.{told_report}
-use Rattle.cs_search.specs.Printed.{Printed, printed_of, input_printed, opened_printed, file_printed, all_printed, then, nothing}
+use Rattle.cs_search.specs.Printed.{Printed, printed_of, input_printed, opened_printed, file_printed, all_printed, sequel, nothing}
 
 -- ---- the lines of a text are parts of it
 
@@ -128,8 +128,8 @@ module _ (query : Query) (pattern : Tree) (loses : LosesNoLine query pattern) (f
 
 -- ---- what is printed of a text
 
-nothing_found : (style : Style) (name : List ℕ) → printed style name true [] ≡ []
-unfolding printed name_line count_line
+nothing_found : (style : Style) (name : List ℕ) → hits_output style name true [] ≡ []
+unfolding hits_output name_line count_line
 nothing_found style name =
     elim style.list as (λ l. cond {A = List ℕ} l [] (cond style.count [] []) ≡ []) [
       | true ↦ refl
@@ -149,7 +149,7 @@ module _ (most : ℕ) (style : Style) (finds : List ℕ → Bool) (name bytes : 
 
   -- a text has no fault
   abbrev text_printed : Printed
-  text_printed = record { output = printed style name true hits_in; errors = []; matched = some_hit hits_in }
+  text_printed = record { output = hits_output style name true hits_in; errors = []; matched = some_hit hits_in }
 
   text_reported : told_report most style name finds whole ≡ report style name finds bytes None
   unfolding told_report
@@ -161,11 +161,11 @@ module _ (most : ℕ) (style : Style) (finds : List ℕ → Bool) (name bytes : 
   unfolding input_printed report
   printed_alike tool =
       ap (printed_of tool name) text_reported
-      ∙ ap (λ (fault : Option ReadFault). printed_of tool name (record { output = printed style name true hits_in; fault = fault; matched = some_hit hits_in })) (no_fault (style.list && some_hit hits_in))
+      ∙ ap (λ (fault : Option ReadFault). printed_of tool name (record { output = hits_output style name true hits_in; fault = fault; matched = some_hit hits_in })) (no_fault (style.list && some_hit hits_in))
 
   printed_nothing : hits_in ≡ [] → text_printed ≡ nothing
   printed_nothing e =
-      ap (λ (hits : List Hit). record { output = printed style name true hits; errors = []; matched = some_hit hits }) e
+      ap (λ (hits : List Hit). record { output = hits_output style name true hits; errors = []; matched = some_hit hits }) e
       ∙ ap (λ (output : List ℕ). record { output = output; errors = []; matched = false }) (nothing_found style name)
 
 -- ---- a text that was indexed is short enough to be searched
@@ -182,7 +182,7 @@ broken_late most front b h = by_test (nat_eq b 0) (not (may_follow (last_byte fr
 short_enough : (most : Limits) (front bytes : List ℕ) → length front ≤ most.bytes → first_broken most front bytes ≡ None → length (front ++ bytes) ≤ most.bytes
 short_enough most front [] small h = subst (λ (l : List ℕ). length l ≤ most.bytes) (sym (append-nil front)) small
 short_enough most front (b ∷ bytes) small h =
-    let p = or_else-none (rule_broken most front b) (first_broken most (front ++ b ∷ []) bytes) h in
+    let p = option_or-none (rule_broken most front b) (first_broken most (front ++ b ∷ []) bytes) h in
     let room : length front < most.bytes = broken_late most front b p.0 in
     let more : length (front ++ b ∷ []) ≤ most.bytes = simp length-append (omega (arith, room)) in
     subst (λ (l : List ℕ). length l ≤ most.bytes) (append_assoc front (b ∷ []) bytes) (short_enough most (front ++ b ∷ []) bytes more p.1)
@@ -198,7 +198,7 @@ text_is bytes trigrams h = by_skip (skip limits bytes) refl h
     by_skip : (why : Option Reason) → skip limits bytes ≡ why → none_skipped why (tri bytes) ≡ Some trigrams → IsTextOf bytes trigrams
     by_skip (Some reason) e h = cc
     by_skip None e h = record {
-      small = short_enough limits [] bytes (omega arith) (or_else-none (first_broken limits [] bytes) (too_many limits (tri bytes)) e).0;
+      small = short_enough limits [] bytes (omega arith) (option_or-none (first_broken limits [] bytes) (too_many limits (tri bytes)) e).0;
       are = cc;
     }
 
@@ -246,7 +246,7 @@ module _ (style : Style) (finds : List ℕ → Bool) (tree : Snapshot) (name tri
 
 module _ (style : Style) (finds keeps : List ℕ → Bool) (tree : Snapshot) (tool : Tool) where
   -- where all of them read as they were indexed, none has a fault
-  pub search_quiet : (es : List Entry) → AllByRecursion (ReadsAs tree) es → (all_printed (file_printed MOST_SEARCHED tool style finds tree) (filter keeps (map (λ (e : Entry). e.0) es))).errors ≡ []
+  pub search_quiet : (es : List Entry) → ReadAsIndexed tree es → (all_printed (file_printed MOST_SEARCHED tool style finds tree) (filter keeps (map (λ (e : Entry). e.0) es))).errors ≡ []
   unfolding all_printed
   search_quiet [] all = refl
   search_quiet (e ∷ es) all =
@@ -260,7 +260,7 @@ module _ (style : Style) (finds keeps : List ℕ → Bool) (tree : Snapshot) (qu
   abbrev met : List Entry → List (List ℕ)
   met es = map (λ (e : Entry). e.0) (filter (λ (e : Entry). holds query (has e.1)) es)
 
-  pub search_alike : (es : List Entry) → AllByRecursion (ReadsAs tree) es →
+  pub search_alike : (es : List Entry) → ReadAsIndexed tree es →
       all_printed (file_printed MOST_SEARCHED a style finds tree) (filter keeps (map (λ (e : Entry). e.0) (filter (λ (e : Entry). holds query (has e.1)) es)))
       ≡ all_printed (file_printed MOST_SEARCHED b style finds tree) (filter keeps (map (λ (e : Entry). e.0) es))
   unfolding all_printed
@@ -274,11 +274,11 @@ module _ (style : Style) (finds keeps : List ℕ → Bool) (tree : Snapshot) (qu
           ≡ all_printed (file_printed MOST_SEARCHED b style finds tree) (filter keeps (e.0 ∷ map (λ (e : Entry). e.0) es))
       by_test true chosen is rest =
           elim (keeps e.0) as (λ t. all_printed (file_printed MOST_SEARCHED a style finds tree) (cond t (e.0 ∷ filter keeps (met es)) (filter keeps (met es))) ≡ all_printed (file_printed MOST_SEARCHED b style finds tree) (cond t (e.0 ∷ filter keeps (map (λ (e : Entry). e.0) es)) (filter keeps (map (λ (e : Entry). e.0) es)))) [
-            | true ↦ ap (λ (one : Printed). then one (all_printed (file_printed MOST_SEARCHED a style finds tree) (filter keeps (met es)))) (file_alike style finds tree e.0 e.1 (item_at tree e.0) refl all.0 a b) ∙ ap (λ (more : Printed). then (file_printed MOST_SEARCHED b style finds tree e.0) more) rest
+            | true ↦ ap (λ (one : Printed). sequel one (all_printed (file_printed MOST_SEARCHED a style finds tree) (filter keeps (met es)))) (file_alike style finds tree e.0 e.1 (item_at tree e.0) refl all.0 a b) ∙ ap (λ (more : Printed). sequel (file_printed MOST_SEARCHED b style finds tree e.0) more) rest
             | false ↦ rest
           ]
       by_test false chosen is rest =
           elim (keeps e.0) as (λ t. all_printed (file_printed MOST_SEARCHED a style finds tree) (filter keeps (met es)) ≡ all_printed (file_printed MOST_SEARCHED b style finds tree) (cond t (e.0 ∷ filter keeps (map (λ (e : Entry). e.0) es)) (filter keeps (map (λ (e : Entry). e.0) es)))) [
-            | true ↦ rest ∙ sym (ap (λ (one : Printed). then one (all_printed (file_printed MOST_SEARCHED b style finds tree) (filter keeps (map (λ (e : Entry). e.0) es)))) (file_empty style finds tree e.0 e.1 query pattern loses decides (item_at tree e.0) refl all.0 is b))
+            | true ↦ rest ∙ sym (ap (λ (one : Printed). sequel one (all_printed (file_printed MOST_SEARCHED b style finds tree) (filter keeps (map (λ (e : Entry). e.0) es)))) (file_empty style finds tree e.0 e.1 query pattern loses decides (item_at tree e.0) refl all.0 is b))
             | false ↦ rest
           ]

@@ -1,4 +1,4 @@
--- Candidates lie between the files in which the pattern finds something and those that have its windows.
+-- Candidates lie between the files in which the pattern finds something and those that show its plain runs.
 use Rattle.std.proofs.Common.{◌≡◌, ℕ, ◌<◌, Bool, true, ◌&&◌, List, [], ◌∷◌, length, sym, ap, subst, ◌∙◌, Some, inl, inr}
 use Rattle.std.specs.List.{AllByRecursion, list_any, range_with_len}
 use Rattle.std.proofs.lemmas.Bool.{or_cases, and_parts, and_from}
@@ -9,11 +9,12 @@ use Rattle.cs_trigram.specs.Trigram.{has}
 use Rattle.cs_trigram.specs.Text.{text_trigrams, limits}
 use Rattle.cs_trigram.specs.declared.queries.Query.{Query}
 use Rattle.cs_trigram.specs.Query.{holds, HasTrigrams, LosesNoLine}
-use Rattle.cs_trigram.specs.Windows.{HasWindows, IsSharp}
+use Rattle.cs_trigram.specs.PlainRuns.{ShowsPlainRuns, IsSharp}
 use Rattle.cs_index.specs.PostingLists.{set_at}
 use Rattle.cs_index.specs.OpenedParts.{Parts, lists_in}
 use Rattle.cs_index.specs.Candidates.{candidates_of, meets}
-use Rattle.cs_index.proofs.SiftLemmas.{has-filter, has_range}
+use Rattle.cs_trigram.proofs.SetLemmas.{has-filter}
+use Rattle.cs_index.proofs.SiftLemmas.{has_range}
 use Rattle.cs_search.proofs.AgreementLemmas.{lines_known, text_is}
 
 module _ (query : Query) (pattern : Tree) (finds : List ℕ → Bool) (loses : LosesNoLine query pattern) (decides : Decides finds pattern) (set : ℕ → Bool) where
@@ -42,5 +43,5 @@ module _ (query : Query) (pattern : Tree) (parts : Parts) (id : ℕ) (within : i
       candidate ∙ and_from (has (range_with_len 0 (length parts.names)) id) (meets parts query id) (has_range (length parts.names) id within)
       (text_meets query pattern finds loses decides set bytes (set_at id (lists_in parts)) is (λ i. set) found)
 
-  pub with_windows : IsSharp query pattern → has (candidates_of parts query) id ≡ true → HasWindows (has (set_at id (lists_in parts))) pattern
-  with_windows sharp is = sharp set (and_parts (has (range_with_len 0 (length parts.names)) id) (meets parts query id) (sym candidate ∙ is)).1
+  pub with_plain_runs : IsSharp query pattern → has (candidates_of parts query) id ≡ true → ShowsPlainRuns (has (set_at id (lists_in parts))) pattern
+  with_plain_runs sharp is = sharp set (and_parts (has (range_with_len 0 (length parts.names)) id) (meets parts query id) (sym candidate ∙ is)).1

@@ -16,15 +16,15 @@ use Rattle.cs_words.specs.declared.jobs.Tool.{Tool}
 use Rattle.cs_words.specs.declared.jobs.Tool.TheVariants.{Cgrep}
 use Rattle.cs_words.specs.declared.jobs.GrepJob.{GrepJob}
 use Rattle.cs_search.specs.declared.status.Status.{Status}
-use Rattle.cs_search.specs.Printed.{Printed, PrintsStatus, status_of, input_printed, file_printed, all_printed, TellsFaults, searched_by_cgrep}
+use Rattle.cs_search.specs.Printed.{Printed, PrintsStatus, status_of, input_printed, file_printed, all_printed, PrintsFaults, searched_by_cgrep}
 use Rattle.cs_search.specs.Searcher.{IsSearchFault, Prints}
 use Rattle.cs_search.specs.Cgrep.{cgrep_printed, standard_name}
-use Rattle.cs_search.specs.CgrepFaults.{PatternFirst, TellsFaultsOf}
+use Rattle.cs_search.specs.CgrepFaults.{PatternFirst, PrintsFaultsOf}
 use Rattle.cs_search.specs.Programs.{IsProgramOf, RefusesPattern}
 use Rattle.cs_search.specs.Refusals.{IsAccepted, QuietAtRefusal}
 use Rattle.cs_words.specs.declared.fault.ToolFault.{ToolFault}
 use Rattle.cs_words.specs.declared.fault.ToolFault.TheVariants.{Pattern, FilePattern, NoIndex, BadIndex, Write, Memory}
-use Rattle.cs_search.proofs.PrintedLemmas.{Tells-no}
+use Rattle.cs_search.proofs.PrintedLemmas.{PrintsFaults-no}
 use Rattle.cs_words.specs.Faults.{pattern_fault, pattern_fault_at}
 
 module _ (most : ℕ) (job : GrepJob) (finds : List ℕ → Bool) (snapshot : Option Snapshot) (input : Option Told) where
@@ -74,27 +74,27 @@ PrintsStatus-flushed (Some printed) out now later err err-now err-later matched 
 
 module _ (job : GrepJob) (tree tree' input input' : ℕ) where
   module _ (Takes : List ℕ → Type 0) where
-    pub Tells-standard : job.standard ≡ true → tree' ≡ tree → TellsFaults Cgrep (standard_name ∷ []) input input' Takes → TellsFaultsOf job tree tree' input input' Takes
-    Tells-standard e same told = rw e (same, told)
+    pub PrintsFaultsOf-standard : job.standard ≡ true → tree' ≡ tree → PrintsFaults Cgrep (standard_name ∷ []) input input' Takes → PrintsFaultsOf job tree tree' input input' Takes
+    PrintsFaultsOf-standard e same told = rw e (same, told)
 
-    pub Tells-files : job.standard ≡ false → input' ≡ input → TellsFaults Cgrep (map string_bytes job.files.items) tree tree' Takes → TellsFaultsOf job tree tree' input input' Takes
-    Tells-files e same told = rw e (same, told)
+    pub PrintsFaultsOf-files : job.standard ≡ false → input' ≡ input → PrintsFaults Cgrep (map string_bytes job.files.items) tree tree' Takes → PrintsFaultsOf job tree tree' input input' Takes
+    PrintsFaultsOf-files e same told = rw e (same, told)
 
   -- of other lines, whichever inputs they tell of
-  module _ (Takes Wanted : List ℕ → Type 0) (gives : (tool : Tool) (names : List (List ℕ)) (failed failed' : ℕ) → TellsFaults tool names failed failed' Takes → TellsFaults tool names failed failed' Wanted) where
-    as_by : (b : Bool) → job.standard ≡ b → TellsFaultsOf job tree tree' input input' Takes → TellsFaultsOf job tree tree' input input' Wanted
-    as_by true e told = let now = rw e at told in Tells-standard Wanted e now.0 (gives Cgrep (standard_name ∷ []) input input' now.1)
-    as_by false e told = let now = rw e at told in Tells-files Wanted e now.0 (gives Cgrep (map string_bytes job.files.items) tree tree' now.1)
+  module _ (Takes Wanted : List ℕ → Type 0) (gives : (tool : Tool) (names : List (List ℕ)) (failed failed' : ℕ) → PrintsFaults tool names failed failed' Takes → PrintsFaults tool names failed failed' Wanted) where
+    as_by : (b : Bool) → job.standard ≡ b → PrintsFaultsOf job tree tree' input input' Takes → PrintsFaultsOf job tree tree' input input' Wanted
+    as_by true e told = let now = rw e at told in PrintsFaultsOf-standard Wanted e now.0 (gives Cgrep (standard_name ∷ []) input input' now.1)
+    as_by false e told = let now = rw e at told in PrintsFaultsOf-files Wanted e now.0 (gives Cgrep (map string_bytes job.files.items) tree tree' now.1)
 
-    pub Tells-as : TellsFaultsOf job tree tree' input input' Takes → TellsFaultsOf job tree tree' input input' Wanted
-    Tells-as told = as_by job.standard refl told
+    pub PrintsFaultsOf-as : PrintsFaultsOf job tree tree' input input' Takes → PrintsFaultsOf job tree tree' input input' Wanted
+    PrintsFaultsOf-as told = as_by job.standard refl told
 
-pub Tells-nothing : {A E : Type 0} (r : Result A E) (fault : E) (job : GrepJob) (tree input : ℕ) (err : Option Taken) → r ≡ Err fault → TellsFaultsOf job tree tree input input (λ lines. EndsAfter lines err err r)
-Tells-nothing r fault job tree input err is = by_standard job.standard refl
+pub PrintsFaultsOf-nothing : {A E : Type 0} (r : Result A E) (fault : E) (job : GrepJob) (tree input : ℕ) (err : Option Taken) → r ≡ Err fault → PrintsFaultsOf job tree tree input input (λ lines. EndsAfter lines err err r)
+PrintsFaultsOf-nothing r fault job tree input err is = by_standard job.standard refl
   where
-    by_standard : (b : Bool) → job.standard ≡ b → TellsFaultsOf job tree tree input input (λ lines. EndsAfter lines err err r)
-    by_standard true e = Tells-standard job tree tree input input (λ lines. EndsAfter lines err err r) e refl (Tells-no Cgrep r fault (standard_name ∷ []) input err is)
-    by_standard false e = Tells-files job tree tree input input (λ lines. EndsAfter lines err err r) e refl (Tells-no Cgrep r fault (map string_bytes job.files.items) tree err is)
+    by_standard : (b : Bool) → job.standard ≡ b → PrintsFaultsOf job tree tree input input (λ lines. EndsAfter lines err err r)
+    by_standard true e = PrintsFaultsOf-standard job tree tree input input (λ lines. EndsAfter lines err err r) e refl (PrintsFaults-no Cgrep r fault (standard_name ∷ []) input err is)
+    by_standard false e = PrintsFaultsOf-files job tree tree input input (λ lines. EndsAfter lines err err r) e refl (PrintsFaults-no Cgrep r fault (map string_bytes job.files.items) tree err is)
 
 -- the tree that a text reads as
 pub read_once : (text : List ℕ) (fold : Bool) (t u : Tree) → Reads text fold t → Reads text fold u → t ≡ u

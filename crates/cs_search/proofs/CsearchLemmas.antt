@@ -35,15 +35,16 @@ use Rattle.cs_index.specs.Answerable.{is_answerable}
 use Rattle.cs_search.specs.declared.report.TheConstants.{MOST_SEARCHED}
 use Rattle.cs_match.specs.Finding.{Decides}
 use Rattle.cs_search.specs.Refusals.{IsAccepted, QuietAtRefusal, has_write_failed}
-use Rattle.cs_search.specs.Searcher.{IsSearchFault, Prints, IsPrinted, TellsAll, PrintsFront}
-use Rattle.cs_search.specs.Csearch.{names_meeting, IsQueryOf, Asks, file_text, Keeps, csearch_printed, AreAccepted, IsReady, RefusedInOrder}
+use Rattle.cs_search.specs.Searcher.{IsSearchFault, Prints, IsPrinted, PrintsAllFaults, PrintsFront}
+use Rattle.cs_history.specs.Meeting.{names_meeting}
+use Rattle.cs_search.specs.Csearch.{IsQueryOf, Asks, file_text, Keeps, csearch_printed, AreAccepted, IsReady, RefusedInOrder}
 use Rattle.cs_search.specs.Plans.{IsPlan, RefusesPlan}
 use Rattle.cs_search.specs.declared.plan.Plan.{Plan}
 use Rattle.cs_search.specs.declared.status.Status.{Status}
 use Rattle.cs_search.proofs.CgrepLemmas.{read_once, decides_program}
 use Rattle.cs_search.specs.IndexSearch.{FileRefused, OpenRefused, file_fault_at, file_pattern_fault, names_at, IsCompiled, DecidesNames}
-use Rattle.cs_search.specs.Printed.{Printed, NamedFault, AreFaultsOf, file_printed, all_printed, then, nothing}
-use Rattle.cs_search.proofs.PrintedLemmas.{all_append, then_nothing}
+use Rattle.cs_search.specs.Printed.{Printed, NamedFault, AreFaultsOf, file_printed, all_printed, sequel, nothing}
+use Rattle.cs_search.proofs.PrintedLemmas.{all_append, sequel_nothing}
 
 -- ---- the pattern of `-f` that is refused
 
@@ -76,7 +77,7 @@ module _ (names : List (List ℕ)) where
 module _ (printed : List ℕ → Printed) (keeps : List ℕ → Bool) (names : List (List ℕ)) where
   pub chosen_more : (ids : List ℕ) (at : ℕ) → at < length ids →
       all_printed printed (filter keeps (names_at names (take (at + 1) ids)))
-      ≡ then (all_printed printed (filter keeps (names_at names (take at ids)))) (all_printed printed (filter keeps (names_at names (get_or ids at 0 ∷ []))))
+      ≡ sequel (all_printed printed (filter keeps (names_at names (take at ids)))) (all_printed printed (filter keeps (names_at names (get_or ids at 0 ∷ []))))
   chosen_more ids at low =
       ap (λ (l : List (List ℕ)). all_printed printed (filter keeps l)) (names_at_more names ids at low)
       ∙ ap (all_printed printed) (filter-append keeps (names_at names (take at ids)) (names_at names (get_or ids at 0 ∷ [])))
@@ -85,15 +86,15 @@ module _ (printed : List ℕ → Printed) (keeps : List ℕ → Bool) (names : L
   -- and the ids that follow
   pub chosen_rest : (ids : List ℕ) (at : ℕ) → at < length ids →
       all_printed printed (filter keeps (names_at names ids))
-      ≡ then (then (all_printed printed (filter keeps (names_at names (take at ids)))) (all_printed printed (filter keeps (names_at names (get_or ids at 0 ∷ []))))) (all_printed printed (filter keeps (names_at names (drop (at + 1) ids))))
+      ≡ sequel (sequel (all_printed printed (filter keeps (names_at names (take at ids)))) (all_printed printed (filter keeps (names_at names (get_or ids at 0 ∷ []))))) (all_printed printed (filter keeps (names_at names (drop (at + 1) ids))))
   chosen_rest ids at low =
       let first = names_at names (take at ids) ++ names_at names (get_or ids at 0 ∷ []) in
       let rest = names_at names (drop (at + 1) ids) in
-      let chosen_first : all_printed printed (filter keeps first) ≡ then (all_printed printed (filter keeps (names_at names (take at ids)))) (all_printed printed (filter keeps (names_at names (get_or ids at 0 ∷ [])))) = ap (λ l. all_printed printed (filter keeps l)) (sym (names_at_more names ids at low)) ∙ chosen_more ids at low in
+      let chosen_first : all_printed printed (filter keeps first) ≡ sequel (all_printed printed (filter keeps (names_at names (take at ids)))) (all_printed printed (filter keeps (names_at names (get_or ids at 0 ∷ [])))) = ap (λ l. all_printed printed (filter keeps l)) (sym (names_at_more names ids at low)) ∙ chosen_more ids at low in
       ap (λ (l : List (List ℕ)). all_printed printed (filter keeps l)) (names_at_rest names ids at low)
       ∙ ap (all_printed printed) (filter-append keeps first rest)
       ∙ all_append printed (filter keeps first) (filter keeps rest)
-      ∙ ap (λ (p : Printed). then p (all_printed printed (filter keeps rest))) chosen_first
+      ∙ ap (λ (p : Printed). sequel p (all_printed printed (filter keeps rest))) chosen_first
 
   pub none_at : (id : ℕ) → slice_get names id ≡ None → all_printed printed (filter keeps (names_at names (id ∷ []))) ≡ nothing
   unfolding names_at all_printed
@@ -110,7 +111,7 @@ module _ (printed : List ℕ → Printed) (keeps : List ℕ → Bool) (names : L
 
     pub kept_at : keeps name ≡ true → all_printed printed (filter keeps (names_at names (id ∷ []))) ≡ printed name
     unfolding all_printed
-    kept_at e = one_at ∙ ap (λ t. all_printed printed (cond t (name ∷ []) [])) e ∙ then_nothing (printed name)
+    kept_at e = one_at ∙ ap (λ t. all_printed printed (cond t (name ∷ []) [])) e ∙ sequel_nothing (printed name)
 
 -- ---- the names of the candidates
 
@@ -264,7 +265,7 @@ PrintsFront-as (Some s) printed wanted out out' err err' is p = subst (λ (x : P
 
 faults_past : {X : Type 0} (f : X → List ℕ) (b : Bool) (x : X) (kept xs : List X) → ((faults : List NamedFault) → AreFaultsOf (map f kept) faults → AreFaultsOf (map f xs) faults) → (faults : List NamedFault) → AreFaultsOf (map f (cond b (x ∷ kept) kept)) faults → AreFaultsOf (map f (x ∷ xs)) faults
 faults_past f true x kept xs rest faults (inl are) = inl (rest faults are)
-faults_past f true x kept xs rest faults (inr are) = inr (are.0, are.1, are.2, rest are.1 are.3)
+faults_past f true x kept xs rest faults (inr are) = inr (are.0, are.1, are.2, are.3, rest are.1 are.4)
 faults_past f false x kept xs rest faults are = inl (rest faults are)
 
 faults_kept : {X : Type 0} (f : X → List ℕ) (test : X → Bool) (xs : List X) (faults : List NamedFault) → AreFaultsOf (map f (filter test xs)) faults → AreFaultsOf (map f xs) faults
@@ -279,5 +280,5 @@ faults_chosen parts query ids faults is are =
     (subst (λ (l : List (List ℕ)). AreFaultsOf l faults) (ap (names_at parts.names) is ∙ candidates_named parts query) are))
 
 -- those of the candidates are those of the files that have them
-pub Tells-chosen : {A E : Type 0} (r : Result A E) (tool : Tool) (parts : Parts) (query : Query) (ids : List ℕ) (failed failed' : ℕ) (err err' : Option Taken) → ids ≡ candidates_of parts query → TellsAll tool (names_at parts.names ids) failed failed' err err' r → TellsAll tool parts.names failed failed' err err' r
-Tells-chosen r tool parts query ids failed failed' err err' is told = (told.0, faults_chosen parts query ids told.0 is told.1, told.2, told.3)
+pub PrintsAllFaults-chosen : {A E : Type 0} (r : Result A E) (tool : Tool) (parts : Parts) (query : Query) (ids : List ℕ) (failed failed' : ℕ) (err err' : Option Taken) → ids ≡ candidates_of parts query → PrintsAllFaults tool (names_at parts.names ids) failed failed' err err' r → PrintsAllFaults tool parts.names failed failed' err err' r
+PrintsAllFaults-chosen r tool parts query ids failed failed' err err' is told = (told.0, faults_chosen parts query ids told.0 is told.1, told.2, told.3)

@@ -14,15 +14,15 @@ use Rattle.cs_search.specs.declared.stop.Stop.TheVariants.{End}
 use Rattle.cs_match.specs.Lines.{newline, lines, ended_lines}
 use Rattle.cs_match.specs.Unended.{unended, last_line}
 use Rattle.cs_match.proofs.LinesLemmas.{lines-split, ended_lines-append}
-use Rattle.cs_search.specs.Report.{Hit, hits_from, some_hit, hit_line, printed, tested, report}
+use Rattle.cs_search.specs.Report.{Hit, hits_from, some_hit, hit_line, hits_output, tested_lines, report}
 use Rattle.cs_tree.specs.Taken.{TakesFront}
 use Rattle.cs_search.specs.GrepReports.{ReportsFront}
 use Rattle.cs_search.specs.InputReport.{told_report, fault_within}
-use Rattle.cs_search.specs.TestedLines.{shown, total, Tests, TestsFront}
+use Rattle.cs_search.specs.TestedLines.{hit_output, total, Tests, TestsFront}
 use Rattle.cs_search.specs.Progress.{HasRead, HasTested, Stops, FindsBy, FindsFront}
 use Rattle.cs_tree.proofs.Fronts.{front_left, front_right, front_all}
 use Rattle.cs_search.proofs.ReportLemmas.{hits_from-append, hits_from-one}
-use Rattle.cs_search.proofs.HitLemmas.{shown_listed, shown_counted, shown_plain, printed_listed, printed_counted, printed_plain, printed_left, printed_end, few_last}
+use Rattle.cs_search.proofs.HitLemmas.{hit_output_listed, hit_output_counted, hit_output_plain, hits_output_listed, hits_output_counted, hits_output_plain, printed_left, printed_end, few_last}
 use Rattle.cs_search.proofs.TestedLemmas.{Tests-more}
 use Rattle.cs_search.proofs.ProgressLemmas.{front_more}
 
@@ -34,11 +34,11 @@ any_err (Err e) p = p
 -- ---- hits
 
 module _ (style : Style) (name : List ℕ) where
-  pub printed_one : (hit : Hit) → shown style name hit ≡ printed style name false (hit ∷ [])
+  pub printed_one : (hit : Hit) → hit_output style name hit ≡ hits_output style name false (hit ∷ [])
   printed_one hit =
-      ⊎_elim (λ e. shown_listed style name e hit ∙ sym (printed_listed style name e false (hit ∷ [])))
-      (λ e. ⊎_elim (λ h. shown_counted style name e h hit ∙ sym (printed_counted style name e h false (hit ∷ [])))
-      (λ h. shown_plain style name e h hit ∙ sym (append-nil (hit_line style name hit)) ∙ sym (printed_plain style name e h false (hit ∷ [])))
+      ⊎_elim (λ e. hit_output_listed style name e hit ∙ sym (hits_output_listed style name e false (hit ∷ [])))
+      (λ e. ⊎_elim (λ h. hit_output_counted style name e h hit ∙ sym (hits_output_counted style name e h false (hit ∷ [])))
+      (λ h. hit_output_plain style name e h hit ∙ sym (append-nil (hit_line style name hit)) ∙ sym (hits_output_plain style name e h false (hit ∷ [])))
       (cases_Bool style.count)) (cases_Bool style.list)
 
   listed_front : (hits more : List Hit) (a b : Option Taken) → TakesFront (cond (some_hit hits) (name ++ newline ∷ []) []) a b → TakesFront (cond (some_hit (hits ++ more)) (name ++ newline ∷ []) []) a b
@@ -46,22 +46,22 @@ module _ (style : Style) (name : List ℕ) where
   listed_front (hit ∷ hits) more a b front = front
 
   -- what is printed before the end, and then at more hits, or at the end
-  pub front_printed : (whole : Bool) (hits more : List Hit) (a b : Option Taken) → TakesFront (printed style name false hits) a b → TakesFront (printed style name whole (hits ++ more)) a b
+  pub front_printed : (whole : Bool) (hits more : List Hit) (a b : Option Taken) → TakesFront (hits_output style name false hits) a b → TakesFront (hits_output style name whole (hits ++ more)) a b
   front_printed whole hits more a b front =
-      ⊎_elim (λ e. subst (λ bytes. TakesFront bytes a b) (sym (printed_listed style name e whole (hits ++ more)))
-      (listed_front hits more a b (subst (λ bytes. TakesFront bytes a b) (printed_listed style name e false hits) front)))
-      (λ e. ⊎_elim (λ h. front_left [] _ a b (subst (λ bytes. TakesFront bytes a b) (printed_counted style name e h false hits) front))
-      (λ h. subst (λ bytes. TakesFront bytes a b) (sym (printed_plain style name e h whole (hits ++ more) ∙ flat_map-append (hit_line style name) hits more))
-      (front_left _ _ a b (subst (λ bytes. TakesFront bytes a b) (printed_plain style name e h false hits) front)))
+      ⊎_elim (λ e. subst (λ bytes. TakesFront bytes a b) (sym (hits_output_listed style name e whole (hits ++ more)))
+      (listed_front hits more a b (subst (λ bytes. TakesFront bytes a b) (hits_output_listed style name e false hits) front)))
+      (λ e. ⊎_elim (λ h. front_left [] _ a b (subst (λ bytes. TakesFront bytes a b) (hits_output_counted style name e h false hits) front))
+      (λ h. subst (λ bytes. TakesFront bytes a b) (sym (hits_output_plain style name e h whole (hits ++ more) ∙ flat_map-append (hit_line style name) hits more))
+      (front_left _ _ a b (subst (λ bytes. TakesFront bytes a b) (hits_output_plain style name e h false hits) front)))
       (cases_Bool style.count)) (cases_Bool style.list)
 
-  -- what was shown at the hits, and then a front of what is printed at more
-  pub front_shown : (hits more : List Hit) (a b c : Option Taken) → (style.list ≡ true → hits ≡ []) → Grows a b (flat_map (shown style name) hits) → TakesFront (printed style name false more) b c → TakesFront (printed style name false (hits ++ more)) a c
-  front_shown hits more a b c none grows front =
-      ⊎_elim (λ e. subst (λ (hs : List Hit). TakesFront (printed style name false (hs ++ more)) a c) (sym (none e))
-      (front_right [] _ a b c (subst (λ (hs : List Hit). Grows a b (flat_map (shown style name) hs)) (none e) grows) front))
+  -- what was printed at the hits, and then a front of what is printed at more
+  pub front_hits : (hits more : List Hit) (a b c : Option Taken) → (style.list ≡ true → hits ≡ []) → Grows a b (flat_map (hit_output style name) hits) → TakesFront (hits_output style name false more) b c → TakesFront (hits_output style name false (hits ++ more)) a c
+  front_hits hits more a b c none grows front =
+      ⊎_elim (λ e. subst (λ (hs : List Hit). TakesFront (hits_output style name false (hs ++ more)) a c) (sym (none e))
+      (front_right [] _ a b c (subst (λ (hs : List Hit). Grows a b (flat_map (hit_output style name) hs)) (none e) grows) front))
       (λ e. let plain = λ (hs : List Hit). printed_left style name hs (λ listed. absurd (false≢true (sym e ∙ listed))) in
-      subst (λ bytes. TakesFront bytes a c) (sym (flat_map-append (shown style name) hits more) ∙ plain (hits ++ more))
+      subst (λ bytes. TakesFront bytes a c) (sym (flat_map-append (hit_output style name) hits more) ∙ plain (hits ++ more))
       (front_right _ _ a b c grows (subst (λ bytes. TakesFront bytes b c) (sym (plain more)) front)))
       (cases_Bool style.list)
 
@@ -69,23 +69,23 @@ module _ (style : Style) (name : List ℕ) where
 
 module _ (style : Style) (name : List ℕ) (finds : List ℕ → Bool) where
   -- something is found in the line
-  pub TestsFront-hit : (line : List ℕ) (first : ℕ) (taken later : Option Taken) → finds line ≡ true → TakesFront (shown style name (first, line)) taken later → TestsFront style name finds (line ∷ []) first taken later
+  pub TestsFront-hit : (line : List ℕ) (first : ℕ) (taken later : Option Taken) → finds line ≡ true → TakesFront (hit_output style name (first, line)) taken later → TestsFront style name finds (line ∷ []) first taken later
   TestsFront-hit line first taken later e front =
-      subst (λ (hits : List Hit). TakesFront (printed style name false hits) taken later) (sym (hits_from-one finds first line ∙ ap (λ t. cond t ((first, line) ∷ []) []) e))
+      subst (λ (hits : List Hit). TakesFront (hits_output style name false hits) taken later) (sym (hits_from-one finds first line ∙ ap (λ t. cond t ((first, line) ∷ []) []) e))
       (subst (λ bytes. TakesFront bytes taken later) (printed_one style name (first, line)) front)
 
   -- and more lines change nothing
   pub TestsFront-more : (a b : List (List ℕ)) (first : ℕ) (taken later : Option Taken) → TestsFront style name finds a first taken later → TestsFront style name finds (a ++ b) first taken later
   TestsFront-more a b first taken later front =
-      subst (λ (hits : List Hit). TakesFront (printed style name false hits) taken later) (sym (hits_from-append finds first a b))
+      subst (λ (hits : List Hit). TakesFront (hits_output style name false hits) taken later) (sym (hits_from-append finds first a b))
       (front_printed style name false _ _ taken later front)
 
   -- after lines that were tested
   pub TestsFront-after : (a b : List (List ℕ)) (before mid : Tally) (taken now later : Option Taken) → (style.list ≡ true → mid.hits ≡ 0) → mid.lines ≡ before.lines + length a → Tests style name finds a before mid taken now → TestsFront style name finds b (mid.lines + 1) now later → TestsFront style name finds (a ++ b) (before.lines + 1) taken later
   TestsFront-after a b before mid taken now later none counted tests front =
       let at : mid.lines + 1 ≡ before.lines + 1 + length a = omega arith in
-      subst (λ (hits : List Hit). TakesFront (printed style name false hits) taken later) (sym (hits_from-append finds (before.lines + 1) a b))
-      (front_shown style name _ _ taken now later (λ listed. nil_from_length _ (let h = none listed in omega (arith, tests.hits, h))) tests.written
+      subst (λ (hits : List Hit). TakesFront (hits_output style name false hits) taken later) (sym (hits_from-append finds (before.lines + 1) a b))
+      (front_hits style name _ _ taken now later (λ listed. nil_from_length _ (let h = none listed in omega (arith, tests.hits, h))) tests.written
       (subst (λ n. TestsFront style name finds b n now later) at front))
 
   -- all that was tested
@@ -126,10 +126,10 @@ module _ (style : Style) (name : List ℕ) (finds : List ℕ → Bool) (before m
 
 module _ (style : Style) (name : List ℕ) (finds : List ℕ → Bool) (text : List ℕ) (taken out : Option Taken) where
   -- before the end of the input
-  lines_tested : (whole : Bool) → TestsFront style name finds (ended_lines text) 1 taken out → TakesFront (printed style name whole (hits_from 1 finds (tested whole text))) taken out
+  lines_tested : (whole : Bool) → TestsFront style name finds (ended_lines text) 1 taken out → TakesFront (hits_output style name whole (hits_from 1 finds (tested_lines whole text))) taken out
   lines_tested true front =
-      subst (λ ls. TakesFront (printed style name true (hits_from 1 finds ls)) taken out) (sym (lines-split text))
-      (subst (λ (hits : List Hit). TakesFront (printed style name true hits) taken out) (sym (hits_from-append finds 1 (ended_lines text) (last_line (unended text))))
+      subst (λ ls. TakesFront (hits_output style name true (hits_from 1 finds ls)) taken out) (sym (lines-split text))
+      (subst (λ (hits : List Hit). TakesFront (hits_output style name true hits) taken out) (sym (hits_from-append finds 1 (ended_lines text) (last_line (unended text))))
       (front_printed style name true _ _ taken out front))
   lines_tested false front = front
 
@@ -158,9 +158,9 @@ module _ (style : Style) (name : List ℕ) (finds : List ℕ → Bool) (before :
       let tested_all = TestsFront-after style name finds (ended_lines text) (last_line rest) before mid taken now out none (omega (arith, stops.2, no_lines)) tests front in
       let hits = hits_from 1 finds (lines text) in
       subst (λ (fault : Option ReadFault). TakesFront (report style name finds text fault).output taken out) (sym stops.0)
-      (subst (λ (hs : List Hit). TakesFront (printed style name true hs) taken out) (append-nil hits)
+      (subst (λ (hs : List Hit). TakesFront (hits_output style name true hs) taken out) (append-nil hits)
       (front_printed style name true hits [] taken out
-      (subst (λ ls. TakesFront (printed style name false ls) taken out) (ap (λ ls. hits_from (before.lines + 1) finds ls) all ∙ from_one (lines text)) tested_all)))
+      (subst (λ ls. TakesFront (hits_output style name false ls) taken out) (ap (λ ls. hits_from (before.lines + 1) finds ls) all ∙ from_one (lines text)) tested_all)))
 
   -- and in the count
   pub ReportsFront-total : (told : Option Told) (mid after : Tally) (now later : Option Taken) (rest : List ℕ) (out : Option Taken) → Stops most End told rest mid.lines → (style.list ≡ true → mid.hits ≡ 0) → FindsBy style name finds before mid taken now most End told → Tests style name finds (last_line rest) mid after now later → TakesFront (total style name after.hits) later out → ReportsFront told (told_report most style name finds) taken out
@@ -174,5 +174,5 @@ module _ (style : Style) (name : List ℕ) (finds : List ℕ → Bool) (before :
       let count : after.hits ≡ length hits = omega (arith, whole.hits, no_hits, ap (λ (hs : List Hit). length hs) (from_one (lines text))) in
       let few = λ (e : style.list ≡ true). (let h = none e in let k : length hits ≤ 1 = omega (arith, h, last.hits, few_last style name finds (mid.lines + 1) rest, count) in k) in
       subst (λ (fault : Option ReadFault). TakesFront (report style name finds text fault).output taken out) (sym stops.0)
-      (subst (λ bytes. TakesFront bytes taken out) (ap (λ n. flat_map (shown style name) hits ++ total style name n) count ∙ printed_end style name hits few)
-      (front_right _ _ taken later out (subst (λ (hs : List Hit). Grows taken later (flat_map (shown style name) hs)) (from_one (lines text)) whole.written) front))
+      (subst (λ bytes. TakesFront bytes taken out) (ap (λ n. flat_map (hit_output style name) hits ++ total style name n) count ∙ printed_end style name hits few)
+      (front_right _ _ taken later out (subst (λ (hs : List Hit). Grows taken later (flat_map (hit_output style name) hs)) (from_one (lines text)) whole.written) front))

@@ -11,9 +11,9 @@ use Rattle.cs_search.specs.declared.tally.Tally.{Tally}
 use Rattle.cs_search.specs.declared.grep_fault.ReadFault.{ReadFault}
 use Rattle.cs_match.specs.Lines.{newline, lines, ended_lines}
 use Rattle.cs_match.specs.Unended.{unended, last_line}
-use Rattle.cs_search.specs.Report.{Hit, hits_from, some_hit, hit_line, name_line, count_line, printed, tested, report}
+use Rattle.cs_search.specs.Report.{Hit, hits_from, some_hit, hit_line, name_line, count_line, hits_output, tested_lines, report}
 use Rattle.cs_search.specs.GrepReports.{IsReported}
-use Rattle.cs_search.specs.TestedLines.{shown, total, Tests, IsListed}
+use Rattle.cs_search.specs.TestedLines.{hit_output, total, Tests, IsListed}
 use Rattle.cs_match.proofs.LinesLemmas.{lines-split}
 use Rattle.cs_search.proofs.ReportLemmas.{hits_from-append, some_hit-append}
 use Rattle.cs_search.proofs.TestedLemmas.{Tests-more, few_hits}
@@ -31,29 +31,29 @@ some_counted [] = refl
 some_counted (hit ∷ hits) = lt-ltb 0 (length (hit ∷ hits)) (omega arith)
 
 module _ (style : Style) (name : List ℕ) where
-  pub shown_listed : style.list ≡ true → (hit : Hit) → shown style name hit ≡ name ++ newline ∷ []
-  unfolding shown
-  shown_listed e hit = rw e refl
+  pub hit_output_listed : style.list ≡ true → (hit : Hit) → hit_output style name hit ≡ name ++ newline ∷ []
+  unfolding hit_output
+  hit_output_listed e hit = rw e refl
 
-  pub shown_counted : style.list ≡ false → style.count ≡ true → (hit : Hit) → shown style name hit ≡ []
-  unfolding shown
-  shown_counted e h hit = rw (e, h) refl
+  pub hit_output_counted : style.list ≡ false → style.count ≡ true → (hit : Hit) → hit_output style name hit ≡ []
+  unfolding hit_output
+  hit_output_counted e h hit = rw (e, h) refl
 
-  pub shown_plain : style.list ≡ false → style.count ≡ false → (hit : Hit) → shown style name hit ≡ hit_line style name hit
-  unfolding shown
-  shown_plain e h hit = rw (e, h) refl
+  pub hit_output_plain : style.list ≡ false → style.count ≡ false → (hit : Hit) → hit_output style name hit ≡ hit_line style name hit
+  unfolding hit_output
+  hit_output_plain e h hit = rw (e, h) refl
 
-  pub printed_listed : style.list ≡ true → (whole : Bool) (hits : List Hit) → printed style name whole hits ≡ cond (some_hit hits) (name ++ newline ∷ []) []
-  unfolding printed name_line
-  printed_listed e whole hits = rw e refl
+  pub hits_output_listed : style.list ≡ true → (whole : Bool) (hits : List Hit) → hits_output style name whole hits ≡ cond (some_hit hits) (name ++ newline ∷ []) []
+  unfolding hits_output name_line
+  hits_output_listed e whole hits = rw e refl
 
-  pub printed_counted : style.list ≡ false → style.count ≡ true → (whole : Bool) (hits : List Hit) → printed style name whole hits ≡ cond whole (cond (some_hit hits) (name ++ (codes ": " ++ (decimal (length hits) ++ newline ∷ []))) []) []
-  unfolding printed count_line
-  printed_counted e h whole hits = rw (e, h) refl
+  pub hits_output_counted : style.list ≡ false → style.count ≡ true → (whole : Bool) (hits : List Hit) → hits_output style name whole hits ≡ cond whole (cond (some_hit hits) (name ++ (codes ": " ++ (decimal (length hits) ++ newline ∷ []))) []) []
+  unfolding hits_output count_line
+  hits_output_counted e h whole hits = rw (e, h) refl
 
-  pub printed_plain : style.list ≡ false → style.count ≡ false → (whole : Bool) (hits : List Hit) → printed style name whole hits ≡ flat_map (hit_line style name) hits
-  unfolding printed
-  printed_plain e h whole hits = rw (e, h) refl
+  pub hits_output_plain : style.list ≡ false → style.count ≡ false → (whole : Bool) (hits : List Hit) → hits_output style name whole hits ≡ flat_map (hit_line style name) hits
+  unfolding hits_output
+  hits_output_plain e h whole hits = rw (e, h) refl
 
   total_listed : style.list ≡ true → (count : ℕ) → total style name count ≡ []
   unfolding total
@@ -68,25 +68,25 @@ module _ (style : Style) (name : List ℕ) where
   total_plain e h count = rw (e, h) refl
 
   -- with `-l`, where there is a hit at most
-  listed_once : style.list ≡ true → (hits : List Hit) → length hits ≤ 1 → flat_map (shown style name) hits ≡ cond (some_hit hits) (name ++ newline ∷ []) []
+  listed_once : style.list ≡ true → (hits : List Hit) → length hits ≤ 1 → flat_map (hit_output style name) hits ≡ cond (some_hit hits) (name ++ newline ∷ []) []
   listed_once e [] few = refl
-  listed_once e (hit ∷ []) few = append-nil (shown style name hit) ∙ shown_listed e hit
+  listed_once e (hit ∷ []) few = append-nil (hit_output style name hit) ∙ hit_output_listed e hit
   listed_once e (hit ∷ other ∷ hits) few = absurd (omega arith)
 
   -- at the end
-  pub printed_end : (hits : List Hit) → (style.list ≡ true → length hits ≤ 1) → flat_map (shown style name) hits ++ total style name (length hits) ≡ printed style name true hits
+  pub printed_end : (hits : List Hit) → (style.list ≡ true → length hits ≤ 1) → flat_map (hit_output style name) hits ++ total style name (length hits) ≡ hits_output style name true hits
   printed_end hits few =
-      ⊎_elim (λ e. ap (λ l. flat_map (shown style name) hits ++ l) (total_listed e (length hits)) ∙ append-nil (flat_map (shown style name) hits) ∙ listed_once e hits (few e) ∙ sym (printed_listed e true hits))
-      (λ e. ⊎_elim (λ h. ap (λ l. l ++ total style name (length hits)) (flat_none (shown style name) (shown_counted e h) hits) ∙ total_counted e h (length hits) ∙ ap (λ b. cond b (name ++ (codes ": " ++ (decimal (length hits) ++ newline ∷ []))) []) (some_counted hits) ∙ sym (printed_counted e h true hits))
-      (λ h. ap (λ l. flat_map (shown style name) hits ++ l) (total_plain e h (length hits)) ∙ append-nil (flat_map (shown style name) hits) ∙ flat_same (shown style name) (hit_line style name) (shown_plain e h) hits ∙ sym (printed_plain e h true hits))
+      ⊎_elim (λ e. ap (λ l. flat_map (hit_output style name) hits ++ l) (total_listed e (length hits)) ∙ append-nil (flat_map (hit_output style name) hits) ∙ listed_once e hits (few e) ∙ sym (hits_output_listed e true hits))
+      (λ e. ⊎_elim (λ h. ap (λ l. l ++ total style name (length hits)) (flat_none (hit_output style name) (hit_output_counted e h) hits) ∙ total_counted e h (length hits) ∙ ap (λ b. cond b (name ++ (codes ": " ++ (decimal (length hits) ++ newline ∷ []))) []) (some_counted hits) ∙ sym (hits_output_counted e h true hits))
+      (λ h. ap (λ l. flat_map (hit_output style name) hits ++ l) (total_plain e h (length hits)) ∙ append-nil (flat_map (hit_output style name) hits) ∙ flat_same (hit_output style name) (hit_line style name) (hit_output_plain e h) hits ∙ sym (hits_output_plain e h true hits))
       (cases_Bool style.count)) (cases_Bool style.list)
 
   -- before the end
-  pub printed_left : (hits : List Hit) → (style.list ≡ true → hits ≡ []) → flat_map (shown style name) hits ≡ printed style name false hits
+  pub printed_left : (hits : List Hit) → (style.list ≡ true → hits ≡ []) → flat_map (hit_output style name) hits ≡ hits_output style name false hits
   printed_left hits none =
-      ⊎_elim (λ e. ap (flat_map (shown style name)) (none e) ∙ sym (printed_listed e false hits ∙ ap (λ b. cond b (name ++ newline ∷ []) []) (ap some_hit (none e))))
-      (λ e. ⊎_elim (λ h. flat_none (shown style name) (shown_counted e h) hits ∙ sym (printed_counted e h false hits))
-      (λ h. flat_same (shown style name) (hit_line style name) (shown_plain e h) hits ∙ sym (printed_plain e h false hits))
+      ⊎_elim (λ e. ap (flat_map (hit_output style name)) (none e) ∙ sym (hits_output_listed e false hits ∙ ap (λ b. cond b (name ++ newline ∷ []) []) (ap some_hit (none e))))
+      (λ e. ⊎_elim (λ h. flat_none (hit_output style name) (hit_output_counted e h) hits ∙ sym (hits_output_counted e h false hits))
+      (λ h. flat_same (hit_output style name) (hit_line style name) (hit_output_plain e h) hits ∙ sym (hits_output_plain e h false hits))
       (cases_Bool style.count)) (cases_Bool style.list)
 
 pub few_last : (style : Style) (name : List ℕ) (finds : List ℕ → Bool) (n : ℕ) (rest : List ℕ) → length (hits_from n finds (last_line rest)) ≤ 1
@@ -101,8 +101,8 @@ module _ (style : Style) (name : List ℕ) (finds : List ℕ → Bool) (text : L
   hits_counted : (ls : List (List ℕ)) → Tests style name finds ls before after taken out → after.hits ≡ length (hits_from 1 finds ls)
   hits_counted ls tests = omega (arith, tests.hits, ap (λ (hs : List Hit). length hs) (from_one ls))
 
-  hits_written : (ls : List (List ℕ)) → Tests style name finds ls before after taken out → Grows taken out (flat_map (shown style name) (hits_from 1 finds ls))
-  hits_written ls tests = subst (λ (hs : List Hit). Grows taken out (flat_map (shown style name) hs)) (from_one ls) tests.written
+  hits_written : (ls : List (List ℕ)) → Tests style name finds ls before after taken out → Grows taken out (flat_map (hit_output style name) (hits_from 1 finds ls))
+  hits_written ls tests = subst (λ (hs : List Hit). Grows taken out (flat_map (hit_output style name) hs)) (from_one ls) tests.written
 
   no_list : (b : Bool) (hits : List Hit) → (b ≡ true → hits ≡ []) → (b && some_hit hits) ≡ false
   no_list true hits none = ap some_hit (none refl)
@@ -125,16 +125,16 @@ module _ (style : Style) (name : List ℕ) (finds : List ℕ → Bool) (text : L
     first : some_hit (hits_from 1 finds (ended_lines text)) ≡ true
     first = ap some_hit (sym (from_one (ended_lines text))) ∙ s.found
 
-    some : (fault : Option ReadFault) → some_hit (hits_from 1 finds (tested (is_none fault) text)) ≡ true
+    some : (fault : Option ReadFault) → some_hit (hits_from 1 finds (tested_lines (is_none fault) text)) ≡ true
     some (Some fault) = first
     some None = ap (λ ls. some_hit (hits_from 1 finds ls)) (lines-split text) ∙ ap some_hit (hits_from-append finds 1 (ended_lines text) (last_line (unended text))) ∙ some_hit-append _ _ first
 
     pub reported_listed : (fault : Option ReadFault) → IsReported (report style name finds text fault) taken out (record { matched = true; fault = None })
     unfolding report
     reported_listed fault =
-        let hits = hits_from 1 finds (tested (is_none fault) text) in
+        let hits = hits_from 1 finds (tested_lines (is_none fault) text) in
         let found : some_hit hits ≡ true = some fault in (
-          subst (Grows taken out) (sym (printed_listed style name s.listed (is_none fault) hits ∙ ap (λ b. cond b (name ++ newline ∷ []) []) found)) s.written,
+          subst (Grows taken out) (sym (hits_output_listed style name s.listed (is_none fault) hits ∙ ap (λ b. cond b (name ++ newline ∷ []) []) found)) s.written,
           sym found,
           sym (ap (λ b. cond (b && some_hit hits) None fault) s.listed ∙ ap (λ b. cond b None fault) found),
         )
@@ -152,7 +152,7 @@ module _ (style : Style) (name : List ℕ) (finds : List ℕ → Bool) (text : L
       let hits = hits_from 1 finds (lines text) in
       let count = hits_counted (lines text) tests in
       let few = λ (e : style.list ≡ true). (let none = unlisted e in let h : length hits ≤ 1 = omega (arith, none, last.hits, few_last style name finds (mid.lines + 1) rest, count) in h) in (
-        subst (Grows taken later) (ap (λ n. flat_map (shown style name) hits ++ total style name n) count ∙ printed_end style name hits few) (Grows-chain taken out later _ _ (hits_written (lines text) tests) written),
+        subst (Grows taken later) (ap (λ n. flat_map (hit_output style name) hits ++ total style name n) count ∙ printed_end style name hits few) (Grows-chain taken out later _ _ (hits_written (lines text) tests) written),
         ap (λ n. nat_lt 0 n) count ∙ some_counted hits,
         sym (kept_fault (style.list && some_hit hits)),
       )

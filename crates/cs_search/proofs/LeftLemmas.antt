@@ -9,9 +9,7 @@ use Rattle.cs_syntax.specs.Matching.{Tree}
 use Rattle.cs_syntax.specs.Reading.{Reads}
 use Rattle.cs_match.specs.Finding.{Decides}
 use Rattle.cs_tree.specs.Told.{Told}
-use Rattle.cs_tree.specs.Snapshot.{Snapshot, item_at}
-use Rattle.cs_tree.specs.Reached.{read_item}
-use Rattle.cs_trigram.specs.Text.{text_trigrams, limits}
+use Rattle.cs_tree.specs.Snapshot.{Snapshot}
 use Rattle.cs_trigram.specs.declared.queries.Query.{Query}
 use Rattle.cs_index.specs.Image.{ListEntry}
 use Rattle.cs_index.specs.Opening.{opening}
@@ -20,6 +18,7 @@ use Rattle.cs_index.specs.Answerable.{is_answerable, asks_for}
 use Rattle.cs_index.specs.declared.fault.IndexFault.{IndexFault}
 use Rattle.cs_merge.proofs.ContentLemmas.{each_of_map}
 use Rattle.cs_history.specs.History.{History, files_of}
+use Rattle.cs_history.specs.FileTrigrams.{file_trigrams}
 use Rattle.cs_history.specs.Left.{HasLeft}
 use Rattle.cs_history.proofs.HistoryLemmas.{history_opens}
 use Rattle.cs_history.specs.SearchHeadline.{SearchPremises, indexed_names}
@@ -75,7 +74,7 @@ module _ (history : History) (bytes : List ℕ) (left : HasLeft history bytes) w
 pub still_quiet : (style : Style) (finds keeps : List ℕ → Bool) (tree : Snapshot) (index : Option (List ℕ)) (earlier : History) → SearchPremises (Some tree) index earlier → (searched_by_cgrep MOST_SEARCHED style finds tree (filter keeps (indexed_names earlier))).errors ≡ []
 unfolding searched_by_cgrep
 still_quiet style finds keeps tree index earlier premises =
-    let each = each_of_map (λ name (trigrams : List ℕ). read_item (text_trigrams limits) (item_at tree name) ≡ Some trigrams) (files_of earlier) premises.still_reads in
+    let each = each_of_map (λ name (trigrams : List ℕ). file_trigrams tree name ≡ Some trigrams) (files_of earlier) premises.still_reads in
     search_quiet style finds keeps tree Cgrep (map'.entries (files_of earlier)) each
 
 -- ---- the same search by cgrep

@@ -1,7 +1,7 @@
 -- What is printed of inputs, one after another.
-use Rattle.std.proofs.Common.{◌≡◌, ℕ, Bool, false, List, [], ◌∷◌, ◌++◌, refl, sym, ap, subst, ◌∙◌, Option, Some, None, Result, Ok, Err, ◌≢◌, ◌||◌, append_assoc, append-nil, ◌+◌, ◌<◌, length, take, drop, get_or, inl, inr}
+use Rattle.std.proofs.Common.{◌≡◌, ℕ, Bool, true, false, List, [], ◌∷◌, ◌++◌, refl, sym, ap, subst, ◌∙◌, Option, Some, None, Result, Ok, Err, ◌≢◌, ◌||◌, append_assoc, append-nil, ◌+◌, ◌<◌, length, take, drop, get_or, ◌⊎◌, inl, inr}
 use Rattle.cs_tree.specs.TreeAnswers.{opening_of}
-use Rattle.cs_words.specs.FileFaults.{fault_line_of, file_fault_of}
+use Rattle.cs_words.specs.FileFaults.{fault_line_of, file_fault_of, is_file_failure}
 use Rattle.cs_tree.specs.Failures.{count_if}
 use Rattle.cs_tree.specs.FailureCount.{count_after}
 use Rattle.std.specs.Prelude.{option_map, map}
@@ -16,6 +16,7 @@ use Rattle.cs_tree.specs.declared.fault.TreeFault.TheVariants as tree
 use Rattle.cs_words.specs.declared.jobs.Tool.{Tool}
 use Rattle.cs_words.specs.declared.jobs.Style.{Style}
 use Rattle.cs_words.specs.declared.fault.FileFault.{FileFault}
+use Rattle.cs_words.specs.declared.fault.FileFault.TheVariants.{InputTooLong}
 use Rattle.cs_search.specs.declared.grep_fault.ReadFault.{ReadFault}
 use Rattle.cs_search.specs.declared.grep_fault.ReadFault.TheVariants.{Read, TooLong}
 use Rattle.cs_search.specs.declared.grepped.Grepped.{Grepped}
@@ -24,8 +25,8 @@ use Rattle.cs_search.specs.InputReport.{told_report}
 use Rattle.cs_tree.specs.Taken.{TakesFront, EndsAfter, MayEnd}
 use Rattle.cs_tree.specs.TakenAll.{TakesAll}
 use Rattle.cs_search.specs.GrepFaults.{is_failed_read}
-use Rattle.cs_search.specs.Printed.{left_fault, Printed, then, nothing, all_printed, input_printed, opened_printed, file_printed, NamedFault, fault_lines, failures_of, AreFaultsOf, is_file_failure, PrintsSome, TellsFaults}
-use Rattle.cs_search.specs.Searcher.{Prints, IsPrinted, TellsAll, PrintsFront}
+use Rattle.cs_search.specs.Printed.{left_fault, Printed, sequel, nothing, all_printed, input_printed, opened_printed, file_printed, NamedFault, fault_lines, failures_of, AreFaultsOf, PrintsSome, PrintsFaults}
+use Rattle.cs_search.specs.Searcher.{Prints, IsPrinted, PrintsAllFaults, PrintsFront}
 use Rattle.cs_tree.proofs.Growing.{Grows-chain, Grows-same}
 use Rattle.cs_tree.proofs.Fronts.{front_none, front_all, front_left, front_right, front_after, ends_quiet, ends_after, may_end_after}
 
@@ -120,29 +121,29 @@ PrintsSome-all (Some printed) out now later err err-now err-later matched p ends
 same_printed : (output output' errors errors' : List ℕ) (matched matched' : Bool) → output ≡ output' → errors ≡ errors' → matched ≡ matched' → ◌≡◌ {A = Printed} (record { output = output; errors = errors; matched = matched }) (record { output = output'; errors = errors'; matched = matched' })
 same_printed output output' errors errors' matched matched' o e m = rw (o, e, m) refl
 
-pub then_nothing : (printed : Printed) → then printed nothing ≡ printed
-then_nothing printed = same_printed _ _ _ _ _ _ (append-nil printed.output) (append-nil printed.errors) (or-false printed.matched)
+pub sequel_nothing : (printed : Printed) → sequel printed nothing ≡ printed
+sequel_nothing printed = same_printed _ _ _ _ _ _ (append-nil printed.output) (append-nil printed.errors) (or-false printed.matched)
 
-pub then_then : (a b c : Printed) → then a (then b c) ≡ then (then a b) c
-then_then a b c = same_printed _ _ _ _ _ _ (sym (append_assoc a.output b.output c.output)) (sym (append_assoc a.errors b.errors c.errors)) (sym (or_assoc a.matched b.matched c.matched))
+pub sequel_sequel : (a b c : Printed) → sequel a (sequel b c) ≡ sequel (sequel a b) c
+sequel_sequel a b c = same_printed _ _ _ _ _ _ (sym (append_assoc a.output b.output c.output)) (sym (append_assoc a.errors b.errors c.errors)) (sym (or_assoc a.matched b.matched c.matched))
 
-pub all_more : (printed : List ℕ → Printed) (names : List (List ℕ)) (name : List ℕ) → all_printed printed (names ++ name ∷ []) ≡ then (all_printed printed names) (printed name)
+pub all_more : (printed : List ℕ → Printed) (names : List (List ℕ)) (name : List ℕ) → all_printed printed (names ++ name ∷ []) ≡ sequel (all_printed printed names) (printed name)
 unfolding all_printed
 all_more printed [] name = same_printed _ _ _ _ _ _ (append-nil _) (append-nil _) (or-false _)
 all_more printed (first ∷ names) name =
-    ap (λ (rest : Printed). then (printed first) rest) (all_more printed names name)
+    ap (λ (rest : Printed). sequel (printed first) rest) (all_more printed names name)
     ∙ same_printed _ _ _ _ _ _ (sym (append_assoc (printed first).output _ _)) (sym (append_assoc (printed first).errors _ _)) (sym (or_assoc (printed first).matched _ _))
 
-pub Prints-then : (tree : Option Snapshot) (first next both : Snapshot → Printed) (out now later err err-now err-later : Option Taken) (matched last : Bool) → ((s : Snapshot) → both s ≡ then (first s) (next s)) → Prints (option_map first tree) out now err err-now matched → Prints (option_map next tree) now later err-now err-later last → Prints (option_map both tree) out later err err-later (matched || last)
-Prints-then None first next both out now later err err-now err-later matched last is p q = tt
-Prints-then (Some s) first next both out now later err err-now err-later matched last is p q =
+pub Prints-sequel : (tree : Option Snapshot) (first next both : Snapshot → Printed) (out now later err err-now err-later : Option Taken) (matched last : Bool) → ((s : Snapshot) → both s ≡ sequel (first s) (next s)) → Prints (option_map first tree) out now err err-now matched → Prints (option_map next tree) now later err-now err-later last → Prints (option_map both tree) out later err err-later (matched || last)
+Prints-sequel None first next both out now later err err-now err-later matched last is p q = tt
+Prints-sequel (Some s) first next both out now later err err-now err-later matched last is p q =
     subst (λ (printed : Printed). IsPrinted printed out later err err-later (matched || last)) (sym (is s))
     (Grows-chain out now later _ _ p.0 q.0, Grows-chain err err-now err-later _ _ p.1 q.1, ap (λ b. b || last) p.2 ∙ ap (λ b. (first s).matched || b) q.2)
 
 -- of the first all, of the next a front, and of what follows nothing
-pub PrintsFront-then : (tree : Option Snapshot) (first next more both : Snapshot → Printed) (out now later err err-now err-later : Option Taken) (matched : Bool) → ((s : Snapshot) → both s ≡ then (then (first s) (next s)) (more s)) → Prints (option_map first tree) out now err err-now matched → PrintsFront (option_map next tree) now later err-now err-later → PrintsFront (option_map both tree) out later err err-later
-PrintsFront-then None first next more both out now later err err-now err-later matched is p q = tt
-PrintsFront-then (Some s) first next more both out now later err err-now err-later matched is p q =
+pub PrintsFront-sequel : (tree : Option Snapshot) (first next more both : Snapshot → Printed) (out now later err err-now err-later : Option Taken) (matched : Bool) → ((s : Snapshot) → both s ≡ sequel (sequel (first s) (next s)) (more s)) → Prints (option_map first tree) out now err err-now matched → PrintsFront (option_map next tree) now later err-now err-later → PrintsFront (option_map both tree) out later err err-later
+PrintsFront-sequel None first next more both out now later err err-now err-later matched is p q = tt
+PrintsFront-sequel (Some s) first next more both out now later err err-now err-later matched is p q =
     subst (λ (printed : Printed). PrintsFront (Some printed) out later err err-later) (sym (is s))
     (front_left _ _ out later (front_right _ _ out now later p.0 q.0), front_left _ _ err err-later (front_right _ _ err err-now err-later p.1 q.1))
 
@@ -154,23 +155,23 @@ Prints-none (Some s) printed out err = (Grows-same out, Grows-same err, refl)
 pub mapped_more : {X : Type 0} (f : X → List ℕ) (xs : List X) (i : ℕ) (x : X) → i < length xs → x ≡ get_or xs i x → map f (take (i + 1) xs) ≡ map f (take i xs) ++ f x ∷ []
 mapped_more f xs i x low is = ap (map f) (take_more xs i x low ∙ ap (λ y. take i xs ++ y ∷ []) (sym is)) ∙ map-append f (take i xs) (x ∷ [])
 
-pub all_append : (printed : List ℕ → Printed) (xs ys : List (List ℕ)) → all_printed printed (xs ++ ys) ≡ then (all_printed printed xs) (all_printed printed ys)
+pub all_append : (printed : List ℕ → Printed) (xs ys : List (List ℕ)) → all_printed printed (xs ++ ys) ≡ sequel (all_printed printed xs) (all_printed printed ys)
 unfolding all_printed
 all_append printed [] ys = refl
 all_append printed (name ∷ xs) ys =
-    ap (λ (rest : Printed). then (printed name) rest) (all_append printed xs ys)
-    ∙ then_then (printed name) (all_printed printed xs) (all_printed printed ys)
+    ap (λ (rest : Printed). sequel (printed name) rest) (all_append printed xs ys)
+    ∙ sequel_sequel (printed name) (all_printed printed xs) (all_printed printed ys)
 
 pub mapped_rest : {X : Type 0} (f : X → List ℕ) (xs : List X) (i : ℕ) (x : X) → i < length xs → x ≡ get_or xs i x → map f xs ≡ (map f (take i xs) ++ f x ∷ []) ++ map f (drop (i + 1) xs)
 mapped_rest f xs i x low is =
     ap (map f) (sym (take-append-drop (i + 1) xs)) ∙ map-append f (take (i + 1) xs) (drop (i + 1) xs)
     ∙ ap (λ l. l ++ map f (drop (i + 1) xs)) (mapped_more f xs i x low is)
 
-pub all_mapped : {X : Type 0} (printed : List ℕ → Printed) (f : X → List ℕ) (xs : List X) (i : ℕ) (x : X) → i < length xs → x ≡ get_or xs i x → all_printed printed (map f xs) ≡ then (then (all_printed printed (map f (take i xs))) (printed (f x))) (all_printed printed (map f (drop (i + 1) xs)))
+pub all_mapped : {X : Type 0} (printed : List ℕ → Printed) (f : X → List ℕ) (xs : List X) (i : ℕ) (x : X) → i < length xs → x ≡ get_or xs i x → all_printed printed (map f xs) ≡ sequel (sequel (all_printed printed (map f (take i xs))) (printed (f x))) (all_printed printed (map f (drop (i + 1) xs)))
 all_mapped printed f xs i x low is =
     ap (all_printed printed) (mapped_rest f xs i x low is)
     ∙ all_append printed (map f (take i xs) ++ f x ∷ []) (map f (drop (i + 1) xs))
-    ∙ ap (λ (first : Printed). then first (all_printed printed (map f (drop (i + 1) xs)))) (all_more printed (map f (take i xs)) (f x))
+    ∙ ap (λ (first : Printed). sequel first (all_printed printed (map f (drop (i + 1) xs)))) (all_more printed (map f (take i xs)) (f x))
 
 -- ---- faults
 
@@ -185,13 +186,28 @@ faults_none : (names : List (List ℕ)) → AreFaultsOf names []
 faults_none [] = refl
 faults_none (name ∷ names) = inl (faults_none names)
 
-faults_one : (name : List ℕ) (why : FileFault) → AreFaultsOf (name ∷ []) ((name, why) ∷ [])
-faults_one name why = inr (why, [], refl, refl)
+-- a fault that an input may have
+abbrev MayBe : FileFault → Type 0
+MayBe why = (why ≡ InputTooLong) ⊎ (is_file_failure why ≡ true)
+
+left_may_be : (fault : ReadFault) → MayBe (left_fault fault)
+left_may_be Read = inr refl
+left_may_be TooLong = inl refl
+
+open_may_be : (fault : TreeFault) → MayBe (file_fault_of fault)
+open_may_be tree.Missing = inr refl
+open_may_be tree.Denied = inr refl
+open_may_be tree.Output = inr refl
+open_may_be tree.Failed = inr refl
+open_may_be tree.Memory = inr refl
+
+faults_one : (name : List ℕ) (why : FileFault) → MayBe why → AreFaultsOf (name ∷ []) ((name, why) ∷ [])
+faults_one name why may = inr (why, [], refl, may, refl)
 
 faults_append : (names more : List (List ℕ)) (first next : List NamedFault) → AreFaultsOf names first → AreFaultsOf more next → AreFaultsOf (names ++ more) (first ++ next)
 faults_append [] more first next is then' = subst (λ (fs : List NamedFault). AreFaultsOf more (fs ++ next)) (sym is) then'
 faults_append (name ∷ names) more first next (inl is) then' = inl (faults_append names more first next is then')
-faults_append (name ∷ names) more first next (inr is) then' = inr (is.0, is.1 ++ next, ap (λ fs. fs ++ next) is.2, faults_append names more is.1 next is.3 then')
+faults_append (name ∷ names) more first next (inr is) then' = inr (is.0, is.1 ++ next, ap (λ fs. fs ++ next) is.2, is.3, faults_append names more is.1 next is.4 then')
 
 module _ (tool : Tool) where
   left_counted : (fault : ReadFault) (n : ℕ) → count_if (is_failed_read (Some fault)) n ≡ count_if (is_file_failure (left_fault fault)) n
@@ -209,17 +225,17 @@ module _ (tool : Tool) where
   takes-line r name fault err err' takes = subst (λ bytes. TakesAll bytes err err' r) (sym (append-nil (fault_line_of tool name fault))) takes
 
   -- nothing failed, and nothing was printed
-  pub Tells-none : {A E : Type 0} (r : Result A E) (names : List (List ℕ)) (failed failed' : ℕ) (err err' : Option Taken) → failed' ≡ failed → err' ≡ err → TellsAll tool names failed failed' err err' r
-  Tells-none (Ok x) names failed failed' err err' same is = ([], faults_none names, same, subst (λ (e : Option Taken). Grows err e []) (sym is) (Grows-same err))
-  Tells-none (Err e) names failed failed' err err' same is = ([], faults_none names, same, subst (TakesFront [] err) (sym is) (front_none [] err))
+  pub PrintsAllFaults-none : {A E : Type 0} (r : Result A E) (names : List (List ℕ)) (failed failed' : ℕ) (err err' : Option Taken) → failed' ≡ failed → err' ≡ err → PrintsAllFaults tool names failed failed' err err' r
+  PrintsAllFaults-none (Ok x) names failed failed' err err' same is = ([], faults_none names, same, subst (λ (e : Option Taken). Grows err e []) (sym is) (Grows-same err))
+  PrintsAllFaults-none (Err e) names failed failed' err err' same is = ([], faults_none names, same, subst (TakesFront [] err) (sym is) (front_none [] err))
 
-  pub Tells-left : {A E : Type 0} (r : Result A E) (fault : ReadFault) (name : List ℕ) (failed failed' : ℕ) (err err' : Option Taken) → failed' ≡ count_if (is_failed_read (Some fault)) failed → TakesAll (fault_line_of tool name (left_fault fault)) err err' r → TellsAll tool (name ∷ []) failed failed' err err' r
-  Tells-left r fault name failed failed' err err' count takes =
-      ((name, left_fault fault) ∷ [], faults_one name (left_fault fault), count ∙ left_counted fault failed, takes-line r name (left_fault fault) err err' takes)
+  pub PrintsAllFaults-left : {A E : Type 0} (r : Result A E) (fault : ReadFault) (name : List ℕ) (failed failed' : ℕ) (err err' : Option Taken) → failed' ≡ count_if (is_failed_read (Some fault)) failed → TakesAll (fault_line_of tool name (left_fault fault)) err err' r → PrintsAllFaults tool (name ∷ []) failed failed' err err' r
+  PrintsAllFaults-left r fault name failed failed' err err' count takes =
+      ((name, left_fault fault) ∷ [], faults_one name (left_fault fault) (left_may_be fault), count ∙ left_counted fault failed, takes-line r name (left_fault fault) err err' takes)
 
-  pub Tells-open : {A E : Type 0} (r : Result A E) (fault : TreeFault) (name : List ℕ) (failed failed' : ℕ) (err err' : Option Taken) → fault ≢ tree.Memory → failed' ≡ count_after {A = Unit {0}} is_tree_failure (Err fault) failed → TakesAll (fault_line_of tool name (file_fault_of fault)) err err' r → TellsAll tool (name ∷ []) failed failed' err err' r
-  Tells-open r fault name failed failed' err err' not count takes =
-      ((name, file_fault_of fault) ∷ [], faults_one name (file_fault_of fault), count ∙ open_counted fault failed not, takes-line r name (file_fault_of fault) err err' takes)
+  pub PrintsAllFaults-open : {A E : Type 0} (r : Result A E) (fault : TreeFault) (name : List ℕ) (failed failed' : ℕ) (err err' : Option Taken) → fault ≢ tree.Memory → failed' ≡ count_after {A = Unit {0}} is_tree_failure (Err fault) failed → TakesAll (fault_line_of tool name (file_fault_of fault)) err err' r → PrintsAllFaults tool (name ∷ []) failed failed' err err' r
+  PrintsAllFaults-open r fault name failed failed' err err' not count takes =
+      ((name, file_fault_of fault) ∷ [], faults_one name (file_fault_of fault) (open_may_be fault), count ∙ open_counted fault failed not, takes-line r name (file_fault_of fault) err err' takes)
 
   failures_of-append : (a b : List NamedFault) (n : ℕ) → failures_of (a ++ b) n ≡ failures_of b (failures_of a n)
   failures_of-append [] b n = refl
@@ -232,8 +248,8 @@ module _ (tool : Tool) where
       subst (λ bytes. TakesFront bytes err err-later) (sym (flat_map-append (λ (fault : NamedFault). fault_line_of tool fault.0 fault.1) first next)) (front_right _ _ err err-now err-later grows takes)
 
   -- faults of some names, and then of more
-  pub Tells-more : {A E : Type 0} (r : Result A E) (names more : List (List ℕ)) (failed now later : ℕ) (err err-now err-later : Option Taken) → TellsAll tool names failed now err err-now done → TellsAll tool more now later err-now err-later r → TellsAll tool (names ++ more) failed later err err-later r
-  Tells-more r names more failed now later err err-now err-later first next = (
+  pub PrintsAllFaults-more : {A E : Type 0} (r : Result A E) (names more : List (List ℕ)) (failed now later : ℕ) (err err-now err-later : Option Taken) → PrintsAllFaults tool names failed now err err-now done → PrintsAllFaults tool more now later err-now err-later r → PrintsAllFaults tool (names ++ more) failed later err err-later r
+  PrintsAllFaults-more r names more failed now later err err-now err-later first next = (
     first.0 ++ next.0,
     faults_append names more first.0 next.0 first.1 next.1,
     next.2 ∙ ap (failures_of next.0) first.2 ∙ sym (failures_of-append first.0 next.0 failed),
@@ -241,26 +257,26 @@ module _ (tool : Tool) where
   )
 
   -- the names that follow have none
-  pub Tells-rest : {A E : Type 0} (r : Result A E) (names more : List (List ℕ)) (failed failed' : ℕ) (err err' : Option Taken) → TellsAll tool names failed failed' err err' r → TellsAll tool (names ++ more) failed failed' err err' r
-  Tells-rest r names more failed failed' err err' told =
+  pub PrintsAllFaults-rest : {A E : Type 0} (r : Result A E) (names more : List (List ℕ)) (failed failed' : ℕ) (err err' : Option Taken) → PrintsAllFaults tool names failed failed' err err' r → PrintsAllFaults tool (names ++ more) failed failed' err err' r
+  PrintsAllFaults-rest r names more failed failed' err err' told =
       (told.0, subst (AreFaultsOf (names ++ more)) (append-nil told.0) (faults_append names more told.0 [] told.1 (faults_none more)), told.2, told.3)
 
-  pub Tells-refused : {A E : Type 0} (r : Result A E) (fault : E) (names : List (List ℕ)) (failed failed' : ℕ) (err err' : Option Taken) → r ≡ Err fault → TellsAll tool names failed failed' err err' undone → TellsAll tool names failed failed' err err' r
-  Tells-refused r fault names failed failed' err err' is told = rw is told
+  pub PrintsAllFaults-refused : {A E : Type 0} (r : Result A E) (fault : E) (names : List (List ℕ)) (failed failed' : ℕ) (err err' : Option Taken) → r ≡ Err fault → PrintsAllFaults tool names failed failed' err err' undone → PrintsAllFaults tool names failed failed' err err' r
+  PrintsAllFaults-refused r fault names failed failed' err err' is told = rw is told
 
   -- ---- at the end of a search
 
   abbrev Ends : {A E : Type 0} → List (List ℕ) → ℕ → ℕ → Option Taken → Option Taken → Result A E → Type 0
-  Ends names failed failed' err err' r = TellsFaults tool names failed failed' (λ lines. EndsAfter lines err err' r)
+  Ends names failed failed' err err' r = PrintsFaults tool names failed failed' (λ lines. EndsAfter lines err err' r)
 
-  pub Tells-no : {A E : Type 0} (r : Result A E) (fault : E) (names : List (List ℕ)) (failed : ℕ) (err : Option Taken) → r ≡ Err fault → Ends names failed failed err err r
-  Tells-no r fault names failed err is = ([], faults_none names, refl, ends_quiet err r fault is)
+  pub PrintsFaults-no : {A E : Type 0} (r : Result A E) (fault : E) (names : List (List ℕ)) (failed : ℕ) (err : Option Taken) → r ≡ Err fault → Ends names failed failed err err r
+  PrintsFaults-no r fault names failed err is = ([], faults_none names, refl, ends_quiet err r fault is)
 
   -- refused before the outputs are flushed
-  pub Tells-cut : {A E : Type 0} (r : Result A E) (fault : E) (names : List (List ℕ)) (failed failed' : ℕ) (err err' : Option Taken) → r ≡ Err fault → TellsAll tool names failed failed' err err' undone → Ends names failed failed' err err' r
-  Tells-cut r fault names failed failed' err err' is told = rw is told
+  pub PrintsFaults-cut : {A E : Type 0} (r : Result A E) (fault : E) (names : List (List ℕ)) (failed failed' : ℕ) (err err' : Option Taken) → r ≡ Err fault → PrintsAllFaults tool names failed failed' err err' undone → Ends names failed failed' err err' r
+  PrintsFaults-cut r fault names failed failed' err err' is told = rw is told
 
   -- and then they are flushed
-  pub Tells-flushed : {A E : Type 0} (r : Result A E) (names : List (List ℕ)) (failed failed' : ℕ) (err err-now err-later : Option Taken) → TellsAll tool names failed failed' err err-now done → EndsAfter [] err-now err-later r → Ends names failed failed' err err-later r
-  Tells-flushed r names failed failed' err err-now err-later told ends =
+  pub PrintsFaults-flushed : {A E : Type 0} (r : Result A E) (names : List (List ℕ)) (failed failed' : ℕ) (err err-now err-later : Option Taken) → PrintsAllFaults tool names failed failed' err err-now done → EndsAfter [] err-now err-later r → Ends names failed failed' err err-later r
+  PrintsFaults-flushed r names failed failed' err err-now err-later told ends =
       (told.0, told.1, told.2, ends_after (fault_lines tool told.0) err err-now err-later r told.3 ends)

@@ -3,14 +3,11 @@ use Rattle.std.proofs.Common.{◌≡◌, ℕ, ◌<◌, ◌^◌, List, length, re
 use Rattle.cs_tree.specs.Told.{Taken}
 use Rattle.cs_index.specs.Roundtrip.{parts_written, Has}
 use Rattle.std.specs.Prelude.{filter, option_map, string_bytes}
-use Rattle.std.specs.List.{AllByRecursion}
 use Rattle.std.specs.FinMap as map'
 use Rattle.cs_tree.specs.PathSet as set
 use Rattle.cs_syntax.specs.Matching.{Tree}
 use Rattle.cs_match.specs.Finding.{Decides}
-use Rattle.cs_tree.specs.Snapshot.{Snapshot, item_at}
-use Rattle.cs_tree.specs.Reached.{read_item}
-use Rattle.cs_trigram.specs.Text.{text_trigrams, limits}
+use Rattle.cs_tree.specs.Snapshot.{Snapshot}
 use Rattle.cs_trigram.specs.declared.queries.Query.{Query, Query-F, fold-roll-Query}
 use Rattle.cs_trigram.specs.declared.queries.Query.TheVariants.{rolls-All}
 use Rattle.cs_trigram.specs.Query.{holds, holds_step, LosesNoLine}
@@ -20,13 +17,15 @@ use Rattle.cs_index.specs.OpenedParts.{Parts, files_read, lists_in}
 use Rattle.cs_index.proofs.WrittenLemmas.{image_opens, image_has}
 use Rattle.cs_merge.proofs.ContentLemmas.{content_indexable, ascending_sets, each_of_map}
 use Rattle.cs_history.specs.History.{History, index_of, paths_of, files_of}
+use Rattle.cs_history.specs.FileTrigrams.{file_trigrams}
+use Rattle.cs_history.specs.Meeting.{names_meeting}
 use Rattle.cs_history.specs.Premises.{snapshot_told, IsShort}
 use Rattle.cs_history.specs.SearchHeadline.{IsByJobs, StillReads, indexed_names, SearchPremises}
 use Rattle.cs_history.specs.WellFormed.{IsHistory}
 use Rattle.cs_history.proofs.HistoryLemmas.{history_content, index_is}
 use Rattle.cs_words.specs.declared.jobs.Tool.TheVariants.{Csearch, Cgrep}
 use Rattle.cs_words.specs.declared.jobs.SearchJob.{SearchJob}
-use Rattle.cs_search.specs.Searcher.{TellsAll}
+use Rattle.cs_search.specs.Searcher.{PrintsAllFaults}
 use Rattle.cs_search.specs.declared.report.TheConstants.{MOST_SEARCHED}
 use Rattle.cs_search.specs.Printed.{searched_by_cgrep, Printed, all_printed, file_printed, PrintsSome}
 use Rattle.cs_search.specs.IndexSearch.{names_at, DecidesNames}
@@ -37,11 +36,11 @@ use Rattle.cs_index.specs.declared.fault.IndexFault.{IndexFault}
 use Rattle.cs_words.specs.Faults.{index_fault}
 use Rattle.cs_search.specs.Plans.{IsPlan, IsLent, RefusesPlan}
 use Rattle.cs_search.specs.declared.plan.Plan.{Plan}
-use Rattle.cs_search.specs.Csearch.{file_text, OpensWith, IsQueryOf, Asks, Seeks, ReadsAs, Agrees, names_meeting, csearch_printed, AreAccepted, IsReady, PrintsAsked, PrintsLikeCgrep, PrintsAsPromised}
+use Rattle.cs_search.specs.Csearch.{file_text, OpensWith, IsQueryOf, Asks, Seeks, ReadAsIndexed, csearch_printed, AreAccepted, IsReady, PrintsAsked, PrintsLikeCgrep, PrintsAsPromised}
 use Rattle.cs_search.proofs.AgreementLemmas.{search_alike}
 use Rattle.cs_search.proofs.PrintedLemmas.{PrintsSome-none}
 use Rattle.cs_search.proofs.CgrepLemmas.{decides_program}
-use Rattle.cs_search.proofs.CsearchLemmas.{names_of_files, names_decided, accepted_plan, lists_fourth, chosen, Tells-chosen}
+use Rattle.cs_search.proofs.CsearchLemmas.{names_of_files, names_decided, accepted_plan, lists_fourth, chosen, PrintsAllFaults-chosen}
 
 -- by `-brute` too no line is lost
 loses : (brute : Bool) (pattern : Tree) (query : Query) → IsQueryOf brute pattern query → LosesNoLine query pattern
@@ -55,7 +54,7 @@ opens_once (Some bytes) a b x y = cc
 
 module _ (job : SearchJob) (index : Option (List ℕ)) (finds keeps : List ℕ → Bool) (asks : Asks job index) (tests : Seeks job finds keeps) (tree : Snapshot) where
   -- the search by the index, and that by cgrep
-  alike : Agrees asks.parts tree → all_printed (file_printed MOST_SEARCHED Csearch job.style finds tree) (filter keeps (names_meeting asks.query (files_read asks.parts))) ≡ searched_by_cgrep MOST_SEARCHED job.style finds tree (filter keeps asks.parts.names)
+  alike : ReadAsIndexed tree (files_read asks.parts) → all_printed (file_printed MOST_SEARCHED Csearch job.style finds tree) (filter keeps (names_meeting asks.query (files_read asks.parts))) ≡ searched_by_cgrep MOST_SEARCHED job.style finds tree (filter keeps asks.parts.names)
   unfolding names_meeting searched_by_cgrep
   alike agrees =
       search_alike job.style finds keeps tree asks.query tests.pattern (loses job.brute tests.pattern asks.query (asks.is_right tests.pattern tests.reads)) tests.decides Csearch Cgrep (files_read asks.parts) agrees
@@ -102,11 +101,11 @@ module _ (job : SearchJob) (index : Option (List ℕ)) (plan : Plan) (is : IsPla
 
       -- faults of the names that are chosen are faults of indexed names
       pub faults_chosen : {A E : Type 0} (r : Result A E) (opened : Parts) (failed failed' : ℕ) (err err' : Option Taken) → OpensWith index opened →
-          TellsAll Csearch (names_at parts.names ids) failed failed' err err' r → TellsAll Csearch opened.names failed failed' err err' r
+          PrintsAllFaults Csearch (names_at parts.names ids) failed failed' err err' r → PrintsAllFaults Csearch opened.names failed failed' err err' r
       faults_chosen r opened failed failed' err err' opens told =
-          subst (λ (p : Parts). TellsAll Csearch p.names failed failed' err err' r) (opens_once index lent.whole opened lent.opens opens)
-          (Tells-chosen r Csearch lent.whole plan.query ids failed failed' err err' chosen_ids
-          (subst (λ (names : List (List ℕ)). TellsAll Csearch (names_at names ids) failed failed' err err' r) lent.answers.names told))
+          subst (λ (p : Parts). PrintsAllFaults Csearch p.names failed failed' err err' r) (opens_once index lent.whole opened lent.opens opens)
+          (PrintsAllFaults-chosen r Csearch lent.whole plan.query ids failed failed' err err' chosen_ids
+          (subst (λ (names : List (List ℕ)). PrintsAllFaults Csearch (names_at names ids) failed failed' err err' r) lent.answers.names told))
 
 module _ (job : SearchJob) (index : Option (List ℕ)) (tree : Option Snapshot) (Prints : Option Printed → Type 0) (by_index : PrintsAsked MOST_SEARCHED job index tree Prints) where
   -- what was printed, where the tree tells its snapshot
@@ -119,7 +118,7 @@ module _ (job : SearchJob) (index : Option (List ℕ)) (tree : Option Snapshot) 
   like_cgrep parts snapshot finds keeps opens is agrees tests =
       let asks = by_index.0 in
       let same : parts ≡ asks.parts = opens_once index parts asks.parts opens asks.opens in
-      let there : Agrees asks.parts snapshot = subst (λ (p : Parts). Agrees p snapshot) same agrees in
+      let there : ReadAsIndexed snapshot (files_read asks.parts) = subst (λ (p : Parts). ReadAsIndexed snapshot (files_read p)) same agrees in
       subst Prints (ap (λ (p : Printed). Some p) (alike job index finds keeps asks tests snapshot there ∙ ap (λ (p : Parts). searched_by_cgrep MOST_SEARCHED job.style finds snapshot (filter keeps p.names)) (sym same))) (told_printed snapshot finds keeps is tests)
 
 -- where nothing was printed
@@ -153,12 +152,12 @@ module _ (history : History) (bytes : List ℕ) (is : IsHistory history) (by : I
       let same : parts ≡ written = opens_once (Some bytes) parts written opens opens_so in
       ap (λ (p : Parts). p.names) same ∙ has_so.has_names
 
-  pub agrees_still : (parts : Parts) (tree : Snapshot) → opening bytes ≡ Ok parts → StillReads history tree → Agrees parts tree
+  pub agrees_still : (parts : Parts) (tree : Snapshot) → opening bytes ≡ Ok parts → StillReads history tree → ReadAsIndexed tree (files_read parts)
   agrees_still parts tree opens still =
       let same : written ≡ parts = opens_once (Some bytes) written parts opens_so opens in
-      let each = each_of_map (λ name (trigrams : List ℕ). read_item (text_trigrams limits) (item_at tree name) ≡ Some trigrams) (files_of history) still in
+      let each = each_of_map (λ name (trigrams : List ℕ). file_trigrams tree name ≡ Some trigrams) (files_of history) still in
       let files = has_so.has_files (ascending_sets (files_of history) (history_content history is).sets_are) in
-      subst (λ (p : Parts). Agrees p tree) same (subst (AllByRecursion (ReadsAs tree)) (sym files) each)
+      subst (λ (p : Parts). ReadAsIndexed tree (files_read p)) same (subst (ReadAsIndexed tree) (sym files) each)
 
 module _ (job : SearchJob) (index : Option (List ℕ)) (tree : Option Snapshot) (finds keeps : List ℕ → Bool) (asks : Asks job index) (tests : Seeks job finds keeps) (snapshot : Snapshot) (tells : tree ≡ Some snapshot) (earlier : History) (premises : SearchPremises tree index earlier) where
   promised : all_printed (file_printed MOST_SEARCHED Csearch job.style finds snapshot) (filter keeps (names_meeting asks.query (files_read asks.parts))) ≡ searched_by_cgrep MOST_SEARCHED job.style finds (snapshot_told tree) (filter keeps (indexed_names earlier))

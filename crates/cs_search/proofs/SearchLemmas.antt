@@ -12,11 +12,11 @@ use Rattle.cs_search.specs.declared.report.TheConstants.{MOST_SEARCHED}
 use Rattle.cs_search.specs.declared.status.Status.{Status}
 use Rattle.cs_search.specs.Csearch.{OpensWith, PrintsAsked, AreAccepted, IsReady}
 use Rattle.cs_search.specs.Plans.{RefusesPlan}
-use Rattle.cs_search.specs.Printed.{Printed, PrintsStatus, PrintsSome, TellsFaults}
+use Rattle.cs_search.specs.Printed.{Printed, PrintsStatus, PrintsSome, PrintsFaults}
 use Rattle.cs_search.specs.Searched.{IsSearch}
 use Rattle.cs_search.specs.Searcher.{IsSearchFault}
 use Rattle.cs_search.proofs.CsearchLemmas.{search_last}
-use Rattle.cs_search.proofs.PrintedLemmas.{Tells-no}
+use Rattle.cs_search.proofs.PrintedLemmas.{PrintsFaults-no}
 use Rattle.cs_search.proofs.PromiseLemmas.{like_cgrep, like_cgrep_quiet, as_promised}
 
 module _ (job : SearchJob) (index : Option (List ℕ)) (tree : Option Snapshot) where
@@ -29,13 +29,13 @@ module _ (job : SearchJob) (index : Option (List ℕ)) (tree : Option Snapshot) 
     front = inl (Grows-same out, Grows-same err);
     front_agrees = like_cgrep_quiet job index tree out err;
     refused = refused.0;
-    faults = λ parts opens. Tells-no Csearch {A = Status} (Err fault) fault parts.names failed err refl;
+    faults = λ parts opens. PrintsFaults-no Csearch {A = Status} (Err fault) fault parts.names failed err refl;
   }
 
   module _ (failed failed' : ℕ) (out out' err err' : Option Taken) (ready : AreAccepted job × IsReady job index) where
     -- refused while files are searched, or at the end
     pub refused_late : (fault : ToolFault) → IsSearchFault {A = Status} (Err fault) → PrintsAsked MOST_SEARCHED job index tree (λ printed. PrintsSome printed out out' err err') →
-        ((parts : Parts) → OpensWith index parts → TellsFaults Csearch parts.names failed failed' (λ lines. EndsAfter {A = Status} lines err err' (Err fault))) →
+        ((parts : Parts) → OpensWith index parts → PrintsFaults Csearch parts.names failed failed' (λ lines. EndsAfter {A = Status} lines err err' (Err fault))) →
         IsSearch job index tree failed failed' out out' err err' (Err fault)
     refused_late fault is prints faults = record {
       prints = tt;
@@ -48,7 +48,7 @@ module _ (job : SearchJob) (index : Option (List ℕ)) (tree : Option Snapshot) 
     }
 
     pub searched_to_the_end : (status : Status) → PrintsAsked MOST_SEARCHED job index tree (λ printed. PrintsStatus printed out out' err err' status) →
-        ((parts : Parts) → OpensWith index parts → TellsFaults Csearch parts.names failed failed' (λ lines. EndsAfter {E = ToolFault} lines err err' (Ok status))) →
+        ((parts : Parts) → OpensWith index parts → PrintsFaults Csearch parts.names failed failed' (λ lines. EndsAfter {E = ToolFault} lines err err' (Ok status))) →
         IsSearch job index tree failed failed' out out' err err' (Ok status)
     searched_to_the_end status prints faults = record {
       prints = prints;

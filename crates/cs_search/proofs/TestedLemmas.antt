@@ -1,6 +1,5 @@
 -- Lines tested one after another.
 use Rattle.std.proofs.Common.{◌≡◌, ℕ, ◌+◌, ◌<◌, ◌≤◌, Bool, true, false, cond, List, [], ◌∷◌, ◌++◌, length, refl, sym, ap, subst, ◌∙◌, Option, arith, append-nil, length-append, count_by}
-use Rattle.std.specs.Prelude.{IsTrue, ◌↔◌}
 use Rattle.std.specs.List.{flat_map}
 use Rattle.std.proofs.lemmas.List.{nil_from_length}
 use Rattle.std.proofs.lemmas.List.Sums.{sum_by-cons}
@@ -13,35 +12,28 @@ use Rattle.cs_match.specs.Skipping.{NoneFound}
 use Rattle.cs_words.specs.declared.jobs.Style.{Style}
 use Rattle.cs_search.specs.declared.tally.Tally.{Tally}
 use Rattle.cs_search.specs.Report.{Hit, hits_from, some_hit}
-use Rattle.cs_search.specs.TestedLines.{shown, Tests, IsListed}
+use Rattle.cs_search.specs.TestedLines.{hit_output, Tests, IsListed}
 use Rattle.cs_search.proofs.ReportLemmas.{hits_from-append, hits_from-none, hits_from-one, some_hit-append}
-
--- tests that tell the same thing answer alike
-pub decided_alike : {P : Type 0} (a b : Bool) → IsTrue a ↔ P → IsTrue b ↔ P → b ≡ a
-decided_alike true true p q = refl
-decided_alike false false p q = refl
-decided_alike true false p q = q.1 (p.0 refl)
-decided_alike false true p q = sym (p.1 (q.0 refl))
 
 module _ (style : Style) (name : List ℕ) (finds : List ℕ → Bool) (line : List ℕ) (before after : Tally) (taken later : Option Taken) where
   Of : List Hit → Type 0
-  Of hits = (after.hits ≡ before.hits + length hits) × Grows taken later (flat_map (shown style name) hits)
+  Of hits = (after.hits ≡ before.hits + length hits) × Grows taken later (flat_map (hit_output style name) hits)
 
-  from-hits : (hits : List Hit) → hits_from (before.lines + 1) finds (line ∷ []) ≡ hits → (after.hits ≡ before.hits + length hits) → Grows taken later (flat_map (shown style name) hits) → Tests style name finds (line ∷ []) before after taken later
+  from-hits : (hits : List Hit) → hits_from (before.lines + 1) finds (line ∷ []) ≡ hits → (after.hits ≡ before.hits + length hits) → Grows taken later (flat_map (hit_output style name) hits) → Tests style name finds (line ∷ []) before after taken later
   from-hits hits e count grows =
       record {
         hits = count ∙ ap (λ (hs : List Hit). before.hits + length hs) (sym e);
-        written = subst (λ (hs : List Hit). Grows taken later (flat_map (shown style name) hs)) (sym e) grows;
+        written = subst (λ (hs : List Hit). Grows taken later (flat_map (hit_output style name) hs)) (sym e) grows;
       }
 
   hits_are : (b : Bool) → finds line ≡ b → hits_from (before.lines + 1) finds (line ∷ []) ≡ cond b ((before.lines + 1, line) ∷ []) []
   hits_are b e = hits_from-one finds (before.lines + 1) line ∙ ap (λ t. cond t ((before.lines + 1, line) ∷ []) []) e
 
   -- something is found in the line
-  pub Tests-hit : finds line ≡ true → after.hits ≡ before.hits + 1 → Grows taken later (shown style name (before.lines + 1, line)) → Tests style name finds (line ∷ []) before after taken later
+  pub Tests-hit : finds line ≡ true → after.hits ≡ before.hits + 1 → Grows taken later (hit_output style name (before.lines + 1, line)) → Tests style name finds (line ∷ []) before after taken later
   Tests-hit e count grows =
       from-hits ((before.lines + 1, line) ∷ []) (hits_are true e) count
-      (subst (Grows taken later) (sym (append-nil (shown style name (before.lines + 1, line)))) grows)
+      (subst (Grows taken later) (sym (append-nil (hit_output style name (before.lines + 1, line)))) grows)
 
   -- nothing is
   pub Tests-miss : finds line ≡ false → after.hits ≡ before.hits → later ≡ taken → Tests style name finds (line ∷ []) before after taken later
@@ -60,7 +52,7 @@ module _ (style : Style) (name : List ℕ) (finds : List ℕ → Bool) where
       let nothing : hits_from (before.lines + 1) finds lines ≡ [] = hits_from-none finds (before.lines + 1) lines (recursion_from_All (λ line. finds line ≡ false) lines none) in
       record {
         hits = omega (arith, same, ap (λ (hs : List Hit). length hs) nothing);
-        written = subst (λ (hs : List Hit). Grows taken taken (flat_map (shown style name) hs)) (sym nothing) (Grows-same taken);
+        written = subst (λ (hs : List Hit). Grows taken taken (flat_map (hit_output style name) hs)) (sym nothing) (Grows-same taken);
       }
 
   counted_hits : (n : ℕ) (lines : List (List ℕ)) → length (hits_from n finds lines) ≡ count_by finds lines
@@ -73,17 +65,17 @@ module _ (style : Style) (name : List ℕ) (finds : List ℕ → Bool) where
         | false ↦ λ e. omega (arith, e, counted_hits (n + 1) lines)
       ] e
 
-  nothing_shown : style.count ≡ true → style.list ≡ false → (hits : List Hit) → flat_map (shown style name) hits ≡ []
-  unfolding shown
-  nothing_shown counts unlisted [] = refl
-  nothing_shown counts unlisted (hit ∷ hits) = rw (unlisted, counts) (nothing_shown counts unlisted hits)
+  no_hit_output : style.count ≡ true → style.list ≡ false → (hits : List Hit) → flat_map (hit_output style name) hits ≡ []
+  unfolding hit_output
+  no_hit_output counts unlisted [] = refl
+  no_hit_output counts unlisted (hit ∷ hits) = rw (unlisted, counts) (no_hit_output counts unlisted hits)
 
   -- with `-c` lines are counted, and nothing is printed of them
   pub Tests-counted : (lines : List (List ℕ)) (before after : Tally) (taken : Option Taken) → style.count ≡ true → style.list ≡ false → after.hits ≡ before.hits + count_by finds lines → Tests style name finds lines before after taken taken
   Tests-counted lines before after taken counts unlisted count =
       record {
         hits = omega (arith, count, counted_hits (before.lines + 1) lines);
-        written = subst (Grows taken taken) (sym (nothing_shown counts unlisted (hits_from (before.lines + 1) finds lines))) (Grows-same taken);
+        written = subst (Grows taken taken) (sym (no_hit_output counts unlisted (hits_from (before.lines + 1) finds lines))) (Grows-same taken);
       }
 
   -- lines, and then lines
@@ -94,18 +86,18 @@ module _ (style : Style) (name : List ℕ) (finds : List ℕ → Bool) where
       record {
         hits = next.hits ∙ ap (λ n. n + length (hits_from (mid.lines + 1) finds b)) first.hits ∙ (omega (arith, length-append (hits_from (before.lines + 1) finds a) (hits_from (mid.lines + 1) finds b), ap (λ (hs : List Hit). length hs) hits));
         written = subst (Grows taken later) (
-            sym (ap (flat_map (shown style name)) hits
-            ∙ flat_map-append (shown style name) (hits_from (before.lines + 1) finds a) (hits_from (mid.lines + 1) finds b))
+            sym (ap (flat_map (hit_output style name)) hits
+            ∙ flat_map-append (hit_output style name) (hits_from (before.lines + 1) finds a) (hits_from (mid.lines + 1) finds b))
             ) (Grows-chain taken now later _ _ first.written next.written);
       }
 
-  shown_listed : style.list ≡ true → (hit : Hit) → flat_map (shown style name) (hit ∷ []) ≡ name ++ newline ∷ []
-  unfolding shown
-  shown_listed e hit = rw e (append-nil (name ++ newline ∷ []))
+  hit_output_listed : style.list ≡ true → (hit : Hit) → flat_map (hit_output style name) (hit ∷ []) ≡ name ++ newline ∷ []
+  unfolding hit_output
+  hit_output_listed e hit = rw e (append-nil (name ++ newline ∷ []))
 
-  one_hit : (hits : List Hit) (taken later : Option Taken) → style.list ≡ true → 0 < length hits → length hits ≤ 1 → Grows taken later (flat_map (shown style name) hits) → (some_hit hits ≡ true) × Grows taken later (name ++ newline ∷ [])
+  one_hit : (hits : List Hit) (taken later : Option Taken) → style.list ≡ true → 0 < length hits → length hits ≤ 1 → Grows taken later (flat_map (hit_output style name) hits) → (some_hit hits ≡ true) × Grows taken later (name ++ newline ∷ [])
   one_hit [] taken later e low high g = absurd (omega arith)
-  one_hit (hit ∷ []) taken later e low high g = (refl, subst (Grows taken later) (shown_listed e hit) g)
+  one_hit (hit ∷ []) taken later e low high g = (refl, subst (Grows taken later) (hit_output_listed e hit) g)
   one_hit (hit ∷ other ∷ hits) taken later e low high g = absurd (omega arith)
 
   pub few_hits : (n : ℕ) (line : List ℕ) → length (hits_from n finds (line ∷ [])) ≤ 1
@@ -142,5 +134,5 @@ module _ (style : Style) (name : List ℕ) (finds : List ℕ → Bool) where
         listed = s.listed;
         found = ap some_hit hits ∙ s.found;
         hits = s.hits;
-        written = Grows-chain taken now later [] (name ++ newline ∷ []) (subst (λ (hs : List Hit). Grows taken now (flat_map (shown style name) hs)) none_before first.written) s.written;
+        written = Grows-chain taken now later [] (name ++ newline ∷ []) (subst (λ (hs : List Hit). Grows taken now (flat_map (hit_output style name) hs)) none_before first.written) s.written;
       }

@@ -5,7 +5,7 @@ use Rattle.cs_words.specs.declared.jobs.GrepJob.{GrepJob}
 use Rattle.cs_words.specs.declared.fault.ToolFault.{ToolFault}
 use Rattle.cs_words.specs.declared.fault.ToolFault.TheVariants.{Pattern, Write, Memory}
 use Rattle.cs_search.specs.Cgrep.{standard_name}
-use Rattle.cs_search.specs.Printed.{TellsFaults}
+use Rattle.cs_search.specs.Printed.{PrintsFaults}
 use Rattle.cs_search.specs.Refusals.{IsAccepted, IsPatternRefused}
 
 -- The pattern is refused first, for what is wrong with its text; all else comes after it was accepted.
@@ -17,8 +17,8 @@ PatternFirst text fold (Err Memory) = Unit {0}
 PatternFirst text fold (Err fault) = ⊥
 
 -- The faults that are told are those of standard input, or of the files and counted by the tree.
-abbrev pub TellsFaultsOf : GrepJob → ℕ → ℕ → ℕ → ℕ → (List ℕ → Type 0) → Type 0
-TellsFaultsOf job tree tree' input input' Takes =
+abbrev pub PrintsFaultsOf : GrepJob → ℕ → ℕ → ℕ → ℕ → (List ℕ → Type 0) → Type 0
+PrintsFaultsOf job tree tree' input input' Takes =
     MatchBool job.standard
-    ((tree' ≡ tree) × TellsFaults Cgrep (standard_name ∷ []) input input' Takes)
-    ((input' ≡ input) × TellsFaults Cgrep (map string_bytes job.files.items) tree tree' Takes)
+    ((tree' ≡ tree) × PrintsFaults Cgrep (standard_name ∷ []) input input' Takes)
+    ((input' ≡ input) × PrintsFaults Cgrep (map string_bytes job.files.items) tree tree' Takes)

@@ -1,23 +1,21 @@
 -- What csearch prints and answers. docs/PROMISES.md, "What is printed" and "The main promise".
-use Rattle.std.specs.Prelude.{ℕ, ◌≡◌, ◌⊎◌, Bool, true, false, List, map, filter, Option, Some, None, option_map, string_bytes, Result, Ok, Err, IfSome, IsSomeAnd}
-use Rattle.cs_trigram.specs.Trigram.{has}
+use Rattle.std.specs.Prelude.{ℕ, ◌≡◌, ◌⊎◌, Bool, true, false, List, filter, Option, Some, None, option_map, string_bytes, Result, Ok, Err, IfSome, IsSomeAnd}
 use Rattle.std.specs.List.{AllByRecursion}
 use Rattle.cs_syntax.specs.Matching.{Tree}
 use Rattle.cs_syntax.specs.Reading.{Reads}
-use Rattle.cs_syntax.specs.declared.fault.PatternError.{PatternError}
 use Rattle.cs_match.specs.Finding.{Decides}
-use Rattle.cs_tree.specs.Snapshot.{Snapshot, item_at}
-use Rattle.cs_tree.specs.Reached.{read_item}
-use Rattle.cs_trigram.specs.Text.{text_trigrams, limits}
-use Rattle.cs_trigram.specs.Query.{holds, LosesNoLine}
+use Rattle.cs_tree.specs.Snapshot.{Snapshot}
+use Rattle.cs_trigram.specs.Query.{LosesNoLine}
 use Rattle.cs_trigram.specs.declared.queries.Query.{Query}
 use Rattle.cs_trigram.specs.declared.queries.Query.TheVariants.{All}
-use Rattle.cs_trigram.specs.Windows.{IsSharp}
+use Rattle.cs_trigram.specs.PlainRuns.{IsSharp}
 use Rattle.cs_index.specs.Image.{Entry}
 use Rattle.cs_index.specs.Opening.{opening}
 use Rattle.cs_index.specs.OpenedParts.{Parts, files_read}
 use Rattle.cs_index.specs.declared.fault.IndexFault.{IndexFault}
 use Rattle.cs_index.specs.declared.fault.IndexFault.TheVariants.{BadList}
+use Rattle.cs_history.specs.FileTrigrams.{file_trigrams}
+use Rattle.cs_history.specs.Meeting.{names_meeting}
 use Rattle.cs_history.specs.SearchHeadline.{SearchesLikeGrep}
 use Rattle.cs_words.specs.declared.jobs.Tool.TheVariants.{Csearch}
 use Rattle.cs_words.specs.declared.jobs.Style.{Style}
@@ -47,11 +45,6 @@ pub record Asks (job : SearchJob) (index : Option (List ℕ)) : Type 0 where
   pub is_right : (pattern : Tree) → Reads (string_bytes job.pattern) job.fold pattern →
       IsQueryOf job.brute pattern query
 
--- the names of those files whose trigrams meet the query, in their order
-unfoldable pub names_meeting : Query → List Entry → List (List ℕ)
-names_meeting query files =
-    map (λ (e : Entry). e.0) (filter (λ (e : Entry). holds query (has e.1)) files)
-
 -- the text of `-f`
 abbrev pub file_text : SearchJob → Option (List ℕ)
 file_text job = option_map string_bytes job.file
@@ -70,13 +63,9 @@ pub record Seeks (job : SearchJob) (finds keeps : List ℕ → Bool) : Type 0 wh
 
 -- ---- files that still read as they were indexed
 
--- at the name of the file stands a text with its trigrams
-abbrev pub ReadsAs : Snapshot → Entry → Type 0
-ReadsAs tree e = read_item (text_trigrams limits) (item_at tree e.0) ≡ Some e.1
-
--- Each indexed file still reads as it was indexed.
-abbrev pub Agrees : Parts → Snapshot → Type 0
-Agrees parts tree = AllByRecursion (ReadsAs tree) (files_read parts)
+-- at the name of each of these files stands a text with its trigrams
+abbrev pub ReadAsIndexed : Snapshot → List Entry → Type 0
+ReadAsIndexed tree files = AllByRecursion (λ (entry : Entry). file_trigrams tree entry.0 ≡ Some entry.1) files
 
 -- ---- what is printed
 
@@ -101,7 +90,7 @@ module _ (most : ℕ) (job : SearchJob) (index : Option (List ℕ)) (tree : Opti
   abbrev pub PrintsLikeCgrep : Type 0
   PrintsLikeCgrep =
       (parts : Parts) (snapshot : Snapshot) (finds keeps : List ℕ → Bool) →
-      OpensWith index parts → tree ≡ Some snapshot → Agrees parts snapshot → Seeks job finds keeps →
+      OpensWith index parts → tree ≡ Some snapshot → ReadAsIndexed snapshot (files_read parts) → Seeks job finds keeps →
       Prints (Some (searched_by_cgrep most job.style finds snapshot (filter keeps parts.names)))
 
   -- The last part of the main promise: where jobs left the index, and what they indexed still reads so.

@@ -1,6 +1,17 @@
 -- What public contracts rest on.
+pub use Rattle.cs_history.specs.History
+pub use Rattle.cs_history.specs.Left
+pub use Rattle.cs_history.specs.Meeting
+pub use Rattle.cs_history.specs.SearchHeadline
 pub use Rattle.cs_index.specs.Image
+pub use Rattle.cs_index.specs.Opening
+pub use Rattle.cs_index.specs.OpenedParts
+pub use Rattle.cs_index.specs.PostingLists
+pub use Rattle.cs_index.specs.Candidates
+pub use Rattle.cs_trigram.specs.Trigram
+pub use Rattle.cs_trigram.specs.Text
 pub use Rattle.cs_trigram.specs.Query
+pub use Rattle.cs_trigram.specs.PlainRuns
 pub use Rattle.cs_tree.specs.Transfers
 pub use Rattle.cs_tree.specs.Loss
 pub use Rattle.cs_tree.specs.Told
@@ -11,9 +22,7 @@ pub use Rattle.cs_tree.specs.Snapshot
 pub use Rattle.cs_syntax.specs.Matching
 pub use Rattle.cs_syntax.specs.Reading
 pub use Rattle.cs_match.specs.Finding
-pub use Rattle.cs_match.specs.FindingDecided
 pub use Rattle.cs_match.specs.Lines
-pub use Rattle.cs_match.specs.LineParts
 pub mod Report
 pub mod InputReport
 pub mod GrepReports

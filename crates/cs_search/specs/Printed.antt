@@ -2,7 +2,7 @@
 -- docs/PROMISES.md, "What is printed".
 use Rattle.std.specs.Prelude.{ℕ, ◌≡◌, ◌⊎◌, Bool, true, false, ◌||◌, List, [], ◌∷◌, ◌++◌, Option, Some, None, Result, Ok, Err}
 use Rattle.cs_tree.specs.TreeAnswers.{opening_of}
-use Rattle.cs_words.specs.FileFaults.{fault_line_of, file_fault_of}
+use Rattle.cs_words.specs.FileFaults.{fault_line_of, file_fault_of, is_file_failure}
 use Rattle.cs_tree.specs.Failures.{count_if}
 use Rattle.std.specs.List.{flat_map}
 use Rattle.cs_tree.specs.Told.{Told, Taken, Grows, GrowsFlushed}
@@ -55,8 +55,8 @@ module _ (most : ℕ) (tool : Tool) (style : Style) (finds : List ℕ → Bool) 
   file_printed tree name = opened_printed name (opening_of (item_at tree name))
 
 -- one after the other
-abbrev pub then : Printed → Printed → Printed
-then first next = record {
+abbrev pub sequel : Printed → Printed → Printed
+sequel first next = record {
   output = first.output ++ next.output;
   errors = first.errors ++ next.errors;
   matched = first.matched || next.matched;
@@ -68,7 +68,7 @@ nothing = record { output = []; errors = []; matched = false }
 -- of inputs with these names, in their order
 unfoldable pub all_printed : (List ℕ → Printed) → List (List ℕ) → Printed
 all_printed printed [] = nothing
-all_printed printed (name ∷ names) = then (printed name) (all_printed printed names)
+all_printed printed (name ∷ names) = sequel (printed name) (all_printed printed names)
 
 -- by cgrep, of files with these names, in this order
 unfoldable pub searched_by_cgrep : ℕ → Style → (List ℕ → Bool) → Snapshot → List (List ℕ) → Printed
@@ -105,26 +105,22 @@ NamedFault = List ℕ × FileFault
 abbrev pub fault_lines : Tool → List NamedFault → List ℕ
 fault_lines tool faults = flat_map (λ (fault : NamedFault). fault_line_of tool fault.0 fault.1) faults
 
--- a fault is a failure, unless the input is only too long
-abbrev pub is_file_failure : FileFault → Bool
-is_file_failure InputTooLong = false
-is_file_failure fault = true
-
 -- the count after some faults
 abbrev pub failures_of : List NamedFault → ℕ → ℕ
 failures_of [] n = n
 failures_of (fault ∷ faults) n = failures_of faults (count_if (is_file_failure fault.1) n)
 
--- These are faults of some of the names, at most one for each, in the order of the names.
+-- These are faults of some of the names, at most one for each, in the order of the names. Each is a failure, or an
+-- input that is too long.
 abbrev pub AreFaultsOf : List (List ℕ) → List NamedFault → Type 0
 AreFaultsOf [] faults = faults ≡ []
 AreFaultsOf (name ∷ names) faults =
     AreFaultsOf names faults
-    ⊎ ((why : FileFault) × (rest : List NamedFault) × (faults ≡ (name, why) ∷ rest) × AreFaultsOf names rest)
+    ⊎ ((why : FileFault) × (rest : List NamedFault) × (faults ≡ (name, why) ∷ rest) × ((why ≡ InputTooLong) ⊎ (is_file_failure why ≡ true)) × AreFaultsOf names rest)
 
 -- An output takes the lines of some faults of the names and no other; the failures that were counted are those among
 -- these faults. `Takes` says what it takes of some lines.
-abbrev pub TellsFaults : Tool → List (List ℕ) → ℕ → ℕ → (List ℕ → Type 0) → Type 0
-TellsFaults tool names failed failed' Takes =
+abbrev pub PrintsFaults : Tool → List (List ℕ) → ℕ → ℕ → (List ℕ → Type 0) → Type 0
+PrintsFaults tool names failed failed' Takes =
     (faults : List NamedFault) × AreFaultsOf names faults
     × (failed' ≡ failures_of faults failed) × Takes (fault_lines tool faults)

@@ -9,8 +9,8 @@ abbrev pub Hit : Type 0
 Hit = ℕ × List ℕ
 
 -- the lines that are tested: all where the text was read to its end, else those whose newline was read
-abbrev pub tested : Bool → List ℕ → List (List ℕ)
-tested to_its_end text = if to_its_end then lines text else ended_lines text
+abbrev pub tested_lines : Bool → List ℕ → List (List ℕ)
+tested_lines to_its_end text = if to_its_end then lines text else ended_lines text
 
 -- the lines in which something is found, where the first of these lines has this number
 unfoldable pub hits_from : ℕ → (List ℕ → Bool) → List (List ℕ) → List Hit
@@ -38,8 +38,8 @@ unfoldable pub count_line : List ℕ → List Hit → List ℕ
 count_line name hits = if some_hit hits then name ++ (codes ": " ++ (decimal (length hits) ++ newline ∷ [])) else []
 
 -- `-l` goes before `-c`, and `-c` before the others. There is no count of an input that was left before its end.
-unfoldable pub printed : Style → List ℕ → Bool → List Hit → List ℕ
-printed style name to_its_end hits =
+unfoldable pub hits_output : Style → List ℕ → Bool → List Hit → List ℕ
+hits_output style name to_its_end hits =
     if style.list then name_line name hits
     else (if style.count then (if to_its_end then count_line name hits else [])
     else flat_map (hit_line style name) hits)
@@ -53,7 +53,7 @@ pub record Report (Fault : Type 0) : Type 0 where
 
 abbrev pub report_of_hits : {Fault : Type 0} → Style → List ℕ → Option Fault → List Hit → Report Fault
 report_of_hits style name fault hits = record {
-  output = printed style name (is_none fault) hits;
+  output = hits_output style name (is_none fault) hits;
   fault = if style.list && some_hit hits then None else fault;
   matched = some_hit hits;
 }
@@ -61,4 +61,4 @@ report_of_hits style name fault hits = record {
 -- of an input with this name, of which this text was read before the fault or the end
 unfoldable pub report : {Fault : Type 0} → Style → List ℕ → (List ℕ → Bool) → List ℕ → Option Fault → Report Fault
 report style name finds text fault =
-    report_of_hits style name fault (hits_from 1 finds (tested (is_none fault) text))
+    report_of_hits style name fault (hits_from 1 finds (tested_lines (is_none fault) text))

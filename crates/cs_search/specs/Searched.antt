@@ -10,7 +10,7 @@ use Rattle.cs_words.specs.declared.fault.ToolFault.{ToolFault}
 use Rattle.cs_search.specs.declared.report.TheConstants.{MOST_SEARCHED}
 use Rattle.cs_search.specs.declared.status.Status.{Status}
 use Rattle.cs_search.specs.Csearch.{OpensWith, PrintsAsked, PrintsLikeCgrep, PrintsAsPromised, AreAccepted, RefusedInOrder}
-use Rattle.cs_search.specs.Printed.{PrintsStatus, PrintsNothing, PrintsSome, TellsFaults}
+use Rattle.cs_search.specs.Printed.{PrintsStatus, PrintsNothing, PrintsSome, PrintsFaults}
 
 -- The clauses of csearch, for the bytes of an index, what the tree tells, its failures and both outputs before and
 -- after, and the answer.
@@ -28,4 +28,4 @@ pub record IsSearch (job : SearchJob) (index : Option (List ℕ)) (tree : Option
       (λ printed. PrintsSome printed out out' err err'))
   pub refused : RefusedInOrder job index answer
   pub faults : (parts : Parts) → OpensWith index parts →
-      TellsFaults Csearch parts.names failed failed' (λ lines. EndsAfter lines err err' answer)
+      PrintsFaults Csearch parts.names failed failed' (λ lines. EndsAfter lines err err' answer)

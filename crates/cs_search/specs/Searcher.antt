@@ -11,7 +11,7 @@ use Rattle.cs_words.specs.declared.fault.ToolFault.{ToolFault}
 use Rattle.cs_words.specs.declared.fault.ToolFault.TheVariants.{Write, Memory}
 use Rattle.cs_search.specs.declared.searcher.Searcher.{Searcher}
 use Rattle.cs_words.specs.declared.jobs.Tool.{Tool}
-use Rattle.cs_search.specs.Printed.{Printed, TellsFaults}
+use Rattle.cs_search.specs.Printed.{Printed, PrintsFaults}
 
 pub record IsKept (old new : Searcher) : Type 0 where
   pub tool : new.tool ≡ old.tool
@@ -34,9 +34,9 @@ PrintsFront None out out' err err' = Unit {0}
 PrintsFront (Some printed) out out' err err' = TakesFront printed.output out out' × TakesFront printed.errors err err'
 
 -- The lines of some faults of the names were printed, and where the call was refused a front of them.
-abbrev pub TellsAll : {A E : Type 0} → Tool → List (List ℕ) → ℕ → ℕ → Option Taken → Option Taken → Result A E → Type 0
-TellsAll tool names failed failed' err err' result =
-    TellsFaults tool names failed failed' (λ lines. TakesAll lines err err' result)
+abbrev pub PrintsAllFaults : {A E : Type 0} → Tool → List (List ℕ) → ℕ → ℕ → Option Taken → Option Taken → Result A E → Type 0
+PrintsAllFaults tool names failed failed' err err' result =
+    PrintsFaults tool names failed failed' (λ lines. TakesAll lines err err' result)
 
 -- Of what was opened at most so many bytes were read, where it is open yet.
 abbrev pub OpenLosesAtMost : ℕ → Result Told TreeFault → Option Told → Type 0

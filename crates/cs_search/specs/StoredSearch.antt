@@ -2,12 +2,12 @@
 use Rattle.std.specs.Prelude.{ℕ, Bool, false, List, Option, Some, Result, Ok, Err, IfSome}
 use Rattle.cs_tree.specs.declared.fault.IoFault.{IoFault}
 use Rattle.cs_index.specs.declared.fault.IndexFault.{IndexFault}
-use Rattle.cs_index.specs.Stored.{Held, OpensAs}
+use Rattle.cs_index.specs.Stored.{StoredParts, OpensAs}
 use Rattle.cs_words.specs.declared.fault.ToolFault.{ToolFault}
 use Rattle.cs_search.specs.Refusals.{has_write_failed}
 
 -- the bytes that a store tells open so
-abbrev pub IsOpened : Option (List ℕ) → Result Held IndexFault → Type 0
+abbrev pub IsOpened : Option (List ℕ) → Result StoredParts IndexFault → Type 0
 IsOpened told opened = IfSome told (λ bytes. OpensAs bytes opened)
 
 -- What holds of the index and of the answer, where a store could be read and tells the bytes of the index.

@@ -7,12 +7,12 @@ ghost use Rattle.cs_match.specs.Finding.{Decides};
 ghost use Rattle.cs_index.specs.OpenedParts.{Parts};
 ghost use Rattle.cs_tree.specs.Snapshot.{Snapshot};
 ghost use Rattle.cs_words.specs.declared.jobs.Tool.TheVariants.{Csearch};
-ghost use Rattle.cs_search.specs.Searcher.{IsSearchFault, IsKept, Prints, PrintsFront, TellsAll};
+ghost use Rattle.cs_search.specs.Searcher.{IsSearchFault, IsKept, Prints, PrintsFront, PrintsAllFaults};
 ghost use Rattle.cs_search.specs.Refusals.{has_write_failed, QuietAtRefusal};
 ghost use Rattle.cs_search.specs.Csearch.{OpensWith, PrintsAsked, PrintsLikeCgrep, PrintsAsPromised, AreAccepted, RefusedInOrder};
 ghost use Rattle.cs_search.specs.IndexSearch.{names_at, DecidesNames, OpenRefused};
 ghost use Rattle.cs_search.specs.Plans.{IsPlan, IsLent, RefusesPlan};
-ghost use Rattle.cs_search.specs.Printed.{PrintsStatus, PrintsNothing, PrintsSome, TellsFaults, all_printed, file_printed};
+ghost use Rattle.cs_search.specs.Printed.{PrintsStatus, PrintsNothing, PrintsSome, PrintsFaults, all_printed, file_printed};
 ghost use Rattle.cs_search.specs.Searched.{IsSearch};
 
 use crate::names::NameFilter;
@@ -65,7 +65,7 @@ pub fn csearch<T: Tree, O: Sink, E: Sink>(
     ensures quiet { QuietAtRefusal result
         (PrintsNothing (O.taken out.old) (O.taken out.new) (E.taken err.old) (E.taken err.new)) }
     ensures faults { (parts : Parts) → OpensWith (option_copied index.entry) parts →
-        TellsFaults Csearch parts.names (T.failed tree.old) (T.failed tree.new)
+        PrintsFaults Csearch parts.names (T.failed tree.old) (T.failed tree.new)
         (λ lines. EndsAfter lines (E.taken err.old) (E.taken err.new) result) }
     ensures flushed { OnOk result (HasFlushed (O.taken out.new) × HasFlushed (E.taken err.new)) }
     ensures writes { CountsOne (has_write_failed result)
@@ -152,7 +152,7 @@ pub(crate) fn search_ids<T: Tree, O: Sink, E: Sink>(
         (file_printed MOST_SEARCHED searcher.old.tool searcher.old.style finds tree)
         (filter keeps (names_at index.now.names ids.now))) (T.snapshot tree.old))
         (O.taken out.old) (O.taken out.new) (E.taken err.old) (E.taken err.new)) }
-    ensures faults { TellsAll searcher.old.tool (names_at index.now.names ids.now)
+    ensures faults { PrintsAllFaults searcher.old.tool (names_at index.now.names ids.now)
         (T.failed tree.old) (T.failed tree.new) (E.taken err.old) (E.taken err.new) result }
     ensures writes { CountsOne (has_write_failed result)
         (O.failed out.old) (O.failed out.new) (E.failed err.old) (E.failed err.new) }
@@ -188,7 +188,7 @@ fn search_id<T: Tree, O: Sink, E: Sink>(
         (file_printed MOST_SEARCHED searcher.old.tool searcher.old.style finds tree)
         (filter keeps (names_at index.now.names (id ∷ [])))) (T.snapshot tree.old))
         (O.taken out.old) (O.taken out.new) (E.taken err.old) (E.taken err.new)) }
-    ensures faults { TellsAll searcher.old.tool (names_at index.now.names (id ∷ []))
+    ensures faults { PrintsAllFaults searcher.old.tool (names_at index.now.names (id ∷ []))
         (T.failed tree.old) (T.failed tree.new) (E.taken err.old) (E.taken err.new) result }
     ensures writes { CountsOne (has_write_failed result)
         (O.failed out.old) (O.failed out.new) (E.failed err.old) (E.failed err.new) }

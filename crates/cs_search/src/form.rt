@@ -5,7 +5,7 @@ ghost use Rattle.cs_tree.specs.FailureCount.{count_after};
 ghost use Rattle.cs_match.specs.Lines.{newline};
 ghost use Rattle.cs_tree.specs.TakenAll.{TakesAll};
 ghost use Rattle.cs_search.specs.Report.{hit_line};
-ghost use Rattle.cs_search.specs.TestedLines.{shown, total};
+ghost use Rattle.cs_search.specs.TestedLines.{hit_output, total};
 
 use crate::grep_fault::GrepFault;
 use cs_tree::{Sink, write_all};
@@ -29,14 +29,14 @@ impl Form<'_> {
     }
 
     /// What is printed where something is found in a line: under `-l` the name, and under `-c` nothing.
-    #[tactic(auto, using(crate::proofs::Printing::printing), unfolding(crate::specs::TestedLines::shown))]
+    #[tactic(auto, using(crate::proofs::Printing::printing), unfolding(crate::specs::TestedLines::hit_output))]
     pub(crate) fn print_hit<O: Sink>(
         &self,
         number: u64,
         line: &[u8],
         out: &mut O,
     ) -> Result<(), GrepFault>
-        ensures written { TakesAll (shown self.now.style self.now.name.now (number, line.now))
+        ensures written { TakesAll (hit_output self.now.style self.now.name.now (number, line.now))
             (O.taken out.old) (O.taken out.new) result }
         ensures failed { O.failed out.new ≡ count_after is_grep_failure result (O.failed out.old) }
     {

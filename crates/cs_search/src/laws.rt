@@ -1,6 +1,6 @@
 // Laws of the definitions.
-ghost use Rattle.std.specs.Prelude.{◌≡◌, ◌≢◌, ◌<◌, ℕ, Bool, true, List, [], length, map, filter, string_bytes, Option, Some, Result, Ok, Err};
-ghost use Rattle.std.specs.List.{AllByRecursion, list_any};
+ghost use Rattle.std.specs.Prelude.{◌≡◌, ◌≢◌, ◌<◌, ℕ, Bool, true, List, [], length, filter, string_bytes, Option, Some, Result, Ok, Err};
+ghost use Rattle.std.specs.List.{list_any};
 ghost use Rattle.cs_syntax.specs.Matching.{Tree};
 ghost use Rattle.cs_syntax.specs.Reading.{Reads};
 ghost use Rattle.cs_match.specs.Finding.{Decides};
@@ -11,14 +11,15 @@ ghost use Rattle.cs_trigram.specs.declared.queries.Query.{Query};
 ghost use Rattle.cs_trigram.specs.Trigram.{has};
 ghost use Rattle.cs_trigram.specs.Text.{text_trigrams, limits};
 ghost use Rattle.cs_trigram.specs.Query.{LosesNoLine};
-ghost use Rattle.cs_trigram.specs.Windows.{HasWindows, IsSharp};
-ghost use Rattle.cs_index.specs.Image.{Entry};
+ghost use Rattle.cs_trigram.specs.PlainRuns.{ShowsPlainRuns, IsSharp};
+ghost use Rattle.cs_index.specs.Image.{Entry, names_of};
 ghost use Rattle.cs_index.specs.PostingLists.{set_at};
 ghost use Rattle.cs_index.specs.Opening.{opening};
 ghost use Rattle.cs_index.specs.OpenedParts.{Parts, are_whole, lists_in};
 ghost use Rattle.cs_index.specs.Candidates.{candidates_of};
 ghost use Rattle.cs_index.specs.declared.fault.IndexFault.{IndexFault};
 ghost use Rattle.cs_history.specs.History.{History};
+ghost use Rattle.cs_history.specs.Meeting.{names_meeting};
 ghost use Rattle.cs_history.specs.Left.{HasLeft};
 ghost use Rattle.cs_history.specs.SearchHeadline.{SearchPremises, indexed_names};
 ghost use Rattle.cs_words.specs.declared.jobs.Tool.{Tool};
@@ -30,7 +31,7 @@ ghost use Rattle.cs_words.specs.declared.fault.ToolFault.TheVariants.{NoIndex, B
 ghost use Rattle.cs_search.specs.declared.status.Status.{Status};
 ghost use Rattle.cs_search.specs.Cgrep.{cgrep_printed};
 ghost use Rattle.cs_search.specs.Printed.{searched_by_cgrep, PrintsStatus, all_printed, file_printed};
-ghost use Rattle.cs_search.specs.Csearch.{ReadsAs, names_meeting, Seeks, RefusedInOrder, PrintsAsPromised};
+ghost use Rattle.cs_search.specs.Csearch.{ReadAsIndexed, Seeks, RefusedInOrder, PrintsAsPromised};
 ghost use Rattle.cs_search.specs.SameSearch.{IsSameSearch};
 
 use crate::report::MOST_SEARCHED;
@@ -40,11 +41,11 @@ use crate::report::MOST_SEARCHED;
 pub fn files_may_be_left_out()
     ensures { (style : Style) (finds keeps : List ℕ → Bool) (tree : Snapshot) (query : Query) →
         (pattern : Tree) → LosesNoLine query pattern → Decides finds pattern →
-        (a b : Tool) (files : List Entry) → AllByRecursion (ReadsAs tree) files →
+        (a b : Tool) (files : List Entry) → ReadAsIndexed tree files →
         all_printed (file_printed MOST_SEARCHED a style finds tree)
         (filter keeps (names_meeting query files))
         ≡ all_printed (file_printed MOST_SEARCHED b style finds tree)
-        (filter keeps (map (λ (e : Entry). e.0) files)) }
+        (filter keeps (names_of files)) }
 {}
 
 /// The index that some jobs left, or that was handed in, opens and each list of it is whole, so that no search is refused
@@ -92,15 +93,15 @@ pub fn searches_are_those_of_cgrep()
 {}
 
 /// Each file with a line in which the pattern finds something is a candidate, where it reads as it was indexed; and each
-/// candidate has the windows of the pattern.
+/// candidate shows the plain runs of the pattern.
 pub fn candidates_lie_between()
     ensures matching { (query : Query) (pattern : Tree) (parts : Parts) (id : ℕ)
         (finds : List ℕ → Bool) (bytes : List ℕ) → id < length parts.names →
         LosesNoLine query pattern → Decides finds pattern →
         text_trigrams limits bytes ≡ Some (set_at id (lists_in parts)) →
         list_any finds (lines bytes) ≡ true → has (candidates_of parts query) id ≡ true }
-    ensures windows { (query : Query) (pattern : Tree) (parts : Parts) (id : ℕ) →
+    ensures plain_runs { (query : Query) (pattern : Tree) (parts : Parts) (id : ℕ) →
         id < length parts.names → IsSharp query pattern →
         has (candidates_of parts query) id ≡ true →
-        HasWindows (has (set_at id (lists_in parts))) pattern }
+        ShowsPlainRuns (has (set_at id (lists_in parts))) pattern }
 {}

@@ -9,7 +9,7 @@ ghost use Rattle.cs_search.specs.IndexSearch.{names_at, DecidesNames};
 ghost use Rattle.cs_search.specs.Plans.{IsPlan, RefusesPlan};
 ghost use Rattle.cs_search.specs.Printed.{all_printed, file_printed};
 ghost use Rattle.cs_search.specs.Refusals.{has_write_failed};
-ghost use Rattle.cs_search.specs.Searcher.{IsSearchFault, Prints, PrintsFront, TellsAll};
+ghost use Rattle.cs_search.specs.Searcher.{IsSearchFault, Prints, PrintsFront, PrintsAllFaults};
 
 use crate::csearching::search_ids;
 use crate::names::{NameFilter, compile_file};
@@ -73,7 +73,7 @@ impl Plan {
             (file_printed MOST_SEARCHED Csearch style finds tree)
             (filter keeps (names_at index.now.names ids.now))) (T.snapshot tree.old))
             (O.taken out.old) (O.taken out.new) (E.taken err.old) (E.taken err.new)) }
-        ensures faults { TellsAll Csearch (names_at index.now.names ids.now)
+        ensures faults { PrintsAllFaults Csearch (names_at index.now.names ids.now)
             (T.failed tree.old) (T.failed tree.new) (E.taken err.old) (E.taken err.new) result }
         ensures writes { CountsOne (has_write_failed result)
             (O.failed out.old) (O.failed out.new) (E.failed err.old) (E.failed err.new) }

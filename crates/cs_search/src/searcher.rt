@@ -5,7 +5,7 @@ ghost use Rattle.cs_tree.specs.Failures.{count_if, CountsOne};
 ghost use Rattle.cs_tree.specs.Loss.{LosesAtMost};
 ghost use Rattle.cs_match.specs.Finding.{Decides};
 ghost use Rattle.cs_tree.specs.TakenAll.{TakesAll};
-ghost use Rattle.cs_search.specs.Searcher.{IsSearchFault, Prints, FileLosesAtMost, PrintsFront, TellsAll};
+ghost use Rattle.cs_search.specs.Searcher.{IsSearchFault, Prints, FileLosesAtMost, PrintsFront, PrintsAllFaults};
 ghost use Rattle.cs_search.specs.Refusals.{has_write_failed};
 ghost use Rattle.cs_search.specs.Printed.{input_printed, file_printed, all_printed, left_fault};
 
@@ -72,7 +72,7 @@ impl<'p> Searcher<'p> {
             (R.told input.old))
             (O.taken out.old) (O.taken out.new) (E.taken err.old) (E.taken err.new)) }
         ensures loses { LosesAtMost (MOST_SEARCHED + 1) (R.told input.old) (R.told input.new) }
-        ensures faults { TellsAll self.old.tool (name.now ∷ [])
+        ensures faults { PrintsAllFaults self.old.tool (name.now ∷ [])
             (R.failed input.old) (R.failed input.new) (E.taken err.old) (E.taken err.new) result }
         ensures writes { CountsOne (has_write_failed result)
             (O.failed out.old) (O.failed out.new) (E.failed err.old) (E.failed err.new) }
@@ -119,7 +119,7 @@ impl<'p> Searcher<'p> {
             (O.taken out.old) (O.taken out.new) (E.taken err.old) (E.taken err.new)) }
         ensures loses { FileLosesAtMost (MOST_SEARCHED + 1)
             (T.snapshot tree.old) name.now (T.opened tree.new) }
-        ensures faults { TellsAll self.old.tool (name.now ∷ [])
+        ensures faults { PrintsAllFaults self.old.tool (name.now ∷ [])
             (T.failed tree.old) (T.failed tree.new) (E.taken err.old) (E.taken err.new) result }
         ensures writes { CountsOne (has_write_failed result)
             (O.failed out.old) (O.failed out.new) (E.failed err.old) (E.failed err.new) }
@@ -158,7 +158,7 @@ impl<'p> Searcher<'p> {
             (map string_bytes names.now))
             (T.snapshot tree.old))
             (O.taken out.old) (O.taken out.new) (E.taken err.old) (E.taken err.new)) }
-        ensures faults { TellsAll self.old.tool (map string_bytes names.now)
+        ensures faults { PrintsAllFaults self.old.tool (map string_bytes names.now)
             (T.failed tree.old) (T.failed tree.new) (E.taken err.old) (E.taken err.new) result }
         ensures writes { CountsOne (has_write_failed result)
             (O.failed out.old) (O.failed out.new) (E.failed err.old) (E.failed err.new) }

@@ -9,7 +9,7 @@ ghost use Rattle.cs_tree.specs.Taken.{EndsAfter, MayEnd};
 ghost use Rattle.cs_tree.specs.TakenAll.{TakesAll};
 ghost use Rattle.cs_tree.specs.Told.{GrowsFlushed, HasFlushed};
 ghost use Rattle.cs_search.specs.Cgrep.{cgrep_printed};
-ghost use Rattle.cs_search.specs.CgrepFaults.{PatternFirst, TellsFaultsOf};
+ghost use Rattle.cs_search.specs.CgrepFaults.{PatternFirst, PrintsFaultsOf};
 ghost use Rattle.cs_search.specs.Refusals.{IsAccepted, QuietAtRefusal, has_write_failed};
 ghost use Rattle.cs_search.specs.Programs.{IsProgramOf, RefusesPattern};
 ghost use Rattle.cs_search.specs.Searcher.{IsSearchFault, Prints, PrintsFront};
@@ -53,7 +53,7 @@ pub fn cgrep<T: Tree, R: Source, O: Sink, E: Sink>(
     ensures quiet { QuietAtRefusal result
         (PrintsNothing (O.taken out.old) (O.taken out.new) (E.taken err.old) (E.taken err.new)) }
     ensures loses { LosesAtMost (MOST_SEARCHED + 1) (R.told input.old) (R.told input.new) }
-    ensures faults { TellsFaultsOf job.now
+    ensures faults { PrintsFaultsOf job.now
         (T.failed tree.old) (T.failed tree.new) (R.failed input.old) (R.failed input.new)
         (λ lines. EndsAfter lines (E.taken err.old) (E.taken err.new) result) }
     ensures flushed { OnOk result (HasFlushed (O.taken out.new) × HasFlushed (E.taken err.new)) }
@@ -119,7 +119,7 @@ fn search_job<T: Tree, R: Source, O: Sink, E: Sink>(
         (cgrep_printed MOST_SEARCHED job.now finds (T.snapshot tree.old) (R.told input.old))
         (O.taken out.old) (O.taken out.new) (E.taken err.old) (E.taken err.new)) }
     ensures loses { LosesAtMost (MOST_SEARCHED + 1) (R.told input.old) (R.told input.new) }
-    ensures faults { TellsFaultsOf job.now
+    ensures faults { PrintsFaultsOf job.now
         (T.failed tree.old) (T.failed tree.new) (R.failed input.old) (R.failed input.new)
         (λ lines. TakesAll lines (E.taken err.old) (E.taken err.new) result) }
     ensures writes { CountsOne (has_write_failed result)

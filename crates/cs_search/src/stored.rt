@@ -10,7 +10,7 @@ ghost use Rattle.cs_words.specs.declared.jobs.Tool.TheVariants.{Csearch};
 ghost use Rattle.cs_search.specs.Refusals.{has_write_failed, QuietAtRefusal};
 ghost use Rattle.cs_search.specs.Csearch.{OpensWith, PrintsAsked, PrintsLikeCgrep, PrintsAsPromised, AreAccepted, RefusedInOrder};
 ghost use Rattle.cs_search.specs.Plans.{IsPlan, IsLent, RefusesPlan};
-ghost use Rattle.cs_search.specs.Printed.{PrintsStatus, PrintsNothing, PrintsSome, TellsFaults};
+ghost use Rattle.cs_search.specs.Printed.{PrintsStatus, PrintsNothing, PrintsSome, PrintsFaults};
 ghost use Rattle.cs_search.specs.StoredSearch.{IsOpened, IfRead, has_output_failed};
 
 use crate::csearching::search_by;
@@ -60,7 +60,7 @@ pub fn csearch_stored<S: Store, T: Tree, O: Sink, E: Sink>(
     ensures quiet { IfOk result (λ answer. QuietAtRefusal answer
         (PrintsNothing (O.taken out.old) (O.taken out.new) (E.taken err.old) (E.taken err.new))) }
     ensures faults { IfRead (S.told store.old) result (λ index answer. (parts : Parts) →
-        OpensWith index parts → TellsFaults Csearch parts.names
+        OpensWith index parts → PrintsFaults Csearch parts.names
         (T.failed tree.old) (T.failed tree.new)
         (λ lines. EndsAfter lines (E.taken err.old) (E.taken err.new) answer)) }
     ensures unread { IfErr result (λ _. AreAccepted job.now

@@ -2,7 +2,7 @@
 use Rattle.std.proofs.Common.{◌≡◌, ℕ, zero, suc, ◌+◌, ◌<◌, ◌≤◌, Bool, true, false, cond, ◌&&◌, ◌||◌, List, [], ◌∷◌, ◌++◌, length, take, drop, refl, sym, ap, subst, ◌∙◌, inl, inr, arith, Option, Some, None, length-drop}
 use Rattle.std.specs.Prelude.{nat_eq, nat_lt, nat_le, not, min, if◌then◌else◌, is_some, option_map, codes, map, chars, slice_index}
 use Rattle.std.specs.List.{prefix_len, starts_with}
-use Rattle.std.proofs.lemmas.Bool.{true≢false, cases_Bool, ltb-true, eqb-true}
+use Rattle.std.proofs.lemmas.Bool.{true≢false, and_parts, cases_Bool, ltb-true, eqb-true}
 use Rattle.std.proofs.lemmas.List.Sums.{prefix_len-le-length}
 use Rattle.cs_syntax.specs.Matching.{Tree, Trees, one_of, more, is_word}
 use Rattle.cs_syntax.specs.NumberList.{has}
@@ -479,10 +479,6 @@ module _ (t : List ℕ) where
 
   -- ---- names between `[:` and `:]`
 
-  both : (a b : Bool) → (a && b) ≡ true → (a ≡ true) × (b ≡ true)
-  both true b h = (refl, h)
-  both false b h = absurd (true≢false (sym h))
-
   name_starts : (b : ℕ) (text : List ℕ) → starts_with nat_eq (b ∷ after text) (codes ":]") ≡ starts_with nat_eq (b ∷ text) (codes ":]")
   name_starts b [] = refl
   name_starts b (c ∷ text) = refl
@@ -524,7 +520,7 @@ module _ (t : List ℕ) where
       by (Some n) h = ap posix_class (take_after n text h)
 
   named_front : (b : ℕ) (text : List ℕ) → (nat_eq b 91 && is_front 58 text) ≡ true → is_some (name_length (drop 1 text)) ≡ true → class_front b (after text) ≡ class_front b text
-  named_front b [] named some = absurd (true≢false (sym (both (nat_eq b 91) false named).1))
+  named_front b [] named some = absurd (true≢false (sym (and_parts (nat_eq b 91) false named).1))
   named_front b (c ∷ text) named some =
       ap (λ (x : Bool). cond x (after_colon (after text)) (class_front_by (nat_eq b 92) b (c ∷ after text))) named
       ∙ colon_after text some
@@ -561,9 +557,9 @@ module _ (t : List ℕ) where
 
   items_after : (skip behind : ℕ) (start : Bool) (text : List ℕ) → names_end text ≡ true → IsClosed (items_from skip behind start text) → items_from skip behind start (after text) ≡ items_from skip behind start text
   items_after skip behind start [] apart h = absurd h
-  items_after (suc skip) behind start (b ∷ text) apart h = items_after skip (behind + 1) start text (both (not (nat_eq b 91 && is_front 58 text) || is_some (name_length (drop 1 text))) (names_end text) apart).1 h
+  items_after (suc skip) behind start (b ∷ text) apart h = items_after skip (behind + 1) start text (and_parts (not (nat_eq b 91 && is_front 58 text) || is_some (name_length (drop 1 text))) (names_end text) apart).1 h
   items_after zero behind start (b ∷ text) apart h =
-      let parts = both (not (nat_eq b 91 && is_front 58 text) || is_some (name_length (drop 1 text))) (names_end text) apart in
+      let parts = and_parts (not (nat_eq b 91 && is_front 58 text) || is_some (name_length (drop 1 text))) (names_end text) apart in
       now_after behind text (class_front b text) (class_front b (after text))
       (item_after behind text (λ len closed. items_after len (behind + 1) false text parts.1 closed) (class_front b text) (class_front b (after text)) (class_front_after b (behind + 1) text parts.0))
       (nat_eq b 93 && not start) h
@@ -579,7 +575,7 @@ module _ (t : List ℕ) where
       by : (b : Bool) → IsItem (cond b (class_of fold true (items_from 0 2 true text)) (class_of fold false (items_from 0 1 true (d ∷ text)))) →
           cond b (class_of fold true (items_from 0 2 true (after text))) (class_of fold false (items_from 0 1 true (d ∷ after text))) ≡
           cond b (class_of fold true (items_from 0 2 true text)) (class_of fold false (items_from 0 1 true (d ∷ text)))
-      by true is = ap (class_of fold true) (items_after 0 2 true text (both (not (nat_eq d 91 && is_front 58 text) || is_some (name_length (drop 1 text))) (names_end text) apart).1 (of_closed fold true (items_from 0 2 true text) is))
+      by true is = ap (class_of fold true) (items_after 0 2 true text (and_parts (not (nat_eq d 91 && is_front 58 text) || is_some (name_length (drop 1 text))) (names_end text) apart).1 (of_closed fold true (items_from 0 2 true text) is))
       by false is = ap (class_of fold false) (items_after 0 1 true (d ∷ text) apart (of_closed fold false (items_from 0 1 true (d ∷ text)) is))
 
   -- ---- heads of groups
@@ -659,7 +655,7 @@ module _ (t : List ℕ) where
 
       by : (angle named : Bool) → (nat_eq c 80 && is_front 60 text) ≡ named → by_sign angle named (after text) ≡ by_sign angle named text
       by true named h = group_name_after flags 2 text
-      by false true h = behind_angle text (both (nat_eq c 80) (is_front 60 text) h).1
+      by false true h = behind_angle text (and_parts (nat_eq c 80) (is_front 60 text) h).1
       by false false h = set_after flags (c ∷ text)
 
   group_after : (flags : Flags) (text : List ℕ) → IsItem (group flags text) → group flags (after text) ≡ group flags text
@@ -727,7 +723,7 @@ module _ (t : List ℕ) where
 
       by : (angle named : Bool) → (nat_eq c 80 && is_front 60 text) ≡ named → FitsIn total (cond angle (name flags 2 text) (cond named (name flags 3 (drop 1 text)) (set_flags flags (c ∷ text))))
       by true named h = name_fits flags 2 total text (omega (arith, le))
-      by false true h = behind_angle text (both (nat_eq c 80) (is_front 60 text) h).1 le
+      by false true h = behind_angle text (and_parts (nat_eq c 80) (is_front 60 text) h).1 le
       by false false h = set_fit flags total (c ∷ text) le
 
   group_fits : (flags : Flags) (text : List ℕ) → Fits text (group flags text)
@@ -825,7 +821,7 @@ module _ (t : List ℕ) where
     a_class : EndsThere 91
     unfolding front sign_of
     a_class text ends = record {
-      same = class_after flags.fold text (both (not (is_front 58 text) || is_some (name_length (drop 1 text))) (names_end text) ends).1;
+      same = class_after flags.fold text (and_parts (not (is_front 58 text) || is_some (name_length (drop 1 text))) (names_end text) ends).1;
       fits = class_fits text;
     }
 
@@ -999,7 +995,7 @@ module _ (last : Flags) (bs : Trees) where
 -- ---- the whole text
 
 names_on : (b : ℕ) (text : List ℕ) → names_end (b ∷ text) ≡ true → names_end text ≡ true
-names_on b text h = (both [] (not (nat_eq b 91 && is_front 58 text) || is_some (name_length (drop 1 text))) (names_end text) h).1
+names_on b text h = (and_parts (not (nat_eq b 91 && is_front 58 text) || is_some (name_length (drop 1 text))) (names_end text) h).1
 
 module _ (t : List ℕ) (last : Flags) (other : Level) where
   abbrev bs : Trees

@@ -8,7 +8,7 @@ use Rattle.std.proofs.lemmas.Fmt.{decimal_digit}
 use Rattle.cs_syntax.specs.Matching.{Trees, empty, one_of, one_char, cat, alt, rep, line_start, line_end, word_edge, not_word_edge, none, more, member}
 use Rattle.cs_syntax.specs.Characters.{has_char, runs_through, TakesChar}
 use Rattle.cs_syntax.specs.CharRuns.{AreRuns}
-use Rattle.cs_syntax.specs.Lowering.{byte_range, lowered}
+use Rattle.cs_syntax.specs.Lowering.{byte_range, utf8_tree}
 use Rattle.cs_syntax.specs.ByteSet.{set_of, char_set, all_bytes}
 use Rattle.cs_syntax.specs.Bits.{has_bit}
 use Rattle.cs_syntax.specs.SetWords.{set_of_bits, words_of}
@@ -22,7 +22,7 @@ use Rattle.cs_syntax.specs.Numbers.{digit_value}
 use Rattle.cs_syntax.specs.Choices.{flags_behind, names_end}
 use Rattle.cs_syntax.specs.Reading.{reading, tree, refused, flags_at_start}
 use Rattle.cs_syntax.specs.Signs.{sign_of}
-use Rattle.cs_syntax.specs.Written.{counted, quoted}
+use Rattle.cs_syntax.specs.Written.{counted_repeat, quotation}
 use Rattle.cs_syntax.proofs.CharSetLemmas.{scalar_tells}
 use Rattle.cs_syntax.proofs.RunLemmas.{tree_is}
 use Rattle.cs_syntax.specs.Weight.{most_weight, weight, weights}
@@ -262,10 +262,10 @@ bits = (refl, refl, refl)
 
 -- how a text is quoted, and how a repeat is written
 written :
-    (quoted (codes "a.b{2}") ≡ codes "a\\.b\\{2}")
+    (quotation (codes "a.b{2}") ≡ codes "a\\.b\\{2}")
     -- a character past ASCII stays as it is
-    × (quoted (195 ∷ 169 ∷ codes ".") ≡ 195 ∷ 169 ∷ codes "\\.")
-    × (counted 2 7 ≡ codes "{2,7}")
+    × (quotation (195 ∷ 169 ∷ codes ".") ≡ 195 ∷ 169 ∷ codes "\\.")
+    × (counted_repeat 2 7 ≡ codes "{2,7}")
 written = (refl, refl, λ i. 123 ∷ (decimal_digit 2 (omega arith) i ++ 44 ∷ (decimal_digit 7 (omega arith) i ++ 125 ∷ [])))
 
 -- texts with bars: where the one before a bar does not stand apart, the bar is no choice of what both read as
@@ -363,14 +363,14 @@ taken_characters = ((233, refl, (refl, refl)), (128512, refl, (refl, refl)))
 -- `é` is its two bytes; from `À` to `ÿ` one byte and then any of 64; of three blocks of 64 numbers the first and the last
 -- are taken in part
 lowered_sets :
-    (lowered ((233, 233) ∷ []) ≡ cat (more (byte_range 195 195) (more (byte_range 169 169) none)))
-    × (lowered ((192, 255) ∷ []) ≡ cat (more (byte_range 195 195) (more (byte_range 128 191) none)))
-    × (lowered ((190, 256) ∷ []) ≡ alt (more (cat (more (byte_range 194 194) (more (byte_range 190 191) none))) (more (cat (more (byte_range 195 195) (more (byte_range 128 191) none))) (more (cat (more (byte_range 196 196) (more (byte_range 128 128) none))) none))))
+    (utf8_tree ((233, 233) ∷ []) ≡ cat (more (byte_range 195 195) (more (byte_range 169 169) none)))
+    × (utf8_tree ((192, 255) ∷ []) ≡ cat (more (byte_range 195 195) (more (byte_range 128 191) none)))
+    × (utf8_tree ((190, 256) ∷ []) ≡ alt (more (cat (more (byte_range 194 194) (more (byte_range 190 191) none))) (more (cat (more (byte_range 195 195) (more (byte_range 128 191) none))) (more (cat (more (byte_range 196 196) (more (byte_range 128 128) none))) none))))
 lowered_sets = (refl, refl, refl)
 
 -- the characters of three bytes before d800: `e0` and a byte from a0 on, `e1` to `ec` and any, or `ed` and one up to 9f;
 -- and then any byte for all of them
 lowered_before_surrogates :
-    lowered ((2048, 55295) ∷ [])
+    utf8_tree ((2048, 55295) ∷ [])
     ≡ cat (more (alt (more (cat (more (byte_range 224 224) (more (byte_range 160 191) none))) (more (cat (more (byte_range 225 236) (more (byte_range 128 191) none))) (more (cat (more (byte_range 237 237) (more (byte_range 128 159) none))) none)))) (more (byte_range 128 191) none))
 lowered_before_surrogates = refl

@@ -4,13 +4,13 @@ use Rattle.std.specs.Prelude.{nat_le, nat_lt, ◌↔◌, if◌then◌else◌}
 use Rattle.std.specs.List.{list_any}
 use Rattle.std.specs.Char.{encode_utf8}
 use Rattle.std.proofs.Math.Seq.{drop-cons, take-append_seam, drop-append_seam}
-use Rattle.std.proofs.lemmas.Bool.{cases_lt, cases_Bool, and_parts, cond-true, cond-false}
+use Rattle.std.proofs.lemmas.Bool.{cases_lt, cases_Bool, and_parts, or_left, or_right, cond-true, cond-false}
 use Rattle.std.proofs.lemmas.Bool.Decides.{nat_tests}
 use Rattle.std.proofs.lemmas.List.{take-append-drop, drop-drop, length-append, length-drop, append_assoc, get_or_past, drop_more, drop_all}
 use Rattle.cs_syntax.specs.Ranges.{is_in_ranges}
 use Rattle.cs_syntax.specs.ByteSet.{set_of}
 use Rattle.cs_syntax.specs.Characters.{is_scalar, StandsFrom, TakesChar}
-use Rattle.cs_syntax.specs.Lowering.{byte_range, part, parts, with_last_byte, forms, forms_within, wide_forms, all_wide_forms, ascii_forms, lowered}
+use Rattle.cs_syntax.specs.Lowering.{byte_range, part, parts, with_last_byte, forms, forms_within, wide_forms, all_wide_forms, ascii_forms, utf8_tree}
 use Rattle.cs_syntax.specs.Matching.{Tree, Trees, one_of, cat, none, more, member, Takes, TakesSome}
 use Rattle.cs_syntax.specs.Widths.{Fits}
 use Rattle.cs_syntax.specs.Node.{tree_of, trees_of}
@@ -411,16 +411,9 @@ all_wide_taken s (run ∷ runs) i j h =
       | inl here ↦
           let w = wide_taken s run i j here in
           let in_run : (nat_le run.0 w.0 && nat_le w.0 run.1) ≡ true = grind (arith, nat_tests, w.2, w.3) in
-          (w.0, w.1, or_first _ (is_in_ranges runs w.0) in_run, w.4)
-      | inr later ↦ let w = all_wide_taken s runs i j later in (w.0, w.1, or_second _ _ w.2, w.3)
+          (w.0, w.1, or_left _ (is_in_ranges runs w.0) in_run, w.4)
+      | inr later ↦ let w = all_wide_taken s runs i j later in (w.0, w.1, or_right _ _ w.2, w.3)
     ]
-  where
-    or_first : (x y : Bool) → x ≡ true → (x || y) ≡ true
-    or_first x y e = ap (λ b. b || y) e
-
-    or_second : (x y : Bool) → y ≡ true → (x || y) ≡ true
-    or_second true y e = refl
-    or_second false y e = e
 
 all_wide_takes : (s : List ℕ) (runs : List (ℕ × ℕ)) (c i j : ℕ) → is_scalar c ≡ true → 128 ≤ c → is_in_ranges runs c ≡ true →
     StandsFrom s (encode_utf8 c) i j → TakesSome s (all_wide_forms runs) i j
@@ -441,12 +434,8 @@ some_ascii (run ∷ runs) c low e =
     elim (cases_Bool (nat_le run.0 c && nat_le c run.1)) [
       | inl here ↦
           let first : nat_lt run.0 128 ≡ true = grind (arith, nat_tests) in ap (λ b. b || list_any (λ r. nat_lt r.0 128) runs) first
-      | inr out ↦ or_second (nat_lt run.0 128) _ (some_ascii runs c low (sym (ap (λ b. b || is_in_ranges runs c) out) ∙ e))
+      | inr out ↦ or_right (nat_lt run.0 128) _ (some_ascii runs c low (sym (ap (λ b. b || is_in_ranges runs c) out) ∙ e))
     ]
-  where
-    or_second : (x y : Bool) → y ≡ true → (x || y) ≡ true
-    or_second true y e = refl
-    or_second false y e = e
 
 abbrev ascii_set : List (ℕ × ℕ) → ℕ → Bool
 ascii_set runs b = nat_lt b 128 && is_in_ranges runs b
@@ -477,8 +466,8 @@ ascii_takes s runs c i j low e h =
     subst Q (sym (cond-true (list_any (λ run. nat_lt run.0 128) runs) _ _ (some_ascii runs c low e)))
     (inl (set_takes s (ascii_set runs) c i j (omega arith) (ap₂ ◌&&◌ small e) (subst P (one_byte c low) h)))
 
--- a lowered set takes the UTF-8 forms of its members and nothing else
-pub lowered_takes : (s : List ℕ) (runs : List (ℕ × ℕ)) (i j : ℕ) → Takes s (lowered runs) i j ↔ TakesChar s runs i j
+-- the tree of a set of characters takes the UTF-8 forms of its members and nothing else
+pub lowered_takes : (s : List ℕ) (runs : List (ℕ × ℕ)) (i j : ℕ) → Takes s (utf8_tree runs) i j ↔ TakesChar s runs i j
 lowered_takes s runs i j =
     let any = takes_any s i j (append (ascii_forms runs) (all_wide_forms runs)) in
     let either = takes_append s i j (ascii_forms runs) (all_wide_forms runs) in (

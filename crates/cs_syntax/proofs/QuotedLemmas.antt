@@ -16,7 +16,7 @@ use Rattle.cs_syntax.specs.Escapes.{escape, escaped_tree, escaped_class, char_fr
 use Rattle.cs_syntax.specs.Items.{front, item_by}
 use Rattle.cs_syntax.specs.Signs.{sign_of}
 use Rattle.cs_syntax.specs.Reading.{Rest, levels, inside, with_unit, rest, answer, flags_at_start, Reads}
-use Rattle.cs_syntax.specs.Written.{signs, quoted, units_of}
+use Rattle.cs_syntax.specs.Written.{signs, quotation, units_of}
 use Rattle.cs_syntax.proofs.WrittenLemmas.{unit_read, plain_front, taken, left}
 use Rattle.cs_syntax.specs.declared.flags.Flags.{Flags}
 use Rattle.cs_syntax.specs.declared.sign.Sign.TheVariants.{Star, Plus, Question, Brace, Dot, Caret, Dollar, Bar, Open, Close, Class, Backslash, Wide, Plain}
@@ -138,10 +138,10 @@ lead_ends b text high =
 abbrev quoted_byte : ℕ → List ℕ
 quoted_byte b = if has signs b then 92 ∷ b ∷ [] else b ∷ []
 
-quoted_high : (bs text : List ℕ) → AllByRecursion (λ b. 128 ≤ b) bs → quoted (bs ++ text) ≡ bs ++ quoted text
+quoted_high : (bs text : List ℕ) → AllByRecursion (λ b. 128 ≤ b) bs → quotation (bs ++ text) ≡ bs ++ quotation text
 quoted_high [] text all = refl
 quoted_high (b ∷ bs) text all =
-    ap (λ t. (if t then 92 ∷ b ∷ [] else b ∷ []) ++ quoted (bs ++ text)) (high_is_no_sign b all.0)
+    ap (λ t. (if t then 92 ∷ b ∷ [] else b ∷ []) ++ quotation (bs ++ text)) (high_is_no_sign b all.0)
     ∙ ap (λ more. b ∷ more) (quoted_high bs text all.1)
 
 continue_high : (bs : List ℕ) → AllByRecursion Continues bs → AllByRecursion (λ b. 128 ≤ b) bs
@@ -153,26 +153,26 @@ continue_high (b ∷ bs) all = (high b (nat_le 128 b) refl all.0, continue_high 
     high b false h is = absurd (true≢false (sym is))
 
 module _ (c : ℕ) (low : c < 128) (text : List ℕ) where
-  quoted_low : quoted (encode_utf8 c ++ text) ≡ quoted_byte c ++ quoted text
-  quoted_low = ap (λ (bs : List ℕ). quoted (bs ++ text)) (encode_ascii c low)
+  quoted_low : quotation (encode_utf8 c ++ text) ≡ quoted_byte c ++ quotation text
+  quoted_low = ap (λ (bs : List ℕ). quotation (bs ++ text)) (encode_ascii c low)
 
 module _ (c : ℕ) (form : WideForm c) (text : List ℕ) where
   high_form : AllByRecursion (λ b. 128 ≤ b) (form.lead ∷ form.others)
   high_form = ((let leads = form.leads in omega (arith, leads)), continue_high form.others form.continue)
 
-  quoted_wide : quoted (encode_utf8 c ++ text) ≡ form.lead ∷ (form.others ++ quoted text)
-  quoted_wide = ap (λ (bs : List ℕ). quoted (bs ++ text)) form.spelled ∙ quoted_high (form.lead ∷ form.others) text high_form
+  quoted_wide : quotation (encode_utf8 c ++ text) ≡ form.lead ∷ (form.others ++ quotation text)
+  quoted_wide = ap (λ (bs : List ℕ). quotation (bs ++ text)) form.spelled ∙ quoted_high (form.lead ∷ form.others) text high_form
 
 -- what is quoted begins with no byte that continues a character
-quoted_begins : (cs : List ℕ) → prefix_len is_continuation (quoted (encode_utf8_all cs)) ≡ 0
+quoted_begins : (cs : List ℕ) → prefix_len is_continuation (quotation (encode_utf8_all cs)) ≡ 0
 quoted_begins [] = refl
 quoted_begins (c ∷ cs) = elim (cases_lt c 128) [
   | inl low ↦
       ap (prefix_len is_continuation) (quoted_low c low (encode_utf8_all cs))
-      ∙ elim (has signs c) as (λ t. prefix_len is_continuation ((if t then 92 ∷ c ∷ [] else c ∷ []) ++ quoted (encode_utf8_all cs)) ≡ 0) [ true ↦ refl | false ↦ low_ends c (quoted (encode_utf8_all cs)) low ]
+      ∙ elim (has signs c) as (λ t. prefix_len is_continuation ((if t then 92 ∷ c ∷ [] else c ∷ []) ++ quotation (encode_utf8_all cs)) ≡ 0) [ true ↦ refl | false ↦ low_ends c (quotation (encode_utf8_all cs)) low ]
   | inr high ↦
       let form : WideForm c = wide_form c high in
-      ap (prefix_len is_continuation) (quoted_wide c form (encode_utf8_all cs)) ∙ lead_ends form.lead (form.others ++ quoted (encode_utf8_all cs)) form.leads
+      ap (prefix_len is_continuation) (quoted_wide c form (encode_utf8_all cs)) ∙ lead_ends form.lead (form.others ++ quotation (encode_utf8_all cs)) form.leads
 ]
 
 -- ---- texts
@@ -222,27 +222,27 @@ module _ (flags : Flags) where
       ∙ ap (inside (with_unit (bytes_tree (encode_utf8 c)))) (skipped form.others text cs later (at + 1))
       ∙ ap (λ t. inside (with_unit t) (Units cs)) (sym (high_unit c high))
 
-  quoted_rest : (at : ℕ) (before : Before) (cs : List ℕ) → rest 0 at before [] flags (quoted (encode_utf8_all cs)) ≡ Units cs
+  quoted_rest : (at : ℕ) (before : Before) (cs : List ℕ) → rest 0 at before [] flags (quotation (encode_utf8_all cs)) ≡ Units cs
   quoted_rest at before [] = refl
   quoted_rest at before (c ∷ cs) = elim (cases_lt c 128) [
     | inl low ↦
         ap (rest 0 at before [] flags) (quoted_low c low (encode_utf8_all cs))
-        ∙ by_sign at before c cs (quoted (encode_utf8_all cs)) (has signs c) low refl (λ later. quoted_rest later Operand cs)
+        ∙ by_sign at before c cs (quotation (encode_utf8_all cs)) (has signs c) low refl (λ later. quoted_rest later Operand cs)
     | inr high ↦
         let form : WideForm c = wide_form c high in
         ap (rest 0 at before [] flags) (quoted_wide c form (encode_utf8_all cs))
-        ∙ by_form at before c cs (quoted (encode_utf8_all cs)) high form (quoted_begins cs) (λ later. quoted_rest later Operand cs)
+        ∙ by_form at before c cs (quotation (encode_utf8_all cs)) high form (quoted_begins cs) (λ later. quoted_rest later Operand cs)
   ]
 
-encoded_reads : (cs : List ℕ) (fold : Bool) → Reads (quoted (encode_utf8_all cs)) fold (sequence (units_of fold cs))
+encoded_reads : (cs : List ℕ) (fold : Bool) → Reads (quotation (encode_utf8_all cs)) fold (sequence (units_of fold cs))
 encoded_reads cs fold = ap answer (quoted_rest (flags_at_start fold) 0 Start cs)
 
 ascii_encoded : (text : List ℕ) → AllByRecursion (λ b. b < 128) text → encode_utf8_all text ≡ text
 ascii_encoded [] all = refl
 ascii_encoded (b ∷ text) all = λ i. encode_ascii b all.0 i ++ ascii_encoded text all.1 i
 
-pub ascii_reads : (text : List ℕ) (fold : Bool) → AllByRecursion (λ b. b < 128) text → Reads (quoted text) fold (sequence (units_of fold text))
-ascii_reads text fold all = subst (λ (bytes : List ℕ). Reads (quoted bytes) fold (sequence (units_of fold text))) (ascii_encoded text all) (encoded_reads text fold)
+pub ascii_reads : (text : List ℕ) (fold : Bool) → AllByRecursion (λ b. b < 128) text → Reads (quotation text) fold (sequence (units_of fold text))
+ascii_reads text fold all = subst (λ (bytes : List ℕ). Reads (quotation bytes) fold (sequence (units_of fold text))) (ascii_encoded text all) (encoded_reads text fold)
 
-pub text_reads : (text : List ℕ) (fold : Bool) → IsUtf8 text → Reads (quoted text) fold (sequence (units_of fold (chars text)))
-text_reads text fold utf8 = subst (λ (bytes : List ℕ). Reads (quoted bytes) fold (sequence (units_of fold (chars text)))) (encodes-chars text utf8) (encoded_reads (chars text) fold)
+pub text_reads : (text : List ℕ) (fold : Bool) → IsUtf8 text → Reads (quotation text) fold (sequence (units_of fold (chars text)))
+text_reads text fold utf8 = subst (λ (bytes : List ℕ). Reads (quotation bytes) fold (sequence (units_of fold (chars text)))) (encodes-chars text utf8) (encoded_reads (chars text) fold)

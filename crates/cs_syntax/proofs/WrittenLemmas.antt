@@ -14,7 +14,7 @@ use Rattle.cs_syntax.specs.Repeats.{lazy, number, counts_to, counts_from, counts
 use Rattle.cs_syntax.specs.Items.{front, item_by}
 use Rattle.cs_syntax.specs.Signs.{sign_of}
 use Rattle.cs_syntax.specs.Reading.{Group, inside, with_unit, with_repeat, at_end, rest, answer, flags_at_start, Reads, Breaks, broken}
-use Rattle.cs_syntax.specs.Written.{counted}
+use Rattle.cs_syntax.specs.Written.{counted_repeat}
 use Rattle.cs_syntax.specs.declared.repeats.Number.{Number}
 use Rattle.cs_syntax.specs.declared.repeats.Counts.{Counts}
 use Rattle.cs_syntax.specs.declared.flags.Flags.{Flags}
@@ -184,16 +184,16 @@ module _ (b n m : ℕ) (fold : Bool) (plain : sign_of b ≡ Plain) (n_small : n 
   abbrev one : Tree
   one = one_of (char_set fold b)
 
-  behind_it : rest 0 0 Start [] start (b ∷ counted n m) ≡ inside (with_unit one) (rest 0 1 Operand [] start (counted n m))
-  behind_it = unit_read 0 [] start b (counted n m) Start one 0 (plain_front start b (counted n m) plain)
+  behind_it : rest 0 0 Start [] start (b ∷ counted_repeat n m) ≡ inside (with_unit one) (rest 0 1 Operand [] start (counted_repeat n m))
+  behind_it = unit_read 0 [] start b (counted_repeat n m) Start one 0 (plain_front start b (counted_repeat n m) plain)
 
-  pub repeat_as_written : n ≤ m → m ≤ 1000 → Reads (b ∷ counted n m) fold (rep one n (Some m))
+  pub repeat_as_written : n ≤ m → m ≤ 1000 → Reads (b ∷ counted_repeat n m) fold (rep one n (Some m))
   repeat_as_written ordered few =
       ap answer (behind_it
       ∙ ap (inside (with_unit one)) (repeat_read 1 [] start 123 (tail n m n_small m_small) n (Some m) (length (tail n m n_small m_small)) (brace_front start (tail n m n_small m_small) ∙ brace_repeats n m n_small m_small ordered few)
       ∙ ap (inside (with_repeat n (Some m))) (all_skipped (tail n m n_small m_small) 2 Counted [] start)))
 
-  pub repeat_out_of_order : (n ≤ m → m ≤ 1000 → ⊥) → Breaks (b ∷ counted n m) fold BadRepeat 1
+  pub repeat_out_of_order : (n ≤ m → m ≤ 1000 → ⊥) → Breaks (b ∷ counted_repeat n m) fold BadRepeat 1
   repeat_out_of_order apart =
       ap answer (behind_it
       ∙ ap (inside (with_unit one)) (fault_read 1 [] start 123 (tail n m n_small m_small) Operand BadRepeat 0 (brace_front start (tail n m n_small m_small) ∙ brace_breaks n m n_small m_small apart)))

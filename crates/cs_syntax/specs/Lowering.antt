@@ -68,5 +68,5 @@ ascii_forms runs =
     if list_any (λ run. nat_lt run.0 128) runs then more (one_of (ascii_set runs)) none
     else none
 
-abbrev pub lowered : List (ℕ × ℕ) → Tree
-lowered runs = any_of (append (ascii_forms runs) (all_wide_forms runs))
+abbrev pub utf8_tree : List (ℕ × ℕ) → Tree
+utf8_tree runs = any_of (append (ascii_forms runs) (all_wide_forms runs))

@@ -1,7 +1,7 @@
 -- The weight of a tree, which has a limit in a pattern.
 -- docs/PATTERNS.md, "Weight".
 use Rattle.std.specs.Prelude.{ℕ, ◌+◌, ◌*◌, max, length, Option, Some, None}
-use Rattle.cs_syntax.specs.Matching.{Tree, Trees, empty, one_of, one_char, cat, alt, rep, line_start, line_end, word_edge, not_word_edge, none, more}
+use Rattle.cs_syntax.specs.Matching.{Tree, Trees, one_char, cat, alt, rep, none, more}
 
 -- the largest weight of a pattern
 abbrev pub most_weight : ℕ

@@ -51,7 +51,8 @@ impl ByteSet {
         self.words[(byte / 64) as usize] >> (byte % 64) & 1 == 1
     }
 
-    /// How many members there are.
+    /// How many members there are. The clause `bytes` bounds them for crates above, which see the list
+    /// alone.
     pub fn len(&self) -> u32
         ensures members { result ≡ count self.now }
         ensures bytes { length self.now ≡ 256 }

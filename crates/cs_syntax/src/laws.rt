@@ -5,13 +5,14 @@ ghost use Rattle.cs_syntax.specs.Characters.{is_scalar, has_char, runs_of, Takes
 ghost use Rattle.cs_syntax.specs.CharRuns.{AreRuns};
 ghost use Rattle.cs_syntax.specs.Decided.{IsDecided};
 ghost use Rattle.cs_syntax.specs.Levels.{HasLevels};
-ghost use Rattle.cs_syntax.specs.Lowering.{lowered};
+ghost use Rattle.cs_syntax.specs.Lowering.{utf8_tree};
 ghost use Rattle.cs_syntax.specs.Matching.{Tree, Takes, one_of, rep};
 ghost use Rattle.cs_syntax.specs.Choices.{StandsApart, TakesEither};
 ghost use Rattle.cs_syntax.specs.ByteSet.{char_set};
 ghost use Rattle.cs_syntax.specs.Signs.{sign_of};
 ghost use Rattle.cs_syntax.specs.Fronts.{sequence};
-ghost use Rattle.cs_syntax.specs.Written.{counted, quoted, units_of};
+ghost use Rattle.cs_syntax.specs.Repeats.{most_times};
+ghost use Rattle.cs_syntax.specs.Written.{counted_repeat, quotation, units_of};
 ghost use Rattle.std.specs.List.{AllByRecursion};
 ghost use Rattle.cs_syntax.specs.declared.sign.Sign.TheVariants.{Plain};
 ghost use Rattle.cs_syntax.specs.declared.fault.PatternFault.TheVariants.{BadRepeat};
@@ -46,18 +47,18 @@ pub fn each_open_group_has_a_level()
 /// A letter with counts behind it, as in `x{2,3}`, reads as that repeat exactly where the counts are in order and at most
 /// 1000; else it breaks behind the letter.
 pub fn counted_repeats_read_as_written()
-    ensures reads { (b n m : ℕ) (fold : Bool) → sign_of b ≡ Plain → n ≤ m → m ≤ 1000
-        → Reads (b ∷ counted n m) fold (rep (one_of (char_set fold b)) n (Some m)) }
+    ensures reads { (b n m : ℕ) (fold : Bool) → sign_of b ≡ Plain → n ≤ m → m ≤ most_times
+        → Reads (b ∷ counted_repeat n m) fold (rep (one_of (char_set fold b)) n (Some m)) }
     ensures breaks { (b n m : ℕ) (fold : Bool) → sign_of b ≡ Plain → n < 2 ^ 64 → m < 2 ^ 64
-        → (n ≤ m → m ≤ 1000 → ⊥) → Breaks (b ∷ counted n m) fold BadRepeat 1 }
+        → (n ≤ m → m ≤ most_times → ⊥) → Breaks (b ∷ counted_repeat n m) fold BadRepeat 1 }
 {}
 
 /// A quoted text reads as its characters in their order, and an ASCII text so as its bytes.
 pub fn quoted_texts_read_as_themselves()
     ensures ascii { (text : List ℕ) (fold : Bool) → AllByRecursion (λ b. b < 128) text
-        → Reads (quoted text) fold (sequence (units_of fold text)) }
+        → Reads (quotation text) fold (sequence (units_of fold text)) }
     ensures characters { (text : List ℕ) (fold : Bool) → IsUtf8 text
-        → Reads (quoted text) fold (sequence (units_of fold (chars text))) }
+        → Reads (quotation text) fold (sequence (units_of fold (chars text))) }
 {}
 
 /// A text that leaves the flags as they are, a bar and a text read as a tree that takes just what one of their two trees
@@ -78,8 +79,8 @@ pub fn runs_are_told_by_their_characters()
         → has_char (runs_of test) c ≡ (is_scalar c && test c) }
 {}
 
-/// A lowered set takes the UTF-8 forms of its members and nothing else.
+/// The tree of a set of characters takes the UTF-8 forms of its members and nothing else.
 pub fn lowering_keeps_what_is_taken()
     ensures { (line : List ℕ) (runs : List (ℕ × ℕ)) (i j : ℕ)
-        → Takes line (lowered runs) i j ↔ TakesChar line runs i j }
+        → Takes line (utf8_tree runs) i j ↔ TakesChar line runs i j }
 {}

@@ -1,7 +1,7 @@
 // Sets of characters, as trees of sets of bytes.
 ghost use Rattle.std.specs.Prelude.{ℕ, nat_lt, ◌≡◌, ◌+◌, ◌<◌, ◌≤◌, ◌^◌, ◌-◌, IfOk, OnOk};
 ghost use Rattle.std.specs.List.{list_any};
-ghost use Rattle.cs_syntax.specs.Lowering.{part, with_last_byte, forms, forms_within, wide_forms, ascii_forms, lowered, any_of};
+ghost use Rattle.cs_syntax.specs.Lowering.{part, with_last_byte, forms, forms_within, wide_forms, ascii_forms, utf8_tree, any_of};
 ghost use Rattle.cs_syntax.specs.Node.{tree_of, trees_of};
 ghost use Rattle.cs_syntax.specs.TreeList.{append};
 ghost use Rattle.cs_syntax.specs.Widths.{Fits};
@@ -14,7 +14,7 @@ use std::alloc::{AllocError, Global};
 /// The tree of sets of bytes that takes the UTF-8 forms of the members and nothing else. What the
 /// members have in common, as the last bytes of whole blocks, stands in it once.
 pub fn lower(alloc: Global, set: &CharSet) -> Result<Node, AllocError>
-    ensures { IfOk result (λ node. tree_of node ≡ lowered set.now) }
+    ensures { IfOk result (λ node. tree_of node ≡ utf8_tree set.now) }
 {
     let runs = set.runs();
     let mut trees = Vec::new(alloc);

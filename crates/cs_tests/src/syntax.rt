@@ -24,7 +24,7 @@ const FAULTS: &[(&str, PatternFault, usize)] = &[
     ("(.{1000}){9}", PatternFault::TooLarge, 0),
 ];
 
-/// Each fault of a text once; further rows are worked in `proofs/Examples.antt`.
+/// Each fault of a text once; further rows are worked in `proofs/Examples.antt` of `cs_syntax`.
 #[test]
 fn refuses_at_the_fault(rt: HostRuntime) {
     for (text, fault, at) in FAULTS {

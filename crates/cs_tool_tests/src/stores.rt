@@ -1,11 +1,8 @@
 // A store whose bytes change.
 ghost use Rattle.std.specs.Prelude.{◌≡◌, ◌≤◌, length};
 
+use crate::fixtures::ONE_FILE;
 use cs_tree::{IoFault, Store};
-
-/// The index of the file `/a/x` with `abcd` and a newline.
-pub const ROW: &[u8; 122] =
-    b"csearch index 1\n/a\0\0/a/x\0\0abc\x01\0bcd\x01\0cd\n\x01\0\xff\xff\xff\0\0\0\0\0\0\0\0\x05abc\0\0\0\x01\0\0\0\0bcd\0\0\0\x01\0\0\0\x05cd\n\0\0\0\x01\0\0\0\x0a\0\0\0\x10\0\0\0\x14\0\0\0\x1a\0\0\0\x2d\0\0\0\x35\ncsearch trailr\n";
 
 /// Bytes that are others after so many reads: then each read fails, or gives what stands in `then`.
 #[derive(Drop)]
@@ -54,10 +51,10 @@ fn fill(buf: &mut [u8], bytes: &[u8]) -> usize
     n
 }
 
-/// `ROW` until so many reads were made.
+/// `ONE_FILE` until so many reads were made.
 pub fn row_until(reads: usize, then: Option<&[u8]>) -> Changing<'_> {
     Changing {
-        first: ROW,
+        first: ONE_FILE,
         then,
         reads,
         failed: 0,

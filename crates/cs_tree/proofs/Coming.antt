@@ -2,7 +2,7 @@
 -- lists there.
 use Rattle.std.proofs.Common.{◌≡◌, ℕ, ◌+◌, ◌<◌, Bool, true, false, not, ◌||◌, cond, List, [], ◌∷◌, ◌++◌, length, map, drop, refl, sym, ap, subst, ◌∙◌, ◌⊎◌, inl, inr, eqb, nat_le, arith, append_assoc, length-append}
 use Rattle.cs_tree.specs.Covering.{Covers, itself, below, root}
-use Rattle.cs_tree.specs.Folders.{stem_of, child, lists, is_name, HasNames, IsTree}
+use Rattle.cs_tree.specs.Folders.{stem_of, child, lists, is_element, ListsElements, IsTree}
 use Rattle.std.proofs.lemmas.Bool.{cases_Bool, eqb-true, true≢false, false_from_ne_true, and_parts, and_from, or_cases, or_left, or_right, not-true}
 use Rattle.std.proofs.Math.Seq.{drop-append-add}
 use Rattle.std.specs.Prelude.{filter}
@@ -29,7 +29,7 @@ shorter_apart p q l = false_from_ne_true _ (λ h. let e : length p ≡ length q 
 
 -- ---- a child's path
 
-name_some : (name : List ℕ) → is_name name ≡ true → 0 < length name
+name_some : (name : List ℕ) → is_element name ≡ true → 0 < length name
 name_some [] h = absurd (true≢false (sym h))
 name_some (b ∷ name) h = omega arith
 
@@ -47,7 +47,7 @@ child_longer path name some =
     at_root : 0 < length name → 1 < length (slash ∷ name)
     at_root l = omega (arith, l)
 
-child_below_root : (path name : List ℕ) → is_name name ≡ true → same (child path name) (slash ∷ []) ≡ false
+child_below_root : (path name : List ℕ) → is_element name ≡ true → same (child path name) (slash ∷ []) ≡ false
 child_below_root path name good =
     false_from_ne_true _ (λ h.
     let e : length (child path name) ≡ length (slash ∷ []) = ap length (same_means (child path name) (slash ∷ []) h) in
@@ -103,7 +103,7 @@ elements-before : (first more : List ℕ) → NoSlash first → elements (first 
 elements-before first more free = elements-append first more ∙ ap (λ es. es ++ elements more) (elements-one first free)
 
 -- from a path the way to what lies under a child goes by the child's name
-pub under_child : (p m q : List ℕ) → is_name m ≡ true → covers (child p m) q ≡ true → elements_under p q ≡ m ∷ elements_under (child p m) q
+pub under_child : (p m q : List ℕ) → is_element m ≡ true → covers (child p m) q ≡ true → elements_under p q ≡ m ∷ elements_under (child p m) q
 under_child p m q good h = says (covers_says (child p m) q h)
   where
     short : length p < length (child p m)
@@ -129,7 +129,7 @@ under_child p m q good h = says (covers_says (child p m) q h)
     says (root r f e) = absurd (true≢false (sym ((bytes_decides (child p m) (slash ∷ [])).1 f) ∙ child_below_root p m good))
 
 -- what lies under a path lies under the child that its first element names
-covers_first : (p q first : List ℕ) (later : List (List ℕ)) → covers p q ≡ true → same p q ≡ false → is_name first ≡ true → elements_under p q ≡ first ∷ later → covers (child p first) q ≡ true
+covers_first : (p q first : List ℕ) (later : List (List ℕ)) → covers p q ≡ true → same p q ≡ false → is_element first ≡ true → elements_under p q ≡ first ∷ later → covers (child p first) q ≡ true
 covers_first p q first later h apart good e =
     let after = after_covers p q h apart in
     by_front after.rest (front_of after.rest) after.is (sym (under_after p q after.rest after.is apart) ∙ e)
@@ -147,23 +147,23 @@ covers_first p q first later h apart good e =
 
 -- ---- one step down
 
-listed_good : (names : List (List ℕ)) (m : List ℕ) → list_all is_name names ≡ true → list_any (λ l. same l m) names ≡ true → is_name m ≡ true
+listed_good : (names : List (List ℕ)) (m : List ℕ) → list_all is_element names ≡ true → list_any (λ l. same l m) names ≡ true → is_element m ≡ true
 listed_good [] m all h = absurd (true≢false (sym h))
 listed_good (x ∷ names) m all h =
-    let parts = and_parts (is_name x) (list_all is_name names) all in
+    let parts = and_parts (is_element x) (list_all is_element names) all in
     elim (or_cases (same x m) _ h) [
-      | inl here ↦ subst (λ n. is_name n ≡ true) (same_means x m here) parts.0
+      | inl here ↦ subst (λ n. is_element n ≡ true) (same_means x m here) parts.0
       | inr there ↦ listed_good names m parts.1 there
     ]
 
-item_good : (item : Item) (m : List ℕ) → HasNames item → lists item m ≡ true → is_name m ≡ true
-item_good (folder names unnamed) m good h = listed_good names m (and_parts (list_all is_name names) _ good.0).0 h
+item_good : (item : Item) (m : List ℕ) → ListsElements item → lists item m ≡ true → is_element m ≡ true
+item_good (folder names unnamed) m good h = listed_good names m (and_parts (list_all is_element names) _ good.0).0 h
 item_good (file bytes) m good h = absurd (true≢false (sym h))
 item_good (cut bytes) m good h = absurd (true≢false (sym h))
 item_good other m good h = absurd (true≢false (sym h))
 item_good (bad fault) m good h = absurd (true≢false (sym h))
 
-pub listed_name : (tree : Snapshot) (path name : List ℕ) → IsTree tree → lists (item_at tree path) name ≡ true → is_name name ≡ true
+pub listed_name : (tree : Snapshot) (path name : List ℕ) → IsTree tree → lists (item_at tree path) name ≡ true → is_element name ≡ true
 listed_name tree path name told h = item_good (item_at tree path) name (told path) h
 
 -- a folder that is short enough, which lists a name that is not left out
@@ -273,7 +273,7 @@ listed_same (cut bytes) m = refl
 listed_same other m = refl
 listed_same (bad fault) m = refl
 
-name_walked : (m : List ℕ) → is_name m ≡ true → is_left_out m ≡ false → is_walked m ≡ true
+name_walked : (m : List ℕ) → is_element m ≡ true → is_left_out m ≡ false → is_walked m ≡ true
 name_walked m good kept = and_from _ _ (and_parts (not (same m [])) _ good).0 (ap not kept)
 
 pub comes_unfolds : (tree : Snapshot) (p q : List ℕ) → IsTree tree → comes tree p q ≡ (same p q || comes_by tree (children p (onward tree p)) q)

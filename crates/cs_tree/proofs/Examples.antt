@@ -1,7 +1,7 @@
 -- Worked rows, by computation.
 use Rattle.std.proofs.Common.{◌≡◌, ℕ, List, true, false, [], ◌∷◌, Some, refl}
 use Rattle.std.specs.Prelude.{codes}
-use Rattle.cs_tree.specs.Told.{Taken, more, passed_on}
+use Rattle.cs_tree.specs.Told.{Taken, with_bytes, after_flush}
 use Rattle.cs_tree.specs.Taken.{TakesFront}
 use Rattle.cs_tree.specs.Memory.{nothing_taken}
 use Rattle.cs_tree.specs.Clean.{clean_path, is_clean}
@@ -72,8 +72,8 @@ flushed_once bytes flushed = record { bytes = bytes; flushed = flushed; flushes 
 front_of_a_line : TakesFront (codes "t:one\n") (Some (flushed_once (codes "s:two\n") 6)) (Some (flushed_once (codes "s:two\nt:o") 6))
 front_of_a_line = record { count = 3; grows = refl }
 
-a_line_and_a_flush : passed_on (more nothing_taken (codes "t:one\n")) ≡ flushed_once (codes "t:one\n") 6
+a_line_and_a_flush : after_flush (with_bytes nothing_taken (codes "t:one\n")) ≡ flushed_once (codes "t:one\n") 6
 a_line_and_a_flush = refl
 
-a_second_flush_is_counted : passed_on (flushed_once (codes "t") 0) ≡ record { bytes = codes "t"; flushed = 1; flushes = 2 }
+a_second_flush_is_counted : after_flush (flushed_once (codes "t") 0) ≡ record { bytes = codes "t"; flushed = 1; flushes = 2 }
 a_second_flush_is_counted = refl

@@ -1,6 +1,6 @@
 -- What a walk gathers from path to path.
 use Rattle.std.proofs.Common.{◌≡◌, ℕ, ◌<◌, ◌≤◌, Bool, true, false, not, ◌&&◌, ◌||◌, cond, List, [], ◌∷◌, ◌++◌, length, map, refl, sym, ap, subst, ◌∙◌, inl, inr, arith, Option, Some, None}
-use Rattle.cs_tree.specs.Folders.{child, name_of}
+use Rattle.cs_tree.specs.Folders.{child, last_element}
 use Rattle.std.proofs.lemmas.Bool.{true≢false}
 use Rattle.std.proofs.lemmas.List.{map-append}
 use Rattle.std.proofs.lemmas.List.Folds.{list_any-append}
@@ -108,10 +108,10 @@ gathers_one tree path seen old new shows names faults = record {
 
 -- ---- a named path
 
-reaches_kept : (tree : Snapshot) (p q : List ℕ) → is_left_out (name_of p) ≡ false → comes tree p q ≡ reaches tree p q
+reaches_kept : (tree : Snapshot) (p q : List ℕ) → is_left_out (last_element p) ≡ false → comes tree p q ≡ reaches tree p q
 reaches_kept tree p q kept = ap (λ b. covers p q && (not b && leads tree p (elements_under p q))) (sym kept)
 
-reaches_skipped : (tree : Snapshot) (p q : List ℕ) → is_left_out (name_of p) ≡ true → false ≡ reaches tree p q
+reaches_skipped : (tree : Snapshot) (p q : List ℕ) → is_left_out (last_element p) ≡ true → false ≡ reaches tree p q
 reaches_skipped tree p q skipped =
     elim (covers p q) as (λ c. false ≡ (c && false)) [ true ↦ refl | false ↦ refl ]
     ∙ ap (λ b. covers p q && (not b && leads tree p (elements_under p q))) (sym skipped)
@@ -174,10 +174,10 @@ module _ (come : Snapshot → List ℕ → List ℕ → Bool) where
       (chain_in told later (come_by paths) (λ tree. come tree path) old mid new e first second)
 
 -- where the path is left out, nothing is gathered from it
-pub skipped_in : (told : Option Snapshot) (path : List ℕ) (walked : Walked) → is_left_out (name_of path) ≡ true → GathersIn told (λ tree. reaches tree path) walked walked
+pub skipped_in : (told : Option Snapshot) (path : List ℕ) (walked : Walked) → is_left_out (last_element path) ≡ true → GathersIn told (λ tree. reaches tree path) walked walked
 skipped_in told path walked skipped = same_in told none (λ tree. reaches tree path) walked walked (λ tree q. reaches_skipped tree path q skipped) (none_in told walked)
 
-pub kept_in : (told : Option Snapshot) (path : List ℕ) (old new : Walked) → is_left_out (name_of path) ≡ false → GathersIn told (λ tree. comes tree path) old new → GathersIn told (λ tree. reaches tree path) old new
+pub kept_in : (told : Option Snapshot) (path : List ℕ) (old new : Walked) → is_left_out (last_element path) ≡ false → GathersIn told (λ tree. comes tree path) old new → GathersIn told (λ tree. reaches tree path) old new
 kept_in told path old new kept h = same_in told (λ tree. comes tree path) (λ tree. reaches tree path) old new (λ tree q. reaches_kept tree path q kept) h
 
 -- ---- counts

@@ -6,20 +6,11 @@ use Rattle.std.proofs.lemmas.Bool.{true≢false, false_from_ne_true, and_parts, 
 use Rattle.std.specs.Cmp.Lexicographic.{bytes_decides, nat_list_cmp_total}
 use Rattle.std.specs.List.{list_all}
 use Rattle.std.specs.Ordering.{is_lt}
-use Rattle.std.specs.declared.cmp.Ordering.{Ordering}
-use Rattle.std.specs.declared.cmp.Ordering.TheVariants.{Less, Equal, Greater}
 use Rattle.std.specs.Cmp.{tied_itself}
 use Rattle.std.proofs.lemmas.List.Folds.{list_all-append}
 use Rattle.cs_tree.specs.Cover.{same, is_among}
-use Rattle.cs_tree.specs.Folders.{is_name, are_distinct, are_names}
-
-less : (r : Ordering) → is_lt r ≡ true → r ≡ Less
-less Less h = refl
-less Equal h = absurd (true≢false (sym h))
-less Greater h = absurd (true≢false (sym h))
-
-chain : (a b c : List ℕ) → is_lt (bytes_cmp a b) ≡ true → is_lt (bytes_cmp b c) ≡ true → is_lt (bytes_cmp a c) ≡ true
-chain a b c h g = ap is_lt (nat_list_cmp_total.trans a b c (less _ h) (less _ g))
+use Rattle.cs_tree.specs.Folders.{is_element, are_distinct, are_elements}
+use Rattle.cs_tree.proofs.BeforeLemmas.{before_chain}
 
 apart : (a b : List ℕ) → is_lt (bytes_cmp a b) ≡ true → same b a ≡ false
 apart a b h = false_from_ne_true _ (λ tied.
@@ -30,7 +21,7 @@ none_below : (a : List ℕ) (names : List (List ℕ)) (b : List ℕ) → is_lt (
 none_below a [] b less up = ap (λ x. x || false) (apart a b less)
 none_below a (c ∷ names) b less up =
     let parts = and_parts (is_lt (bytes_cmp b c)) (are_ascending (c ∷ names)) up in
-    ap (λ x. x || is_among (c ∷ names) a) (apart a b less) ∙ none_below a names c (chain a b c less parts.0) parts.1
+    ap (λ x. x || is_among (c ∷ names) a) (apart a b less) ∙ none_below a names c (before_chain a b c less parts.0) parts.1
 
 pub ascending_distinct : (names : List (List ℕ)) → are_ascending names ≡ true → are_distinct names ≡ true
 ascending_distinct [] up = refl
@@ -56,12 +47,12 @@ passes_all test (x ∷ names) each =
     (passes_all test names (λ name there. each name (or_right (same x name) _ there)))
 
 -- the same names in order
-pub names_in_order : (old new : List (List ℕ)) → list_all is_name old ≡ true → are_ascending new ≡ true → ((name : List ℕ) → is_among new name ≡ is_among old name) → are_names new ≡ true
+pub names_in_order : (old new : List (List ℕ)) → list_all is_element old ≡ true → are_ascending new ≡ true → ((name : List ℕ) → is_among new name ≡ is_among old name) → are_elements new ≡ true
 names_in_order old new good up alike =
-    and_from (list_all is_name new) _
-    (passes_all is_name new (λ name there. passes_one is_name old name good (sym (alike name) ∙ there)))
+    and_from (list_all is_element new) _
+    (passes_all is_element new (λ name there. passes_one is_element old name good (sym (alike name) ∙ there)))
     (ascending_distinct new up)
 
 -- one more name
-pub name_pushed : (names : List (List ℕ)) (name : List ℕ) → list_all is_name names ≡ true → is_name name ≡ true → list_all is_name (names ++ name ∷ []) ≡ true
-name_pushed names name good one = list_all-append is_name names (name ∷ []) ∙ and_from (list_all is_name names) _ good (and_from (is_name name) true one refl)
+pub name_pushed : (names : List (List ℕ)) (name : List ℕ) → list_all is_element names ≡ true → is_element name ≡ true → list_all is_element (names ++ name ∷ []) ≡ true
+name_pushed names name good one = list_all-append is_element names (name ∷ []) ∙ and_from (list_all is_element names) _ good (and_from (is_element name) true one refl)

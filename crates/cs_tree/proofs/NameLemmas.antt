@@ -1,7 +1,7 @@
 -- The names that a folder lists, and those of them whose paths another path covers.
 use Rattle.std.proofs.Common.{◌≡◌, ℕ, Bool, true, false, not, ◌&&◌, ◌||◌, List, [], ◌∷◌, ◌++◌, length, map, drop, get_or, refl, sym, ap, subst, ◌∙◌, eqb, cond, inl, inr, ◌⊎◌, arith, length-append}
 use Rattle.cs_tree.specs.Covering.{Covers, itself, below, root}
-use Rattle.cs_tree.specs.Folders.{stem_of, child, is_name, are_distinct, are_names}
+use Rattle.cs_tree.specs.Folders.{stem_of, child, is_element, are_distinct, are_elements}
 use Rattle.std.proofs.lemmas.Bool.{cases_Bool, true≢false, and_parts, and_from, or_parts, or_right, not-true}
 use Rattle.std.proofs.lemmas.List.{map-append}
 use Rattle.std.proofs.lemmas.List.Folds.{list_all-append, list_any-append}
@@ -77,15 +77,15 @@ distinct-filter p (x ∷ names) h =
       | false ↦ rest
     ]
 
-pub are_names-push : (names : List (List ℕ)) (name : List ℕ) → are_names names ≡ true → is_name name ≡ true → list_any (λ listed. same listed name) names ≡ false → are_names (names ++ name ∷ []) ≡ true
-are_names-push names name h good new =
-    let parts = and_parts (list_all is_name names) (are_distinct names) h in
-    and_from _ _ (list_all-append is_name names (name ∷ []) ∙ ap (λ b. b && (is_name name && true)) parts.0 ∙ ap (λ b. b && true) good) (distinct-push names name parts.1 new)
+pub are_elements-push : (names : List (List ℕ)) (name : List ℕ) → are_elements names ≡ true → is_element name ≡ true → list_any (λ listed. same listed name) names ≡ false → are_elements (names ++ name ∷ []) ≡ true
+are_elements-push names name h good new =
+    let parts = and_parts (list_all is_element names) (are_distinct names) h in
+    and_from _ _ (list_all-append is_element names (name ∷ []) ∙ ap (λ b. b && (is_element name && true)) parts.0 ∙ ap (λ b. b && true) good) (distinct-push names name parts.1 new)
 
-pub are_names-filter : (p : List ℕ → Bool) (names : List (List ℕ)) → are_names names ≡ true → are_names (filter p names) ≡ true
-are_names-filter p names h =
-    let parts = and_parts (list_all is_name names) (are_distinct names) h in
-    and_from _ _ (list_all-filter p is_name names parts.0) (distinct-filter p names parts.1)
+pub are_elements-filter : (p : List ℕ → Bool) (names : List (List ℕ)) → are_elements names ≡ true → are_elements (filter p names) ≡ true
+are_elements-filter p names h =
+    let parts = and_parts (list_all is_element names) (are_distinct names) h in
+    and_from _ _ (list_all-filter p is_element names parts.0) (distinct-filter p names parts.1)
 
 -- ---- what a path covers of a folder's children
 
@@ -120,11 +120,11 @@ stem_covered path folder h =
     elsewhere e (inl f) = covers_from path folder (itself (f ∙ e))
     elsewhere e (inr found) = covers_from path folder (below found.0 (sym e ∙ found.1))
 
-pub name_parts : (name : List ℕ) → is_name name ≡ true → NoSlash name
+pub name_parts : (name : List ℕ) → is_element name ≡ true → NoSlash name
 name_parts name h = not-true _ (and_parts (not (list_any (λ b. eqb b slash) name)) _ (and_parts (not (same name [])) _ h).1).0
 
 -- a path that does not cover a folder covers of its children only itself
-pub covers_child : (path folder name : List ℕ) → begins (slash ∷ []) folder ≡ true → covers path folder ≡ false → is_name name ≡ true → covers path (child folder name) ≡ same (child folder name) path
+pub covers_child : (path folder name : List ℕ) → begins (slash ∷ []) folder ≡ true → covers path folder ≡ false → is_element name ≡ true → covers path (child folder name) ≡ same (child folder name) path
 covers_child path folder name rooted apart good = same_tests _ _ (λ h. says (covers_says path (child folder name) h)) (λ h. covers_from path (child folder name) (itself (sym ((bytes_decides (child folder name) path).0 h))))
   where
     says : Covers path (child folder name) → same (child folder name) path ≡ true
@@ -140,9 +140,9 @@ folder_covers_child folder name =
     ]
 
 -- what is left of a folder's names where a path is taken away
-pub names_beside : (path folder : List ℕ) (names : List (List ℕ)) → begins (slash ∷ []) folder ≡ true → covers path folder ≡ false → are_names names ≡ true → filter (λ name. not (same (child folder name) path)) names ≡ filter (λ name. not (covers path (child folder name))) names
+pub names_beside : (path folder : List ℕ) (names : List (List ℕ)) → begins (slash ∷ []) folder ≡ true → covers path folder ≡ false → are_elements names ≡ true → filter (λ name. not (same (child folder name) path)) names ≡ filter (λ name. not (covers path (child folder name))) names
 names_beside path folder names rooted apart good =
-    sym (same_filters _ _ is_name (λ name h. ap not (covers_child path folder name rooted apart h)) names (and_parts (list_all is_name names) _ good).0)
+    sym (same_filters _ _ is_element (λ name h. ap not (covers_child path folder name rooted apart h)) names (and_parts (list_all is_element names) _ good).0)
 
 pub names_below : (path folder : List ℕ) (names : List (List ℕ)) → covers path folder ≡ true → filter (λ name. not (covers path (child folder name))) names ≡ []
 names_below path folder names h = filter_none _ (λ name. ap not (covers_chain path folder (child folder name) h (folder_covers_child folder name))) names
@@ -150,11 +150,11 @@ names_below path folder names h = filter_none _ (λ name. ap not (covers_chain p
 -- ---- one more name
 
 module _ {X : Type 0} (view : X → List ℕ) where
-  pub pushed_names : (ok : Bool) (items later : List X) (x : X) (name : List ℕ) → later ≡ cond ok (items ++ x ∷ []) items → view x ≡ name → are_names (map view items) ≡ true → is_name name ≡ true → list_any (λ y. same (view y) name) items ≡ false → are_names (map view later) ≡ true
+  pub pushed_names : (ok : Bool) (items later : List X) (x : X) (name : List ℕ) → later ≡ cond ok (items ++ x ∷ []) items → view x ≡ name → are_elements (map view items) ≡ true → is_element name ≡ true → list_any (λ y. same (view y) name) items ≡ false → are_elements (map view later) ≡ true
   pushed_names true items later x name e is h good new =
-      ap (λ ys. are_names (map view ys)) e ∙ ap are_names (map-append view items (x ∷ []) ∙ ap (λ n. map view items ++ n ∷ []) is)
-      ∙ are_names-push (map view items) name h good (list_any-map view (λ listed. same listed name) items ∙ new)
-  pushed_names false items later x name e is h good new = ap (λ ys. are_names (map view ys)) e ∙ h
+      ap (λ ys. are_elements (map view ys)) e ∙ ap are_elements (map-append view items (x ∷ []) ∙ ap (λ n. map view items ++ n ∷ []) is)
+      ∙ are_elements-push (map view items) name h good (list_any-map view (λ listed. same listed name) items ∙ new)
+  pushed_names false items later x name e is h good new = ap (λ ys. are_elements (map view ys)) e ∙ h
 
   pub added_names : (items later : List X) (x : X) (name : List ℕ) → later ≡ items ++ x ∷ [] → view x ≡ name → list_any (λ y. same (view y) name) items ≡ false → map view later ≡ cond (list_any (λ listed. same listed name) (map view items)) (map view items) (map view items ++ name ∷ [])
   added_names items later x name e is new =

@@ -1,6 +1,6 @@
 -- The items of a tree in memory, and its snapshot.
 use Rattle.std.proofs.Common.{◌≡◌, ℕ, zero, suc, ◌+◌, ◌<◌, ◌≤◌, Bool, true, false, not, cond, List, [], ◌∷◌, ◌++◌, length, map, set, take, drop, add-one, get_or, refl, sym, ap, subst, ◌∙◌, inl, inr, Option, Some, None, Ok, arith, length-take}
-use Rattle.cs_tree.specs.Folders.{HasNames, IsTree}
+use Rattle.cs_tree.specs.Folders.{ListsElements, IsTree}
 use Rattle.cs_tree.specs.NameOrder.{bytes_cmp}
 use Rattle.cs_tree.specs.Transfers.{ReadGives}
 use Rattle.std.proofs.lemmas.Bool.{true≢false, ltb-true, ltb-false, or_cases, or_left, or_right}
@@ -217,23 +217,23 @@ all_text : (names : List (String Global)) → AllByRecursion IsUtf8 (map string_
 all_text [] = tt
 all_text (name ∷ names) = (IsUtf8-string_bytes name, all_text names)
 
-item_names : (item : StoredItem) → HasNames (item_of item)
+item_names : (item : StoredItem) → ListsElements (item_of item)
 item_names (Folder names) = (names.named, all_text names.list.items)
 item_names (File bytes) = tt
 item_names (Cut bytes) = tt
 item_names Other = tt
 item_names Denied = tt
 
-found_names : (items : List Stored) (path : List ℕ) → HasNames (unwrap_or (find bytes_cmp path (map pair_of items)) (bad missing))
+found_names : (items : List Stored) (path : List ℕ) → ListsElements (unwrap_or (find bytes_cmp path (map pair_of items)) (bad missing))
 found_names [] path = tt
 found_names (x ∷ items) path = by_test (eq_by_cmp bytes_cmp path (string_bytes x.path)) (found_names items path)
   where
-    by_test : (b : Bool) → HasNames (unwrap_or (find bytes_cmp path (map pair_of items)) (bad missing)) → HasNames (unwrap_or (cond b (Some (item_of x.item)) (find bytes_cmp path (map pair_of items))) (bad missing))
+    by_test : (b : Bool) → ListsElements (unwrap_or (find bytes_cmp path (map pair_of items)) (bad missing)) → ListsElements (unwrap_or (cond b (Some (item_of x.item)) (find bytes_cmp path (map pair_of items))) (bad missing))
     by_test true rest = item_names x.item
     by_test false rest = rest
 
 pub items_tell : (items : List Stored) → IsTree (snapshot_of items)
-items_tell items path = subst (λ o. HasNames (unwrap_or o (bad missing))) (sym (get-snapshot_of items path)) (found_names items path)
+items_tell items path = subst (λ o. ListsElements (unwrap_or o (bad missing))) (sym (get-snapshot_of items path)) (found_names items path)
 
 -- ---- a tree with the root alone
 

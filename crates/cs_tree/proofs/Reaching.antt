@@ -1,6 +1,6 @@
 -- What is reached is a named path, or what a folder that is reached lists.
 use Rattle.std.proofs.Common.{◌≡◌, ℕ, true, false, not, List, [], ◌∷◌, drop, refl, sym, ap, subst, ◌∙◌, inl, inr}
-use Rattle.cs_tree.specs.Folders.{child, lists, IsTree, name_of}
+use Rattle.cs_tree.specs.Folders.{child, lists, IsTree, last_element}
 use Rattle.cs_tree.specs.PathSet.{Paths}
 use Rattle.std.proofs.lemmas.Bool.{and_parts, and_from, not-true, leb-true, le-leb}
 use Rattle.std.specs.Prelude.{◌↔◌}
@@ -49,14 +49,14 @@ led_on tree paths (x ∷ es) p q told e h reached =
 record From (tree : Snapshot) (paths : Paths) (name : List ℕ) : Type 0 where
   path : List ℕ
   member : set.contains paths path ≡ true
-  kept : is_left_out (name_of path) ≡ false
+  kept : is_left_out (last_element path) ≡ false
   leads_on : comes tree path name ≡ true
 
 reached_from : (tree : Snapshot) (paths : Paths) (name : List ℕ) → is_reached tree paths name ≡ true → From tree paths name
 reached_from tree paths name h =
     let some = some_member paths (λ p. reaches tree p name) h in
     let over = and_parts (covers some.path name) _ some.passes in
-    let kept = and_parts (not (is_left_out (name_of some.path))) _ over.1 in
+    let kept = and_parts (not (is_left_out (last_element some.path))) _ over.1 in
     record { path = some.path; member = some.member; kept = not-true _ kept.0; leads_on = and_from _ _ over.0 kept.1 }
 
 from_reached : (tree : Snapshot) (paths : Paths) (name : List ℕ) → From tree paths name → is_reached tree paths name ≡ true

@@ -10,8 +10,7 @@ use Rattle.std.specs.List.Sorted.{IsPermutation, IsSorted, IsStrictlySortedBy, I
 use Rattle.std.specs.Ordering.{eq_by_cmp, is_lt, is_eq, nat_cmp, ordering_reverse}
 use Rattle.std.specs.Cmp.{both_ways as same_tests, IsEquivalence}
 use Rattle.std.specs.Cmp.Lexicographic.{bytes_decides, pointwise, slice_cmp, nat_list_cmp_total, on_texts, on_texts_equal, texts_ties}
-use Rattle.std.specs.declared.cmp.Ordering.{Ordering}
-use Rattle.std.specs.declared.cmp.Ordering.TheVariants.{Less, Equal, Greater}
+use Rattle.std.specs.declared.cmp.Ordering.TheVariants.{Less}
 use Rattle.std.specs.Option.{MatchOption}
 use Rattle.std.specs.FinMap as map'
 use Rattle.std.specs.FinMap.{find, entries_sorted}
@@ -31,6 +30,7 @@ use Rattle.cs_tree.specs.PathSet as set
 use Rattle.std.proofs.lemmas.Str.Pattern.{NoCharPasses-char}
 use Rattle.cs_tree.proofs.Covering.{begins_rest, begins_at, covers_says}
 use Rattle.cs_tree.proofs.Splitting.{NoSlash, no_slash, no_slash_parts, LastSlash, rsplit_says}
+use Rattle.cs_tree.proofs.BeforeLemmas.{less_from}
 use Rattle.cs_tree.proofs.Sets.{alike, tied_is, same_set, items_in_order, contains_retained}
 
 -- ---- sets of paths as lists
@@ -59,11 +59,6 @@ items-from_list ys h = items_in_order ys (subst T (sym (is_sorted-marked ys h)) 
 true_from_T : (b : Bool) → T b → b ≡ true
 true_from_T true h = refl
 true_from_T false h = absurd h
-
-less_from : (o : Ordering) → is_lt o ≡ true → o ≡ Less
-less_from Less h = refl
-less_from Equal h = absurd (true≢false (sym h))
-less_from Greater h = absurd (true≢false (sym h))
 
 below-keys : (x : List ℕ) (es : List (List ℕ × Unit {0})) → below_all bytes_cmp x es ≡ true → AllByRecursion (λ y. bytes_cmp x y ≡ Less) (map (λ (e : List ℕ × Unit {0}). e.0) es)
 below-keys x [] h = tt

@@ -1,6 +1,6 @@
 -- Paths taken apart at their slashes.
 use lib.Utf8.{encode}
-use Rattle.cs_tree.specs.Folders.{stem_of, child, is_name, name_of}
+use Rattle.cs_tree.specs.Folders.{stem_of, child, is_element, last_element}
 use Rattle.cs_tree.specs.Pieces.{onto_first}
 use Rattle.std.proofs.Common.{◌≡◌, ◌≢◌, ℕ, zero, suc, ◌+◌, ◌-◌, ◌<◌, Bool, true, false, not, ◌&&◌, ◌||◌, List, [], ◌∷◌, ◌++◌, length, take, drop, get_or, refl, sym, ap, subst, ◌∙◌, eqb, cond, Option, Some, None, Bor, inl, inr, arith, length-append, take-append-drop}
 use Rattle.std.proofs.lemmas.Bool.{false_from_ne_true, true≢false, and_parts, and_from, or_cases, or_parts, or_left, eqb-true, ne_eqb}
@@ -132,9 +132,9 @@ from_end front name h =
     (λ _. ap (λ b. not (eqb b slash)) (ap (λ j. get_or (front ++ slash ∷ name) j 0) {x = length front + 1 - 1} {y = length front + 0} (omega arith) ∙ get_or-append-add front (slash ∷ name) 0 0))
 
 -- the parts are the words of specs/Snapshot.antt
-pub name_of-last : (path front name : List ℕ) → LastSlash path front name → name_of path ≡ name
-name_of-last path front name h =
-    ap name_of h.whole
+pub last_element-last : (path front name : List ℕ) → LastSlash path front name → last_element path ≡ name
+last_element-last path front name h =
+    ap last_element h.whole
     ∙ ap (λ n. drop n (front ++ slash ∷ name)) (let far = from_end front name h.last in let long = length-append front (slash ∷ name) in rest far long)
     ∙ drop-append-add front (slash ∷ name) 1
   where
@@ -222,11 +222,11 @@ proper_some : (name : List ℕ) → is_proper name ≡ true → same name [] ≡
 proper_some [] h = absurd (true≢false (sym h))
 proper_some (b ∷ name) h = refl
 
-pub clean_name : (path : List ℕ) → is_proper_path path ≡ true → has_nul path ≡ false → is_name (name_of path) ≡ true
+pub clean_name : (path : List ℕ) → is_proper_path path ≡ true → has_nul path ≡ false → is_element (last_element path) ≡ true
 clean_name path clean plain =
     let found = some_slash path (clean_slash path clean) in
     let good = clean_last path found.0 found.1 found.2 clean in
-    ap is_name (name_of-last path found.0 found.1 found.2)
+    ap is_element (last_element-last path found.0 found.1 found.2)
     ∙ and_from _ _ (ap not (proper_some found.1 good))
     (and_from _ _ (ap not found.2.last) (ap not (no_nul found.0 found.1 (sym (ap has_nul found.2.whole) ∙ plain))))
   where

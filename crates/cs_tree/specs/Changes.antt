@@ -1,6 +1,6 @@
 -- What putting an item into a tree and taking a path away change. docs/FORMAT.md, "Paths and names".
 use Rattle.std.specs.Prelude.{ℕ, Bool, true, false, not, ◌&&◌, ◌||◌, nat_eq, cond, if◌then◌else◌, List, [], ◌∷◌, ◌++◌, Option, None, option_map, filter, length}
-use Rattle.cs_tree.specs.Folders.{child, name_of}
+use Rattle.cs_tree.specs.Folders.{child, last_element}
 use Rattle.std.specs.List.{before_last}
 use Rattle.std.specs.FinMap as map
 use Rattle.cs_tree.specs.Cover.{slash, same, is_among, covers}
@@ -39,7 +39,7 @@ with_name tree path name = map.insert tree path (listing name (item_at tree path
 -- over a folder changes nothing there
 abbrev pub with_item : Snapshot → List ℕ → Item → Snapshot
 with_item tree path item =
-    let listed = with_name tree (parent_of path) (name_of path) in
+    let listed = with_name tree (parent_of path) (last_element path) in
     if is_folder (item_at tree path) && is_folder item then listed else map.insert listed path item
 
 -- the names of a folder that are left where it no longer lists what the path covers

@@ -2,16 +2,20 @@
 -- docs/PROMISES.md, "Sources and sinks".
 use Rattle.std.specs.Prelude.{◌≡◌, ◌⊎◌, ℕ, ◌+◌, Bool, true, false, nat_lt, if◌then◌else◌}
 
+-- the largest count
+abbrev pub most_failures : ℕ
+most_failures = 18446744073709551615
+
 -- the count after one more failure
-abbrev pub risen : ℕ → ℕ
-risen n = if nat_lt n 18446744073709551615 then n + 1 else n
+abbrev pub next_count : ℕ → ℕ
+next_count n = if nat_lt n most_failures then n + 1 else n
 
 -- the count after a call that has failed, or has not
 abbrev pub count_if : Bool → ℕ → ℕ
-count_if true n = risen n
+count_if true n = next_count n
 count_if false n = n
 
 -- the counts of two outputs, after an answer that says whether a call of one of them has failed
 abbrev pub CountsOne : Bool → ℕ → ℕ → ℕ → ℕ → Type 0
-CountsOne true out out' err err' = ((out' ≡ risen out) × (err' ≡ err)) ⊎ ((out' ≡ out) × (err' ≡ risen err))
+CountsOne true out out' err err' = ((out' ≡ next_count out) × (err' ≡ err)) ⊎ ((out' ≡ out) × (err' ≡ next_count err))
 CountsOne false out out' err err' = (out' ≡ out) × (err' ≡ err)

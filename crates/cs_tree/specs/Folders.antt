@@ -19,24 +19,24 @@ lists (folder names unnamed) name = is_among names name
 lists _ name = false
 
 -- whether a name is not empty, and has no `/` and no NUL
-abbrev pub is_name : List ℕ → Bool
-is_name name = not (same name []) && (not (list_any (λ b. nat_eq b slash) name) && not (list_any (λ b. nat_eq b 0) name))
+abbrev pub is_element : List ℕ → Bool
+is_element name = not (same name []) && (not (list_any (λ b. nat_eq b slash) name) && not (list_any (λ b. nat_eq b 0) name))
 
 abbrev pub are_distinct : List (List ℕ) → Bool
 are_distinct [] = true
 are_distinct (name ∷ names) = not (is_among names name) && are_distinct names
 
 -- whether a folder may list these
-abbrev pub are_names : List (List ℕ) → Bool
-are_names names = list_all is_name names && are_distinct names
+abbrev pub are_elements : List (List ℕ) → Bool
+are_elements names = list_all is_element names && are_distinct names
 
-abbrev pub HasNames : Item → Type 0
-HasNames (folder names unnamed) = (are_names names ≡ true) × AllByRecursion IsUtf8 names
-HasNames _ = Unit {0}
+abbrev pub ListsElements : Item → Type 0
+ListsElements (folder names unnamed) = (are_elements names ≡ true) × AllByRecursion IsUtf8 names
+ListsElements _ = Unit {0}
 
 -- Each folder lists distinct names, and each of them is text that is not empty, without `/` and NUL.
 abbrev pub IsTree : Snapshot → Type 0
-IsTree tree = (path : List ℕ) → HasNames (item_at tree path)
+IsTree tree = (path : List ℕ) → ListsElements (item_at tree path)
 
 -- what is told is a tree
 abbrev pub Tells : Option Snapshot → Type 0
@@ -44,5 +44,5 @@ Tells None = ⊥
 Tells (Some tree) = IsTree tree
 
 -- the name under which a path is listed: what follows its last slash
-abbrev pub name_of : List ℕ → List ℕ
-name_of path = after_last (λ b. nat_eq b slash) path
+abbrev pub last_element : List ℕ → List ℕ
+last_element path = after_last (λ b. nat_eq b slash) path

@@ -1,7 +1,7 @@
 -- What a walk of a tree finds: what it comes to from the paths that it is given, by names that are
 -- listed and not left out. docs/FORMAT.md, "Paths and names".
 use Rattle.std.specs.Prelude.{ℕ, ◌+◌, Bool, true, false, not, ◌&&◌, ◌||◌, nat_eq, nat_le, cond, if◌then◌else◌, List, [], ◌∷◌, length, drop, Option, None, option_map, filter_map}
-use Rattle.cs_tree.specs.Folders.{child, lists, name_of}
+use Rattle.cs_tree.specs.Folders.{child, lists, last_element}
 use Rattle.cs_tree.specs.PathSet.{Paths}
 use Rattle.cs_tree.specs.NameOrder.{bytes_cmp}
 use Rattle.std.specs.List.{list_any}
@@ -36,7 +36,7 @@ leads tree at (name ∷ names) =
     not (is_left_out name) && (nat_le (length at) longest_path && (lists (item_at tree at) name && leads tree (child at name) names))
 
 abbrev pub reaches : Snapshot → List ℕ → List ℕ → Bool
-reaches tree path name = covers path name && (not (is_left_out (name_of path)) && leads tree path (elements_under path name))
+reaches tree path name = covers path name && (not (is_left_out (last_element path)) && leads tree path (elements_under path name))
 
 -- whether a walk from the paths comes to the name
 abbrev pub is_reached : Snapshot → Paths → List ℕ → Bool

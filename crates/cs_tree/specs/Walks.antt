@@ -3,7 +3,7 @@
 use Rattle.std.specs.Prelude.{◌≡◌, ◌≤◌, ℕ, Bool, true, false, ◌&&◌, nat_le, if◌then◌else◌, List, [], ◌∷◌, map, length, Option, Some, None, String, string_bytes}
 use Rattle.cs_tree.specs.FailureCount.{HasFailed}
 use Rattle.cs_tree.specs.TreeAnswers.{fault_of}
-use Rattle.cs_tree.specs.Folders.{child, lists, IsTree, name_of}
+use Rattle.cs_tree.specs.Folders.{child, lists, IsTree, last_element}
 use Rattle.cs_tree.specs.PathSet.{Paths}
 use Rattle.cs_tree.specs.NamesAscending.{are_ascending}
 use Rattle.std.specs.List.{AllByRecursion}
@@ -23,7 +23,7 @@ use Rattle.cs_tree.specs.declared.walking.WalkFault.TheVariants.{Tree, Unnamed, 
 -- A walk comes to each of its paths whose last element is not left out, and to what it finds listed in a
 -- folder that it comes to, unless the name is left out or the folder's path is too long.
 pub data Reached (tree : Snapshot) (paths : Paths) : List ℕ → Type 0 where
-  named : (path : List ℕ) → set.contains paths path ≡ true → is_left_out (name_of path) ≡ false → Reached tree paths path
+  named : (path : List ℕ) → set.contains paths path ≡ true → is_left_out (last_element path) ≡ false → Reached tree paths path
   listed : (path name : List ℕ) → Reached tree paths path → length path ≤ longest_path → lists (item_at tree path) name ≡ true → is_left_out name ≡ false → Reached tree paths (child path name)
 
 -- ---- what is found

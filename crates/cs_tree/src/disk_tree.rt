@@ -2,7 +2,7 @@
 ghost use Rattle.std.specs.Prelude.{◌≡◌, ◌≤◌, ◌≢◌, ℕ, [], IfOk, IfErr, OnOk, length, map, string_bytes, true, None};
 ghost use Rattle.std.specs.IoError.{error_kind};
 ghost use Rattle.std.specs.List.{list_all};
-ghost use Rattle.cs_tree.specs.Folders.{is_name as is_name', are_names};
+ghost use Rattle.cs_tree.specs.Folders.{is_element as is_element', are_elements};
 ghost use Rattle.cs_tree.specs.FailureCount.{count_after};
 ghost use Rattle.cs_tree.specs.Trees.{is_tree_failure, names_told, IsReadFault};
 
@@ -10,7 +10,7 @@ use crate::again::{gave_up, is_interrupted, read_again};
 use crate::disk_store::DiskStore;
 use crate::fault::{TreeFault, counted_answer};
 use crate::ordering::order_names;
-use crate::paths::is_name;
+use crate::paths::is_element;
 use crate::tree::{Kind, Listing, Tree};
 use std::alloc::Global;
 use std::fs::{DirEntry, Metadata, OpenFile};
@@ -185,7 +185,7 @@ fn list_folder<R: Files + AllocGlobal + Clone + Drop>(
     rt: &R,
     path: &str,
 ) -> io::Result<Listing>
-    ensures names { IfOk result (λ listing. are_names (names_told listing) ≡ true) }
+    ensures names { IfOk result (λ listing. are_elements (names_told listing) ≡ true) }
     ensures again { IfErr result (λ error. error_kind error ≢ ErrorKind.Interrupted) }
 {
     'tries: for _ in 0..u64::MAX {
@@ -202,7 +202,7 @@ fn list_once<R: Files + AllocGlobal + Clone + Drop>(
     rt: &R,
     path: &str,
 ) -> io::Result<Listing>
-    ensures { IfOk result (λ listing. are_names (names_told listing) ≡ true) }
+    ensures { IfOk result (λ listing. are_elements (names_told listing) ≡ true) }
 {
     let mut listing = Listing {
         names: Vec::new(alloc),
@@ -222,11 +222,11 @@ fn list_entry<R: Files + AllocGlobal + Clone + Drop>(
     listing: &mut Listing,
     entry: io::Result<DirEntry<R, Global>>,
 ) -> io::Result<()>
-    requires { list_all is_name' (names_told listing.old) ≡ true }
-    ensures { OnOk result (list_all is_name' (names_told listing.new) ≡ true) }
+    requires { list_all is_element' (names_told listing.old) ≡ true }
+    ensures { OnOk result (list_all is_element' (names_told listing.new) ≡ true) }
 {
     match entry {
-        Ok(entry) if is_name(entry.file_name()) => {
+        Ok(entry) if is_element(entry.file_name()) => {
             listing
                 .names
                 .push(String::from_str(alloc, entry.file_name())?)?;

@@ -1,8 +1,8 @@
 // A tree of which one call fails.
 ghost use Rattle.std.specs.Prelude.{◌≡◌, ◌≢◌, ◌≤◌, ◌-◌, ℕ, Option, None, IfOk, IfErr, Ok, Err, length, true, nat_eq};
 ghost use Rattle.cs_tree.specs.FailureCount.{count_after};
-ghost use Rattle.cs_tree.specs.Folders.{are_names};
-ghost use Rattle.cs_tree.specs.Fuses.{Blows};
+ghost use Rattle.cs_tree.specs.Folders.{are_elements};
+ghost use Rattle.cs_tree.specs.Fuses.{Blows, calls_left, inner_tree};
 ghost use Rattle.cs_tree.specs.Trees.{Answers, Opens, TreeReadGives, IsReadFault, is_tree_failure, kind_of, listing_of, listing_told, names_told};
 
 use crate::fault::{TreeFault, counted_answer};
@@ -21,8 +21,8 @@ impl<T: Tree + Drop> FuseTree<T> {
     /// The `k`th call answers `Failed`, counted from 1 over `kind`, `entries`, `open` and `read`, and never
     /// reaches the tree. With 0 none does. Takes no memory.
     pub fn new(inner: T, k: u64) -> FuseTree<T>
-        ensures left { result.left ≡ k }
-        ensures inner { result.inner ≡ inner }
+        ensures left { calls_left result ≡ k }
+        ensures inner { inner_tree result ≡ inner }
         ensures failed { ⟦<FuseTree<T> as Tree>⟧.failed result ≡ 0 }
     {
         FuseTree {
@@ -34,9 +34,9 @@ impl<T: Tree + Drop> FuseTree<T> {
 
     /// Counts one more call. Whether it is the one that fails.
     fn blows(&mut self) -> bool
-        ensures blows { result ≡ nat_eq self.old.left 1 }
-        ensures left { self.new.left ≡ self.old.left - 1 }
-        ensures inner { self.new.inner ≡ self.old.inner }
+        ensures blows { result ≡ nat_eq (calls_left self.old) 1 }
+        ensures left { calls_left self.new ≡ calls_left self.old - 1 }
+        ensures inner { inner_tree self.new ≡ inner_tree self.old }
         ensures failed { self.new.failed ≡ self.old.failed }
     {
         let blows = self.left == 1;
@@ -49,9 +49,9 @@ impl<T: Tree + Drop> Tree for FuseTree<T> {
     ghost failed = { λ t. t.failed };
 
     fn kind(&mut self, path: &str) -> Result<Kind, TreeFault>
-        ensures blows { Blows self.old.left result self.old.inner self.new.inner
-            (Answers (λ kind. kind) (T.snapshot self.old.inner) kind_of path.now result) }
-        ensures left { self.new.left ≡ self.old.left - 1 }
+        ensures blows { Blows self.old self.new result
+            (Answers (λ kind. kind) (T.snapshot (inner_tree self.old)) kind_of path.now result) }
+        ensures left { calls_left self.new ≡ calls_left self.old - 1 }
         ensures failed { ⟦<FuseTree<T> as Tree>⟧.failed self.new
             ≡ count_after is_tree_failure result (⟦<FuseTree<T> as Tree>⟧.failed self.old) }
     {
@@ -64,10 +64,10 @@ impl<T: Tree + Drop> Tree for FuseTree<T> {
     }
 
     fn entries(&mut self, alloc: Global, path: &str) -> Result<Listing, TreeFault>
-        ensures blows { Blows self.old.left result self.old.inner self.new.inner
-            (Answers listing_told (T.snapshot self.old.inner) listing_of path.now result) }
-        ensures names { IfOk result (λ listing. are_names (names_told listing) ≡ true) }
-        ensures left { self.new.left ≡ self.old.left - 1 }
+        ensures blows { Blows self.old self.new result
+            (Answers listing_told (T.snapshot (inner_tree self.old)) listing_of path.now result) }
+        ensures names { IfOk result (λ listing. are_elements (names_told listing) ≡ true) }
+        ensures left { calls_left self.new ≡ calls_left self.old - 1 }
         ensures failed { ⟦<FuseTree<T> as Tree>⟧.failed self.new
             ≡ count_after is_tree_failure result (⟦<FuseTree<T> as Tree>⟧.failed self.old) }
     {
@@ -80,9 +80,10 @@ impl<T: Tree + Drop> Tree for FuseTree<T> {
     }
 
     fn open(&mut self, path: &str) -> Result<(), TreeFault>
-        ensures blows { Blows self.old.left result self.old.inner self.new.inner
-            (Opens (T.snapshot self.old.inner) path.now result (T.opened self.new.inner)) }
-        ensures left { self.new.left ≡ self.old.left - 1 }
+        ensures blows { Blows self.old self.new result
+            (Opens (T.snapshot (inner_tree self.old)) path.now result
+            (T.opened (inner_tree self.new))) }
+        ensures left { calls_left self.new ≡ calls_left self.old - 1 }
         ensures failed { ⟦<FuseTree<T> as Tree>⟧.failed self.new
             ≡ count_after is_tree_failure result (⟦<FuseTree<T> as Tree>⟧.failed self.old) }
     {
@@ -97,10 +98,10 @@ impl<T: Tree + Drop> Tree for FuseTree<T> {
     fn read(&mut self, buf: &mut [u8]) -> Result<usize, TreeFault>
         ensures within { IfOk result (λ n. n ≤ length buf.new) }
         ensures fault { IfErr result IsReadFault }
-        ensures blows { Blows self.old.left result self.old.inner self.new.inner
-            (TreeReadGives (T.snapshot self.old.inner)
-            (T.opened self.old.inner) (T.opened self.new.inner) result buf.new) }
-        ensures left { self.new.left ≡ self.old.left - 1 }
+        ensures blows { Blows self.old self.new result
+            (TreeReadGives (T.snapshot (inner_tree self.old))
+            (T.opened (inner_tree self.old)) (T.opened (inner_tree self.new)) result buf.new) }
+        ensures left { calls_left self.new ≡ calls_left self.old - 1 }
         ensures failed { ⟦<FuseTree<T> as Tree>⟧.failed self.new
             ≡ count_after is_tree_failure result (⟦<FuseTree<T> as Tree>⟧.failed self.old) }
     {

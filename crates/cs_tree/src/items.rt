@@ -1,7 +1,7 @@
 // The items of a tree in memory.
 ghost use Rattle.std.specs.Prelude.{◌≡◌, ◌≢◌, ◌<◌, ◌∷◌, [], string_bytes, true, false, ◌&&◌, ◌||◌, not, ℕ, Option, Some, None, Ok, Err, MatchOption, MatchResult, OnOk, OnErr, map, filter, vec_len, vec_capacity, IfOk};
 ghost use Rattle.cs_tree.specs.TreeAnswers.{opening_of};
-ghost use Rattle.cs_tree.specs.Folders.{is_name, are_names};
+ghost use Rattle.cs_tree.specs.Folders.{is_element, are_elements};
 ghost use Rattle.std.specs.List.{list_any};
 ghost use Rattle.std.specs.FinMap as map';
 ghost use Rattle.cs_tree.specs.Snapshot.{item_at};
@@ -117,7 +117,7 @@ pub(crate) fn kind_at(items: &[Stored], path: &str) -> Result<Kind, TreeFault>
 pub(crate) fn listing_at(alloc: Global, items: &[Stored], path: &str) -> Result<Listing, TreeFault>
     ensures answer { OrMemory (answered listing_told result)
         (listing_of (item_at (snapshot_of items.now) path.now)) }
-    ensures names { IfOk result (λ listing. are_names (names_told listing) ≡ true) }
+    ensures names { IfOk result (λ listing. are_elements (names_told listing) ≡ true) }
 {
     match find_item(items, path) {
         Some(StoredItem::Folder(names)) => Ok(Listing {
@@ -151,7 +151,7 @@ pub(crate) fn list_in(
     folder: &str,
     name: &str,
 ) -> Result<(), AllocError>
-    requires name { is_name name.now ≡ true }
+    requires name { is_element name.now ≡ true }
     requires folder { is_folder' (item_at (snapshot_of items.old.items) folder.now) ≡ true }
     ensures ok { OnOk result (snapshot_of items.new.items
         ≡ with_name (snapshot_of items.old.items) folder.now name.now) }

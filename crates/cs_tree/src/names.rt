@@ -1,6 +1,6 @@
 // The names that a folder in memory lists.
 ghost use Rattle.std.specs.Prelude.{◌≡◌, ◌++◌, [], ◌∷◌, true, not, map, filter, string_bytes, length, nat_eq, OnOk, OnErr, IfOk, if◌then◌else◌};
-ghost use Rattle.cs_tree.specs.Folders.{is_name};
+ghost use Rattle.cs_tree.specs.Folders.{is_element};
 ghost use Rattle.std.specs.List.{list_any};
 ghost use Rattle.cs_tree.specs.Cover.{same, begins, slash};
 ghost use Rattle.cs_tree.specs.Changes.{names_with, names_left};
@@ -34,7 +34,7 @@ impl Names {
 
     /// Lists the name, unless it does already.
     pub(crate) fn add(&mut self, alloc: Global, name: &str) -> Result<(), AllocError>
-        requires { is_name name.now ≡ true }
+        requires { is_element name.now ≡ true }
         ensures ok { OnOk result (listed_names self.new
             ≡ names_with name.now (listed_names self.old)) }
         ensures err { OnErr result (listed_names self.new ≡ listed_names self.old) }

@@ -1,7 +1,7 @@
 // What a path covers, and the elements of a path.
 ghost use Rattle.std.specs.Prelude.{◌≡◌, ◌≢◌, ◌++◌, ◌∷◌, [], true, false, MatchOption, IsTrue, ◌↔◌, List, ℕ, length, ◌<◌, ◌&&◌, not, nat_eq};
 ghost use Rattle.cs_tree.specs.Covering.{ends_element as ends_element'};
-ghost use Rattle.cs_tree.specs.Folders.{stem_of, child, name_of, is_name as is_name'};
+ghost use Rattle.cs_tree.specs.Folders.{stem_of, child, last_element, is_element as is_element'};
 ghost use Rattle.std.specs.List.{list_any};
 ghost use Rattle.cs_tree.specs.Cover.{covers as covers', same, begins, slash};
 ghost use Rattle.cs_tree.specs.Changes.{parent_of};
@@ -102,8 +102,8 @@ pub(crate) fn has_nul(text: &str) -> bool
 }
 
 /// Whether a folder may list the name: it is not empty, and has no `/` and no NUL.
-pub(crate) fn is_name(name: &str) -> bool
-    ensures { result ≡ is_name' name.now }
+pub(crate) fn is_element(name: &str) -> bool
+    ensures { result ≡ is_element' name.now }
 {
     !name.is_empty() && !has_slash(name) && !has_nul(name)
 }
@@ -118,7 +118,7 @@ fn has_slash(text: &str) -> bool
 pub(crate) fn split_name(path: &str) -> Option<(&str, &str)>
     ensures { MatchOption result
         (is_clean' path.now ≡ false)
-        (λ parts. (parts.0.now ≡ parent_of path.now) × (parts.1.now ≡ name_of path.now)) }
+        (λ parts. (parts.0.now ≡ parent_of path.now) × (parts.1.now ≡ last_element path.now)) }
 {
     let Some((front, name)) = path.rsplit_once('/') else {
         return None;

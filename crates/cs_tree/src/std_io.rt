@@ -30,6 +30,7 @@ pub struct StdSource<R: Drop> {
 }
 
 impl<R: Read + Drop> StdSource<R> {
+    /// The reader, of which no read has failed yet. Takes no memory.
     pub fn new(inner: R) -> StdSource<R>
         ensures { ⟦<StdSource<R> as Source>⟧.failed result ≡ 0 }
     {
@@ -68,6 +69,7 @@ pub struct StdSink<W: Drop> {
 }
 
 impl<W: Write + Drop> StdSink<W> {
+    /// The writer, of which no call has failed yet. Takes no memory.
     pub fn new(inner: W) -> StdSink<W>
         ensures { ⟦<StdSink<W> as Sink>⟧.failed result ≡ 0 }
     {

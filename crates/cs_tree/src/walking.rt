@@ -1,6 +1,6 @@
 // What stands below paths.
 ghost use Rattle.std.specs.Prelude.{◌≡◌, ◌≢◌, ◌≤◌, ◌++◌, ℕ, List, true, map, string_bytes, OnOk, IfOk, MatchResult, Contains, ◌<◌, ◌^◌, length};
-ghost use Rattle.cs_tree.specs.Folders.{child, name_of};
+ghost use Rattle.cs_tree.specs.Folders.{child, last_element as last_element'};
 ghost use Rattle.cs_tree.specs.Clean.{longest_path};
 ghost use Rattle.cs_tree.specs.NamesAscending.{are_ascending};
 ghost use Rattle.cs_tree.specs.Trees.{AsksWithin};
@@ -281,7 +281,7 @@ fn ends_in_tilde(name: &str) -> bool
 
 /// What follows the last slash of a path.
 fn last_element(path: &str) -> &str
-    ensures { result.now ≡ name_of path.now }
+    ensures { result.now ≡ last_element' path.now }
 {
     match path.rsplit_once('/') {
         Some((_, name)) => name,

@@ -1,51 +1,50 @@
--- Affixes of texts that are joined, and of trees.
-use Rattle.std.proofs.Common.{◌≡◌, ℕ, zero, suc, ◌+◌, ◌-◌, ◌<◌, ◌≤◌, ◌⊎◌, ◌&&◌, inl, inr, not, Bool, true, false, List, [], ◌∷◌, ◌++◌, take, drop, length, get_or, refl, sym, ◌∙◌, ap, subst, arith, append_assoc, drop-cons, length-drop, drop_of_length-le}
-use Rattle.std.proofs.Math.Seq.{take-length}
+-- Affixes of concatenated texts, and of trees.
+use Rattle.std.proofs.Common.{◌≡◌, ℕ, zero, suc, ◌+◌, ◌-◌, ◌<◌, ◌≤◌, ◌⊎◌, ◌&&◌, inl, inr, not, Bool, true, false, List, [], ◌∷◌, ◌++◌, take, drop, length, get_or, refl, sym, ◌∙◌, ap, subst, arith, append_assoc, drop-cons, drop_of_length-le}
 use Rattle.std.specs.Prelude.{Option}
 use Rattle.std.specs.List.{list_all}
 use Rattle.std.proofs.lemmas.List.{append-nil, take-append-drop}
 use Rattle.cs_syntax.specs.Matching.{Tree, Trees, empty, one_of, one_char, cat, alt, rep, line_start, line_end, word_edge, not_word_edge, none, more, Chain, Takes, TakesAll, TakesSome}
-use Rattle.cs_trigram.specs.Affixes.{part, laid, near_part, HasAffix, HasSomeAffix, AreAffixes, AreAffixesOfAll}
+use Rattle.cs_trigram.specs.Affixes.{part, side_by_side, near_part, HasAffix, HasSomeAffix, AreAffixes, AreAffixesOfAll}
 use Rattle.cs_trigram.specs.ShortWord.{bytes_of}
 use Rattle.cs_trigram.specs.declared.affixes.Side.{Side}
 use Rattle.cs_trigram.specs.declared.affixes.Side.TheVariants.{Prefix, Suffix}
 use Rattle.cs_trigram.specs.declared.affixes.Affix.{Affix}
 use Rattle.cs_trigram.proofs.SpellingLemmas.{part_split, part_empty}
 
-pub laid_assoc : (side : Side) (a b c : List ℕ) → laid side (laid side a b) c ≡ laid side a (laid side b c)
-laid_assoc Prefix a b c = append_assoc a b c
-laid_assoc Suffix a b c = sym (append_assoc c b a)
+pub side_by_side-assoc : (side : Side) (a b c : List ℕ) → side_by_side side (side_by_side side a b) c ≡ side_by_side side a (side_by_side side b c)
+side_by_side-assoc Prefix a b c = append_assoc a b c
+side_by_side-assoc Suffix a b c = sym (append_assoc c b a)
 
-pub laid_none : (side : Side) (a : List ℕ) → laid side a [] ≡ a
-laid_none Prefix a = append-nil a
-laid_none Suffix a = refl
+pub side_by_side-none : (side : Side) (a : List ℕ) → side_by_side side a [] ≡ a
+side_by_side-none Prefix a = append-nil a
+side_by_side-none Suffix a = refl
 
-pub laid_behind : (side : Side) (a : List ℕ) → laid side [] a ≡ a
-laid_behind Prefix a = refl
-laid_behind Suffix a = append-nil a
+pub none_side_by_side : (side : Side) (a : List ℕ) → side_by_side side [] a ≡ a
+none_side_by_side Prefix a = refl
+none_side_by_side Suffix a = append-nil a
 
--- an affix of a joining, where the near one is whole and where it is not
-pub fits_joined : (side : Side) (near far affix : Affix) → (bytes_of affix.word) ≡ laid side (bytes_of near.word) (bytes_of far.word) → affix.whole ≡ far.whole → near.whole ≡ true →
-    (u v : List ℕ) → HasAffix side near u → HasAffix side far v → HasAffix side affix (laid side u v)
-fits_joined side near far affix word whole is u v a b =
-    let same : u ≡ (bytes_of near.word) = a.1 ∙ ap (laid side (bytes_of near.word)) (a.2 is) ∙ laid_none side (bytes_of near.word) in (
+-- an affix of a concatenation, where the near one is whole and where it is not
+pub fits_concatenation : (side : Side) (near far affix : Affix) → (bytes_of affix.word) ≡ side_by_side side (bytes_of near.word) (bytes_of far.word) → affix.whole ≡ far.whole → near.whole ≡ true →
+    (u v : List ℕ) → HasAffix side near u → HasAffix side far v → HasAffix side affix (side_by_side side u v)
+fits_concatenation side near far affix word whole is u v a b =
+    let same : u ≡ (bytes_of near.word) = a.1 ∙ ap (side_by_side side (bytes_of near.word)) (a.2 is) ∙ side_by_side-none side (bytes_of near.word) in (
       b.0,
-      ap (λ (x : List ℕ). laid side x v) same ∙ ap (laid side (bytes_of near.word)) b.1 ∙ sym (laid_assoc side (bytes_of near.word) (bytes_of far.word) b.0)
-          ∙ ap (λ (x : List ℕ). laid side x b.0) (sym word),
+      ap (λ (x : List ℕ). side_by_side side x v) same ∙ ap (side_by_side side (bytes_of near.word)) b.1 ∙ sym (side_by_side-assoc side (bytes_of near.word) (bytes_of far.word) b.0)
+          ∙ ap (λ (x : List ℕ). side_by_side side x b.0) (sym word),
       λ e. b.2 (sym whole ∙ e),
     )
 
 pub fits_open : (side : Side) (near affix : Affix) → (bytes_of affix.word) ≡ (bytes_of near.word) → affix.whole ≡ false →
-    (u v : List ℕ) → HasAffix side near u → HasAffix side affix (laid side u v)
+    (u v : List ℕ) → HasAffix side near u → HasAffix side affix (side_by_side side u v)
 fits_open side near affix word loose u v a = (
-  laid side a.0 v,
-  ap (λ (x : List ℕ). laid side x v) a.1 ∙ laid_assoc side (bytes_of near.word) a.0 v ∙ ap (λ (x : List ℕ). laid side x (laid side a.0 v)) (sym word),
+  side_by_side side a.0 v,
+  ap (λ (x : List ℕ). side_by_side side x v) a.1 ∙ side_by_side-assoc side (bytes_of near.word) a.0 v ∙ ap (λ (x : List ℕ). side_by_side side x (side_by_side side a.0 v)) (sym word),
   λ e. let odd : false ≡ true = sym loose ∙ e in (cc),
 )
 
 -- the same affixes, where none is whole
 pub fits_all_open : (side : Side) (affixes : List Affix) (u v : List ℕ) → list_all (λ (affix : Affix). not affix.whole) affixes ≡ true →
-    HasSomeAffix side affixes u → HasSomeAffix side affixes (laid side u v)
+    HasSomeAffix side affixes u → HasSomeAffix side affixes (side_by_side side u v)
 fits_all_open side [] u v loose h = h
 fits_all_open side (e ∷ affixes) u v loose h =
     elim h [
@@ -64,13 +63,13 @@ fits_all_open side (e ∷ affixes) u v loose h =
 -- an affix with the same word and kind
 pub fits_same : (side : Side) (old affix : Affix) → (bytes_of affix.word) ≡ (bytes_of old.word) → affix.whole ≡ old.whole → (text : List ℕ) → HasAffix side old text → HasAffix side affix text
 fits_same side old affix word whole text a =
-    (a.0, a.1 ∙ ap (λ (x : List ℕ). laid side x a.0) (sym word), λ e. a.2 (sym whole ∙ e))
+    (a.0, a.1 ∙ ap (λ (x : List ℕ). side_by_side side x a.0) (sym word), λ e. a.2 (sym whole ∙ e))
 
 -- an affix that is cut
-pub fits_cut : (side : Side) (old affix : Affix) (rest : List ℕ) → (bytes_of old.word) ≡ laid side (bytes_of affix.word) rest → affix.whole ≡ false → (text : List ℕ) → HasAffix side old text → HasAffix side affix text
+pub fits_cut : (side : Side) (old affix : Affix) (rest : List ℕ) → (bytes_of old.word) ≡ side_by_side side (bytes_of affix.word) rest → affix.whole ≡ false → (text : List ℕ) → HasAffix side old text → HasAffix side affix text
 fits_cut side old affix rest word loose text a = (
-  laid side rest a.0,
-  a.1 ∙ ap (λ (x : List ℕ). laid side x a.0) word ∙ laid_assoc side (bytes_of affix.word) rest a.0,
+  side_by_side side rest a.0,
+  a.1 ∙ ap (λ (x : List ℕ). side_by_side side x a.0) word ∙ side_by_side-assoc side (bytes_of affix.word) rest a.0,
   λ e. let odd : false ≡ true = sym loose ∙ e in (cc),
 )
 
@@ -101,13 +100,13 @@ fits_at side (e ∷ affixes) (suc i) affix text lt h = inr (fits_at side affixes
 -- the affix of each text, and that of the text without bytes
 pub fits_any : (side : Side) (affix : Affix) (text : List ℕ) → (bytes_of affix.word) ≡ [] → affix.whole ≡ false → HasSomeAffix side (affix ∷ []) text
 fits_any side affix text word loose =
-    inl (text, sym (laid_behind side text) ∙ ap (λ (x : List ℕ). laid side x text) (sym word), λ e. let odd : false ≡ true = sym loose ∙ e in (cc))
+    inl (text, sym (none_side_by_side side text) ∙ ap (λ (x : List ℕ). side_by_side side x text) (sym word), λ e. let odd : false ≡ true = sym loose ∙ e in (cc))
 
 pub fits_none : (side : Side) (affix : Affix) → (bytes_of affix.word) ≡ [] → HasSomeAffix side (affix ∷ []) []
-fits_none side affix word = inl ([], sym (laid_none side []) ∙ ap (λ (x : List ℕ). laid side x []) (sym word), λ e. refl)
+fits_none side affix word = inl ([], sym (side_by_side-none side []) ∙ ap (λ (x : List ℕ). side_by_side side x []) (sym word), λ e. refl)
 
 pub fits_whole : (side : Side) (affix : Affix) (text : List ℕ) → text ≡ (bytes_of affix.word) → HasAffix side affix text
-fits_whole side affix text e = ([], e ∙ sym (laid_none side (bytes_of affix.word)), λ w. refl)
+fits_whole side affix text e = ([], e ∙ sym (side_by_side-none side (bytes_of affix.word)), λ w. refl)
 
 -- places rise
 chain_rises : (R : ℕ → ℕ → Type 0) → ((i j : ℕ) → R i j → i ≤ j) → (k i j : ℕ) → Chain R k i j → i ≤ j
@@ -144,9 +143,9 @@ affixes_none side affixes h = λ s i j e. subst (HasSomeAffix side affixes) (sym
 pub affixes_before : (side : Side) (fronts backs affixes : List Affix) (t : Tree) (ts : Trees) →
     ((u v : List ℕ) → HasSomeAffix side fronts u → HasSomeAffix side backs v → HasSomeAffix side affixes (u ++ v)) →
     AreAffixes side fronts t → AreAffixesOfAll side backs ts → AreAffixesOfAll side affixes (more t ts)
-affixes_before side fronts backs affixes t ts join a b = λ s i j h.
+affixes_before side fronts backs affixes t ts both a b = λ s i j h.
     subst (HasSomeAffix side affixes) (sym (part_split s i h.0 j (rises s t i h.0 h.1) (rises_all s ts h.0 j h.2)))
-    (join (part s i h.0) (part s h.0 j) (a s i h.0 h.1) (b s h.0 j h.2))
+    (both (part s i h.0) (part s h.0 j) (a s i h.0 h.1) (b s h.0 j h.2))
 
 -- rounds
 abbrev pub AreAffixesOfRounds : Side → List Affix → Tree → ℕ → Type 0
@@ -157,32 +156,32 @@ chain_last R zero i j c = (i, refl, subst (R i) c.2 c.1)
 chain_last R (suc k) i j c = let r = chain_last R k c.0 j c.2 in (r.0, (c.0, c.1, r.1), r.2)
 
 pub round_more : (side : Side) (once fars affixes : List Affix) (t : Tree) (n : ℕ) →
-    ((u v : List ℕ) → HasSomeAffix side once u → HasSomeAffix side fars v → HasSomeAffix side affixes (laid side u v)) →
+    ((u v : List ℕ) → HasSomeAffix side once u → HasSomeAffix side fars v → HasSomeAffix side affixes (side_by_side side u v)) →
     AreAffixes side once t → AreAffixesOfRounds side fars t n → AreAffixesOfRounds side affixes t (n + 1)
-round_more side once fars affixes t n join a b = λ s k i j le c. by side join a b s k i j le c
+round_more side once fars affixes t n both a b = λ s k i j le c. by side both a b s k i j le c
   where
-    by : (side : Side) → ((u v : List ℕ) → HasSomeAffix side once u → HasSomeAffix side fars v → HasSomeAffix side affixes (laid side u v)) →
+    by : (side : Side) → ((u v : List ℕ) → HasSomeAffix side once u → HasSomeAffix side fars v → HasSomeAffix side affixes (side_by_side side u v)) →
         AreAffixes side once t → AreAffixesOfRounds side fars t n → (s : List ℕ) (k i j : ℕ) → n + 1 ≤ k → Chain (Takes s t) k i j → HasSomeAffix side affixes (part s i j)
-    by side join a b s zero i j le c = absurd (omega arith)
-    by Prefix join a b s (suc k) i j le c =
+    by side both a b s zero i j le c = absurd (omega arith)
+    by Prefix both a b s (suc k) i j le c =
         subst (HasSomeAffix Prefix affixes) (sym (part_split s i c.0 j (rises s t i c.0 c.1) (chain_rises (Takes s t) (rises s t) k c.0 j c.2)))
-        (join (part s i c.0) (part s c.0 j) (a s i c.0 c.1) (b s k c.0 j (omega arith) c.2))
-    by Suffix join a b s (suc k) i j le c =
+        (both (part s i c.0) (part s c.0 j) (a s i c.0 c.1) (b s k c.0 j (omega arith) c.2))
+    by Suffix both a b s (suc k) i j le c =
         let r = chain_last (Takes s t) k i j c in
         subst (HasSomeAffix Suffix affixes) (sym (part_split s i r.0 j (chain_rises (Takes s t) (rises s t) k i r.0 r.1) (rises s t r.0 j r.2)))
-        (join (part s r.0 j) (part s i r.0) (a s r.0 j r.2) (b s k i r.0 (omega arith) r.1))
+        (both (part s r.0 j) (part s i r.0) (a s r.0 j r.2) (b s k i r.0 (omega arith) r.1))
 
 -- any number of rounds: none, or one and anything
 pub rounds_any : (side : Side) (once any loose affixes : List Affix) (t : Tree) → ((text : List ℕ) → HasSomeAffix side any text) →
-    ((u v : List ℕ) → HasSomeAffix side once u → HasSomeAffix side any v → HasSomeAffix side loose (laid side u v)) →
+    ((u v : List ℕ) → HasSomeAffix side once u → HasSomeAffix side any v → HasSomeAffix side loose (side_by_side side u v)) →
     HasSomeAffix side affixes [] → ((text : List ℕ) → HasSomeAffix side loose text → HasSomeAffix side affixes text) →
     AreAffixes side once t → AreAffixesOfRounds side affixes t 0
-rounds_any side once any loose affixes t all join none_fits keep a = λ s k i j le c. by s k i j c
+rounds_any side once any loose affixes t all both none_fits keep a = λ s k i j le c. by s k i j c
   where
     by : (s : List ℕ) (k i j : ℕ) → Chain (Takes s t) k i j → HasSomeAffix side affixes (part s i j)
     by s zero i j c = subst (HasSomeAffix side affixes) (sym (part_empty s i) ∙ ap (part s i) c) none_fits
     by s (suc k) i j c =
-        keep (part s i j) (round_more side once any loose t 0 join a (λ r l x y le d. all (part r x y)) s (suc k) i j (omega arith) c)
+        keep (part s i j) (round_more side once any loose t 0 both a (λ r l x y le d. all (part r x y)) s (suc k) i j (omega arith) c)
 
 pub affixes_rounds : (side : Side) (affixes : List Affix) (t : Tree) (n least : ℕ) (m : Option ℕ) → n ≤ least → AreAffixesOfRounds side affixes t n → AreAffixes side affixes (rep t least m)
 affixes_rounds side affixes t n least m le r = λ s i j h. r s h.0 i j (omega (arith, h.1, le)) h.3
@@ -200,12 +199,9 @@ abbrev pub far_part : Side → ℕ → List ℕ → List ℕ
 far_part Prefix n text = drop n text
 far_part Suffix n text = take (length text - n) text
 
-pub near_far : (side : Side) (n : ℕ) (text : List ℕ) → text ≡ laid side (near_part side n text) (far_part side n text)
+pub near_far : (side : Side) (n : ℕ) (text : List ℕ) → text ≡ side_by_side side (near_part side n text) (far_part side n text)
 near_far Prefix n text = sym (take-append-drop n text)
 near_far Suffix n text = sym (take-append-drop (length text - n) text)
-
-pub rest_bytes : (text : List ℕ) (i : ℕ) → take (length text - i) (drop i text) ≡ drop i text
-rest_bytes text i = ap (λ n. take n (drop i text)) (sym (length-drop i text)) ∙ take-length (drop i text)
 
 -- the bytes at a side that is known
 pub near_prefix : (side : Side) (n : ℕ) (text near : List ℕ) → side ≡ Prefix → near ≡ take n text → near ≡ near_part side n text

@@ -7,13 +7,13 @@ use Rattle.cs_syntax.specs.Matching.{Tree, Trees, cat, none, more, Takes, TakesA
 use Rattle.cs_trigram.specs.Trigram.{trigram_sequence}
 use Rattle.cs_trigram.specs.Affixes.{part}
 use Rattle.cs_trigram.specs.Query.{HasTrigrams}
-use Rattle.cs_trigram.specs.Windows.{IsMember, IsPlainRun, Shows, ShowsRuns, HasWindows}
-use Rattle.cs_trigram.specs.FiniteWords.{is_finite, are_finite, HasWord, JoinWords, HaveFewWords}
-use Rattle.cs_trigram.specs.Sample.{with_words, joinings, IsSample, AreWords, IsBlocked, IsFront, TreeWords, has_any, IsAsked}
-use Rattle.cs_trigram.proofs.FewLemmas.{empty_words, few_front, few_back, front_begins, whole_words, words_sample, before_sample, joins_one, spells_one}
-use Rattle.cs_trigram.proofs.PlainTreeLemmas.{run_has_few, has_joins}
+use Rattle.cs_trigram.specs.PlainRuns.{IsMember, IsPlainRun, Shows, ShowsRuns, ShowsPlainRuns}
+use Rattle.cs_trigram.specs.FiniteWords.{is_finite, are_finite, HasWord, ConcatenatesWords, HaveFewWords}
+use Rattle.cs_trigram.specs.Sample.{with_words, concatenations, IsSample, AreWords, IsBlocked, IsFront, TreeWords, has_any, IsAsked}
+use Rattle.cs_trigram.proofs.FewLemmas.{empty_words, few_front, few_back, front_begins, whole_words, words_sample, before_sample, concatenates_one, spells_one}
+use Rattle.cs_trigram.proofs.PlainTreeLemmas.{run_has_few, words_concatenate}
 use Rattle.cs_trigram.proofs.PartTrigramLemmas.{all_trigrams_tri, has_part, has_front, has_back}
-use Rattle.cs_trigram.proofs.SpellingLemmas.{spelled_all, taken_front, spelled_windows}
+use Rattle.cs_trigram.proofs.SpellingLemmas.{spelled_all, taken_front, spelled_plain_runs}
 
 module _ (set : ℕ → Bool) where
   pub any_shown : (ws : List (List ℕ)) → has_any set ws ≡ true → (w : List ℕ) × IsMember w ws × HasTrigrams set w
@@ -46,7 +46,7 @@ module _ (set : ℕ → Bool) where
 
   -- where the set has a word of the run at the front, it shows each run at the front that has few
   fronts_words : (ts : Trees) (ws : List (List ℕ)) → IsFront ts ws → has_any set ws ≡ true → (run after : Trees) → ts ≡ append run after → HaveFewWords run →
-      (word : List ℕ) × JoinWords run word × HasTrigrams set word
+      (word : List ℕ) × ConcatenatesWords run word × HasTrigrams set word
   fronts_words ts ws f h run after e few =
       let w = any_shown ws h in
       let r = front_begins ts ws f w.0 w.1 run after e few in
@@ -55,7 +55,7 @@ module _ (set : ℕ → Bool) where
   fronts_shown : (ts : Trees) (ws : List (List ℕ)) → IsFront ts ws → has_any set ws ≡ true → (run after : Trees) → ts ≡ append run after → IsPlainRun run → Shows set run
   fronts_shown ts ws f h run after e few =
       let r = fronts_words ts ws f h run after e (run_has_few run few) in
-      (r.0, has_joins run few.0 r.0 r.1, r.2)
+      (r.0, words_concatenate run few.0 r.0 r.1, r.2)
 
 pub empty_front : (t : Tree) (ts : Trees) → (HaveFewWords (more t none) → ⊥) → IsFront (more t ts) ([] ∷ [])
 empty_front t ts no_few = record { run = none; after = more t ts; is = refl; finite = refl; each = empty_words; blocked = no_few }
@@ -64,18 +64,18 @@ pub asked_none : (needs : (ℕ → Bool) → Bool) → ((set : ℕ → Bool) →
 asked_none needs all = record {
   run = record { run = none; after = none; is = refl; finite = refl; each = empty_words; blocked = tt };
   holding = λ s set i j h has. all set;
-  sharp = λ set n h. (λ before run after e few. let parts = none_joined before (append run after) e in let inner = none_joined run after parts.1 in subst (Shows set) (sym inner.0) ([], refl, refl), tt);
+  sharp = λ set n h. (λ before run after e few. let parts = none_appended before (append run after) e in let inner = none_appended run after parts.1 in subst (Shows set) (sym inner.0) ([], refl, refl), tt);
 }
   where
-    none_joined : (a b : Trees) → none ≡ append a b → (a ≡ none) × (none ≡ b)
-    none_joined none b e = (refl, e)
-    none_joined (more t a) b e = (cc)
+    none_appended : (a b : Trees) → none ≡ append a b → (a ≡ none) × (none ≡ b)
+    none_appended none b e = (refl, e)
+    none_appended (more t a) b e = (cc)
 
 module _ (front : List (List ℕ)) (needs later : (ℕ → Bool) → Bool) (t : Tree) (ts : Trees) (asked : IsAsked front needs ts) where
   -- a part that has not few words
   pub asked_cut : (own : (ℕ → Bool) → Bool) → (HaveFewWords (more t none) → ⊥) →
       ((s : List ℕ) (set : ℕ → Bool) (i j : ℕ) → Takes s t i j → HasTrigrams set s → own set ≡ true) →
-      ((set : ℕ → Bool) → own set ≡ true → HasWindows set t) →
+      ((set : ℕ → Bool) → own set ≡ true → ShowsPlainRuns set t) →
       ((set : ℕ → Bool) → later set ≡ ((needs set && has_any set front) && own set)) → IsAsked ([] ∷ []) later (more t ts)
   asked_cut own no_few holding sharp is = record {
     run = empty_front t ts no_few;
@@ -86,8 +86,8 @@ module _ (front : List (List ℕ)) (needs later : (ℕ → Bool) → Bool) (t : 
     sharp = λ set n h.
         let both = and_parts (needs set && has_any set front) (own set) (sym (is set) ∙ n) in
         let old = and_parts (needs set) (has_any set front) both.0 in
-        let windows = asked.sharp set old.0 old.1 in
-        (runs_more set t ts windows.0 (short set), (sharp set both.1, windows.1));
+        let runs = asked.sharp set old.0 old.1 in
+        (runs_more set t ts runs.0 (short set), (sharp set both.1, runs.1));
   }
     where
       short : (set : ℕ → Bool) (run after : Trees) → more t ts ≡ append run after → IsPlainRun run → Shows set run
@@ -97,18 +97,18 @@ module _ (front : List (List ℕ)) (needs later : (ℕ → Bool) → Bool) (t : 
           absurd (no_few (subst (λ (x : Tree). HaveFewWords (more x none)) same (few_front (more u none) run (run_has_few (more u run) few))))
 
   -- a part that goes before the run
-  pub asked_join : (us : List (List ℕ)) → TreeWords us t → length (with_words [] (joinings us front)) ≤ 20 →
-      IsAsked (with_words [] (joinings us front)) needs (more t ts)
-  asked_join us words le =
+  pub asked_few : (us : List (List ℕ)) → TreeWords us t → length (with_words [] (concatenations us front)) ≤ 20 →
+      IsAsked (with_words [] (concatenations us front)) needs (more t ts)
+  asked_few us words le =
       let run = asked.run.run in
-      let sample = before_sample t run us front (words_sample us (HasWord t) words.1) (words_sample front (JoinWords run) asked.run.each) in
-      let ws = with_words [] (joinings us front) in
+      let sample = before_sample t run us front (words_sample us (HasWord t) words.1) (words_sample front (ConcatenatesWords run) asked.run.each) in
+      let ws = with_words [] (concatenations us front) in
       let f : IsFront (more t ts) ws = record {
         run = more t run;
         after = asked.run.after;
         is = ap (more t) asked.run.is;
         finite = and_from (is_finite t) (are_finite run) words.0 asked.run.finite;
-        each = whole_words ws (JoinWords (more t run)) sample (some_word us front ws words.1 asked.run.each sample) le;
+        each = whole_words ws (ConcatenatesWords (more t run)) sample (some_word us front ws words.1 asked.run.each sample) le;
         blocked = blocked_before run asked.run.after asked.run.blocked;
       } in
       record {
@@ -119,8 +119,8 @@ module _ (front : List (List ℕ)) (needs later : (ℕ → Bool) → Bool) (t : 
             let parts = sample.right w.0 w.1 in
             let has = subst (HasTrigrams set) parts.4 w.2 in
             let front_word = shown_any set front parts.1 ((asked.run.each.each parts.1).0 parts.3) (has_back set parts.0 parts.1 has) in
-            let windows = asked.sharp set n front_word in
-            (runs_more set t ts windows.0 (fronts_shown set (more t ts) ws f h), (spelled_windows set t parts.0 parts.2 (has_front set parts.0 parts.1 has), windows.1));
+            let runs = asked.sharp set n front_word in
+            (runs_more set t ts runs.0 (fronts_shown set (more t ts) ws f h), (spelled_plain_runs set t parts.0 parts.2 (has_front set parts.0 parts.1 has), runs.1));
       }
     where
       blocked_before : (run after : Trees) → IsBlocked run after → IsBlocked (more t run) after
@@ -135,7 +135,7 @@ module _ (front : List (List ℕ)) (needs later : (ℕ → Bool) → Bool) (t : 
       not_empty [] x m = absurd m
       not_empty (y ∷ xs) x m = omega arith
 
-      some_word : (us vs ws : List (List ℕ)) → AreWords us (HasWord t) → AreWords vs (JoinWords asked.run.run) → IsSample ws (JoinWords (more t asked.run.run)) → 0 < length ws
+      some_word : (us vs ws : List (List ℕ)) → AreWords us (HasWord t) → AreWords vs (ConcatenatesWords asked.run.run) → IsSample ws (ConcatenatesWords (more t asked.run.run)) → 0 < length ws
       some_word us vs ws a b s =
           let u = first_of_list us a.some in
           let v = first_of_list vs b.some in
@@ -157,16 +157,16 @@ module _ (front : List (List ℕ)) (needs later : (ℕ → Bool) → Bool) (t : 
         is set ∙ and_from (needs set) (has_any set front) (asked.holding s set h.0 j h.2 has) (front_held set ts front asked.run s h.0 j h.2 has);
     sharp = λ set n h.
         let old = and_parts (needs set) (has_any set front) (sym (is set) ∙ n) in
-        let windows = asked.sharp set old.0 old.1 in
+        let runs = asked.sharp set old.0 old.1 in
         let one = fronts_words set (more t ts) ws f h (more t none) ts refl few in
-        (runs_more set t ts windows.0 (fronts_shown set (more t ts) ws f h), (spelled_windows set t one.0 (spells_one t one.0 one.1) one.2, windows.1));
+        (runs_more set t ts runs.0 (fronts_shown set (more t ts) ws f h), (spelled_plain_runs set t one.0 (spells_one t one.0 one.1) one.2, runs.1));
   }
 
 -- the whole sequence
 pub asked_whole : (front : List (List ℕ)) (needs whole : (ℕ → Bool) → Bool) (ts : Trees) → IsAsked front needs ts →
     ((set : ℕ → Bool) → whole set ≡ (needs set && has_any set front)) →
     ((s : List ℕ) (set : ℕ → Bool) (i j : ℕ) → TakesAll s ts i j → HasTrigrams set s → whole set ≡ true)
-    × ((set : ℕ → Bool) → whole set ≡ true → HasWindows set (cat ts))
+    × ((set : ℕ → Bool) → whole set ≡ true → ShowsPlainRuns set (cat ts))
 asked_whole front needs whole ts asked is = (
   λ s set i j h has. is set ∙ and_from (needs set) (has_any set front) (asked.holding s set i j h has) (front_held set ts front asked.run s i j h has),
   λ set w. let p = and_parts (needs set) (has_any set front) (sym (is set) ∙ w) in asked.sharp set p.0 p.1,
@@ -180,9 +180,9 @@ few_tree us t words = (
   (us, words.1.few, λ w j. (words.1.each w).0 (spells_one t w j)),
 )
   where
-    some : (xs : List (List ℕ)) → 0 < length xs → ((w : List ℕ) → IsMember w xs → HasWord t w) → (w : List ℕ) × JoinWords (more t none) w
+    some : (xs : List (List ℕ)) → 0 < length xs → ((w : List ℕ) → IsMember w xs → HasWord t w) → (w : List ℕ) × ConcatenatesWords (more t none) w
     some [] h each = absurd (omega arith)
-    some (x ∷ xs) h each = (x, joins_one t x (each x (inl refl)))
+    some (x ∷ xs) h each = (x, concatenates_one t x (each x (inl refl)))
 
 -- one more demand, which each line meets in which the sequence takes a part
 pub asked_more : (front : List (List ℕ)) (needs query later : (ℕ → Bool) → Bool) (ts : Trees) → IsAsked front needs ts →

@@ -2,13 +2,13 @@
 use Rattle.std.proofs.Common.{◌≡◌, ℕ, zero, suc, ◌+◌, ◌-◌, ◌<◌, ◌≤◌, ◌&&◌, ◌||◌, inl, inr, Bool, true, false, List, [], ◌∷◌, length, drop, get_or, refl, sym, ap, ap₂, subst, ◌∙◌, arith}
 use Rattle.std.specs.Prelude.{nat_le, if◌then◌else◌}
 use Rattle.std.specs.Char.{encode_utf8}
-use Rattle.std.proofs.lemmas.Bool.{cases_Bool, cases_lt, and_parts, true≢false, cond-true, cond-false}
+use Rattle.std.proofs.lemmas.Bool.{cases_Bool, cases_lt, and_parts, or_right, true≢false, cond-true, cond-false}
 use Rattle.std.proofs.lemmas.Bool.Decides.{nat_tests}
 use Rattle.std.proofs.lemmas.List.{drop_more, drop_all}
 use Rattle.cs_syntax.specs.Ranges.{is_in_ranges}
 use Rattle.cs_syntax.specs.Characters.{is_scalar}
 use Rattle.cs_syntax.specs.Matching.{one_char}
-use Rattle.cs_trigram.specs.Windows.{IsMember}
+use Rattle.cs_trigram.specs.PlainRuns.{IsMember}
 use Rattle.cs_trigram.specs.FiniteWords.{HasWord}
 use Rattle.cs_trigram.specs.Sample.{with_word, with_words, IsSample}
 use Rattle.cs_trigram.specs.CharWords.{forms_from, run_forms, all_forms, with_char}
@@ -95,12 +95,8 @@ all_of w (run ∷ runs) m =
       | inr later ↦
           let h = all_of w runs later in
           let both = and_parts (is_scalar h.0) (is_in_ranges runs h.0) h.1 in
-          (h.0, ap₂ ◌&&◌ both.0 (or_second (nat_le run.0 h.0 && nat_le h.0 run.1) (is_in_ranges runs h.0) both.1), h.2)
+          (h.0, ap₂ ◌&&◌ both.0 (or_right (nat_le run.0 h.0 && nat_le h.0 run.1) (is_in_ranges runs h.0) both.1), h.2)
     ]
-  where
-    or_second : (x y : Bool) → y ≡ true → (x || y) ≡ true
-    or_second true y e = refl
-    or_second false y e = e
 
 all_in : (c : ℕ) (runs : List (ℕ × ℕ)) → is_scalar c ≡ true → is_in_ranges runs c ≡ true → IsMember (encode_utf8 c) (all_forms runs)
 all_in c [] scalar e = absurd (true≢false (sym e))

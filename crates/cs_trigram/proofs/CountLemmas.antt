@@ -1,13 +1,13 @@
--- Words that are counted: joined, and either of two.
+-- Words that are counted: one after another, and either of two.
 use Rattle.std.proofs.Math.Seq.{take-suc}
 use Rattle.std.proofs.Common.{get_or, take, reverse, ◌≡◌, ℕ, zero, suc, ◌+◌, ◌<◌, ◌≤◌, ◌⊎◌, ◌&&◌, inl, inr, Bool, true, false, List, [], ◌∷◌, length, refl, sym, ◌∙◌, ap, subst, arith, Vec, Global, map, ◌++◌}
 use Rattle.std.proofs.lemmas.List.{append_cancel_left, length-map, reverse-append}
 use Rattle.std.proofs.lemmas.Bool.{and_from, cases_lt, le-leb}
 use Rattle.std.specs.Prelude.{Some, nat_le}
 use Rattle.cs_syntax.specs.Matching.{Tree, Trees, cat, alt, rep, empty, none, more}
-use Rattle.cs_trigram.specs.Windows.{IsMember}
-use Rattle.cs_trigram.specs.FiniteWords.{HaveFewWords, Rounds, is_finite, are_finite, HasWord, JoinWords, SomeHasWord}
-use Rattle.cs_trigram.specs.Sample.{with_words, joinings, IsSample, SamplesTree, SamplesRun, SamplesChoice, TreeWords}
+use Rattle.cs_trigram.specs.PlainRuns.{IsMember}
+use Rattle.cs_trigram.specs.FiniteWords.{HaveFewWords, Rounds, is_finite, are_finite, HasWord, ConcatenatesWords, SomeHasWord}
+use Rattle.cs_trigram.specs.Sample.{with_words, concatenations, IsSample, SamplesTree, SamplesRun, SamplesChoice, TreeWords}
 use Rattle.cs_trigram.specs.Counted.{HasMany, Counts, CountEach, AreCounted}
 use Rattle.cs_trigram.specs.declared.counted.Counted.{Counted}
 use Rattle.cs_trigram.specs.declared.counted.Counted.TheVariants.{Endless, Many, Few}
@@ -15,14 +15,14 @@ use Rattle.cs_trigram.proofs.MemberLemmas.{member_map, map_member, different_map
 use Rattle.cs_trigram.proofs.SampleLemmas.{sample_same, sample_words, fronts_few, backs_few}
 use Rattle.cs_trigram.specs.declared.words.Word.{Word}
 use Rattle.cs_trigram.proofs.RoundLemmas.{longer_rounds, rounds_longer}
-use Rattle.cs_trigram.proofs.FewLemmas.{joins_one, spells_one, run_step, choice_step, not_few, tree_not_finite, whole_words}
+use Rattle.cs_trigram.proofs.FewLemmas.{concatenates_one, spells_one, run_step, choice_step, not_few, tree_not_finite, whole_words}
 
 abbrev pub pair : Tree → Tree → Trees
 pair t u = more t (more u none)
 
 -- a run of one tree, and a choice of one
 run_one : (ws : List (List ℕ)) (u : Tree) → SamplesTree ws u → SamplesRun ws (more u none)
-run_one ws u s = (and_from (is_finite u) true s.0 refl, sample_same ws (HasWord u) (JoinWords (more u none)) s.1 (joins_one u) (spells_one u))
+run_one ws u s = (and_from (is_finite u) true s.0 refl, sample_same ws (HasWord u) (ConcatenatesWords (more u none)) s.1 (concatenates_one u) (spells_one u))
 
 choice_one : (ws : List (List ℕ)) (u : Tree) → SamplesTree ws u → SamplesChoice ws (more u none)
 choice_one ws u s = (
@@ -31,7 +31,7 @@ choice_one ws u s = (
 )
 
 -- samples of both
-pub samples_pair : (us vs : List (List ℕ)) (t u : Tree) → SamplesTree us t → SamplesTree vs u → SamplesTree (with_words [] (joinings us vs)) (cat (pair t u))
+pub samples_pair : (us vs : List (List ℕ)) (t u : Tree) → SamplesTree us t → SamplesTree vs u → SamplesTree (with_words [] (concatenations us vs)) (cat (pair t u))
 samples_pair us vs t u s r = run_step t (more u none) us vs s (run_one vs u r)
 
 pub samples_either : (us vs : List (List ℕ)) (t u : Tree) → SamplesTree us t → SamplesTree vs u → SamplesTree (with_words vs us) (alt (pair t u))
@@ -45,7 +45,7 @@ pub samples_one : (u : List ℕ) (vs : List (List ℕ)) (t r : Tree) → Samples
 samples_one u vs t r s b = (
   pair_finite t r s.0 b.0,
   record {
-    right = λ w m. let p = member_map (λ v. u ++ v) w vs m in (u, p.0, s.1.right u (inl refl), joins_one r p.0 (b.1.right p.0 p.1), p.2);
+    right = λ w m. let p = member_map (λ v. u ++ v) w vs m in (u, p.0, s.1.right u (inl refl), concatenates_one r p.0 (b.1.right p.0 p.1), p.2);
     different = different_map (λ v. u ++ v) (λ x y e. append_cancel_left u x y e) vs b.1.different;
     whole = λ le w j.
         let one : 1 ≤ 20 = omega arith in
@@ -61,7 +61,7 @@ only_word [] w e is = absurd (omega arith)
 only_word (x ∷ []) w e is = ap (λ (y : List ℕ). y ∷ []) (sym is)
 only_word (x ∷ y ∷ ws) w e is = absurd (omega arith)
 
-no_backs : (us : List (List ℕ)) → joinings us [] ≡ []
+no_backs : (us : List (List ℕ)) → concatenations us [] ≡ []
 no_backs [] = refl
 no_backs (u ∷ us) = no_backs us
 
@@ -77,7 +77,7 @@ none_left (w ∷ ws) e = absurd (omega arith)
 pub many_front : (t u : Tree) (vs : List (List ℕ)) → HasMany t → SamplesTree vs u → 0 < length vs → HasMany (cat (pair t u))
 many_front t u vs m r some =
     let v = first_of vs some in
-    let ws = with_words [] (joinings m.0 vs) in
+    let ws = with_words [] (concatenations m.0 vs) in
     let size : 20 < length ws = elim (cases_lt 20 (length ws)) [
       | inl lt ↦ lt
       | inr le ↦ let few = fronts_few m.0 vs (HasWord t) (HasWord u) m.1.1 r.1 v.0 v.1 le in absurd (omega (arith, few, m.2))
@@ -87,7 +87,7 @@ many_front t u vs m r some =
 pub many_back : (t u : Tree) (us : List (List ℕ)) → SamplesTree us t → HasMany u → 0 < length us → HasMany (cat (pair t u))
 many_back t u us s m some =
     let w = first_of us some in
-    let ws = with_words [] (joinings us m.0) in
+    let ws = with_words [] (concatenations us m.0) in
     let size : 20 < length ws = elim (cases_lt 20 (length ws)) [
       | inl lt ↦ lt
       | inr le ↦ let few = backs_few us m.0 (HasWord t) (HasWord u) s.1 m.1.1 w.0 w.1 le in absurd (omega (arith, few, m.2))
@@ -100,12 +100,12 @@ many_both t u m r = let some : 0 < length r.0 = omega (arith, r.2) in many_front
 -- none behind many, and many behind none
 pub none_behind : (t u : Tree) (vs ws : List (List ℕ)) → HasMany t → SamplesTree vs u → length vs ≡ 0 → ws ≡ [] → SamplesTree ws (cat (pair t u))
 none_behind t u vs ws m r e is =
-    let same : with_words [] (joinings m.0 vs) ≡ ws = ap (λ (xs : List (List ℕ)). with_words [] (joinings m.0 xs)) (none_left vs e) ∙ ap (with_words []) (no_backs m.0) ∙ sym is in
+    let same : with_words [] (concatenations m.0 vs) ≡ ws = ap (λ (xs : List (List ℕ)). with_words [] (concatenations m.0 xs)) (none_left vs e) ∙ ap (with_words []) (no_backs m.0) ∙ sym is in
     subst (λ (xs : List (List ℕ)). SamplesTree xs (cat (pair t u))) same (samples_pair m.0 vs t u m.1 r)
 
 pub behind_none : (t u : Tree) (us ws : List (List ℕ)) → SamplesTree us t → HasMany u → length us ≡ 0 → ws ≡ [] → SamplesTree ws (cat (pair t u))
 behind_none t u us ws s m e is =
-    let same : with_words [] (joinings us m.0) ≡ ws = ap (λ (xs : List (List ℕ)). with_words [] (joinings xs m.0)) (none_left us e) ∙ sym is in
+    let same : with_words [] (concatenations us m.0) ≡ ws = ap (λ (xs : List (List ℕ)). with_words [] (concatenations xs m.0)) (none_left us e) ∙ sym is in
     subst (λ (xs : List (List ℕ)). SamplesTree xs (cat (pair t u))) same (samples_pair us m.0 t u s m.1)
 
 -- a tree that is not finite, among two
@@ -167,7 +167,7 @@ pub counts_cat : (c : Counted) (t : Tree) (ts : Trees) → Counts c (cat (pair t
 counts_cat c t ts h =
     counts_as c (cat (pair t (cat ts))) (cat (more t ts)) h (ap (λ b. is_finite t && b) (and_true (are_finite ts)))
     (λ w j. (j.0, j.1, j.2, spells_one (cat ts) j.1 j.3, j.4))
-    (λ w j. (j.0, j.1, j.2, joins_one (cat ts) j.1 j.3, j.4))
+    (λ w j. (j.0, j.1, j.2, concatenates_one (cat ts) j.1 j.3, j.4))
 
 pub counts_alt : (c : Counted) (t : Tree) (ts : Trees) → Counts c (alt (pair t (alt ts))) → Counts c (alt (more t ts))
 counts_alt c t ts h =
@@ -184,7 +184,7 @@ counts_round c t n m f le h =
     counts_as c (cat (pair t (rep t n (Some m)))) (rep t (n + 1) (Some (m + 1))) h
     (pair_finite t (rep t n (Some m)) f (rep_finite t n m f le) ∙ sym (rep_finite t (n + 1) (m + 1) f (omega arith)))
     (λ w j. longer_rounds (HasWord t) n m w (j.0, j.1, j.2, spells_one (rep t n (Some m)) j.1 j.3, j.4))
-    (λ w r. let l = rounds_longer (HasWord t) n m w r.0 r.1 r.2 r.3 in (l.0, l.1, l.2, joins_one (rep t n (Some m)) l.1 l.3, l.4))
+    (λ w r. let l = rounds_longer (HasWord t) n m w r.0 r.1 r.2 r.3 in (l.0, l.1, l.2, concatenates_one (rep t n (Some m)) l.1 l.3, l.4))
 
 pub counts_rounds : (c : Counted) (t : Tree) (k : ℕ) → is_finite t ≡ true → Counts c (alt (pair (cat (pair t (rep t 0 (Some k)))) empty)) → Counts c (rep t 0 (Some (k + 1)))
 counts_rounds c t k f h =
@@ -203,13 +203,13 @@ counts_rounds c t k f h =
     by w zero le q = inr (inl q)
     by w (suc n) le q =
         let l = rounds_longer (HasWord t) 0 k w (suc n) (omega arith) le q in
-        inl (l.0, l.1, l.2, joins_one (rep t 0 (Some k)) l.1 l.3, l.4)
+        inl (l.0, l.1, l.2, concatenates_one (rep t 0 (Some k)) l.1 l.3, l.4)
 
 -- a tree whose words are not few
 pub counts_not_few : (c : Counted) (t : Tree) → Counts c t → ((words : Vec Word Global) → c ≡ Few words → ⊥) → HaveFewWords (more t none) → ⊥
 counts_not_few Endless t h other = tree_not_finite t h
 counts_not_few Many t h other =
-    not_few h.0 (more t none) (sample_same h.0 (HasWord t) (JoinWords (more t none)) h.1.1 (joins_one t) (spells_one t)) (λ le. absurd (omega (arith, le, h.2)))
+    not_few h.0 (more t none) (sample_same h.0 (HasWord t) (ConcatenatesWords (more t none)) h.1.1 (concatenates_one t) (spells_one t)) (λ le. absurd (omega (arith, le, h.2)))
 counts_not_few (Few words) t h other = absurd (other words refl)
 
 -- few words that are counted

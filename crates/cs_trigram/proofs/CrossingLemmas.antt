@@ -16,7 +16,7 @@ use Rattle.cs_trigram.proofs.PartTrigramLemmas.{all_trigrams_tri, has_part, has_
 use Rattle.cs_trigram.proofs.SpellingLemmas.{part_split}
 use Rattle.cs_trigram.proofs.AffixLemmas.{rises, rises_all}
 
--- a suffix and a prefix, joined
+-- a suffix and a prefix behind it
 pub stands_across : (suffix prefix : Affix) (word u v : List ℕ) → word ≡ (bytes_of suffix.word) ++ (bytes_of prefix.word) → HasAffix Suffix suffix u → HasAffix Prefix prefix v → StandsIn word (u ++ v)
 stands_across suffix prefix word u v is a b = (
   a.0,
@@ -31,10 +31,10 @@ module _ (set : ℕ → Bool) where
       let there : HasTrigrams set word = has_front set word stands.1 (has_back set stands.0 (word ++ stands.1) (subst (HasTrigrams set) stands.2 has)) in
       sym (all_trigrams_tri set word) ∙ there
 
-  -- one joining more
-  pub joining_held : (queries : List Query) (q : Query) (suffix prefix : Affix) (u v : List ℕ) → AsksForText q ((bytes_of suffix.word) ++ (bytes_of prefix.word)) →
+  -- one concatenation more
+  pub concatenation_held : (queries : List Query) (q : Query) (suffix prefix : Affix) (u v : List ℕ) → AsksForText q ((bytes_of suffix.word) ++ (bytes_of prefix.word)) →
       HasAffix Suffix suffix u → HasAffix Prefix prefix v → HasTrigrams set (u ++ v) → some_holds (queries ++ q ∷ []) set ≡ true
-  joining_held queries q suffix prefix u v asks a b has =
+  concatenation_held queries q suffix prefix u v asks a b has =
       let word = (bytes_of suffix.word) ++ (bytes_of prefix.word) in
       some_holds_push set queries q
       ∙ or_right (some_holds queries set) (holds q set) (asks set ∙ standing_there word (u ++ v) (stands_across suffix prefix word u v refl a b) has)

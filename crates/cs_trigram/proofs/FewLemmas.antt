@@ -6,53 +6,46 @@ use Rattle.std.proofs.Math.Seq.{take-append_seam, drop-append_seam}
 use Rattle.std.proofs.lemmas.Bool.{and_parts, and_from, leb-true, le-leb, lt-ltb, ltb-true, both_ways}
 use Rattle.std.proofs.lemmas.List.{append-nil, length-map}
 use Rattle.cs_syntax.specs.Matching.{Tree, Trees, none, more}
-use Rattle.cs_trigram.specs.Windows.{IsMember}
-use Rattle.cs_trigram.specs.FiniteWords.{is_finite, are_finite, HasWord, JoinWords, SomeHasWord, HaveFewWords}
-use Rattle.cs_trigram.specs.Sample.{with_words, joinings, is_few, IsSample, AreWords, IsBlocked, IsFront, SamplesTree, SamplesRun, SamplesChoice, TreeWords, RunWords}
+use Rattle.cs_syntax.proofs.TreeListLemmas.{append_assoc_trees}
+use Rattle.cs_trigram.specs.PlainRuns.{IsMember}
+use Rattle.cs_trigram.specs.FiniteWords.{is_finite, are_finite, HasWord, ConcatenatesWords, SomeHasWord, HaveFewWords}
+use Rattle.cs_trigram.specs.Sample.{with_words, concatenations, is_few, IsSample, AreWords, IsBlocked, IsFront, SamplesTree, SamplesRun, SamplesChoice, TreeWords, RunWords}
 use Rattle.cs_trigram.proofs.MemberLemmas.{map_member, different_within}
-use Rattle.cs_trigram.proofs.SampleLemmas.{sample_same, sample_words, sample_joinings}
+use Rattle.cs_trigram.proofs.SampleLemmas.{sample_same, sample_words, sample_concatenations}
 
-pub joined_assoc : (a b c : Trees) → append (append a b) c ≡ append a (append b c)
-joined_assoc none b c = refl
-joined_assoc (more t a) b c = ap (more t) (joined_assoc a b c)
-
-pub joined_none : (a : Trees) → append a none ≡ a
-joined_none none = refl
-joined_none (more t a) = ap (more t) (joined_none a)
-
-pub finite_joined : (a b : Trees) → are_finite (append a b) ≡ (are_finite a && are_finite b)
-finite_joined none b = refl
-finite_joined (more t a) b = and_more (is_finite t) (are_finite a) (are_finite b) (are_finite (append a b)) (finite_joined a b)
+pub finite_append : (a b : Trees) → are_finite (append a b) ≡ (are_finite a && are_finite b)
+finite_append none b = refl
+finite_append (more t a) b = and_more (is_finite t) (are_finite a) (are_finite b) (are_finite (append a b)) (finite_append a b)
   where
     and_more : (x y z r : Bool) → r ≡ (y && z) → (x && r) ≡ ((x && y) && z)
     and_more true y z r e = e
     and_more false y z r e = refl
 
--- what joins words of two runs, and what joins words of both
-pub joins_both : (a b : Trees) (u v : List ℕ) → JoinWords a u → JoinWords b v → JoinWords (append a b) (u ++ v)
-joins_both none b u v p q = subst (λ (x : List ℕ). JoinWords b (x ++ v)) (sym p) q
-joins_both (more t a) b u v p q =
-    (p.0, p.1 ++ v, p.2, joins_both a b p.1 v p.3 q, ap (λ x. x ++ v) p.4 ∙ append_assoc p.0 p.1 v)
+-- what concatenates words of two runs, and what concatenates words of both
+pub concatenates_both : (a b : Trees) (u v : List ℕ) → ConcatenatesWords a u → ConcatenatesWords b v → ConcatenatesWords (append a b) (u ++ v)
+concatenates_both none b u v p q = subst (λ (x : List ℕ). ConcatenatesWords b (x ++ v)) (sym p) q
+concatenates_both (more t a) b u v p q =
+    (p.0, p.1 ++ v, p.2, concatenates_both a b p.1 v p.3 q, ap (λ x. x ++ v) p.4 ∙ append_assoc p.0 p.1 v)
 
-pub joins_split : (a b : Trees) (w : List ℕ) → JoinWords (append a b) w → (u v : List ℕ) × JoinWords a u × JoinWords b v × (w ≡ u ++ v)
-joins_split none b w j = ([], w, refl, j, refl)
-joins_split (more t a) b w j =
-    let r = joins_split a b j.1 j.3 in
+pub concatenates_split : (a b : Trees) (w : List ℕ) → ConcatenatesWords (append a b) w → (u v : List ℕ) × ConcatenatesWords a u × ConcatenatesWords b v × (w ≡ u ++ v)
+concatenates_split none b w j = ([], w, refl, j, refl)
+concatenates_split (more t a) b w j =
+    let r = concatenates_split a b j.1 j.3 in
     (j.0 ++ r.0, r.1, (j.0, r.0, j.2, r.2, refl), r.3, j.4 ∙ ap (λ x. j.0 ++ x) r.4 ∙ sym (append_assoc j.0 r.0 r.1))
 
 -- a run of one
-pub joins_one : (t : Tree) (w : List ℕ) → HasWord t w → JoinWords (more t none) w
-joins_one t w s = (w, [], s, refl, sym (append-nil w))
+pub concatenates_one : (t : Tree) (w : List ℕ) → HasWord t w → ConcatenatesWords (more t none) w
+concatenates_one t w s = (w, [], s, refl, sym (append-nil w))
 
-pub spells_one : (t : Tree) (w : List ℕ) → JoinWords (more t none) w → HasWord t w
+pub spells_one : (t : Tree) (w : List ℕ) → ConcatenatesWords (more t none) w → HasWord t w
 spells_one t w j =
     subst (HasWord t) (sym (j.4 ∙ ap (λ x. j.0 ++ x) j.3 ∙ append-nil j.0)) j.2
 
 -- a run that goes on from one with few words has no fewer
 pub few_front : (a b : Trees) → HaveFewWords (append a b) → HaveFewWords a
 few_front a b few =
-    let parts = and_parts (are_finite a) (are_finite b) (sym (finite_joined a b) ∙ few.0) in
-    let first = joins_split a b few.1.0 few.1.1 in
+    let parts = and_parts (are_finite a) (are_finite b) (sym (finite_append a b) ∙ few.0) in
+    let first = concatenates_split a b few.1.0 few.1.1 in
     let v = first.1 in
     let cut : List ℕ → List ℕ = λ x. take (length x - length v) x in (
       parts.0,
@@ -61,7 +54,7 @@ few_front a b few =
         map cut few.2.0,
         rw (length-map few.2.0 cut) few.2.1,
         λ u j.
-            let whole = few.2.2 (u ++ v) (joins_both a b u v j first.3) in
+            let whole = few.2.2 (u ++ v) (concatenates_both a b u v j first.3) in
             let long : length (u ++ v) - length v ≡ length u = omega (arith, length-append u v) in
             let same : cut (u ++ v) ≡ u = ap (λ n. take n (u ++ v)) long ∙ take-append_seam u v in
             subst (λ (x : List ℕ). IsMember x (map cut few.2.0)) same (map_member cut (u ++ v) few.2.0 whole),
@@ -70,8 +63,8 @@ few_front a b few =
 
 pub few_back : (a b : Trees) → HaveFewWords (append a b) → HaveFewWords b
 few_back a b few =
-    let parts = and_parts (are_finite a) (are_finite b) (sym (finite_joined a b) ∙ few.0) in
-    let first = joins_split a b few.1.0 few.1.1 in
+    let parts = and_parts (are_finite a) (are_finite b) (sym (finite_append a b) ∙ few.0) in
+    let first = concatenates_split a b few.1.0 few.1.1 in
     let u = first.0 in
     let cut : List ℕ → List ℕ = λ x. drop (length u) x in (
       parts.1,
@@ -80,7 +73,7 @@ few_back a b few =
         map cut few.2.0,
         rw (length-map few.2.0 cut) few.2.1,
         λ v j.
-            let whole = few.2.2 (u ++ v) (joins_both a b u v first.2 j) in
+            let whole = few.2.2 (u ++ v) (concatenates_both a b u v first.2 j) in
             subst (λ (x : List ℕ). IsMember x (map cut few.2.0)) (drop-append_seam u v) (map_member cut (u ++ v) few.2.0 whole),
       ),
     )
@@ -101,12 +94,12 @@ fronts_compare (more t a) x (more u b) y e =
 
 -- each word of the longest run at the front begins with a word of each run at the front that has few
 pub front_begins : (ts : Trees) (ws : List (List ℕ)) → IsFront ts ws → (w : List ℕ) → IsMember w ws → (run after : Trees) → ts ≡ append run after → HaveFewWords run →
-    (u rest : List ℕ) × JoinWords run u × (w ≡ u ++ rest)
+    (u rest : List ℕ) × ConcatenatesWords run u × (w ≡ u ++ rest)
 front_begins ts ws f w m run after e few =
     let j = (f.each.each w).1 m in
     elim (fronts_compare f.run f.after run after (sym f.is ∙ e)) [
       | inl l ↦
-          let s = joins_split run l.0 w (subst (λ (a : Trees). JoinWords a w) l.1 j) in
+          let s = concatenates_split run l.0 w (subst (λ (a : Trees). ConcatenatesWords a w) l.1 j) in
           (s.0, s.1, s.2, s.4)
       | inr r ↦ absurd (stopped f.run f.after run r.0 (append r.1 after) r.1 f.blocked r.3 r.2 few)
     ]
@@ -116,7 +109,7 @@ front_begins ts ws f w m run after e few =
     stopped a (more t2 rest2) b t rest c blocked e same few =
         let tree : t2 ≡ t = (cc) in
         let long : HaveFewWords (append (append a (more t none)) c) =
-        subst HaveFewWords (same ∙ sym (joined_assoc a (more t none) c)) few in
+        subst HaveFewWords (same ∙ sym (append_assoc_trees a (more t none) c)) few in
         blocked (subst (λ (z : Tree). HaveFewWords (append a (more z none))) (sym tree) (few_front (append a (more t none)) c long))
 
 -- what the test of a number of words says
@@ -144,7 +137,7 @@ words_sample ws P a =
     record { right = λ w m. (a.each w).1 m; different = a.different; whole = λ le w p. (a.each w).0 p }
 
 -- one that is empty or large shows that a run has not few words
-pub not_few : (ws : List (List ℕ)) (ts : Trees) → IsSample ws (JoinWords ts) → (length ws ≤ 20 → length ws ≡ 0) → HaveFewWords ts → ⊥
+pub not_few : (ws : List (List ℕ)) (ts : Trees) → IsSample ws (ConcatenatesWords ts) → (length ws ≤ 20 → length ws ≡ 0) → HaveFewWords ts → ⊥
 not_few ws ts s odd few =
     let fits = different_within ws few.2.0 s.different (λ w m. few.2.2 w (s.right w m)) in
     let small : length ws ≤ 20 = omega (arith, fits, few.2.1) in
@@ -154,18 +147,18 @@ not_few ws ts s odd few =
     empty [] e m = m
     empty (x ∷ xs) e m = absurd (omega arith)
 
--- the words of a run, joined with those of a tree before it or behind it
-pub before_sample : (t : Tree) (ts : Trees) (us vs : List (List ℕ)) → IsSample us (HasWord t) → IsSample vs (JoinWords ts) → IsSample (with_words [] (joinings us vs)) (JoinWords (more t ts))
-before_sample t ts us vs s r = sample_joinings us vs (HasWord t) (JoinWords ts) s r
+-- the words of a run, with those of a tree before it or behind it
+pub before_sample : (t : Tree) (ts : Trees) (us vs : List (List ℕ)) → IsSample us (HasWord t) → IsSample vs (ConcatenatesWords ts) → IsSample (with_words [] (concatenations us vs)) (ConcatenatesWords (more t ts))
+before_sample t ts us vs s r = sample_concatenations us vs (HasWord t) (ConcatenatesWords ts) s r
 
-pub behind_sample : (ts : Trees) (t : Tree) (us vs : List (List ℕ)) → IsSample us (JoinWords ts) → IsSample vs (HasWord t) →
-    IsSample (with_words [] (joinings us vs)) (JoinWords (append ts (more t none)))
+pub behind_sample : (ts : Trees) (t : Tree) (us vs : List (List ℕ)) → IsSample us (ConcatenatesWords ts) → IsSample vs (HasWord t) →
+    IsSample (with_words [] (concatenations us vs)) (ConcatenatesWords (append ts (more t none)))
 behind_sample ts t us vs s r =
-    sample_same _ _ _ (sample_joinings us vs (JoinWords ts) (HasWord t) s r)
-    (λ w j. subst (JoinWords (append ts (more t none))) (sym j.4) (joins_both ts (more t none) j.0 j.1 j.2 (joins_one t j.1 j.3)))
-    (λ w j. let p = joins_split ts (more t none) w j in (p.0, p.1, p.2, spells_one t p.1 p.3, p.4))
+    sample_same _ _ _ (sample_concatenations us vs (ConcatenatesWords ts) (HasWord t) s r)
+    (λ w j. subst (ConcatenatesWords (append ts (more t none))) (sym j.4) (concatenates_both ts (more t none) j.0 j.1 j.2 (concatenates_one t j.1 j.3)))
+    (λ w j. let p = concatenates_split ts (more t none) w j in (p.0, p.1, p.2, spells_one t p.1 p.3, p.4))
 
-pub run_step : (t : Tree) (ts : Trees) (us vs : List (List ℕ)) → SamplesTree us t → SamplesRun vs ts → SamplesRun (with_words [] (joinings us vs)) (more t ts)
+pub run_step : (t : Tree) (ts : Trees) (us vs : List (List ℕ)) → SamplesTree us t → SamplesRun vs ts → SamplesRun (with_words [] (concatenations us vs)) (more t ts)
 run_step t ts us vs s r = (and_from (is_finite t) (are_finite ts) s.0 r.0, before_sample t ts us vs s.1 r.1)
 
 pub choice_step : (t : Tree) (ts : Trees) (us vs : List (List ℕ)) → SamplesTree us t → SamplesChoice vs ts → SamplesChoice (with_words vs us) (more t ts)
@@ -192,19 +185,19 @@ run_front run after ts ws e words blocked =
     record { run = run; after = after; is = e; finite = words.0; each = words.1; blocked = blocked }
 
 -- few words behind a run, and too many
-pub behind_words : (ts : Trees) (t : Tree) (ws us : List (List ℕ)) → RunWords ws ts → TreeWords us t → is_few (length (with_words [] (joinings ws us))) ≡ true →
-    RunWords (with_words [] (joinings ws us)) (append ts (more t none))
+pub behind_words : (ts : Trees) (t : Tree) (ws us : List (List ℕ)) → RunWords ws ts → TreeWords us t → is_few (length (with_words [] (concatenations ws us))) ≡ true →
+    RunWords (with_words [] (concatenations ws us)) (append ts (more t none))
 behind_words ts t ws us r s few =
-    let count = few_count (length (with_words [] (joinings ws us))) few in (
-      finite_joined ts (more t none) ∙ and_from (are_finite ts) (is_finite t && true) r.0 (and_from (is_finite t) true s.0 refl),
-      whole_words _ _ (behind_sample ts t ws us (words_sample ws (JoinWords ts) r.1) (words_sample us (HasWord t) s.1)) count.0 count.1,
+    let count = few_count (length (with_words [] (concatenations ws us))) few in (
+      finite_append ts (more t none) ∙ and_from (are_finite ts) (is_finite t && true) r.0 (and_from (is_finite t) true s.0 refl),
+      whole_words _ _ (behind_sample ts t ws us (words_sample ws (ConcatenatesWords ts) r.1) (words_sample us (HasWord t) s.1)) count.0 count.1,
     )
 
-pub too_many_behind : (ts : Trees) (t : Tree) (ws us : List (List ℕ)) → RunWords ws ts → TreeWords us t → is_few (length (with_words [] (joinings ws us))) ≡ false →
+pub too_many_behind : (ts : Trees) (t : Tree) (ws us : List (List ℕ)) → RunWords ws ts → TreeWords us t → is_few (length (with_words [] (concatenations ws us))) ≡ false →
     HaveFewWords (append ts (more t none)) → ⊥
 too_many_behind ts t ws us r s odd =
-    not_few (with_words [] (joinings ws us)) (append ts (more t none))
-    (behind_sample ts t ws us (words_sample ws (JoinWords ts) r.1) (words_sample us (HasWord t) s.1)) (odd_count (length (with_words [] (joinings ws us))) odd)
+    not_few (with_words [] (concatenations ws us)) (append ts (more t none))
+    (behind_sample ts t ws us (words_sample ws (ConcatenatesWords ts) r.1) (words_sample us (HasWord t) s.1)) (odd_count (length (with_words [] (concatenations ws us))) odd)
 
 -- the words of a run of one
 pub run_words : (ws : List (List ℕ)) (t : Tree) → TreeWords ws t → RunWords ws (more t none)
@@ -214,7 +207,7 @@ run_words ws t s = (
     some = s.1.some;
     few = s.1.few;
     different = s.1.different;
-    each = λ w. (λ j. (s.1.each w).0 (spells_one t w j), λ m. joins_one t w ((s.1.each w).1 m));
+    each = λ w. (λ j. (s.1.each w).0 (spells_one t w j), λ m. concatenates_one t w ((s.1.each w).1 m));
   },
 )
 
@@ -228,13 +221,13 @@ tree_words ws t s few = let count = few_count (length ws) few in (s.0, whole_wor
 pub tree_not_few : (ws : List (List ℕ)) (t : Tree) → SamplesTree ws t → is_few (length ws) ≡ false → HaveFewWords (more t none) → ⊥
 tree_not_few ws t s odd =
     not_few ws (more t none)
-    (sample_same ws (HasWord t) (JoinWords (more t none)) s.1 (joins_one t) (spells_one t))
+    (sample_same ws (HasWord t) (ConcatenatesWords (more t none)) s.1 (concatenates_one t) (spells_one t))
     (odd_count (length ws) odd)
 
 pub tree_not_finite : (t : Tree) → is_finite t ≡ false → HaveFewWords (more t none) → ⊥
 tree_not_finite t wild few = both_ways (is_finite t) wild (and_parts (is_finite t) true few.0).0
 
-pub empty_words : AreWords ([] ∷ []) (JoinWords none)
+pub empty_words : AreWords ([] ∷ []) (ConcatenatesWords none)
 empty_words = record {
   some = omega arith;
   few = omega arith;

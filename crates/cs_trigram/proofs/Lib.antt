@@ -22,8 +22,8 @@ mod PlainTreeLemmas
 mod FewLemmas
 mod PartTrigramLemmas
 mod SpellingLemmas
-mod WindowLemmas
-mod JoiningLemmas
+mod PlainRunLemmas
+mod ConcatenationLemmas
 mod CountLemmas
 mod AffixLemmas
 mod CrossingLemmas

@@ -4,7 +4,7 @@ use Rattle.std.specs.List.{list_any}
 use Rattle.std.specs.Str.{bytes_eq}
 use Rattle.std.proofs.lemmas.Bool.{or_cases, or_left, or_right}
 use Rattle.std.proofs.lemmas.Slice.Eq.{bytes_eq-Decides}
-use Rattle.cs_trigram.specs.Windows.{IsMember}
+use Rattle.cs_trigram.specs.PlainRuns.{IsMember}
 use Rattle.cs_trigram.specs.Sample.{AreDifferent}
 
 pub member_append : (w : List ℕ) (xs ys : List (List ℕ)) → IsMember w (xs ++ ys) → IsMember w xs ⊎ IsMember w ys

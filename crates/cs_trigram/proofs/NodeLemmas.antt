@@ -1,20 +1,15 @@
 -- Lists of nodes as trees.
-use Rattle.std.proofs.Common.{◌≡◌, ℕ, zero, suc, ◌+◌, ◌-◌, ◌<◌, ◌≤◌, ◌&&◌, Bool, true, false, List, [], ◌∷◌, ◌++◌, drop, take, length, get_or, Box, Global, refl, sym, ◌∙◌, ap, subst, arith, drop-cons, length-drop}
+use Rattle.std.proofs.Common.{◌≡◌, ℕ, zero, suc, ◌+◌, ◌-◌, ◌<◌, ◌≤◌, ◌&&◌, false, List, [], ◌∷◌, ◌++◌, drop, take, length, get_or, refl, sym, ◌∙◌, ap, subst, arith, length-drop}
 use Rattle.cs_syntax.specs.TreeList.{append}
 use Rattle.std.specs.Prelude.{Option, Some, None, MatchOption, Result, Ok, Err, IfOk, OnOk}
-use Rattle.cs_syntax.specs.Matching.{Tree, Trees, rep, none, more}
-use Rattle.cs_syntax.specs.Node.{tree_of, tree_step, trees_of}
-use Rattle.cs_syntax.specs.declared.node.Node.{Node, Node-F, fold-roll-Node}
-use Rattle.cs_syntax.specs.declared.node.Node.TheVariants.{Rep, rolls-Rep}
+use Rattle.cs_syntax.specs.Matching.{Tree, Trees, none, more}
+use Rattle.cs_syntax.specs.Node.{tree_of, trees_of}
+use Rattle.cs_syntax.specs.declared.node.Node.{Node}
 use Rattle.std.proofs.Math.Seq.{take-suc, take-length}
+use Rattle.std.proofs.lemmas.Bool.{and_right}
 use Rattle.std.proofs.lemmas.List.{take-append-drop}
+use Rattle.cs_syntax.proofs.TreeLemmas.{trees_from}
 use Rattle.cs_trigram.specs.FiniteWords.{is_finite, are_finite}
-
-pub trees_from : (parts : List Node) (i : ℕ) (part : Node) → i < length parts → part ≡ get_or parts i part →
-    trees_of (drop i parts) ≡ more (tree_of part) (trees_of (drop (i + 1) parts))
-trees_from parts i part lt is =
-    let next : suc i ≡ i + 1 = omega arith in
-    ap trees_of (drop-cons parts i part lt ∙ ap (λ x. x ∷ drop (suc i) parts) (sym is) ∙ ap (λ n. part ∷ drop n parts) next)
 
 -- the part before a place
 pub trees_before : (parts : List Node) (at : ℕ) (part : Node) → 0 < at → at ≤ length parts → part ≡ get_or parts (at - 1) part →
@@ -27,11 +22,7 @@ pub not_finite : (parts : List Node) (i : ℕ) (part : Node) → i < length part
     are_finite (trees_of parts) ≡ false
 not_finite [] i part lt is not_it = absurd (omega arith)
 not_finite (x ∷ xs) zero part lt is not_it = ap (λ (y : Node). is_finite (tree_of y) && are_finite (trees_of xs)) (sym is) ∙ ap (λ b. b && are_finite (trees_of xs)) not_it
-not_finite (x ∷ xs) (suc i) part lt is not_it = behind (is_finite (tree_of x)) (are_finite (trees_of xs)) (not_finite xs i part (omega arith) is not_it)
-  where
-    behind : (a b : Bool) → b ≡ false → (a && b) ≡ false
-    behind true b e = e
-    behind false b e = refl
+not_finite (x ∷ xs) (suc i) part lt is not_it = and_right (is_finite (tree_of x)) (are_finite (trees_of xs)) (not_finite xs i part (omega arith) is not_it)
 
 -- an answer that is no `Some`
 pub none_of : {A : Type 0} (o : Option A) (N : Type 0) (S : A → Type 0) → MatchOption o N S → ((x : A) → o ≡ Some x → ⊥) → N
@@ -69,9 +60,6 @@ none_is {A} o N S m e = subst (λ (p : Option A). MatchOption p N S) e m
 pub rest_is : (parts : List Node) (i : ℕ) → take (length parts - i) (drop i parts) ≡ drop i parts
 rest_is parts i =
     ap (λ n. take n (drop i parts)) (sym (length-drop i parts)) ∙ take-length (drop i parts)
-
-pub tree_of-Rep : (x : Box Node Global) (n : ℕ) (m : Option ℕ) → tree_of (Rep x n m) ≡ rep (tree_of x.value) n m
-tree_of-Rep x n m = ap tree_of (sym (rolls-Rep x n m)) ∙ fold-roll-Node Tree tree_step (Node-F.Rep x n m)
 
 pub if_both : {A E : Type 0} (r : Result A E) (P Q R : A → Type 0) → IfOk r P → IfOk r Q → ((x : A) → P x → Q x → R x) → IfOk r R
 if_both (Ok x) P Q R h k f = f x h k

@@ -34,7 +34,7 @@ module _ (set : ℕ → Bool) where
   all_set [] = refl
   all_set (n ∷ ns) = all_with_number n (set_of_numbers ns) ∙ ap (λ b. set n && b) (all_set ns)
 
-  -- the set has the trigrams of a text where it has each window
+  -- the set has the trigrams of a text where it has each of their sequence
   pub all_trigrams_tri : (text : List ℕ) → list_all set (tri text) ≡ list_all set (trigram_sequence text)
   all_trigrams_tri text = all_set (trigram_sequence text)
 

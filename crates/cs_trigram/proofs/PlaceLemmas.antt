@@ -7,7 +7,8 @@ use Rattle.std.proofs.Math.Seq.{take-add}
 use Rattle.std.proofs.lemmas.List.Sums.{suffix_len-le-length}
 use Rattle.cs_trigram.specs.declared.limits.Limits.{Limits}
 use Rattle.cs_trigram.specs.declared.scan.Reason.{Reason}
-use Rattle.cs_trigram.specs.Text.{last_byte, line_so_far, rule_broken, first_broken, or_else}
+use Rattle.cs_trigram.specs.Text.{last_byte, line_so_far, rule_broken, first_broken}
+use Rattle.std.specs.Option.{option_or}
 use Rattle.cs_trigram.specs.declared.place.Place.{Place}
 use Rattle.cs_trigram.specs.Place.{Stands, Passes}
 
@@ -34,15 +35,15 @@ length-line-push front b =
       | false ↦ omega (arith, length-line front)
     ]
 
-pub first_broken-append : (most : Limits) (front xs ys : List ℕ) → first_broken most front (xs ++ ys) ≡ or_else (first_broken most front xs) (first_broken most (front ++ xs) ys)
+pub first_broken-append : (most : Limits) (front xs ys : List ℕ) → first_broken most front (xs ++ ys) ≡ option_or (first_broken most front xs) (first_broken most (front ++ xs) ys)
 first_broken-append most front [] ys = ap (λ f. first_broken most f ys) (sym (append-nil front))
 first_broken-append most front (x ∷ xs) ys =
-    ap (or_else (rule_broken most front x)) (first_broken-append most (front ++ x ∷ []) xs ys ∙ ap (λ f. or_else (first_broken most (front ++ x ∷ []) xs) (first_broken most f ys)) (append_assoc front (x ∷ []) xs))
-    ∙ or_else_assoc (rule_broken most front x) (first_broken most (front ++ x ∷ []) xs) (first_broken most (front ++ (x ∷ xs)) ys)
+    ap (option_or (rule_broken most front x)) (first_broken-append most (front ++ x ∷ []) xs ys ∙ ap (λ f. option_or (first_broken most (front ++ x ∷ []) xs) (first_broken most f ys)) (append_assoc front (x ∷ []) xs))
+    ∙ option_or_assoc (rule_broken most front x) (first_broken most (front ++ x ∷ []) xs) (first_broken most (front ++ (x ∷ xs)) ys)
   where
-    or_else_assoc : (a b c : Option Reason) → or_else a (or_else b c) ≡ or_else (or_else a b) c
-    or_else_assoc None b c = refl
-    or_else_assoc (Some r) b c = refl
+    option_or_assoc : (a b c : Option Reason) → option_or a (option_or b c) ≡ option_or (option_or a b) c
+    option_or_assoc None b c = refl
+    option_or_assoc (Some r) b c = refl
 
 -- a place behind one more byte
 pub Stands-push : (place : Place) (front : List ℕ) (b : ℕ) → Stands place front → Stands (record { count = place.count + 1; column = cond (nat_eq b 10) 0 (place.column + 1); before = b }) (front ++ b ∷ [])
@@ -55,13 +56,13 @@ Stands-push place front b stands = record {
 -- bytes that break no rule, and then some more
 pub Passes-append : (most : Limits) (front xs ys : List ℕ) (answer : Result Place Reason) → first_broken most front xs ≡ None → Passes most (front ++ xs) ys answer → Passes most front (xs ++ ys) answer
 Passes-append most front xs ys (Ok next) first then =
-    (first_broken-append most front xs ys ∙ ap (λ r. or_else r (first_broken most (front ++ xs) ys)) first ∙ then.0, rw (← append_assoc front xs ys) then.1)
+    (first_broken-append most front xs ys ∙ ap (λ r. option_or r (first_broken most (front ++ xs) ys)) first ∙ then.0, rw (← append_assoc front xs ys) then.1)
 Passes-append most front xs ys (Err reason) first then =
-    first_broken-append most front xs ys ∙ ap (λ r. or_else r (first_broken most (front ++ xs) ys)) first ∙ then
+    first_broken-append most front xs ys ∙ ap (λ r. option_or r (first_broken most (front ++ xs) ys)) first ∙ then
 
 -- one byte that breaks a rule, and then some more
 pub Passes-stop : (most : Limits) (front xs ys : List ℕ) (reason : Reason) → first_broken most front xs ≡ Some reason → first_broken most front (xs ++ ys) ≡ Some reason
-Passes-stop most front xs ys reason first = first_broken-append most front xs ys ∙ ap (λ r. or_else r (first_broken most (front ++ xs) ys)) first
+Passes-stop most front xs ys reason first = first_broken-append most front xs ys ∙ ap (λ r. option_or r (first_broken most (front ++ xs) ys)) first
 
 -- the bytes up to a place, with the one there
 pub Passes-more : (most : Limits) (front bytes : List ℕ) (i : ℕ) (answer : Result Place Reason) → i < length bytes → first_broken most front (take i bytes) ≡ None → Passes most (front ++ take i bytes) (get_or bytes i 0 ∷ []) answer → Passes most front (take (i + 1) bytes) answer

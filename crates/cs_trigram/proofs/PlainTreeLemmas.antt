@@ -2,8 +2,8 @@
 use Rattle.std.proofs.Common.{◌≡◌, ℕ, inl, inr, true, List, refl, arith}
 use Rattle.std.proofs.lemmas.Bool.{and_parts, and_from}
 use Rattle.cs_syntax.specs.Matching.{Tree, Trees, empty, one_of, one_char, cat, alt, rep, line_start, line_end, word_edge, not_word_edge, none, more}
-use Rattle.cs_trigram.specs.Windows.{is_plain, are_plain, Spells, Joins, SomeSpells, IsPlainRun}
-use Rattle.cs_trigram.specs.FiniteWords.{is_finite, are_finite, HasWord, JoinWords, SomeHasWord, HaveFewWords}
+use Rattle.cs_trigram.specs.PlainRuns.{is_plain, are_plain, Spells, Concatenates, SomeSpells, IsPlainRun}
+use Rattle.cs_trigram.specs.FiniteWords.{is_finite, are_finite, HasWord, ConcatenatesWords, SomeHasWord, HaveFewWords}
 
 mutual
   plain_finite : (t : Tree) → is_plain t ≡ true → is_finite t ≡ true
@@ -29,7 +29,7 @@ mutual
   spells_has empty p w s = s
   spells_has (one_of set) p w s = s
   spells_has (one_char runs) p w s = absurd s
-  spells_has (cat ts) p w s = joins_has ts p w s
+  spells_has (cat ts) p w s = concatenates_words ts p w s
   spells_has (alt ts) p w s = some_has ts p w s
   spells_has (rep x n m) p w s = absurd s
   spells_has line_start p w s = absurd s
@@ -37,11 +37,11 @@ mutual
   spells_has word_edge p w s = absurd s
   spells_has not_word_edge p w s = absurd s
 
-  pub joins_has : (ts : Trees) → are_plain ts ≡ true → (w : List ℕ) → Joins ts w → JoinWords ts w
-  joins_has none p w s = s
-  joins_has (more t ts) p w s =
+  pub concatenates_words : (ts : Trees) → are_plain ts ≡ true → (w : List ℕ) → Concatenates ts w → ConcatenatesWords ts w
+  concatenates_words none p w s = s
+  concatenates_words (more t ts) p w s =
       let q = and_parts (is_plain t) (are_plain ts) p in
-      (s.0, s.1, spells_has t q.0 s.0 s.2, joins_has ts q.1 s.1 s.3, s.4)
+      (s.0, s.1, spells_has t q.0 s.0 s.2, concatenates_words ts q.1 s.1 s.3, s.4)
 
   some_has : (ts : Trees) → are_plain ts ≡ true → (w : List ℕ) → SomeSpells ts w → SomeHasWord ts w
   some_has none p w s = absurd s
@@ -54,7 +54,7 @@ mutual
   has_spells empty p w s = s
   has_spells (one_of set) p w s = s
   has_spells (one_char runs) p w s = (cc)
-  has_spells (cat ts) p w s = has_joins ts p w s
+  has_spells (cat ts) p w s = words_concatenate ts p w s
   has_spells (alt ts) p w s = has_some ts p w s
   has_spells (rep x n m) p w s = (cc)
   has_spells line_start p w s = (cc)
@@ -62,11 +62,11 @@ mutual
   has_spells word_edge p w s = (cc)
   has_spells not_word_edge p w s = (cc)
 
-  pub has_joins : (ts : Trees) → are_plain ts ≡ true → (w : List ℕ) → JoinWords ts w → Joins ts w
-  has_joins none p w s = s
-  has_joins (more t ts) p w s =
+  pub words_concatenate : (ts : Trees) → are_plain ts ≡ true → (w : List ℕ) → ConcatenatesWords ts w → Concatenates ts w
+  words_concatenate none p w s = s
+  words_concatenate (more t ts) p w s =
       let q = and_parts (is_plain t) (are_plain ts) p in
-      (s.0, s.1, has_spells t q.0 s.0 s.2, has_joins ts q.1 s.1 s.3, s.4)
+      (s.0, s.1, has_spells t q.0 s.0 s.2, words_concatenate ts q.1 s.1 s.3, s.4)
 
   has_some : (ts : Trees) → are_plain ts ≡ true → (w : List ℕ) → SomeHasWord ts w → SomeSpells ts w
   has_some none p w s = absurd s
@@ -78,6 +78,6 @@ mutual
 pub run_has_few : (ts : Trees) → IsPlainRun ts → HaveFewWords ts
 run_has_few ts few = (
   all_finite ts few.0,
-  (few.1.0, joins_has ts few.0 few.1.0 few.1.1),
-  (few.2.0, omega (arith, few.2.1), λ w r. few.2.2 w (has_joins ts few.0 w r)),
+  (few.1.0, concatenates_words ts few.0 few.1.0 few.1.1),
+  (few.2.0, omega (arith, few.2.1), λ w r. few.2.2 w (words_concatenate ts few.0 w r)),
 )

@@ -6,10 +6,10 @@ use Rattle.std.proofs.lemmas.Bool.{true≢false}
 use Rattle.cs_syntax.specs.Matching.{Tree, Trees, one_of, cat, alt, rep, none, more, member, Found, TakesAll}
 use Rattle.cs_trigram.specs.Trigram.{tri}
 use Rattle.cs_trigram.specs.Query.{HasTrigrams, LosesNoLine}
-use Rattle.cs_trigram.specs.Windows.{Joins, IsMember, IsPlainRun, HasWindows, IsSharp}
+use Rattle.cs_trigram.specs.PlainRuns.{Concatenates, IsMember, IsPlainRun, ShowsPlainRuns, IsSharp}
 use Rattle.cs_trigram.specs.declared.queries.Query.TheVariants.{All, Tri}
 use Rattle.cs_trigram.proofs.QueryLemmas.{holds-All, holds-Tri}
-use Rattle.cs_trigram.proofs.WindowLemmas.{taken_windows}
+use Rattle.cs_trigram.proofs.PlainRunLemmas.{taken_plain_runs}
 
 -- the set of one byte
 abbrev only : ℕ → List Bool
@@ -30,25 +30,25 @@ abbrev letters : List ℕ → Trees
 letters [] = none
 letters (b ∷ text) = more (one_of (only b)) (letters text)
 
-join : (text : List ℕ) → Joins (letters text) text
-join [] = refl
-join (b ∷ text) = (b ∷ [], text, (b, has_it b, refl), join text, refl)
+concatenates : (text : List ℕ) → Concatenates (letters text) text
+concatenates [] = refl
+concatenates (b ∷ text) = (b ∷ [], text, (b, has_it b, refl), concatenates text, refl)
 
-join_no_other : (text word : List ℕ) → Joins (letters text) word → word ≡ text
-join_no_other [] word j = j
-join_no_other (b ∷ text) word j =
+concatenates_no_other : (text word : List ℕ) → Concatenates (letters text) word → word ≡ text
+concatenates_no_other [] word j = j
+concatenates_no_other (b ∷ text) word j =
     let letter = j.2 in
     let first : j.0 ≡ b ∷ [] = letter.2 ∙ ap (λ n. n ∷ []) (has_no_other b letter.0 letter.1) in
-    let rest = join_no_other text j.1 j.3 in
+    let rest = concatenates_no_other text j.1 j.3 in
     j.4 ∙ (λ i. first i ++ rest i)
 
--- ---- a word: its windows are its trigrams
+-- ---- a word: its shows are its trigrams
 
 abbrev hello : List ℕ
 hello = codes "hello"
 
 hello_is_a_run : IsPlainRun (letters hello)
-hello_is_a_run = (refl, (hello, join hello), (hello ∷ [], omega arith, λ word j. inl (join_no_other hello word j)))
+hello_is_a_run = (refl, (hello, concatenates hello), (hello ∷ [], omega arith, λ word j. inl (concatenates_no_other hello word j)))
 
 hello_takes_hello : TakesAll hello (letters hello) 0 5
 hello_takes_hello = (
@@ -72,10 +72,10 @@ hello_takes_hello = (
 trigrams_of_hello : tri hello ≡ 6646892 ∷ 6841708 ∷ 7105647 ∷ []
 trigrams_of_hello = refl
 
-windows_of_hello : (set : ℕ → Bool) → HasWindows set (cat (letters hello)) ↔ (list_all set (6646892 ∷ 6841708 ∷ 7105647 ∷ []) ≡ true)
-windows_of_hello set = (
-  λ windows. let shown = windows.0 none (letters hello) none refl hello_is_a_run in subst (HasTrigrams set) (join_no_other hello shown.0 shown.1) shown.2,
-  λ known. taken_windows hello set known (cat (letters hello)) 0 5 hello_takes_hello,
+plain_runs_of_hello : (set : ℕ → Bool) → ShowsPlainRuns set (cat (letters hello)) ↔ (list_all set (6646892 ∷ 6841708 ∷ 7105647 ∷ []) ≡ true)
+plain_runs_of_hello set = (
+  λ shows. let shown = shows.0 none (letters hello) none refl hello_is_a_run in subst (HasTrigrams set) (concatenates_no_other hello shown.0 shown.1) shown.2,
+  λ known. taken_plain_runs hello set known (cat (letters hello)) 0 5 hello_takes_hello,
 )
 
 -- ---- `(ab|cd)ef`: to ask for nothing is not sharp
@@ -83,13 +83,13 @@ windows_of_hello set = (
 abbrev choice : Trees
 choice = more (alt (more (cat (letters (codes "ab"))) (more (cat (letters (codes "cd"))) none))) (letters (codes "ef"))
 
-choice_joins : (word : List ℕ) → Joins choice word → IsMember word (codes "abef" ∷ codes "cdef" ∷ [])
-choice_joins word j =
-    let back = join_no_other (codes "ef") j.1 j.3 in
+choice_concatenates : (word : List ℕ) → Concatenates choice word → IsMember word (codes "abef" ∷ codes "cdef" ∷ [])
+choice_concatenates word j =
+    let back = concatenates_no_other (codes "ef") j.1 j.3 in
     elim j.2 [
-      | inl first ↦ let front = join_no_other (codes "ab") j.0 first in inl (j.4 ∙ (λ i. front i ++ back i))
+      | inl first ↦ let front = concatenates_no_other (codes "ab") j.0 first in inl (j.4 ∙ (λ i. front i ++ back i))
       | inr rest ↦ elim rest [
-        | inl second ↦ let front = join_no_other (codes "cd") j.0 second in inr (inl (j.4 ∙ (λ i. front i ++ back i)))
+        | inl second ↦ let front = concatenates_no_other (codes "cd") j.0 second in inr (inl (j.4 ∙ (λ i. front i ++ back i)))
         | inr neither ↦ absurd neither
       ]
     ]
@@ -97,14 +97,14 @@ choice_joins word j =
 choice_is_a_run : IsPlainRun choice
 choice_is_a_run = (
   refl,
-  (codes "abef", (codes "ab", codes "ef", inl (join (codes "ab")), join (codes "ef"), refl)),
-  (codes "abef" ∷ codes "cdef" ∷ [], omega arith, choice_joins),
+  (codes "abef", (codes "ab", codes "ef", inl (concatenates (codes "ab")), concatenates (codes "ef"), refl)),
+  (codes "abef" ∷ codes "cdef" ∷ [], omega arith, choice_concatenates),
 )
 
 asking_nothing_is_not_sharp : IsSharp All (cat choice) → ⊥
 asking_nothing_is_not_sharp sharp =
     let shown = (sharp (λ n. false) (holds-All (λ n. false))).0 none choice none refl choice_is_a_run in
-    elim (choice_joins shown.0 shown.1) [
+    elim (choice_concatenates shown.0 shown.1) [
       | inl first ↦ true≢false (sym (subst (HasTrigrams (λ n. false)) first shown.2))
       | inr rest ↦ elim rest [
         | inl second ↦ true≢false (sym (subst (HasTrigrams (λ n. false)) second shown.2))

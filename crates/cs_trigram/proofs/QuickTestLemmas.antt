@@ -5,7 +5,8 @@ use Rattle.std.proofs.lemmas.List.{append-nil, take_more}
 use Rattle.std.specs.List.{AllByRecursion}
 use Rattle.cs_trigram.specs.declared.limits.Limits.{Limits}
 use Rattle.cs_trigram.specs.declared.scan.Reason.TheVariants.{Nul, Utf8, TooLong, LongLine}
-use Rattle.cs_trigram.specs.Text.{may_follow, last_byte, line_so_far, rule_broken, first_broken, or_else}
+use Rattle.cs_trigram.specs.Text.{may_follow, last_byte, line_so_far, rule_broken, first_broken}
+use Rattle.std.specs.Option.{option_or}
 use Rattle.cs_trigram.proofs.PlaceLemmas.{last_byte-push, length-line-push}
 use Rattle.cs_trigram.specs.QuickTest.{IsAsciiByte, Follow, next_column, column_behind, LinesFit}
 
@@ -92,7 +93,7 @@ follow_passes most front (b ∷ rest) follow room fits =
     let here : rule_broken most front b ≡ None = follow_unbroken most front b follow.0 follow.1 (omega (arith, room)) fits.0 in
     let follow_rest : Follow (last_byte (front ++ b ∷ [])) rest = rw (last_byte-push front b) follow.2 in
     let fits_rest : LinesFit most.line (length (line_so_far (front ++ b ∷ []))) rest = rw (length-line-push front b) fits.1 in
-    ap (λ r. or_else r (first_broken most (front ++ b ∷ []) rest)) here
+    ap (λ r. option_or r (first_broken most (front ++ b ∷ []) rest)) here
     ∙ follow_passes most (front ++ b ∷ []) rest follow_rest (omega (arith, room, length-append front (b ∷ []))) fits_rest
 
 -- the column behind some more bytes

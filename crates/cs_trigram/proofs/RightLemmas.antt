@@ -7,18 +7,18 @@ use Rattle.std.proofs.lemmas.Bool.{or_cases, or_left, or_right}
 use Rattle.cs_syntax.specs.Matching.{Tree, Trees, alt, rep, none, more, Chain, Takes}
 use Rattle.cs_trigram.specs.Affixes.{part}
 use Rattle.cs_trigram.specs.Query.{holds, HasTrigrams, LosesNoLine}
-use Rattle.cs_trigram.specs.Windows.{HasWindows}
+use Rattle.cs_trigram.specs.PlainRuns.{ShowsPlainRuns}
 use Rattle.cs_trigram.specs.Sample.{some_holds, has_any, TreeWords, IsRight, AreRight}
 use Rattle.cs_trigram.specs.declared.queries.Query.{Query}
 use Rattle.cs_trigram.specs.declared.queries.Query.TheVariants.{All, Or}
 use Rattle.cs_trigram.proofs.AskedLemmas.{any_shown, shown_any}
-use Rattle.cs_trigram.proofs.SpellingLemmas.{spelled, spelled_windows}
+use Rattle.cs_trigram.proofs.SpellingLemmas.{spelled, spelled_plain_runs}
 use Rattle.cs_trigram.proofs.PartTrigramLemmas.{has_part}
 use Rattle.cs_trigram.proofs.QueryLemmas.{holds-All, holds-Or, some_holds_push, numbers-All, numbers-Or, numbers_more, numbers_push}
 
 -- a tree that asks nothing
-pub right_all : (t : Tree) → ((set : ℕ → Bool) → HasWindows set t) → IsRight All t
-right_all t windows = record { holding = λ s set i j h has. holds-All set; sharp = λ set h. windows set; numbers = numbers-All }
+pub right_all : (t : Tree) → ((set : ℕ → Bool) → ShowsPlainRuns set t) → IsRight All t
+right_all t shown = record { holding = λ s set i j h has. holds-All set; sharp = λ set h. shown set; numbers = numbers-All }
 
 pub all_repeated : (x : Tree) (n : ℕ) (m : Option ℕ) → n ≡ 0 → IsRight All (rep x n m)
 all_repeated x n m e = subst (λ k. IsRight All (rep x k m)) (sym e) (right_all (rep x 0 m) (λ set. tt))
@@ -44,7 +44,7 @@ right_words q ws t words asks numbers = record {
       asks set ∙ shown_any set ws (part s i j) ((words.1.each (part s i j)).0 r.1) (has_part set (j - i) i s has);
   sharp = λ set h.
       let w = any_shown set ws (sym (asks set) ∙ h) in
-      spelled_windows set t w.0 ((words.1.each w.0).1 w.1) w.2;
+      spelled_plain_runs set t w.0 ((words.1.each w.0).1 w.1) w.2;
   numbers = numbers;
 }
 

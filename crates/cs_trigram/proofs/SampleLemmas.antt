@@ -1,4 +1,4 @@
--- Samples of words that are added one after another, and of words that are joined.
+-- Samples of words that are added one after another, and of concatenations.
 use Rattle.std.proofs.Common.{◌≡◌, ℕ, zero, suc, ◌+◌, ◌<◌, ◌≤◌, ◌⊎◌, ◌&&◌, inl, inr, not, Bool, true, false, List, [], ◌∷◌, ◌++◌, drop, length, map, get_or, refl, sym, ◌∙◌, ap, subst, arith, drop-cons}
 use Rattle.std.specs.Prelude.{nat_le, if◌then◌else◌}
 use Rattle.std.specs.List.{list_any}
@@ -6,9 +6,9 @@ use Rattle.std.specs.Str.{bytes_eq}
 use Rattle.std.proofs.lemmas.Bool.{leb-true, le-leb, both_ways, cases_lt}
 use Rattle.std.proofs.lemmas.List.{append_cancel_left, append_cancel_right, length-map}
 use Rattle.cs_syntax.specs.Matching.{one_of, member}
-use Rattle.cs_trigram.specs.Windows.{IsMember}
+use Rattle.cs_trigram.specs.PlainRuns.{IsMember}
 use Rattle.cs_trigram.specs.FiniteWords.{HasWord}
-use Rattle.cs_trigram.specs.Sample.{with_word, with_words, joinings, IsSample}
+use Rattle.cs_trigram.specs.Sample.{with_word, with_words, concatenations, IsSample}
 use Rattle.cs_trigram.proofs.MemberLemmas.{member_append, member_left, member_right, member_map, map_member, any_member, member_any, different_within, different_push, different_map}
 
 -- the byte words of a set below n
@@ -94,37 +94,37 @@ no_sample = record { right = λ v m. m; different = tt; whole = λ le v p. p }
 pub sample_of : (us : List (List ℕ)) → IsSample (with_words [] us) (λ w. IsMember w us)
 sample_of us = sample_words [] us (λ w. ⊥) (λ w. IsMember w us) no_sample (λ v p. absurd p) (λ v m. m) (λ v m. inr m)
 
-pub joining_parts : (w : List ℕ) (us vs : List (List ℕ)) → IsMember w (joinings us vs) →
+pub concatenation_parts : (w : List ℕ) (us vs : List (List ℕ)) → IsMember w (concatenations us vs) →
     (u v : List ℕ) × IsMember u us × IsMember v vs × (w ≡ u ++ v)
-joining_parts w [] vs m = absurd m
-joining_parts w (u ∷ us) vs m =
-    elim (member_append w (map (λ v. u ++ v) vs) (joinings us vs) m) [
+concatenation_parts w [] vs m = absurd m
+concatenation_parts w (u ∷ us) vs m =
+    elim (member_append w (map (λ v. u ++ v) vs) (concatenations us vs) m) [
       | inl a ↦ let r = member_map (λ v. u ++ v) w vs a in (u, r.0, inl refl, r.1, r.2)
-      | inr b ↦ let r = joining_parts w us vs b in (r.0, r.1, inr r.2, r.3, r.4)
+      | inr b ↦ let r = concatenation_parts w us vs b in (r.0, r.1, inr r.2, r.3, r.4)
     ]
 
-pub joining_member : (u v : List ℕ) (us vs : List (List ℕ)) → IsMember u us → IsMember v vs → IsMember (u ++ v) (joinings us vs)
-joining_member u v [] vs m n = absurd m
-joining_member u v (x ∷ us) vs m n =
+pub concatenation_member : (u v : List ℕ) (us vs : List (List ℕ)) → IsMember u us → IsMember v vs → IsMember (u ++ v) (concatenations us vs)
+concatenation_member u v [] vs m n = absurd m
+concatenation_member u v (x ∷ us) vs m n =
     elim m [
-      | inl e ↦ member_left (u ++ v) (map (λ y. x ++ y) vs) (joinings us vs) (subst (λ (y : List ℕ). IsMember (y ++ v) (map (λ z. x ++ z) vs)) (sym e) (map_member (λ z. x ++ z) v vs n))
-      | inr k ↦ member_right (u ++ v) (map (λ y. x ++ y) vs) (joinings us vs) (joining_member u v us vs k n)
+      | inl e ↦ member_left (u ++ v) (map (λ y. x ++ y) vs) (concatenations us vs) (subst (λ (y : List ℕ). IsMember (y ++ v) (map (λ z. x ++ z) vs)) (sym e) (map_member (λ z. x ++ z) v vs n))
+      | inr k ↦ member_right (u ++ v) (map (λ y. x ++ y) vs) (concatenations us vs) (concatenation_member u v us vs k n)
     ]
 
 module _ (us vs : List (List ℕ)) (P Q : List ℕ → Type 0) (s : IsSample us P) (t : IsSample vs Q) where
-  abbrev pub Joined : List ℕ → Type 0
-  Joined w = (u v : List ℕ) × P u × Q v × (w ≡ u ++ v)
+  abbrev pub Concatenated : List ℕ → Type 0
+  Concatenated w = (u v : List ℕ) × P u × Q v × (w ≡ u ++ v)
 
   abbrev few_of : List (List ℕ)
-  few_of = with_words [] (joinings us vs)
+  few_of = with_words [] (concatenations us vs)
 
-  -- where one may stand behind, those in front are as few as the joinings
+  -- where one may stand behind, those in front are as few as the concatenations
   pub fronts_few : (v : List ℕ) → IsMember v vs → length few_of ≤ 20 → length us ≤ 20
   fronts_few v m le =
       let fits = different_within (map (λ u. u ++ v) us) few_of
       (different_map (λ u. u ++ v) (λ a b e. append_cancel_right a b v e) us s.different)
       (λ w n. let r = member_map (λ u. u ++ v) w us n in
-      (sample_of (joinings us vs)).whole le w (subst (λ (x : List ℕ). IsMember x (joinings us vs)) (sym r.2) (joining_member r.0 v us vs r.1 m))) in
+      (sample_of (concatenations us vs)).whole le w (subst (λ (x : List ℕ). IsMember x (concatenations us vs)) (sym r.2) (concatenation_member r.0 v us vs r.1 m))) in
       omega (arith, fits, length-map us (λ (u : List ℕ). u ++ v))
 
   pub backs_few : (u : List ℕ) → IsMember u us → length few_of ≤ 20 → length vs ≤ 20
@@ -132,7 +132,7 @@ module _ (us vs : List (List ℕ)) (P Q : List ℕ → Type 0) (s : IsSample us 
       let fits = different_within (map (λ v. u ++ v) vs) few_of
       (different_map (λ v. u ++ v) (λ a b e. append_cancel_left u a b e) vs t.different)
       (λ w n. let r = member_map (λ v. u ++ v) w vs n in
-      (sample_of (joinings us vs)).whole le w (subst (λ (x : List ℕ). IsMember x (joinings us vs)) (sym r.2) (joining_member u r.0 us vs m r.1))) in
+      (sample_of (concatenations us vs)).whole le w (subst (λ (x : List ℕ). IsMember x (concatenations us vs)) (sym r.2) (concatenation_member u r.0 us vs m r.1))) in
       omega (arith, fits, length-map vs (λ (v : List ℕ). u ++ v))
 
   -- where a word has the property, the other list has a member, if it is whole
@@ -141,16 +141,16 @@ module _ (us vs : List (List ℕ)) (P Q : List ℕ → Type 0) (s : IsSample us 
       let short : length vs ≤ 20 = rw e (omega arith) in absurd (subst (IsMember v) e (t.whole short v q))
   fronts_whole (x ∷ xs) e v q le = fronts_few x (subst (IsMember x) (sym e) (inl refl)) le
 
-  pub sample_joinings : IsSample few_of Joined
-  sample_joinings =
-      let all = sample_of (joinings us vs) in
+  pub sample_concatenations : IsSample few_of Concatenated
+  sample_concatenations =
+      let all = sample_of (concatenations us vs) in
       record {
-        right = λ w m. let r = joining_parts w us vs (all.right w m) in (r.0, r.1, s.right r.0 r.2, t.right r.1 r.3, r.4);
+        right = λ w m. let r = concatenation_parts w us vs (all.right w m) in (r.0, r.1, s.right r.0 r.2, t.right r.1 r.3, r.4);
         different = all.different;
         whole = λ le w j.
             let front = s.whole (fronts_whole vs refl j.1 j.3 le) j.0 j.2 in
             let back = t.whole (backs_few j.0 front le) j.1 j.3 in
-            all.whole le w (subst (λ (x : List ℕ). IsMember x (joinings us vs)) (sym j.4) (joining_member j.0 j.1 us vs front back));
+            all.whole le w (subst (λ (x : List ℕ). IsMember x (concatenations us vs)) (sym j.4) (concatenation_member j.0 j.1 us vs front back));
       }
 
 -- the words of a set

@@ -16,7 +16,8 @@ use Rattle.cs_trigram.specs.declared.gatherer.Ended.TheVariants as answer
 use Rattle.cs_trigram.specs.declared.scan.ScanFault.{ScanFault}
 use Rattle.cs_trigram.specs.declared.scan.ScanFault.TheVariants as fault
 use Rattle.cs_trigram.specs.Trigram.{trigram_sequence, tri}
-use Rattle.cs_trigram.specs.Text.{first_broken, or_else, too_many}
+use Rattle.cs_trigram.specs.Text.{first_broken, too_many}
+use Rattle.std.specs.Option.{option_or}
 use Rattle.cs_trigram.specs.Place.{Stands, Passes}
 use Rattle.cs_trigram.specs.Found.{Keeps, Knows, KeepsOn}
 use Rattle.cs_trigram.specs.Blocks.{last_two, Carries}
@@ -64,7 +65,7 @@ HasScanned-more most told mid later place next found more buffer filled carried 
     }
 
 left_out-broken : (most : Limits) (bytes : List ℕ) (ending : Ending) (reason : Reason) → first_broken most [] bytes ≡ Some reason → left_out reason ≡ found_at most bytes ending
-left_out-broken most bytes ends reason broken = sym (ap (λ r. found_or (or_else r (too_many most (tri bytes))) (text (tri bytes) (length bytes))) broken)
+left_out-broken most bytes ends reason broken = sym (ap (λ r. found_or (option_or r (too_many most (tri bytes))) (text (tri bytes) (length bytes))) broken)
 left_out-broken most bytes fails reason broken = sym (ap (λ r. found_or r unread) broken)
 
 -- a piece that breaks a rule

@@ -1,4 +1,4 @@
--- A finite tree takes a part of a line where that part is a word of it; its words have its windows.
+-- A finite tree takes a part of a line where that part is a word of it; its words show its plain runs.
 use Rattle.std.proofs.Common.{◌≡◌, ℕ, zero, suc, ◌+◌, ◌-◌, ◌<◌, ◌≤◌, inl, inr, Bool, true, List, [], ◌∷◌, ◌++◌, take, drop, length, refl, sym, ◌∙◌, ap, subst, arith, drop-cons}
 use Rattle.cs_syntax.specs.TreeList.{append}
 use Rattle.std.specs.Prelude.{slice_index, nat_le, Some, None}
@@ -8,10 +8,10 @@ use Rattle.std.proofs.lemmas.List.{drop-drop}
 use Rattle.cs_syntax.specs.Matching.{Tree, Trees, empty, one_of, one_char, cat, alt, rep, line_start, line_end, word_edge, not_word_edge, none, more, Chain, Takes, TakesAll, TakesSome}
 use Rattle.cs_trigram.specs.Query.{HasTrigrams}
 use Rattle.cs_trigram.specs.Affixes.{part}
-use Rattle.cs_trigram.specs.Windows.{ShowsRuns, HasWindows, AllHaveWindows, SomeHasWindows}
-use Rattle.cs_trigram.specs.FiniteWords.{Rounds, is_finite, are_finite, HasWord, JoinWords, SomeHasWord}
-use Rattle.cs_trigram.proofs.FewLemmas.{joins_split}
-use Rattle.cs_trigram.proofs.PlainTreeLemmas.{has_joins}
+use Rattle.cs_trigram.specs.PlainRuns.{ShowsRuns, ShowsPlainRuns, AllShowPlainRuns, SomeShowsPlainRuns}
+use Rattle.cs_trigram.specs.FiniteWords.{Rounds, is_finite, are_finite, HasWord, ConcatenatesWords, SomeHasWord}
+use Rattle.cs_trigram.proofs.FewLemmas.{concatenates_split}
+use Rattle.cs_trigram.proofs.PlainTreeLemmas.{words_concatenate}
 use Rattle.cs_trigram.proofs.PartTrigramLemmas.{has_front, has_back}
 
 pub part_empty : (s : List ℕ) (i : ℕ) → part s i i ≡ []
@@ -67,7 +67,7 @@ module _ (s : List ℕ) where
     spelled word_edge i j p h = at_edge i j h.0
     spelled not_word_edge i j p h = at_edge i j h.0
 
-    pub spelled_all : (ts : Trees) (i j : ℕ) → are_finite ts ≡ true → TakesAll s ts i j → (i ≤ j) × JoinWords ts (part s i j)
+    pub spelled_all : (ts : Trees) (i j : ℕ) → are_finite ts ≡ true → TakesAll s ts i j → (i ≤ j) × ConcatenatesWords ts (part s i j)
     spelled_all none i j p h =
         let same : i ≤ j = omega (arith, h) in (same, ap (part s i) (sym h) ∙ part_empty s i)
     spelled_all (more t ts) i j p h =
@@ -92,37 +92,37 @@ taken_front s none b i j h = (i, refl)
 taken_front s (more t a) b i j h = let r = taken_front s a b h.0 j h.2 in (r.0, (h.0, h.1, r.1))
 
 module _ (set : ℕ → Bool) where
-  runs_shown : (ts : Trees) (w : List ℕ) → JoinWords ts w → HasTrigrams set w → ShowsRuns set ts
+  runs_shown : (ts : Trees) (w : List ℕ) → ConcatenatesWords ts w → HasTrigrams set w → ShowsRuns set ts
   runs_shown ts w j h before run after e few =
-      let first = joins_split before (append run after) w (subst (λ (x : Trees). JoinWords x w) e j) in
-      let second = joins_split run after first.1 first.3 in
+      let first = concatenates_split before (append run after) w (subst (λ (x : Trees). ConcatenatesWords x w) e j) in
+      let second = concatenates_split run after first.1 first.3 in
       let rest = has_back set first.0 first.1 (subst (HasTrigrams set) first.4 h) in
-      (second.0, has_joins run few.0 second.0 second.2, has_front set second.0 second.1 (subst (HasTrigrams set) second.4 rest))
+      (second.0, words_concatenate run few.0 second.0 second.2, has_front set second.0 second.1 (subst (HasTrigrams set) second.4 rest))
 
   mutual
-    pub spelled_windows : (t : Tree) (w : List ℕ) → HasWord t w → HasTrigrams set w → HasWindows set t
-    spelled_windows empty w s h = tt
-    spelled_windows (one_of bytes) w s h = tt
-    spelled_windows (one_char runs) w s h = tt
-    spelled_windows (cat ts) w s h = (runs_shown ts w s h, joined_windows ts w s h)
-    spelled_windows (alt ts) w s h = some_windows ts w s h
-    spelled_windows (rep x n None) w s h = absurd s
-    spelled_windows (rep x zero (Some m)) w s h = tt
-    spelled_windows (rep x (suc n) (Some m)) w s h =
+    pub spelled_plain_runs : (t : Tree) (w : List ℕ) → HasWord t w → HasTrigrams set w → ShowsPlainRuns set t
+    spelled_plain_runs empty w s h = tt
+    spelled_plain_runs (one_of bytes) w s h = tt
+    spelled_plain_runs (one_char runs) w s h = tt
+    spelled_plain_runs (cat ts) w s h = (runs_shown ts w s h, concatenated_plain_runs ts w s h)
+    spelled_plain_runs (alt ts) w s h = some_plain_runs ts w s h
+    spelled_plain_runs (rep x n None) w s h = absurd s
+    spelled_plain_runs (rep x zero (Some m)) w s h = tt
+    spelled_plain_runs (rep x (suc n) (Some m)) w s h =
         let r = first_round (HasWord x) n s.0 w s.1 s.3 in
-        spelled_windows x r.0 r.2 (has_front set r.0 r.1 (subst (HasTrigrams set) r.3 h))
-    spelled_windows line_start w s h = tt
-    spelled_windows line_end w s h = tt
-    spelled_windows word_edge w s h = tt
-    spelled_windows not_word_edge w s h = tt
+        spelled_plain_runs x r.0 r.2 (has_front set r.0 r.1 (subst (HasTrigrams set) r.3 h))
+    spelled_plain_runs line_start w s h = tt
+    spelled_plain_runs line_end w s h = tt
+    spelled_plain_runs word_edge w s h = tt
+    spelled_plain_runs not_word_edge w s h = tt
 
-    pub joined_windows : (ts : Trees) (w : List ℕ) → JoinWords ts w → HasTrigrams set w → AllHaveWindows set ts
-    joined_windows none w s h = tt
-    joined_windows (more t ts) w s h =
+    pub concatenated_plain_runs : (ts : Trees) (w : List ℕ) → ConcatenatesWords ts w → HasTrigrams set w → AllShowPlainRuns set ts
+    concatenated_plain_runs none w s h = tt
+    concatenated_plain_runs (more t ts) w s h =
         let parts = subst (HasTrigrams set) s.4 h in
-        (spelled_windows t s.0 s.2 (has_front set s.0 s.1 parts), joined_windows ts s.1 s.3 (has_back set s.0 s.1 parts))
+        (spelled_plain_runs t s.0 s.2 (has_front set s.0 s.1 parts), concatenated_plain_runs ts s.1 s.3 (has_back set s.0 s.1 parts))
 
-    pub some_windows : (ts : Trees) (w : List ℕ) → SomeHasWord ts w → HasTrigrams set w → SomeHasWindows set ts
-    some_windows none w s h = absurd s
-    some_windows (more t ts) w s h =
-        elim s [ inl a ↦ inl (spelled_windows t w a h) | inr b ↦ inr (some_windows ts w b h) ]
+    pub some_plain_runs : (ts : Trees) (w : List ℕ) → SomeHasWord ts w → HasTrigrams set w → SomeShowsPlainRuns set ts
+    some_plain_runs none w s h = absurd s
+    some_plain_runs (more t ts) w s h =
+        elim s [ inl a ↦ inl (spelled_plain_runs t w a h) | inr b ↦ inr (some_plain_runs ts w b h) ]

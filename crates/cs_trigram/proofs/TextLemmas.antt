@@ -8,12 +8,13 @@ use Rattle.cs_trigram.specs.declared.limits.Limits.{Limits}
 use Rattle.cs_trigram.specs.declared.scan.Reason.{Reason}
 use Rattle.cs_trigram.specs.declared.scan.Reason.TheVariants.{Nul, Utf8, TooLong, LongLine, ManyTrigrams}
 use Rattle.cs_trigram.specs.Trigram.{trigram_sequence, tri, closing_trigram}
-use Rattle.cs_trigram.specs.Text.{may_follow, last_byte, line_so_far, rule_broken, first_broken, or_else, too_many}
+use Rattle.cs_trigram.specs.Text.{may_follow, last_byte, line_so_far, rule_broken, first_broken, too_many}
+use Rattle.std.specs.Option.{option_or}
 use Rattle.cs_trigram.proofs.SetLemmas.{all_set}
 
-pub or_else-none : (a b : Option Reason) → or_else a b ≡ None → (a ≡ None) × (b ≡ None)
-or_else-none None b h = (refl, h)
-or_else-none (Some r) b h = absurd (cc)
+pub option_or-none : (a b : Option Reason) → option_or a b ≡ None → (a ≡ None) × (b ≡ None)
+option_or-none None b h = (refl, h)
+option_or-none (Some r) b h = absurd (cc)
 
 -- no byte above f7 follows any
 follower_below : (b : ℕ) (s t u : Bool) → cond s (ltb b 128 || (leb 192 b && leb b 247)) (cond t (leb b 247) (cond u (leb 128 b && ltb b 192) false)) ≡ true → b < 248
@@ -40,7 +41,7 @@ unbroken_below most front b whole = at_zero (eqb b 0) (may_follow (last_byte fro
 bytes_below : (most : Limits) (front bytes : List ℕ) → first_broken most front bytes ≡ None → AllByRecursion (λ b. b < 248) bytes
 bytes_below most front [] whole = tt
 bytes_below most front (b ∷ rest) whole =
-    let parts = or_else-none (rule_broken most front b) (first_broken most (front ++ b ∷ []) rest) whole in
+    let parts = option_or-none (rule_broken most front b) (first_broken most (front ++ b ∷ []) rest) whole in
     (unbroken_below most front b parts.0, bytes_below most (front ++ b ∷ []) rest parts.1)
 
 trigrams_below : (bytes : List ℕ) → AllByRecursion (λ b. b < 248) bytes → AllByRecursion (λ n. n < 16777215) (trigram_sequence bytes)
@@ -60,9 +61,9 @@ tri_below most bytes whole = all_set (λ n. n < 16777215) (trigram_sequence byte
 -- ---- what is found of bytes that break no rule
 
 pub found-over : (most : Limits) (bytes : List ℕ) → first_broken most [] bytes ≡ None → most.trigrams < length (tri bytes) → left_out ManyTrigrams ≡ found_at most bytes ends
-found-over most bytes whole over = sym (ap (λ r. found_or (or_else r (too_many most (tri bytes))) (text (tri bytes) (length bytes))) whole
+found-over most bytes whole over = sym (ap (λ r. found_or (option_or r (too_many most (tri bytes))) (text (tri bytes) (length bytes))) whole
     ∙ ap (λ t. found_or (cond t (Some ManyTrigrams) None) (text (tri bytes) (length bytes))) (lt-ltb most.trigrams (length (tri bytes)) over))
 
 pub found-text : (most : Limits) (bytes : List ℕ) → first_broken most [] bytes ≡ None → length (tri bytes) ≤ most.trigrams → text (tri bytes) (length bytes) ≡ found_at most bytes ends
-found-text most bytes whole short = sym (ap (λ r. found_or (or_else r (too_many most (tri bytes))) (text (tri bytes) (length bytes))) whole
+found-text most bytes whole short = sym (ap (λ r. found_or (option_or r (too_many most (tri bytes))) (text (tri bytes) (length bytes))) whole
     ∙ ap (λ t. found_or (cond t (Some ManyTrigrams) None) (text (tri bytes) (length bytes))) (le-ltb most.trigrams (length (tri bytes)) short))

@@ -13,9 +13,9 @@ abbrev pub part : List ℕ → ℕ → ℕ → List ℕ
 part s i j = take (j - i) (drop i s)
 
 -- the one text at the side, and the other behind it
-abbrev pub laid : Side → List ℕ → List ℕ → List ℕ
-laid Prefix near far = near ++ far
-laid Suffix near far = far ++ near
+abbrev pub side_by_side : Side → List ℕ → List ℕ → List ℕ
+side_by_side Prefix near far = near ++ far
+side_by_side Suffix near far = far ++ near
 
 -- so many bytes at the side
 abbrev pub near_part : Side → ℕ → List ℕ → List ℕ
@@ -28,7 +28,7 @@ are_bare affixes = list_all (λ affix. nat_eq (length (bytes_of affix.word)) 0) 
 
 -- the text has the affix's word at the side, and nothing else where the affix is whole
 abbrev pub HasAffix : Side → Affix → List ℕ → Type 0
-HasAffix side affix text = (rest : List ℕ) × (text ≡ laid side (bytes_of affix.word) rest) × (affix.whole ≡ true → rest ≡ [])
+HasAffix side affix text = (rest : List ℕ) × (text ≡ side_by_side side (bytes_of affix.word) rest) × (affix.whole ≡ true → rest ≡ [])
 
 -- the text has some affix
 abbrev pub HasSomeAffix : Side → List Affix → List ℕ → Type 0
@@ -49,10 +49,10 @@ AreWider side affixes others = (text : List ℕ) → HasSomeAffix side others te
 
 -- a text that has the one, with a text behind it that has the other, has this affix
 abbrev pub IsAffixOfTwo : Side → Affix → Affix → Affix → Type 0
-IsAffixOfTwo side near far affix = (u v : List ℕ) → HasAffix side near u → HasAffix side far v → HasAffix side affix (laid side u v)
+IsAffixOfTwo side near far affix = (u v : List ℕ) → HasAffix side near u → HasAffix side far v → HasAffix side affix (side_by_side side u v)
 
 abbrev pub AreAffixesOfTwo : Side → List Affix → List Affix → List Affix → Type 0
-AreAffixesOfTwo side nears fars affixes = (u v : List ℕ) → HasSomeAffix side nears u → HasSomeAffix side fars v → HasSomeAffix side affixes (laid side u v)
+AreAffixesOfTwo side nears fars affixes = (u v : List ℕ) → HasSomeAffix side nears u → HasSomeAffix side fars v → HasSomeAffix side affixes (side_by_side side u v)
 
 -- each part of a line that the tree takes has some affix
 abbrev pub AreAffixes : Side → List Affix → Tree → Type 0

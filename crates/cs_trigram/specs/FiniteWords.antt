@@ -3,7 +3,7 @@
 use Rattle.std.specs.Prelude.{ℕ, zero, suc, ◌≡◌, ◌≤◌, ◌⊎◌, ◌&&◌, ◌++◌, ◌∷◌, [], Bool, true, false, List, length, nat_le, Some, None, encode_utf8}
 use Rattle.cs_syntax.specs.Characters.{has_char}
 use Rattle.cs_syntax.specs.Matching.{Tree, Trees, empty, one_of, one_char, cat, alt, rep, line_start, line_end, word_edge, not_word_edge, none, more, member}
-use Rattle.cs_trigram.specs.Windows.{IsMember}
+use Rattle.cs_trigram.specs.PlainRuns.{IsMember}
 
 -- each repeat in it has a most
 abbrev mutual
@@ -24,12 +24,12 @@ abbrev mutual
   are_finite none = true
   are_finite (more t ts) = is_finite t && are_finite ts
 
--- the word joins k words that have the property
+-- the word concatenates k words that have the property
 abbrev pub Rounds : (List ℕ → Type 0) → ℕ → List ℕ → Type 0
 Rounds P zero word = word ≡ []
 Rounds P (suc k) word = (front back : List ℕ) × P front × Rounds P k back × (word ≡ front ++ back)
 
--- the word joins at least n words that have the property, and at most `more_rounds` beyond these
+-- the word concatenates at least `least` words that have the property, and at most `most`
 abbrev pub SomeRounds : (List ℕ → Type 0) → ℕ → ℕ → List ℕ → Type 0
 SomeRounds P least most word = (k : ℕ) × (least ≤ k) × (k ≤ most) × Rounds P k word
 
@@ -39,7 +39,7 @@ abbrev mutual
   HasWord empty word = word ≡ []
   HasWord (one_of set) word = (b : ℕ) × (member set b ≡ true) × (word ≡ b ∷ [])
   HasWord (one_char runs) word = (c : ℕ) × (has_char runs c ≡ true) × (word ≡ encode_utf8 c)
-  HasWord (cat ts) word = JoinWords ts word
+  HasWord (cat ts) word = ConcatenatesWords ts word
   HasWord (alt ts) word = SomeHasWord ts word
   HasWord (rep x n None) word = ⊥
   HasWord (rep x n (Some m)) word = SomeRounds (HasWord x) n m word
@@ -48,21 +48,21 @@ abbrev mutual
   HasWord word_edge word = word ≡ []
   HasWord not_word_edge word = word ≡ []
 
-  -- the word joins a word of each tree, in order
-  pub JoinWords : Trees → List ℕ → Type 0
-  JoinWords none word = word ≡ []
-  JoinWords (more t ts) word = (front back : List ℕ) × HasWord t front × JoinWords ts back × (word ≡ front ++ back)
+  -- the word concatenates a word of each tree, in order
+  pub ConcatenatesWords : Trees → List ℕ → Type 0
+  ConcatenatesWords none word = word ≡ []
+  ConcatenatesWords (more t ts) word = (front back : List ℕ) × HasWord t front × ConcatenatesWords ts back × (word ≡ front ++ back)
 
   pub SomeHasWord : Trees → List ℕ → Type 0
   SomeHasWord none word = ⊥
   SomeHasWord (more t ts) word = HasWord t word ⊎ SomeHasWord ts word
 
--- the trees are finite, and the words that join theirs are few: at least one and at most twenty
+-- the trees are finite, and the words that concatenate theirs are few: at least one and at most twenty
 abbrev pub HaveFewWords : Trees → Type 0
 HaveFewWords ts =
     (are_finite ts ≡ true)
-    × ((word : List ℕ) × JoinWords ts word)
-    × ((words : List (List ℕ)) × (length words ≤ 20) × ((word : List ℕ) → JoinWords ts word → IsMember word words))
+    × ((word : List ℕ) × ConcatenatesWords ts word)
+    × ((words : List (List ℕ)) × (length words ≤ 20) × ((word : List ℕ) → ConcatenatesWords ts word → IsMember word words))
 
 -- the tree is finite, and its words are few
 abbrev pub HasFewWords : Tree → Type 0

@@ -7,8 +7,8 @@ use Rattle.std.specs.Str.{bytes_eq}
 use Rattle.cs_syntax.specs.Matching.{Tree, Trees, none, more, cat, alt, rep, member, Takes, TakesAll, TakesSome}
 use Rattle.cs_trigram.specs.Trigram.{trigram_sequence}
 use Rattle.cs_trigram.specs.Query.{holds, HasTrigrams}
-use Rattle.cs_trigram.specs.Windows.{IsMember, HasWindows, SomeHasWindows}
-use Rattle.cs_trigram.specs.FiniteWords.{HasWord, JoinWords, SomeHasWord, HaveFewWords, HasFewWords, is_finite, are_finite}
+use Rattle.cs_trigram.specs.PlainRuns.{IsMember, ShowsPlainRuns, SomeShowsPlainRuns}
+use Rattle.cs_trigram.specs.FiniteWords.{HasWord, ConcatenatesWords, SomeHasWord, HaveFewWords, HasFewWords, is_finite, are_finite}
 use Rattle.cs_trigram.specs.declared.queries.Query.{Query}
 
 -- a word more, where there are at most twenty and it is not there
@@ -21,9 +21,9 @@ with_words words [] = words
 with_words words (v ∷ vs) = with_words (with_word words v) vs
 
 -- each of the one list before each of the other
-abbrev pub joinings : List (List ℕ) → List (List ℕ) → List (List ℕ)
-joinings [] backs = []
-joinings (u ∷ us) backs = map (λ v. u ++ v) backs ++ joinings us backs
+abbrev pub concatenations : List (List ℕ) → List (List ℕ) → List (List ℕ)
+concatenations [] backs = []
+concatenations (u ∷ us) backs = map (λ v. u ++ v) backs ++ concatenations us backs
 
 abbrev pub AreDifferent : List (List ℕ) → Type 0
 AreDifferent [] = Unit {0}
@@ -35,9 +35,9 @@ pub record IsSample (words : List (List ℕ)) (P : List ℕ → Type 0) : Type 0
   pub different : AreDifferent words
   pub whole : length words ≤ 20 → (word : List ℕ) → P word → IsMember word words
 
--- the words are the joinings, which are at most twenty
-abbrev pub AreFewJoinings : List (List ℕ) → List (List ℕ) → List (List ℕ) → Type 0
-AreFewJoinings words fronts backs = (words ≡ with_words [] (joinings fronts backs)) × (length words ≤ 20)
+-- the words are the concatenations, which are at most twenty
+abbrev pub AreFewConcatenations : List (List ℕ) → List (List ℕ) → List (List ℕ) → Type 0
+AreFewConcatenations words fronts backs = (words ≡ with_words [] (concatenations fronts backs)) × (length words ≤ 20)
 
 -- at least one and at most twenty
 abbrev pub is_few : ℕ → Bool
@@ -61,7 +61,7 @@ pub record IsFront (ts : Trees) (words : List (List ℕ)) : Type 0 where
   pub after : Trees
   pub is : ts ≡ append run after
   pub finite : are_finite run ≡ true
-  pub each : AreWords words (JoinWords run)
+  pub each : AreWords words (ConcatenatesWords run)
   pub blocked : IsBlocked run after
 
 abbrev pub all_hold : List Query → (ℕ → Bool) → Bool
@@ -81,13 +81,13 @@ NumbersToo old queries small = list_all are_trigrams queries ≡ (list_all are_t
 -- the query loses no line in which the tree takes a part, is sharp, and has numbers of trigrams
 pub record IsRight (query : Query) (t : Tree) : Type 0 where
   pub holding : (s : List ℕ) (set : ℕ → Bool) (i j : ℕ) → Takes s t i j → HasTrigrams set s → holds query set ≡ true
-  pub sharp : (set : ℕ → Bool) → holds query set ≡ true → HasWindows set t
+  pub sharp : (set : ℕ → Bool) → holds query set ≡ true → ShowsPlainRuns set t
   pub numbers : are_trigrams query ≡ true
 
 -- the queries are right for the trees, one of which is taken
 pub record AreRight (queries : List Query) (ts : Trees) : Type 0 where
   pub holding : (s : List ℕ) (set : ℕ → Bool) (i j : ℕ) → TakesSome s ts i j → HasTrigrams set s → some_holds queries set ≡ true
-  pub sharp : (set : ℕ → Bool) → some_holds queries set ≡ true → SomeHasWindows set ts
+  pub sharp : (set : ℕ → Bool) → some_holds queries set ≡ true → SomeShowsPlainRuns set ts
   pub numbers : list_all are_trigrams queries ≡ true
 
 -- the query is the tree's own: it is right where the words of the tree are not few
@@ -107,7 +107,7 @@ abbrev pub SamplesTree : List (List ℕ) → Tree → Type 0
 SamplesTree words t = (is_finite t ≡ true) × IsSample words (HasWord t)
 
 abbrev pub SamplesRun : List (List ℕ) → Trees → Type 0
-SamplesRun words ts = (are_finite ts ≡ true) × IsSample words (JoinWords ts)
+SamplesRun words ts = (are_finite ts ≡ true) × IsSample words (ConcatenatesWords ts)
 
 abbrev pub SamplesChoice : List (List ℕ) → Trees → Type 0
 SamplesChoice words ts = (are_finite ts ≡ true) × IsSample words (SomeHasWord ts)
@@ -121,7 +121,7 @@ abbrev pub TreeWords : List (List ℕ) → Tree → Type 0
 TreeWords words t = (is_finite t ≡ true) × AreWords words (HasWord t)
 
 abbrev pub RunWords : List (List ℕ) → Trees → Type 0
-RunWords words ts = (are_finite ts ≡ true) × AreWords words (JoinWords ts)
+RunWords words ts = (are_finite ts ≡ true) × AreWords words (ConcatenatesWords ts)
 
 -- the set has the trigrams of one of the words
 abbrev pub has_any : (ℕ → Bool) → List (List ℕ) → Bool
@@ -135,8 +135,8 @@ abbrev pub AsksForWord : Query → List (List ℕ) → Type 0
 AsksForWord query words = (set : ℕ → Bool) → holds query set ≡ has_any set words
 
 -- what is asked by a sequence but for the longest run at its front: it holds of each set that has the trigrams of a
--- line in which the sequence takes a part; and where the set also has a word of that run, it has the windows
+-- line in which the sequence takes a part; and where the set also has a word of that run, it shows the plain runs
 pub record IsAsked (front : List (List ℕ)) (needs : (ℕ → Bool) → Bool) (ts : Trees) : Type 0 where
   pub run : IsFront ts front
   pub holding : (s : List ℕ) (set : ℕ → Bool) (i j : ℕ) → TakesAll s ts i j → HasTrigrams set s → needs set ≡ true
-  pub sharp : (set : ℕ → Bool) → needs set ≡ true → has_any set front ≡ true → HasWindows set (cat ts)
+  pub sharp : (set : ℕ → Bool) → needs set ≡ true → has_any set front ≡ true → ShowsPlainRuns set (cat ts)

@@ -1,8 +1,8 @@
 // How the texts that a tree takes begin and end.
 ghost use Rattle.std.specs.Prelude.{not, ◌≡◌, ◌<◌, ◌≤◌, ◌⊎◌, [], ◌∷◌, ℕ, true, List, length, IfOk, IfSome, OnOk};
 ghost use Rattle.std.specs.List.{list_all};
-ghost use Rattle.cs_trigram.specs.Windows.{IsMember};
-ghost use Rattle.cs_trigram.specs.Affixes.{laid, near_part, are_bare, HasAffix, HasSomeAffix, IsWider, HaveWider, AreWider, IsAffixOfTwo, AreAffixesOfTwo};
+ghost use Rattle.cs_trigram.specs.PlainRuns.{IsMember};
+ghost use Rattle.cs_trigram.specs.Affixes.{side_by_side, near_part, are_bare, HasAffix, HasSomeAffix, IsWider, HaveWider, AreWider, IsAffixOfTwo, AreAffixesOfTwo};
 ghost use Rattle.cs_trigram.specs.Cuts.{AreCutsOf};
 ghost use Rattle.cs_trigram.specs.ShortWord.{bytes_of};
 
@@ -32,8 +32,9 @@ pub(crate) struct Affix {
 }
 
 /// The one word at the side, and the other behind it, where they have at most three bytes.
-fn laid_word(side: Side, near: ShortWord, far: ShortWord) -> Option<ShortWord>
-    ensures { IfSome result (λ word. bytes_of word ≡ laid side (bytes_of near) (bytes_of far)) }
+fn word_of_two(side: Side, near: ShortWord, far: ShortWord) -> Option<ShortWord>
+    ensures { IfSome result (λ word. bytes_of word ≡
+        side_by_side side (bytes_of near) (bytes_of far)) }
 {
     match side {
         Side::Prefix => near.before(far),
@@ -42,11 +43,11 @@ fn laid_word(side: Side, near: ShortWord, far: ShortWord) -> Option<ShortWord>
 }
 
 /// The affix of a text that fits the one at the side, and the other behind it.
-fn joined_affix(side: Side, near: Affix, far: Affix) -> Affix
+fn affix_of_two(side: Side, near: Affix, far: Affix) -> Affix
     ensures { IsAffixOfTwo side near far result }
 {
     if near.whole
-        && let Some(word) = laid_word(side, near.word, far.word)
+        && let Some(word) = word_of_two(side, near.word, far.word)
     {
         return Affix {
             word,
@@ -161,7 +162,8 @@ fn cut_affixes(alloc: Global, side: Side, affixes: Vec<Affix>) -> Result<Vec<Aff
 
 /// The affix cut to so many bytes, of a text with any other behind it.
 fn open_affix(side: Side, affix: Affix, longest: usize) -> Affix
-    ensures { (u v : List ℕ) → HasAffix side affix u → HasAffix side result (laid side u v) }
+    ensures { (u v : List ℕ) → HasAffix side affix u →
+        HasAffix side result (side_by_side side u v) }
 {
     let short = short_affix(side, affix, longest);
     Affix {
@@ -212,30 +214,30 @@ impl Cuts {
     }
 }
 
-/// Adds the joinings of an affix with each of those behind it, until there are too many.
-fn add_joinings(
+/// Adds the concatenations of an affix with each of those behind it, until there are too many.
+fn add_concatenations(
     side: Side,
     near: Affix,
     fars: &[Affix],
     affixes: &mut Vec<Affix>,
 ) -> Result<(), AllocError>
     ensures keeps { OnOk result (AreWider side affixes.new.items affixes.old.items) }
-    ensures joins { OnOk result (length affixes.new.items ≤ 20 → (u v : List ℕ) →
+    ensures concatenates { OnOk result (length affixes.new.items ≤ 20 → (u v : List ℕ) →
         HasAffix side near u → HasSomeAffix side fars.now v →
-        HasSomeAffix side affixes.new.items (laid side u v)) }
+        HasSomeAffix side affixes.new.items (side_by_side side u v)) }
 {
     for far in fars {
         if affixes.len() > MANY {
             return Ok(());
         }
-        add_affix(affixes, joined_affix(side, near, *far))?;
+        add_affix(affixes, affix_of_two(side, near, *far))?;
     }
     Ok(())
 }
 
-/// Adds the joinings of an affix with each of those behind it, cut to so many bytes, until there
-/// are too many.
-fn add_joined(
+/// Adds the concatenations of an affix with each of those behind it, cut to so many bytes, until
+/// there are too many.
+fn add_cut_concatenations(
     side: Side,
     near: Affix,
     fars: &Cuts,
@@ -243,19 +245,20 @@ fn add_joined(
     affixes: &mut Vec<Affix>,
 ) -> Result<(), AllocError>
     ensures keeps { OnOk result (AreWider side affixes.new.items affixes.old.items) }
-    ensures joins { OnOk result (length affixes.new.items ≤ 20 → (all : List Affix) (u v : List ℕ) →
-        AreCutsOf side fars.now all → HasAffix side near u → HasSomeAffix side all v →
-        HasSomeAffix side affixes.new.items (laid side u v)) }
+    ensures concatenates { OnOk result (length affixes.new.items ≤ 20 → (all : List Affix)
+        (u v : List ℕ) → AreCutsOf side fars.now all → HasAffix side near u →
+        HasSomeAffix side all v →
+        HasSomeAffix side affixes.new.items (side_by_side side u v)) }
 {
     let len = near.word.len();
     if !near.whole || len > longest {
         return add_affix(affixes, open_affix(side, near, longest));
     }
-    add_joinings(side, near, fars.to(longest - len), affixes)
+    add_concatenations(side, near, fars.to(longest - len), affixes)
 }
 
-/// Whether the joinings are seen to be many before they are made: where the affixes in front are
-/// whole words of one length, no two joinings are the same.
+/// Whether the concatenations are seen to be many before they are made: where the affixes in front
+/// are whole words of one length, no two concatenations are the same.
 fn are_many(nears: &[Affix], fars: &Cuts, longest: usize) -> bool {
     let Some(first) = nears.first() else {
         return false;
@@ -273,7 +276,7 @@ fn are_many(nears: &[Affix], fars: &Cuts, longest: usize) -> bool {
 
 /// The affixes of the one text at the side, and the other behind it, cut to so many bytes, where
 /// they are not many.
-fn few_joined(
+fn few_concatenations(
     alloc: Global,
     side: Side,
     nears: &[Affix],
@@ -288,7 +291,7 @@ fn few_joined(
     }
     let mut affixes = Vec::with_capacity(alloc, MANY + 1)?;
     for near in nears {
-        add_joined(side, *near, fars, longest, &mut affixes)?;
+        add_cut_concatenations(side, *near, fars, longest, &mut affixes)?;
         if affixes.len() > MANY {
             return Ok(None);
         }
@@ -305,7 +308,7 @@ fn are_open(affixes: &[Affix]) -> bool
 
 /// The affixes of the one text at the side, and the other behind it, of as many bytes as leave them
 /// not many.
-pub(crate) fn joined_affixes(
+pub(crate) fn concatenate_affixes(
     alloc: Global,
     side: Side,
     nears: &[Affix],
@@ -319,7 +322,7 @@ pub(crate) fn joined_affixes(
     let cuts = Cuts::new(alloc, side, fars)?;
     let mut longest = LONGEST;
     'cut: while longest > 0 {
-        if let Some(affixes) = few_joined(alloc, side, nears, &cuts, longest)? {
+        if let Some(affixes) = few_concatenations(alloc, side, nears, &cuts, longest)? {
             return Ok(affixes);
         }
         longest -= 1;

@@ -4,12 +4,12 @@ ghost use Rattle.cs_trigram.specs.QueryNumbers.{are_trigrams};
 ghost use Rattle.cs_syntax.specs.Matching.{cat, alt};
 ghost use Rattle.cs_syntax.specs.Node.{tree_of, trees_of};
 ghost use Rattle.cs_trigram.specs.Query.{LosesNoLine};
-ghost use Rattle.cs_trigram.specs.Windows.{IsSharp};
+ghost use Rattle.cs_trigram.specs.PlainRuns.{IsSharp};
 ghost use Rattle.cs_trigram.specs.Known.{IsKnown};
 
 use crate::choice::Choice;
 use crate::counted::Counted;
-use crate::known::{Known, asked, known_of_rounds, known_of_words};
+use crate::known::{Known, known_of_rounds, known_of_words, query_of_words};
 use crate::queries::Query;
 use crate::sequence::Sequence;
 use crate::spelling::{no_bytes, words_of_chars, words_of_set};
@@ -29,7 +29,7 @@ pub fn query(alloc: Global, pattern: &Pattern) -> Result<Query, AllocError>
         ends: _,
         query,
     } = known_of(alloc, pattern.tree())?;
-    asked(alloc, &words, query)
+    query_of_words(alloc, &words, query)
 }
 
 #[cycle(query)]

@@ -16,7 +16,7 @@ use crate::crossings::any_crossing;
 use crate::fronts::longest_front;
 use crate::queries::Query;
 use crate::spelling::no_bytes;
-use crate::words::{Word, are_longer, few_joinings, words_put_behind};
+use crate::words::{Word, are_longer, few_concatenations, words_put_behind};
 use std::alloc::{AllocError, Global};
 use std::mem;
 
@@ -60,7 +60,7 @@ impl Asked {
     }
 
     /// A part with these few words goes before.
-    fn join(&mut self, alloc: Global, words: &[Word]) -> Result<(), AllocError>
+    fn put_few(&mut self, alloc: Global, words: &[Word]) -> Result<(), AllocError>
         ensures parts { OnOk result (self.new.parts ≡ self.old.parts) }
         ensures asks { OnOk result ((t : Tree) (ts : Trees) → TreeWords words.now t →
             AreCounted self.old.parts.items ts → IsAskedBefore self.old self.new t ts) }
@@ -70,8 +70,8 @@ impl Asked {
             self.front = words_put_behind(alloc, &words[0], passed)?;
             return Ok(());
         }
-        if let Some(joined) = few_joinings(alloc, words, &passed)? {
-            self.front = joined;
+        if let Some(longer) = few_concatenations(alloc, words, &passed)? {
+            self.front = longer;
             return Ok(());
         }
         self.front = longest_front(alloc, words, &self.parts)?;
@@ -86,7 +86,7 @@ impl Asked {
             AreCounted self.old.parts.items ts → IsAskedBefore self.old self.new t ts) }
     {
         match words.few() {
-            Some(few) => self.join(alloc, few),
+            Some(few) => self.put_few(alloc, few),
             None => self.cut(alloc, own),
         }
     }

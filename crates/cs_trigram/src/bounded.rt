@@ -70,6 +70,6 @@ impl BoundedScanner {
         ensures keeps { R.Keeps source.old source.new }
     {
         let ended = self.gatherer.read(source)?;
-        Ok(self.gatherer.gathered(ended))
+        Ok(self.gatherer.gathering(ended))
     }
 }

@@ -8,7 +8,7 @@ ghost use Rattle.cs_trigram.specs.Sample.{AreOwn, AreRight, IsOwn};
 use crate::asking::any_word;
 use crate::counted::Counted;
 use crate::ends::Ends;
-use crate::known::{Known, asked};
+use crate::known::{Known, query_of_words};
 use crate::queries::Query;
 use std::alloc::{AllocError, Global};
 use std::mem;
@@ -69,7 +69,7 @@ impl Choice {
         }
         let others = mem::replace(&mut self.members, Vec::new(alloc));
         self.members = members_of(alloc, &self.words, others)?;
-        self.members.push(asked(alloc, words, own)?)?;
+        self.members.push(query_of_words(alloc, words, own)?)?;
         Ok(())
     }
 

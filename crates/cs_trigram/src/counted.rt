@@ -5,7 +5,7 @@ ghost use Rattle.cs_trigram.specs.FiniteWords.{is_finite, HasFewWords};
 ghost use Rattle.cs_trigram.specs.Sample.{SamplesTree, TreeWords};
 ghost use Rattle.cs_trigram.specs.Counted.{HasMany, Counts};
 
-use crate::words::{FEW, Word, add_words, copies, joined_words, words_put_behind};
+use crate::words::{FEW, Word, add_words, concatenate_words, copies, words_put_behind};
 use std::alloc::{AllocError, Global};
 
 /// What is known of the words of a tree.
@@ -72,9 +72,9 @@ impl Counted {
 
     /// A few words with each of these behind them.
     fn behind_few(self, alloc: Global, fronts: &[Word]) -> Result<Counted, AllocError>
-        ensures { IfOk result (λ joined. (t u : Tree) → SamplesTree fronts.now t →
+        ensures { IfOk result (λ words. (t u : Tree) → SamplesTree fronts.now t →
             length fronts.now ≤ 20 → Counts self u →
-            Counts joined (cat (more t (more u none)))) }
+            Counts words (cat (more t (more u none)))) }
     {
         match self {
             Counted::Endless => Ok(Counted::Endless),
@@ -88,15 +88,15 @@ impl Counted {
                 if fronts.len() == 1 {
                     return Ok(Counted::Few(words_put_behind(alloc, &fronts[0], backs)?));
                 }
-                Ok(Counted::of(joined_words(alloc, fronts, &backs)?))
+                Ok(Counted::of(concatenate_words(alloc, fronts, &backs)?))
             }
         }
     }
 
     /// These with each of the others behind them.
-    pub(crate) fn joined(&self, alloc: Global, backs: Counted) -> Result<Counted, AllocError>
-        ensures { IfOk result (λ joined. (t u : Tree) → Counts self.now t → Counts backs u →
-            Counts joined (cat (more t (more u none)))) }
+    pub(crate) fn concatenate(&self, alloc: Global, backs: Counted) -> Result<Counted, AllocError>
+        ensures { IfOk result (λ words. (t u : Tree) → Counts self.now t → Counts backs u →
+            Counts words (cat (more t (more u none)))) }
     {
         match self {
             Counted::Endless => Ok(Counted::Endless),

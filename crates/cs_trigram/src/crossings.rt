@@ -15,11 +15,11 @@ use crate::queries::Query;
 use crate::short_word::ShortWord;
 use std::alloc::{AllocError, Global};
 
-/// So many joinings are asked for with all their trigrams at most.
-const FEW_JOININGS: usize = 64;
+/// So many concatenations are asked for with all their trigrams at most.
+const FEW_CONCATENATIONS: usize = 64;
 
-/// So many joinings are asked for at most, so that no pattern's query takes much memory.
-const MOST_JOININGS: usize = 256;
+/// So many concatenations are asked for at most, so that no pattern's query takes much memory.
+const MOST_CONCATENATIONS: usize = 256;
 
 /// The trigrams of the one word and then the other are all there.
 fn query_across(alloc: Global, suffix: ShortWord, prefix: ShortWord) -> Result<Query, AllocError>
@@ -30,10 +30,10 @@ fn query_across(alloc: Global, suffix: ShortWord, prefix: ShortWord) -> Result<Q
     if let Some(ShortWord::Three(a, b, c)) = suffix.before(prefix) {
         return Ok(Query::Tri(trigram(a, b, c)));
     }
-    all_trigrams(alloc, suffix.joined(prefix).bytes())
+    all_trigrams(alloc, suffix.concatenate(prefix).bytes())
 }
 
-/// Adds what the joinings of the suffix of a text with each of the prefixes of another ask.
+/// Adds what the concatenations of the suffix of a text with each of the prefixes of another ask.
 fn add_crossings(
     alloc: Global,
     suffix: &Affix,
@@ -54,7 +54,7 @@ fn add_crossings(
     Ok(())
 }
 
-/// What the joinings of the suffixes of a text with the prefixes of another ask.
+/// What the concatenations of the suffixes of a text with the prefixes of another ask.
 fn crossing_members(
     alloc: Global,
     suffixes: &[Affix],
@@ -64,7 +64,7 @@ fn crossing_members(
         SomeHoldsAcross members.items suffixes.now prefixes.now) }
     ensures numbers { IfOk result (λ members. list_all are_trigrams members.items ≡ true) }
 {
-    let mut members = Vec::with_capacity(alloc, count_joinings(suffixes, prefixes))?;
+    let mut members = Vec::with_capacity(alloc, count_concatenations(suffixes, prefixes))?;
     for suffix in suffixes {
         add_crossings(alloc, suffix, prefixes, &mut members)?;
     }
@@ -76,31 +76,34 @@ fn has_short(affixes: &[Affix], most: usize) -> bool {
     affixes.iter().any(|affix| affix.word.len() <= most)
 }
 
-/// Whether some joining has no trigram, so that nothing is asked.
-fn have_bare_joining(suffixes: &[Affix], prefixes: &[Affix]) -> bool {
+/// Whether some concatenation has no trigram, so that nothing is asked.
+fn have_bare_concatenation(suffixes: &[Affix], prefixes: &[Affix]) -> bool {
     has_short(suffixes, 0) && has_short(prefixes, 2)
         || has_short(suffixes, 1) && has_short(prefixes, 1)
         || has_short(suffixes, 2) && has_short(prefixes, 0)
 }
 
-/// How many joinings there are of the suffixes with the prefixes.
-fn count_joinings(suffixes: &[Affix], prefixes: &[Affix]) -> usize {
+/// How many concatenations there are of the suffixes with the prefixes.
+fn count_concatenations(suffixes: &[Affix], prefixes: &[Affix]) -> usize {
     suffixes.len().saturating_mul(prefixes.len())
 }
 
-/// The trigrams of some joining of the suffixes of a text with the prefixes of another are there.
+/// The trigrams of some concatenation of the suffixes of a text with the prefixes of another are
+/// there.
 fn crossing(alloc: Global, suffixes: &[Affix], prefixes: &[Affix]) -> Result<Query, AllocError>
     ensures asks { IfOk result (λ query. HoldsAcross query suffixes.now prefixes.now) }
     ensures numbers { IfOk result (λ query. are_trigrams query ≡ true) }
 {
-    if have_bare_joining(suffixes, prefixes) || count_joinings(suffixes, prefixes) > MOST_JOININGS {
+    if have_bare_concatenation(suffixes, prefixes)
+        || count_concatenations(suffixes, prefixes) > MOST_CONCATENATIONS
+    {
         return Ok(Query::All);
     }
     Ok(any_of(crossing_members(alloc, suffixes, prefixes)?))
 }
 
-/// The trigrams are there that have two bytes before the seam in some joining, and those that have
-/// two bytes behind it.
+/// The trigrams are there that have two bytes before the seam in some concatenation, and those that
+/// have two bytes behind it.
 fn crossing_apart(
     alloc: Global,
     suffixes: &[Affix],
@@ -129,7 +132,7 @@ pub(crate) fn any_crossing(
 {
     let suffixes = short_affixes(alloc, Side::Suffix, suffixes, 2)?;
     let prefixes = short_affixes(alloc, Side::Prefix, prefixes, 2)?;
-    if count_joinings(&suffixes, &prefixes) > FEW_JOININGS {
+    if count_concatenations(&suffixes, &prefixes) > FEW_CONCATENATIONS {
         return crossing_apart(alloc, &suffixes, &prefixes);
     }
     crossing(alloc, &suffixes, &prefixes)

@@ -6,7 +6,7 @@ ghost use Rattle.cs_trigram.specs.Counted.{Counts};
 ghost use Rattle.cs_trigram.specs.Ends.{AreEnds, AreEndsOfAll, AreEndsOfSome};
 
 use crate::affixes::{
-    Affix, Side, affixes_of_words, any_affix, either_affixes, empty_affix, joined_affixes,
+    Affix, Side, affixes_of_words, any_affix, concatenate_affixes, either_affixes, empty_affix,
 };
 use crate::counted::Counted;
 use std::alloc::{AllocError, Global};
@@ -42,10 +42,10 @@ fn affixes_of_rounds(
     ensures { IfOk result (λ affixes. (t : Tree) → AreAffixes side once.now t →
         AreAffixesOfRepeat side affixes.items t least) }
 {
-    let begun = joined_affixes(alloc, side, once, &any_affix(alloc)?)?;
+    let begun = concatenate_affixes(alloc, side, once, &any_affix(alloc)?)?;
     let mut affixes = either_affixes(alloc, side, begun, &empty_affix(alloc)?)?;
     for _round in 0..least.min(ROUNDS) {
-        affixes = joined_affixes(alloc, side, once, &affixes)?;
+        affixes = concatenate_affixes(alloc, side, once, &affixes)?;
     }
     Ok(affixes)
 }
@@ -84,8 +84,8 @@ impl Ends {
         ensures { IfOk result (λ ends. (t : Tree) (ts : Trees) → AreEnds self.now t →
             AreEndsOfAll behind.now ts → AreEndsOfAll ends (more t ts)) }
     {
-        let prefixes = joined_affixes(alloc, Side::Prefix, &self.prefixes, &behind.prefixes)?;
-        let suffixes = joined_affixes(alloc, Side::Suffix, &behind.suffixes, &self.suffixes)?;
+        let prefixes = concatenate_affixes(alloc, Side::Prefix, &self.prefixes, &behind.prefixes)?;
+        let suffixes = concatenate_affixes(alloc, Side::Suffix, &behind.suffixes, &self.suffixes)?;
         Ok(Ends { prefixes, suffixes })
     }
 

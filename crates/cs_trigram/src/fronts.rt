@@ -7,7 +7,7 @@ ghost use Rattle.cs_trigram.specs.Sample.{TreeWords, RunWords, IsFront};
 ghost use Rattle.cs_trigram.specs.Counted.{AreCounted};
 
 use crate::counted::Counted;
-use crate::words::{Word, copies, few_joinings};
+use crate::words::{Word, copies, few_concatenations};
 use std::alloc::{AllocError, Global};
 
 /// The words of a run and a part behind it, where these are few.
@@ -19,15 +19,15 @@ fn words_behind(
     ensures { IfOk result (λ found. (run : Trees) (t : Tree) →
         RunWords words.now run → TreeWords backs.now t →
         MatchOption found (¬ HaveFewWords (append run (more t none)))
-        (λ joined. RunWords joined.items (append run (more t none)))) }
+        (λ longer. RunWords longer.items (append run (more t none)))) }
 {
-    let Some(joined) = few_joinings(alloc, words, backs)? else {
+    let Some(longer) = few_concatenations(alloc, words, backs)? else {
         return Ok(None);
     };
-    if joined.len() == 0 {
+    if longer.len() == 0 {
         return Ok(None);
     }
-    Ok(Some(joined))
+    Ok(Some(longer))
 }
 
 /// The words of the longest run at the front that has few, of a part with these words and of those

@@ -139,7 +139,7 @@ impl Gatherer {
     }
 
     /// What a file is that was read last, with its trigrams as they were found.
-    pub(crate) fn gathered(&self, ended: Ended) -> Gathered<'_>
+    pub(crate) fn gathering(&self, ended: Ended) -> Gathered<'_>
         ensures says { (finding : Finding) → SaysOf (numbers_of self.now.found) (Ok ended) finding →
             SaysInAnyOrder (Ok result) finding }
         ensures trigrams { HasNumbers (numbers_of self.now.found) ended → GathersOnce result }

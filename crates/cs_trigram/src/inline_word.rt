@@ -61,7 +61,7 @@ impl InlineWord {
     }
 
     /// The one text and then the other, where they are short enough together.
-    pub(crate) fn joining(front: &[u8], back: &[u8]) -> Option<InlineWord>
+    pub(crate) fn concatenation(front: &[u8], back: &[u8]) -> Option<InlineWord>
         ensures { IfSome result (λ word. word ≡ front.now ++ back.now) }
     {
         if front.len() > INLINE || back.len() > INLINE - front.len() {

@@ -23,7 +23,11 @@ pub(crate) struct Known {
 }
 
 /// What a tree with these words asks, which has this query where its words are not few.
-pub(crate) fn asked(alloc: Global, words: &Counted, own: Query) -> Result<Query, AllocError>
+pub(crate) fn query_of_words(
+    alloc: Global,
+    words: &Counted,
+    own: Query,
+) -> Result<Query, AllocError>
     ensures { IfOk result (λ query. (t : Tree) → Counts words.now t → IsOwn own t →
         IsRight query t) }
 {
@@ -58,7 +62,7 @@ fn query_of_rounds(
     if least == 0 {
         return Ok(Query::All);
     }
-    asked(alloc, words, own)
+    query_of_words(alloc, words, own)
 }
 
 /// Of so many rounds of a tree.

@@ -8,7 +8,7 @@ ghost use Rattle.cs_trigram.specs.declared.limits.Limits.{Limits};
 ghost use Rattle.cs_trigram.specs.declared.scan.Reason.{Reason};
 ghost use Rattle.cs_trigram.specs.Trigram.{trigram, tri, closing_trigram, Ascends, has};
 ghost use Rattle.cs_trigram.specs.Query.{HasTrigrams};
-ghost use Rattle.cs_trigram.specs.Windows.{HasWindows};
+ghost use Rattle.cs_trigram.specs.PlainRuns.{ShowsPlainRuns};
 ghost use Rattle.cs_trigram.specs.Text.{first_broken, skip, text_trigrams};
 
 /// The trigrams of some bytes ascend, and among them is the number of each part of three bytes.
@@ -40,9 +40,9 @@ pub fn what_is_found_of_a_whole_file()
         skip most bytes ≡ Some reason × text_trigrams most bytes ≡ None }
 {}
 
-/// What has the trigrams of a line in which a tree finds something has the windows of the tree. So a query that asks for
-/// the windows alone loses no line.
-pub fn found_lines_have_the_windows()
+/// What has the trigrams of a line in which a tree finds something shows the plain runs of the tree. So a query that
+/// asks for these alone loses no line.
+pub fn found_lines_show_the_plain_runs()
     ensures { (tree : Tree) (line : List ℕ) (set : ℕ → Bool) →
-        Found tree line → HasTrigrams set line → HasWindows set tree }
+        Found tree line → HasTrigrams set line → ShowsPlainRuns set tree }
 {}

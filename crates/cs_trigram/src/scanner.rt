@@ -35,9 +35,7 @@ impl Model for Scanner {
 
 impl Scanner {
     /// A scanner with its buffer and its table, about 2.6 MB.
-    pub fn new(alloc: Global) -> Result<Scanner, AllocError>
-        ensures { IfOk result (λ scanner. scanner ≡ tt) }
-    {
+    pub fn new(alloc: Global) -> Result<Scanner, AllocError> {
         Ok(Scanner {
             alloc,
             sorter: Sorter::new(alloc, LIMITS.trigrams)?,
@@ -59,7 +57,6 @@ impl Scanner {
             count_after is_scan_failure result (R.failed source.old) }
         ensures bounded { LosesAtMost (limits.bytes + 1) (R.told source.old) (R.told source.new) }
         ensures keeps { R.Keeps source.old source.new }
-        ensures same { self.new ≡ self.old }
     {
         self.gatherer.scan(self.alloc, &mut self.sorter, source)
     }
@@ -79,6 +76,6 @@ impl Scanner {
         ensures keeps { R.Keeps source.old source.new }
     {
         let ended = self.gatherer.read(source)?;
-        Ok(self.gatherer.gathered(ended))
+        Ok(self.gatherer.gathering(ended))
     }
 }

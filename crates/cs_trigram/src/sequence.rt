@@ -52,7 +52,7 @@ impl Sequence {
     {
         let Known { words, ends, query } = part;
         let behind = mem::replace(&mut self.words, Counted::Endless);
-        self.words = words.joined(alloc, behind)?;
+        self.words = words.concatenate(alloc, behind)?;
         self.asked
             .add(alloc, query, words, &ends.suffixes, &self.ends.prefixes)?;
         self.ends = ends.before(alloc, &self.ends)?;

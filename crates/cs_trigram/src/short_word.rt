@@ -94,7 +94,7 @@ impl ShortWord {
     }
 
     /// This one and then the other.
-    pub(crate) fn joined(self, back: ShortWord) -> InlineWord
+    pub(crate) fn concatenate(self, back: ShortWord) -> InlineWord
         ensures { result ≡ bytes_of self ++ bytes_of back }
     {
         let mut word = InlineWord::empty();

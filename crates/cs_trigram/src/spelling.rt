@@ -93,7 +93,7 @@ fn rounds_up_to(alloc: Global, once: &Counted, most: u32) -> Result<Counted, All
     let mut words = Counted::Few(no_bytes(alloc)?);
     for _round in 0..most {
         words = once
-            .joined(alloc, words)?
+            .concatenate(alloc, words)?
             .or(alloc, &Counted::Few(no_bytes(alloc)?))?;
     }
     Ok(words)
@@ -112,7 +112,7 @@ fn rounds_before(
 {
     let mut words = backs;
     for _round in 0..count {
-        words = once.joined(alloc, words)?;
+        words = once.concatenate(alloc, words)?;
     }
     Ok(words)
 }

@@ -2,7 +2,7 @@
 ghost use Rattle.std.specs.Prelude.{nat_lt, nat_eq, true, ◌≡◌, ◌≤◌, ◌<◌, ◌++◌, ◌∷◌, [], List, IfOk, OnOk, MatchOption, length, map};
 ghost use Rattle.std.specs.List.{list_all, list_any};
 ghost use Rattle.std.specs.Str.{bytes_eq};
-ghost use Rattle.cs_trigram.specs.Sample.{with_word, with_words, joinings, AreDifferent, AreFewJoinings};
+ghost use Rattle.cs_trigram.specs.Sample.{with_word, with_words, concatenations, AreDifferent, AreFewConcatenations};
 
 use crate::inline_word::InlineWord;
 use std::alloc::{AllocError, Global};
@@ -64,7 +64,7 @@ impl Word {
     fn of_both(alloc: Global, front: &[u8], back: &[u8]) -> Result<Word, AllocError>
         ensures { IfOk result (λ word. word ≡ front.now ++ back.now) }
     {
-        if let Some(few) = InlineWord::joining(front, back) {
+        if let Some(few) = InlineWord::concatenation(front, back) {
             return Ok(Word::of_few(alloc, few));
         }
         let mut bytes = Vec::with_capacity(alloc, front.len() + back.len())?;
@@ -92,7 +92,11 @@ impl Word {
     }
 
     /// The one word and then the other.
-    pub(crate) fn joining(alloc: Global, front: &Word, back: &Word) -> Result<Word, AllocError>
+    pub(crate) fn concatenation(
+        alloc: Global,
+        front: &Word,
+        back: &Word,
+    ) -> Result<Word, AllocError>
         ensures { IfOk result (λ word. word ≡ front.now ++ back.now) }
     {
         Word::of_both(alloc, front.bytes(), back.bytes())
@@ -103,7 +107,7 @@ impl Word {
         ensures { IfOk result (λ word. word ≡ byte ∷ self.now) }
     {
         let word = self.bytes();
-        if let Some(few) = InlineWord::joining(&[byte], word) {
+        if let Some(few) = InlineWord::concatenation(&[byte], word) {
             return Ok(Word::of_few(alloc, few));
         }
         let mut bytes = Vec::with_capacity(alloc, 2 * word.len() + 1)?;
@@ -143,7 +147,7 @@ impl Word {
     {
         match front.bytes() {
             [byte] => self.put_before(alloc, *byte),
-            _ => Word::joining(alloc, front, &self),
+            _ => Word::concatenation(alloc, front, &self),
         }
     }
 
@@ -158,7 +162,7 @@ impl Word {
     }
 
     /// Whether it is the one word and then the other.
-    fn joins(&self, front: &Word, back: &Word) -> bool
+    fn is_concatenation(&self, front: &Word, back: &Word) -> bool
         ensures { result ≡ bytes_eq self.now (front.now ++ back.now) }
     {
         let (bytes, front, back) = (self.bytes(), front.bytes(), back.bytes());
@@ -225,15 +229,15 @@ pub(crate) fn add_words(
     Ok(())
 }
 
-/// Whether the joining of the two is among the words.
-fn has_joining(words: &[Word], front: &Word, back: &Word) -> bool
+/// Whether the concatenation of the two is among the words.
+fn has_concatenation(words: &[Word], front: &Word, back: &Word) -> bool
     ensures { result ≡ list_any (λ w. bytes_eq w (front.now ++ back.now)) words.now }
 {
-    words.iter().any(|w| w.joins(front, back))
+    words.iter().any(|w| w.is_concatenation(front, back))
 }
 
-/// Adds the joining of two words that is not there yet, up to one more than are few.
-fn add_joining(
+/// Adds the concatenation of two words that is not there yet, up to one more than are few.
+fn add_concatenation(
     alloc: Global,
     front: &Word,
     back: &Word,
@@ -242,16 +246,16 @@ fn add_joining(
     ensures { OnOk result (words.new.items ≡
         with_word words.old.items (front.now ++ back.now)) }
 {
-    // Memory is taken for new words alone: of the joinings of words that may be missing most are
-    // not new.
-    if words.len() <= FEW && !has_joining(words, front, back) {
-        words.push(Word::joining(alloc, front, back)?)?;
+    // Memory is taken for new words alone: of the concatenations of words that may be missing most
+    // are not new.
+    if words.len() <= FEW && !has_concatenation(words, front, back) {
+        words.push(Word::concatenation(alloc, front, back)?)?;
     }
     Ok(())
 }
 
-/// Adds the joinings of a word with each of the others.
-fn add_joinings(
+/// Adds the concatenations of a word with each of the others.
+fn add_concatenations(
     alloc: Global,
     front: &Word,
     backs: &[Word],
@@ -264,18 +268,18 @@ fn add_joinings(
         if words.len() > FEW {
             return Ok(());
         }
-        add_joining(alloc, front, back, words)?;
+        add_concatenation(alloc, front, back, words)?;
     }
     Ok(())
 }
 
-/// The joinings of a word with each of the others, which differ where these do.
+/// The concatenations of a word with each of the others, which differ where these do.
 fn words_behind_one(alloc: Global, front: &Word, backs: &[Word]) -> Result<Vec<Word>, AllocError>
     ensures { IfOk result (λ words. words.items ≡ map (λ v. front.now ++ v) backs.now) }
 {
     let mut words = Vec::with_capacity(alloc, backs.len())?;
     for back in backs {
-        words.push(Word::joining(alloc, front, back)?)?;
+        words.push(Word::concatenation(alloc, front, back)?)?;
     }
     Ok(words)
 }
@@ -295,21 +299,23 @@ pub(crate) fn words_put_behind(
     Ok(words)
 }
 
-/// The joinings of a word of the one list with a word of the other, up to one more than are few.
+/// The concatenations of a word of the one list with a word of the other, up to one more than are
+/// few.
 #[tactic(auto, using(crate::proofs::SampleLemmas::with_words_append))]
-pub(crate) fn joined_words(
+pub(crate) fn concatenate_words(
     alloc: Global,
     fronts: &[Word],
     backs: &[Word],
 ) -> Result<Vec<Word>, AllocError>
-    ensures { IfOk result (λ words. words.items ≡ with_words [] (joinings fronts.now backs.now)) }
+    ensures { IfOk result (λ words. words.items ≡
+        with_words [] (concatenations fronts.now backs.now)) }
 {
     let mut words = Vec::new(alloc);
     for front in fronts {
         if words.len() > FEW {
             return Ok(words);
         }
-        add_joinings(alloc, front, backs, &mut words)?;
+        add_concatenations(alloc, front, backs, &mut words)?;
     }
     Ok(words)
 }
@@ -321,11 +327,11 @@ fn have_length(words: &[Word], len: usize) -> bool
     words.iter().all(|word| word.bytes().len() == len)
 }
 
-/// Whether the joinings of different words are seen to be more than few before they are made: words
-/// of one length with any behind them differ.
+/// Whether the concatenations of different words are seen to be more than few before they are made:
+/// words of one length with any behind them differ.
 fn are_many(fronts: &[Word], backs: &[Word]) -> bool
     ensures { result ≡ true → AreDifferent fronts.now → AreDifferent backs.now →
-        20 < length (with_words [] (joinings fronts.now backs.now)) }
+        20 < length (with_words [] (concatenations fronts.now backs.now)) }
 {
     let Some(first) = fronts.first() else {
         return false;
@@ -333,15 +339,15 @@ fn are_many(fronts: &[Word], backs: &[Word]) -> bool
     have_length(fronts, first.bytes().len()) && fronts.len().saturating_mul(backs.len()) > FEW
 }
 
-/// The joinings of different words with others that differ, where they are at most few.
-pub(crate) fn few_joinings(
+/// The concatenations of different words with others that differ, where they are at most few.
+pub(crate) fn few_concatenations(
     alloc: Global,
     fronts: &[Word],
     backs: &[Word],
 ) -> Result<Option<Vec<Word>>, AllocError>
     ensures { IfOk result (λ found. AreDifferent fronts.now → AreDifferent backs.now →
-        MatchOption found (20 < length (with_words [] (joinings fronts.now backs.now)))
-        (λ words. AreFewJoinings words.items fronts.now backs.now)) }
+        MatchOption found (20 < length (with_words [] (concatenations fronts.now backs.now)))
+        (λ words. AreFewConcatenations words.items fronts.now backs.now)) }
 {
     if fronts.len() == 1 && backs.len() <= FEW {
         return Ok(Some(words_behind_one(alloc, &fronts[0], backs)?));
@@ -349,7 +355,7 @@ pub(crate) fn few_joinings(
     if are_many(fronts, backs) {
         return Ok(None);
     }
-    let words = joined_words(alloc, fronts, backs)?;
+    let words = concatenate_words(alloc, fronts, backs)?;
     if words.len() > FEW {
         return Ok(None);
     }

@@ -1,7 +1,8 @@
 -- How words are divided into items and the rest.
 use Rattle.std.proofs.Common.{suc, add-one, true≢false, ◌≡◌, ℕ, ◌+◌, Bool, true, false, cond, List, [], ◌∷◌, ◌++◌, length, drop, map, Option, Some, None, sym, ◌∙◌, ap, refl, subst, inl, inr, append_assoc, length-append}
-use Rattle.std.specs.Prelude.{codes, sum_by, flat_map, bytes_eq, slice_get, not, ◌&&◌, option_to_list, ◌⊎◌}
+use Rattle.std.specs.Prelude.{codes, sum_by, flat_map, bytes_eq, slice_get, not, option_to_list, ◌⊎◌}
 use Rattle.std.specs.List.{list_all}
+use Rattle.std.proofs.lemmas.Bool.{and_from}
 use Rattle.std.proofs.lemmas.List.{drop-drop}
 use Rattle.std.proofs.lemmas.List.Sums.{sum_by-cons}
 use Rattle.std.proofs.lemmas.Slice.Eq.{bytes_eq-Decides}
@@ -76,16 +77,12 @@ leaves tool = by_items tool (λ at words read. Leaves words read)
 abbrev pub AreOptions : List Item → Type 0
 AreOptions read = list_all (λ item. is_option item.word) read ≡ true
 
-options-cons : (first all : Bool) → first ≡ true → all ≡ true → (first && all) ≡ true
-options-cons true all first_so all_so = all_so
-options-cons false all first_so all_so = first_so
-
 options : (tool : Tool) (at : ℕ) (words : List (List ℕ)) → AreOptions (items_from tool at words)
 options tool = by_items tool (λ at words read. AreOptions read)
     (λ at. refl)
     (λ at word behind other. refl)
-    (λ at word behind later option takes so_far. options-cons (is_option word) (list_all (λ item. is_option item.word) later) option so_far)
-    (λ at word next behind later option takes so_far. options-cons (is_option word) (list_all (λ item. is_option item.word) later) option so_far)
+    (λ at word behind later option takes so_far. and_from (is_option word) (list_all (λ item. is_option item.word) later) option so_far)
+    (λ at word next behind later option takes so_far. and_from (is_option word) (list_all (λ item. is_option item.word) later) option so_far)
 
 -- no option stands first
 abbrev pub OtherFirst : List (List ℕ) → Type 0

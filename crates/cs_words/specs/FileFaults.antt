@@ -1,6 +1,6 @@
 -- Why a file or a path is left out, and the line that is printed then.
 -- docs/PROMISES.md, "What is printed".
-use Rattle.std.specs.Prelude.{ℕ, List, ◌++◌, codes}
+use Rattle.std.specs.Prelude.{ℕ, Bool, true, false, List, ◌++◌, codes}
 use Rattle.cs_tree.specs.declared.fault.TreeFault.TheVariants as tree
 use Rattle.cs_tree.specs.declared.fault.TreeFault.{TreeFault}
 use Rattle.cs_words.specs.declared.jobs.Tool.{Tool}
@@ -22,6 +22,13 @@ file_fault_words Failed = codes "cannot be read"
 file_fault_words Unnamed = codes "name is not text"
 file_fault_words PathTooLong = codes "path too long"
 file_fault_words InputTooLong = codes "input too long"
+
+-- whether a call has failed: not where a name is no text, nor where a path or an input is too long
+abbrev pub is_file_failure : FileFault → Bool
+is_file_failure Unnamed = false
+is_file_failure PathTooLong = false
+is_file_failure InputTooLong = false
+is_file_failure fault = true
 
 abbrev pub fault_line_of : Tool → List ℕ → FileFault → List ℕ
 fault_line_of tool name fault = tool_name tool ++ codes ": " ++ name ++ codes ": " ++ file_fault_words fault ++ codes "\n"

@@ -184,6 +184,17 @@ impl From<AllocError> for CindexFault {
     }
 }
 
+impl<T: Drop> From<AllocFailed<T>> for CindexFault {
+    ghost use Rattle.std.specs.Prelude.{◌≡◌};
+    ghost use Rattle.cs_words.specs.declared.fault.CindexFault.TheVariants.{Memory};
+
+    ghost from_gives = { λ _ fault. fault ≡ Memory };
+
+    fn from(_refused: AllocFailed<T>) -> CindexFault {
+        CindexFault::Memory
+    }
+}
+
 /// Bytes that do not open as an index. Want of memory is its own fault.
 impl From<IndexFault> for CindexFault {
     ghost use Rattle.std.specs.Prelude.{◌≡◌};

@@ -1,7 +1,7 @@
 // The names that may have what a query asks for.
 ghost use Rattle.std.specs.Prelude.{◌≡◌, ◌∷◌, ◌||◌, [], ℕ, Bool, true, false, filter, length, slice_index_or, IfOk, IfErr, IfSome};
-ghost use Rattle.cs_index.specs.Postings.{IsListFault};
-ghost use Rattle.cs_index.specs.Sifting.{AreMarkedToo, common_ids, names_of_each, names_of_some, read_for};
+ghost use Rattle.cs_index.specs.Postings.{IsListFault, read_for};
+ghost use Rattle.cs_index.specs.Sifting.{AreMarkedToo, common_ids, ids_of_each, ids_of_some};
 ghost use Rattle.cs_trigram.specs.Trigram.{has, Ascends};
 ghost use Rattle.std.specs.List.{list_all, list_any, range_with_len};
 ghost use Rattle.cs_index.specs.Opening.{rises};
@@ -12,7 +12,7 @@ ghost use Rattle.cs_trigram.specs.declared.queries.Query.TheVariants.{Tri};
 
 use crate::fault::IndexFault;
 use crate::reading::index::Index;
-use crate::reading::marks::{mark_ids, mark_list, marked};
+use crate::reading::marks::{mark_ids, mark_list, marked_ids};
 use crate::reading::postings::Postings;
 use crate::reading::sieve::Sieve;
 use cs_trigram::Query;
@@ -53,7 +53,7 @@ fn ids_meeting(index: &Index, alloc: Global, query: &Query) -> Result<Vec<u32>, 
 #[cycle(candidates)]
 fn ids_meeting_each(index: &Index, alloc: Global, members: &[Query]) -> Result<Vec<u32>, IndexFault>
     requires { rises index.now.entries ≡ true }
-    ensures ids { IfOk result (λ ids. ids.items ≡ names_of_each index.now members.now) }
+    ensures ids { IfOk result (λ ids. ids.items ≡ ids_of_each index.now members.now) }
     ensures whole { IfOk result (λ _. list_all (is_answerable index.now) members.now ≡ true) }
     ensures fault { IfErr result (IsListFault (list_all (is_answerable index.now) members.now)) }
 {
@@ -89,7 +89,7 @@ fn narrow(
 #[cycle(candidates)]
 fn ids_meeting_some(index: &Index, alloc: Global, members: &[Query]) -> Result<Vec<u32>, IndexFault>
     requires { rises index.now.entries ≡ true }
-    ensures ids { IfOk result (λ ids. ids.items ≡ names_of_some index.now members.now) }
+    ensures ids { IfOk result (λ ids. ids.items ≡ ids_of_some index.now members.now) }
     ensures whole { IfOk result (λ _. list_all (is_answerable index.now) members.now ≡ true) }
     ensures fault { IfErr result (IsListFault (list_all (is_answerable index.now) members.now)) }
 {
@@ -97,7 +97,7 @@ fn ids_meeting_some(index: &Index, alloc: Global, members: &[Query]) -> Result<V
     for member in members {
         mark(index, alloc, &mut marks, member)?;
     }
-    Ok(marked(alloc, &marks)?)
+    Ok(marked_ids(alloc, &marks)?)
 }
 
 /// Marks the ids of the names that meet the member.
@@ -123,7 +123,7 @@ fn mark(index: &Index, alloc: Global, marks: &mut [bool], member: &Query) -> Res
 fn first_ids(index: &Index, alloc: Global, members: &[Query]) -> Result<Vec<u32>, IndexFault>
     requires { rises index.now.entries ≡ true }
     ensures ids { IfOk result
-        (λ ids. common_ids index.now members.now ids.items ≡ names_of_each index.now members.now) }
+        (λ ids. common_ids index.now members.now ids.items ≡ ids_of_each index.now members.now) }
     ensures ascend { IfOk result (λ ids. Ascends ids.items) }
     ensures fault { IfErr result (IsListFault (list_all (is_answerable index.now) members.now)) }
 {

@@ -7,7 +7,7 @@ ghost use Rattle.cs_trigram.specs.Trigram.{has, Ascends};
 ghost use Rattle.cs_index.specs.Image.{entry_bytes, ListEntry};
 ghost use Rattle.cs_index.specs.Opening.{entries_in, is_list_index};
 ghost use Rattle.cs_index.specs.Postings.{entry_of};
-ghost use Rattle.cs_index.specs.Copies.{AreBelow, AreEntries, HasCopy, IsFound, endless};
+ghost use Rattle.cs_index.specs.Copies.{AreBelow, AreCopiedEntries, HasCopy, IsFound, endless};
 
 use crate::reading::bytes::read_number;
 use crate::reading::entries::place_of;
@@ -26,7 +26,7 @@ impl StoredIndex {
         asked: &[u32],
     ) -> Result<(Vec<u8>, Vec<u8>), IoFault>
         requires { Ascends asked.now }
-        ensures entries { IfOk result (λ lists. AreEntries lists.0.items lists.1.items) }
+        ensures entries { IfOk result (λ lists. AreCopiedEntries lists.0.items lists.1.items) }
         ensures copies { IfSome (S.told store.old) (λ bytes. IfOk result (λ lists.
             (g : ℕ) → has asked.now g ≡ true →
             HasCopy (part_of bytes self.now.start self.now.room) self.now.entries
@@ -53,9 +53,9 @@ impl StoredIndex {
         list_index: &mut Vec<u8>,
         postings: &mut Vec<u8>,
     ) -> Result<(), IoFault>
-        requires entries { AreEntries list_index.old.items postings.old.items }
+        requires entries { AreCopiedEntries list_index.old.items postings.old.items }
         requires below { AreBelow (entries_in list_index.old.items) trigram }
-        ensures entries { OnOk result (AreEntries list_index.new.items postings.new.items) }
+        ensures entries { OnOk result (AreCopiedEntries list_index.new.items postings.new.items) }
         ensures below { OnOk result (AreBelow (entries_in list_index.new.items) (trigram + 1)) }
         ensures copied { IfSome (S.told store.old) (λ bytes. OnOk result
             (HasCopy (part_of bytes self.now.start self.now.room) self.now.entries

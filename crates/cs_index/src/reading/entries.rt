@@ -142,10 +142,10 @@ pub(crate) fn list_of<'a>(
     let count = read_number(list_index, at + 3);
     let offset = read_number(list_index, at + 7) as usize;
     if postings.len() < offset + 3 {
-        return Postings::damaged();
+        return Postings::damage();
     }
     if read_trigram(postings, offset) != read_trigram(list_index, at) {
-        return Postings::damaged();
+        return Postings::damage();
     }
     Postings::new(&postings[offset + 3..], count, names)
 }

@@ -33,7 +33,7 @@ pub(crate) fn mark_ids(marks: &mut [bool], ids: &[u32])
 }
 
 /// The ids that are marked, ascending.
-pub(crate) fn marked(alloc: Global, marks: &[bool]) -> Result<Vec<u32>, AllocError>
+pub(crate) fn marked_ids(alloc: Global, marks: &[bool]) -> Result<Vec<u32>, AllocError>
     requires { length marks.now < 2 ^ 32 }
     ensures { IfOk result (λ ids. ids.items ≡ ids_with_mark marks.now) }
 {

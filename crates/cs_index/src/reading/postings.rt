@@ -1,10 +1,9 @@
 // The ids of a list, read from the bytes of an index.
 ghost use Rattle.std.specs.Prelude.{◌≡◌, ◌≤◌, ◌<◌, ◌^◌, ◌+◌, ◌++◌, Some, None, List, ℕ, Option, drop, length, IfSome, MatchOption};
 ghost use Rattle.std.specs.List.{AllByRecursion};
-ghost use Rattle.cs_index.specs.Rising.{moved};
-ghost use Rattle.cs_index.specs.Postings.{ids_given};
-ghost use Rattle.cs_index.specs.Sifting.{nothing_read};
-ghost use Rattle.cs_index.specs.PostingLists.{varint_at, read_varint, Ids, damaged, read_ids};
+ghost use Rattle.cs_index.specs.Rising.{ids_onward};
+ghost use Rattle.cs_index.specs.Postings.{ids_given, nothing_read};
+ghost use Rattle.cs_index.specs.PostingLists.{varint_at, read_varint, Ids, damage, read_ids};
 ghost use Rattle.std.specs.Iterator.{YieldsFirst, item_count};
 
 use crate::fault::IndexFault;
@@ -65,7 +64,7 @@ impl<'a> Postings<'a> {
     /// byte or two and in no more than they need, and answers them: 0 is the one right after the last.
     /// Where `last` is another, none is passed.
     pub fn stretch(&mut self, last: u32, end: u32) -> Stretch<'a>
-        ensures ids { self.old.ids ≡ moved (last + 1) result ++ self.new.ids }
+        ensures ids { self.old.ids ≡ ids_onward (last + 1) result ++ self.new.ids }
         ensures below { AllByRecursion (λ id. last + 1 + id < end) result }
         ensures whole { self.new.whole ≡ self.old.whole }
     {
@@ -81,8 +80,8 @@ impl<'a> Postings<'a> {
     }
 
     /// A list that is damaged at once.
-    pub(crate) fn damaged() -> Self
-        ensures { result ≡ damaged }
+    pub(crate) fn damage() -> Self
+        ensures { result ≡ damage }
     {
         Postings::new(&[], 0, 0)
     }

@@ -1,6 +1,6 @@
 // Ids that are kept where a second list has them too.
 ghost use Rattle.std.specs.Prelude.{◌≡◌, ◌∷◌, ◌++◌, [], filter, nat_lt, if◌then◌else◌, ◌≤◌, ◌<◌, ℕ, length, slice_index};
-ghost use Rattle.cs_index.specs.Sifting.{after_id, Sifted};
+ghost use Rattle.cs_index.specs.Sifting.{after_id, Sift};
 ghost use Rattle.cs_trigram.specs.Trigram.{has, Ascends};
 
 use std::marker::Model;
@@ -15,10 +15,10 @@ pub(crate) struct Sieve {
 
 impl Model for Sieve {
     ghost use Rattle.cs_trigram.specs.Trigram.{Ascends};
-    ghost use Rattle.cs_index.specs.Sifting.{Sifted};
+    ghost use Rattle.cs_index.specs.Sifting.{Sift};
     ghost use Rattle.std.specs.Prelude.{take, drop, length, ◌≤◌};
 
-    ghost Value = { Sifted };
+    ghost Value = { Sift };
 
     ghost view = { λ s. record { kept = take s.kept s.ids.items; left = drop s.at s.ids.items } };
 

@@ -3,7 +3,7 @@ ghost use Rattle.std.specs.Prelude.{◌≡◌, ◌≤◌, ◌<◌, ◌^◌, leng
 ghost use Rattle.cs_tree.specs.FailureCount.{count_after};
 ghost use Rattle.cs_tree.specs.Transfers.{is_io_failure};
 ghost use Rattle.cs_index.specs.Starts.{AreInOrder, sections_at};
-ghost use Rattle.cs_index.specs.Stored.{LiesBefore, OpensAs, ReadsAs};
+ghost use Rattle.cs_index.specs.Stored.{LiesBefore, OpensAs, SectionsOpenAs};
 
 use crate::fault::IndexFault;
 use crate::reading::index::test_sections;
@@ -26,9 +26,9 @@ pub struct StoredIndex {
 }
 
 impl Model for StoredIndex {
-    ghost use Rattle.cs_index.specs.Stored.{Held};
+    ghost use Rattle.cs_index.specs.Stored.{StoredParts};
 
-    ghost Value = { Held };
+    ghost Value = { StoredParts };
 
     ghost use Rattle.std.specs.Prelude.{◌<◌, ◌^◌, ◌+◌, length};
     ghost use Rattle.cs_index.specs.Opening.{entries_in, texts_of};
@@ -84,7 +84,7 @@ fn read_stored<S: Store>(
     requires { AreInOrder starts }
     ensures reads { IfSome (S.told store.old)
         (λ bytes. starts.trailer ≤ length bytes →
-        IfOk result (ReadsAs bytes (sections_at bytes starts))) }
+        IfOk result (SectionsOpenAs bytes (sections_at bytes starts))) }
     ensures within { IfOk result (λ answer. IfOk answer (λ held. LiesBefore held starts.trailer)) }
     ensures keeps { S.told store.new ≡ S.told store.old }
     ensures size { S.size store.new ≡ S.size store.old }

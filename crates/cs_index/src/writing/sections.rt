@@ -1,9 +1,9 @@
 // The one layer that lays out the bytes of an index.
 ghost use Rattle.std.specs.Prelude.{◌≡◌, ◌≢◌, ◌<◌, ◌≤◌, ◌+◌, ◌^◌, ◌⊎◌, ◌↔◌, [], List, ℕ, true, false, length, map, string_bytes, None, Some, Err, IfOk, IfErr, OnOk, OnErr};
 ghost use Rattle.cs_trigram.specs.Trigram.{closing_trigram};
-ghost use Rattle.cs_index.specs.IdStream.{ids_in, next_after, IsStream};
+ghost use Rattle.cs_index.specs.IdStream.{ids_in, IsStream};
+ghost use Rattle.cs_index.specs.Rising.{next_after, ids_onward};
 ghost use Rattle.std.specs.List.{AllByRecursion};
-ghost use Rattle.cs_index.specs.Rising.{moved};
 ghost use Rattle.cs_index.specs.Image.{image_of, IsString};
 ghost use Rattle.cs_index.specs.Indexable.{IsIndexable};
 ghost use Rattle.cs_index.specs.Built.{are_paths, is_above, is_storable};
@@ -139,7 +139,7 @@ impl Sections {
         requires named { next_after 0 (last_ids self.old) + next_after 0 ids.now
             ≤ length self.old.names }
         ensures ok { OnOk result (self.new ≡
-            with_last_ids self.old (moved (next_after 0 (last_ids self.old)) ids.now)) }
+            with_last_ids self.old (ids_onward (next_after 0 (last_ids self.old)) ids.now)) }
         ensures err { OnErr result (self.new ≡ self.old) }
     {
         self.out.extend_from_slice(ids.bytes())?;

@@ -4,7 +4,7 @@ ghost use Rattle.std.specs.List.{AllByRecursion};
 ghost use Rattle.cs_index.specs.IdStream.{most_ids};
 ghost use Rattle.cs_index.specs.Keys.{trigram_of, AreOfTrigram};
 ghost use Rattle.cs_index.specs.Rising.{RiseWithin};
-ghost use Rattle.cs_index.specs.Segments.{gaps_of, ids_given, keys_in, AreAhead, AreHeads, AreSortedKeys, BeginsWith};
+ghost use Rattle.cs_index.specs.Segments.{gaps_of, ids_of_segment, keys_in, AreAhead, AreHeads, AreSortedKeys, BeginsWith};
 ghost use Rattle.cs_trigram.specs.Trigram.{Ascends};
 
 use crate::writing::keys::{PLACES, run_of};
@@ -26,12 +26,12 @@ pub(crate) struct Segment {
 }
 
 impl Model for Segment {
-    ghost use Rattle.cs_index.specs.Segments.{Ordered};
-    ghost use Rattle.cs_index.specs.Packing.{ordered_of, IsSegment};
+    ghost use Rattle.cs_index.specs.Segments.{SegmentKeys};
+    ghost use Rattle.cs_index.specs.Packing.{keys_left, IsSegment};
 
-    ghost Value = { Ordered };
+    ghost Value = { SegmentKeys };
 
-    ghost view = { ordered_of };
+    ghost view = { keys_left };
 
     ghost invariant = { IsSegment };
 }
@@ -95,11 +95,11 @@ impl Segment {
     fn give_first(&mut self, list: &mut IdStream) -> Result<(), AllocError>
         requires some { self.old.keys ≢ [] }
         requires rise { (g : ℕ) → BeginsWith g self.old.keys →
-            RiseWithin most_ids 0 (list.old ++ ids_given self.old g) }
+            RiseWithin most_ids 0 (list.old ++ ids_of_segment self.old g) }
         ensures given { OnOk result ((g : ℕ) → BeginsWith g self.old.keys →
-            list.new ++ ids_given self.new g ≡ list.old ++ ids_given self.old g) }
+            list.new ++ ids_of_segment self.new g ≡ list.old ++ ids_of_segment self.old g) }
         ensures others { OnOk result ((g h : ℕ) → BeginsWith g self.old.keys → h ≢ g →
-            ids_given self.new h ≡ ids_given self.old h) }
+            ids_of_segment self.new h ≡ ids_of_segment self.old h) }
         ensures rest { OnOk result
             ((n : ℕ) × (0 < n) × (self.new.keys ≡ drop n self.old.keys)) }
     {
@@ -116,12 +116,12 @@ impl Segment {
         requires long { length lists.old ≡ 256 }
         requires ahead { AreAhead front self.old.keys }
         requires rise { (last : ℕ) → last < 256 → RiseWithin most_ids 0
-            (slice_index_or lists.old last [] ++ ids_given self.old (front * 256 + last)) }
+            (slice_index_or lists.old last [] ++ ids_of_segment self.old (front * 256 + last)) }
         ensures long { length lists.new ≡ 256 }
         ensures given { OnOk result ((last : ℕ) → last < 256 → slice_index_or lists.new last [] ≡
-            slice_index_or lists.old last [] ++ ids_given self.old (front * 256 + last)) }
+            slice_index_or lists.old last [] ++ ids_of_segment self.old (front * 256 + last)) }
         ensures later { OnOk result ((g : ℕ) → (front + 1) * 256 ≤ g →
-            ids_given self.new g ≡ ids_given self.old g) }
+            ids_of_segment self.new g ≡ ids_of_segment self.old g) }
         ensures ahead { OnOk result (AreAhead (front + 1) self.new.keys) }
     {
         'heads: while let Some(last) = self.begins_with(front) {

@@ -1,9 +1,9 @@
 // The ids of one trigram, as a stream of varints.
 ghost use Rattle.std.specs.Prelude.{◌≡◌, ◌<◌, ◌+◌, ◌++◌, [], List, ℕ, length, OnOk, OnErr};
 ghost use Rattle.std.specs.List.{AllByRecursion};
-ghost use Rattle.cs_index.specs.Rising.{RiseWithin};
-ghost use Rattle.cs_index.specs.IdStream.{most_ids, next_after, stream_of};
-ghost use Rattle.cs_index.specs.Segments.{risen};
+ghost use Rattle.cs_index.specs.Rising.{RiseWithin, next_after};
+ghost use Rattle.cs_index.specs.IdStream.{most_ids, stream_of};
+ghost use Rattle.cs_index.specs.Segments.{sums_from};
 
 use crate::writing::laying::lay_both;
 use crate::writing::varint::groups_of;
@@ -66,8 +66,8 @@ impl IdStream {
     pub(crate) fn extend(&mut self, from: u32, gaps: &[u8]) -> Result<(), AllocError>
         requires some { 0 < length gaps.now }
         requires short { AllByRecursion (λ gap. gap < 128) gaps.now }
-        requires rise { RiseWithin most_ids (next_after 0 self.old) (risen from gaps.now) }
-        ensures ok { OnOk result (self.new ≡ self.old ++ risen from gaps.now) }
+        requires rise { RiseWithin most_ids (next_after 0 self.old) (sums_from from gaps.now) }
+        ensures ok { OnOk result (self.new ≡ self.old ++ sums_from from gaps.now) }
         ensures err { OnErr result (self.new ≡ self.old) }
     {
         let (first, len) = groups_of(from + gaps[0] as u32 + 1 - self.next);
@@ -89,8 +89,8 @@ impl IdStream {
 
 /// The last of some ids that rise from a number on by some gaps, or that number.
 fn last_of(from: u32, gaps: &[u8]) -> u32
-    requires { AllByRecursion (λ id. id < most_ids) (risen from gaps.now) }
-    ensures { result + 1 ≡ next_after (from + 1) (risen from gaps.now) }
+    requires { AllByRecursion (λ id. id < most_ids) (sums_from from gaps.now) }
+    ensures { result + 1 ≡ next_after (from + 1) (sums_from from gaps.now) }
 {
     let mut last = from;
     'gaps: for gap in gaps {

@@ -1,4 +1,4 @@
-// What walks find: the rows of the documents, and trees that fail.
+// What walks find over trees in memory, and over trees that fail.
 use crate::fixtures::{bytes_of, spaced, strings, tree_of};
 use cs_tree::{Item, Kind, Listing, MemTree, PutFault, Tree, TreeFault, WalkFault, Walked, walk};
 use std::alloc::{AllocError, Global};

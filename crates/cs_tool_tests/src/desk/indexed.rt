@@ -1,7 +1,7 @@
 // Searches through an index.
 use crate::desk::Step::{Cut, Denied, File, Folder, Index, Job, Remove, Search};
-use crate::desk::indexes::ONE_FILE;
 use crate::desk::{DONE, MATCHED, NO_MATCH, Step, tells};
+use crate::fixtures::ONE_FILE;
 use cs_search::Status;
 use cs_syntax::{PatternError, PatternFault};
 use cs_words::ToolFault;

@@ -1,15 +1,13 @@
 // Indexes of small trees, byte for byte, and jobs that are refused.
 use crate::desk::Step::{Cut, File, Folder, Index, Job, Left, Other, Search};
 use crate::desk::{DONE, MATCHED, NO_MATCH, Step, tells};
+use crate::fixtures::{ONE_FILE, UNSORTED};
 use cs_index::IndexFault;
 use cs_words::{CindexFault, Reply, ToolFault};
 use std::test::Fail;
 
 const EMPTY: &[u8; 65] =
     b"csearch index 1\n/a\0\0\0\xff\xff\xff\0\0\0\0\0\0\0\0\x10\0\0\0\x14\0\0\0\x15\0\0\0\x19\0\0\0\x1d\ncsearch trailr\n";
-
-pub const ONE_FILE: &[u8; 122] =
-    b"csearch index 1\n/a\0\0/a/x\0\0abc\x01\0bcd\x01\0cd\n\x01\0\xff\xff\xff\0\0\0\0\0\0\0\0\x05abc\0\0\0\x01\0\0\0\0bcd\0\0\0\x01\0\0\0\x05cd\n\0\0\0\x01\0\0\0\x0a\0\0\0\x10\0\0\0\x14\0\0\0\x1a\0\0\0\x2d\0\0\0\x35\ncsearch trailr\n";
 
 /// The path `/.x` without a file.
 const NO_FILE: &[u8; 66] =
@@ -23,19 +21,15 @@ const EMPTY_FILE: &[u8; 74] =
 const NO_TRIGRAMS: &[u8; 92] =
     b"csearch index 1\n/t\0\0/t/e\0/t/f\0/t/g\0\0\xff\xff\xff\0\0\0\0\0\0\0\0\x05\0\0\0\x0a\0\0\0\x0f\0\0\0\x10\0\0\0\x14\0\0\0\x24\0\0\0\x28\0\0\0\x38\ncsearch trailr\n";
 
-/// Names out of order, and an entry for the closing list.
-pub const OUT_OF_ORDER: &[u8; 115] =
-    b"csearch index 1\n/a\0\0/a/b/z\0/a/b-x\0\0abc\x01\x01\0\xff\xff\xff\0\0\0\0\0\0\0\0\x07\0\0\0\x0eabc\0\0\0\x02\0\0\0\0\xff\xff\xff\0\0\0\0\0\0\0\x06\0\0\0\x10\0\0\0\x14\0\0\0\x23\0\0\0\x2d\0\0\0\x39\ncsearch trailr\n";
-
-/// The same with one of its names twice.
+/// `UNSORTED` with one of its names twice.
 const HELD_TWICE: &[u8; 115] =
     b"csearch index 1\n/a\0\0/a/b-x\0/a/b-x\0\0abc\x01\x01\0\xff\xff\xff\0\0\0\0\0\0\0\0\x07\0\0\0\x0eabc\0\0\0\x02\0\0\0\0\xff\xff\xff\0\0\0\0\0\0\0\x06\0\0\0\x10\0\0\0\x14\0\0\0\x23\0\0\0\x2d\0\0\0\x39\ncsearch trailr\n";
 
-/// `OUT_OF_ORDER` after a job on `/a/b-x`, which has then `six`.
+/// `UNSORTED` after a job on `/a/b-x`, which has then `six`.
 const RENUMBERED: &[u8; 135] =
     b"csearch index 1\n/a\0\0/a/b-x\0/a/b/z\0\0abc\x02\0ix\n\x01\0six\x01\0\xff\xff\xff\0\0\0\0\0\0\0\0\x07\0\0\0\x0eabc\0\0\0\x01\0\0\0\0ix\n\0\0\0\x01\0\0\0\x05six\0\0\0\x01\0\0\0\x0a\0\0\0\x10\0\0\0\x14\0\0\0\x23\0\0\0\x36\0\0\0\x42\ncsearch trailr\n";
 
-/// `OUT_OF_ORDER` without its last byte.
+/// `UNSORTED` without its last byte.
 const CUT: &[u8; 114] =
     b"csearch index 1\n/a\0\0/a/b/z\0/a/b-x\0\0abc\x01\x01\0\xff\xff\xff\0\0\0\0\0\0\0\0\x07\0\0\0\x0eabc\0\0\0\x02\0\0\0\0\xff\xff\xff\0\0\0\0\0\0\0\x06\0\0\0\x10\0\0\0\x14\0\0\0\x23\0\0\0\x2d\0\0\0\x39\ncsearch trailr";
 
@@ -138,7 +132,7 @@ const FOREIGN_INDEXES: &[Step<'static>] = &[
     Folder("/a/b"),
     File("/a/b/z", b"abc"),
     File("/a/b-x", b"abc"),
-    Index(Some(OUT_OF_ORDER)),
+    Index(Some(UNSORTED)),
     Job(&["-list"], DONE, "/a\n", ""),
     Search("abc", MATCHED, "/a/b/z:abc\n/a/b-x:abc\n", ""),
     File("/a/b-x", b"six\n"),

@@ -1,6 +1,6 @@
 // Jobs in one call.
 ghost use Rattle.std.specs.Prelude.{IfOk, All};
-ghost use Rattle.cs_cindex.specs.Refusals.{HasAbsoluteFolder};
+ghost use Rattle.cs_history.specs.Jobs.{HasAbsoluteFolder};
 
 use crate::fixtures::{Placed, tree_of};
 use crate::indexing::job_of;

@@ -13,7 +13,7 @@ fn list_by(alloc: Global, store: &mut Changing<'_>, out: &mut MemSink) -> Result
     Ok(list_stored(opened, out, &mut err))
 }
 
-/// How many reads a listing of `ROW` makes: none is of a list.
+/// How many reads a listing of `ONE_FILE` makes: none is of a list.
 const READS: usize = 6;
 
 /// Whether a listing whose reads fail after so many gives this reply, prints this and has met so many failures.

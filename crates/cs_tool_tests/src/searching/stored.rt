@@ -1,6 +1,6 @@
 // Searches by an index that lies in a store, of which a read fails, or whose bytes change while it is read.
-use crate::fixtures::{UNSORTED, tree_of, words_of};
-use crate::stores::{Changing, ROW, row_until};
+use crate::fixtures::{ONE_FILE, UNSORTED, tree_of, words_of};
+use crate::stores::{Changing, row_until};
 use cs_index::StoredIndex;
 use cs_search::{Status, csearch_stored};
 use cs_tree::{IoFault, MemSink, MemTree, PutFault, Store};
@@ -19,7 +19,7 @@ fn job_of(alloc: Global, text: &str) -> Result<SearchJob, Fail> {
     }
 }
 
-/// A tree with the file of `ROW`.
+/// A tree with the file of `ONE_FILE`.
 fn tree(alloc: Global) -> Result<MemTree, PutFault> {
     tree_of(alloc, &[("/a", None), ("/a/x", Some("abcd\n"))])
 }
@@ -49,7 +49,7 @@ fn search_stored(
     Ok(run(alloc, &job, store, &mut tree, out))
 }
 
-/// How many reads a search of `ROW` for one trigram makes.
+/// How many reads a search of `ONE_FILE` for one trigram makes.
 const READS: usize = 7;
 
 /// Whether a search that reads fail after so many is refused, prints nothing and has met one failure.
@@ -68,7 +68,7 @@ fn reads_that_fail(rt: HostRuntime) -> Result<(), Fail> {
     Ok(())
 }
 
-/// Whether a search that may make so many reads prints the line of `ROW`, and has met no failure.
+/// Whether a search that may make so many reads prints the line of `ONE_FILE`, and has met no failure.
 fn matches_within(alloc: Global, reads: usize, words: &str) -> Result<bool, Fail> {
     let mut out = MemSink::new(alloc, 1000);
     let mut store = row_until(reads, None);
@@ -101,9 +101,9 @@ fn ends(alloc: Global, reads: usize, then: &[u8]) -> Result<bool, Fail> {
 #[test]
 fn bytes_that_change(rt: HostRuntime) -> Result<(), Fail> {
     for reads in 0..READS {
-        for len in 0..ROW.len() {
+        for len in 0..ONE_FILE.len() {
             assert!(rt;
-                ends(rt.alloc(), reads, &ROW[..len])?,
+                ends(rt.alloc(), reads, &ONE_FILE[..len])?,
                 "{len} bytes after {reads}"
             );
         }

@@ -1,7 +1,7 @@
-use Rattle.std.proofs.Common.{◌≡◌, ◌<◌, ◌∙◌, length, map, get_or, [], ap, sym, subst, arith, below_more}
+use Rattle.std.proofs.Common.{◌≡◌, ◌<◌, ◌∙◌, length, map, get_or, [], ◌∷◌, ap, sym, subst, arith, below_more}
 use Rattle.std.specs.Prelude.{string_bytes, is_some}
 use Rattle.std.proofs.lemmas.Result.{err_from_is_err_and}
-use Rattle.std.proofs.lemmas.List.{length-map}
+use Rattle.std.proofs.lemmas.List.{length-map, map-append}
 use Rattle.cs_tree.specs.Clean.{clean_path}
 use Rattle.cs_cindex.specs.JobPaths.{IsCleanFault}
 use Rattle.cs_tree.specs.Cleaning.{clean_fault}
@@ -21,7 +21,7 @@ paths-preserved c =
     let within : c.paths.place < length c.args.paths.now = omega arith in
     let text : c.deref.result.now ≡ get_or (map string_bytes c.args.paths.now) c.paths.place [] = c.deref.ensures ∙ text_at c.args.paths.now c.paths.place c.index-paths-place.result within c.index-paths-place.is in
     record {
-      cleaned_are = cleaned_more c.args.folder.now c.args.paths.now c.paths.place c.index-paths-place.result (map string_bytes c.paths.given.items) _ (string_bytes c.in_ok-cleaned.cleaned) within c.index-paths-place.is c.paths.invariant.cleaned_are (c.in_ok-cleaned.ensures.cleaned ∙ ap (λ t. clean_path c.args.folder.now t) c.deref.ensures) c.in_ok-hold.ensures;
+      cleaned_are = cleaned_more c.args.folder.now c.args.paths.now c.paths.place c.index-paths-place.result (map string_bytes c.paths.given.items) _ (string_bytes c.in_ok-cleaned.cleaned) within c.index-paths-place.is c.paths.invariant.cleaned_are (c.in_ok-cleaned.ensures.cleaned ∙ ap (λ t. clean_path c.args.folder.now t) c.deref.ensures) (ap (map string_bytes) c.in_ok-push.ensures.items ∙ map-append string_bytes c.paths.given.items (c.in_ok-cleaned.cleaned ∷ []));
       good = below_more _ _ c.paths.invariant.good (ap is_some (ap (clean_fault c.args.folder.now) (sym text) ∙ c.in_ok-cleaned.ensures.fault));
     }
 

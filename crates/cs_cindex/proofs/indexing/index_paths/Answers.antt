@@ -12,7 +12,7 @@ use Rattle.cs_cindex.specs.Notices.{left_line, text_of}
 use Rattle.cs_cindex.specs.Files.{HaveNamesOf}
 use Rattle.cs_cindex.proofs.LineLemmas.{any_err, Front-none}
 use Rattle.cs_cindex.proofs.IndexLemmas.{index_is, lies_under, index_built, too_large, too_many, many_found}
-use Rattle.cs_cindex.proofs.IndexingLemmas.{files_printed, files_front, texts_walked, many_walked, front_left, front_files, front_whole, prints_all}
+use Rattle.cs_cindex.proofs.IndexingLemmas.{files_front, texts_walked, many_walked, front_left, front_files, front_whole, walk_printed}
 use Rattle.cs_cindex.proofs.indexing.index_paths.Goals as goal
 
 pub returns-in_err-indexer-clause-front : goal.returns-in_err-indexer-clause-front
@@ -52,9 +52,7 @@ returns-in_err-index-clause-too_large g c = λ is.
 
 pub returns-in_err-index-clause-front : goal.returns-in_err-index-clause-front
 returns-in_err-index-clause-front g c =
-    let printed = subst (λ fs. Grows (g.E.Sink.taken c.args.err.now) (g.E.Sink.taken c.print_left.new.err) (text_of (map left_line (map left_entry fs)))) c.deref.ensures.value c.in_ok-print_left.ensures.prints in
-    let files = files_printed _ _ _ _ _ _ _ _ _ _ c.in_ok-indexer.ensures.log_skip c.walk.ensures.keeps (ap (map string_bytes) c.deref-2.ensures.value) c.in_ok-index_files.ensures.prints in
-    any_err c.from_residual-in_err-index.result (front_whole _ _ _ _ _ _ _ (prints_all _ _ _ _ _ c.requires c.in_ok-walked.ensures.finds _ _ _ _ c.in_ok-walked.ensures.counted _ _ c.in_ok-walked.ensures.rises c.index_files.ensures.rises printed files))
+    any_err c.from_residual-in_err-index.result (front_whole _ _ _ _ _ _ _ (walk_printed _ _ _ _ _ _ _ _ _ _ _ _ _ _ _ c.requires c.in_ok-walked.ensures.finds c.in_ok-walked.ensures.counted c.in_ok-walked.ensures.rises c.index_files.ensures.rises c.deref.ensures.value c.in_ok-print_left.ensures.prints c.in_ok-indexer.ensures.log_skip c.walk.ensures.keeps (ap (map string_bytes) c.deref-2.ensures.value) c.in_ok-index_files.ensures.prints))
 
 pub returns-clause-image : goal.returns-clause-image
 returns-clause-image g c =
@@ -70,9 +68,7 @@ returns-clause-well_formed g c =
 
 pub returns-clause-prints : goal.returns-clause-prints
 returns-clause-prints g c =
-    let printed = subst (λ fs. Grows (g.E.Sink.taken c.args.err.now) (g.E.Sink.taken c.print_left.new.err) (text_of (map left_line (map left_entry fs)))) c.deref.ensures.value c.in_ok-print_left.ensures.prints in
-    let files = files_printed _ _ _ _ _ _ _ _ _ _ c.in_ok-indexer.ensures.log_skip c.walk.ensures.keeps (ap (map string_bytes) c.deref-2.ensures.value) c.in_ok-index_files.ensures.prints in
-    prints_all _ _ _ _ _ c.requires c.in_ok-walked.ensures.finds _ _ _ _ c.in_ok-walked.ensures.counted _ _ c.in_ok-walked.ensures.rises c.index_files.ensures.rises printed files
+    walk_printed _ _ _ _ _ _ _ _ _ _ _ _ _ _ _ c.requires c.in_ok-walked.ensures.finds c.in_ok-walked.ensures.counted c.in_ok-walked.ensures.rises c.index_files.ensures.rises c.deref.ensures.value c.in_ok-print_left.ensures.prints c.in_ok-indexer.ensures.log_skip c.walk.ensures.keeps (ap (map string_bytes) c.deref-2.ensures.value) c.in_ok-index_files.ensures.prints
 
 pub returns-in_err-index_files-clause-whole : goal.returns-in_err-index_files-clause-whole
 returns-in_err-index_files-clause-whole g c = λ is.
@@ -82,9 +78,7 @@ returns-in_err-index_files-clause-whole g c = λ is.
 
 pub returns-in_err-index-clause-whole : goal.returns-in_err-index-clause-whole
 returns-in_err-index-clause-whole g c = λ is.
-    let printed = subst (λ fs. Grows (g.E.Sink.taken c.args.err.now) (g.E.Sink.taken c.print_left.new.err) (text_of (map left_line (map left_entry fs)))) c.deref.ensures.value c.in_ok-print_left.ensures.prints in
-    let files = files_printed _ _ _ _ _ _ _ _ _ _ c.in_ok-indexer.ensures.log_skip c.walk.ensures.keeps (ap (map string_bytes) c.deref-2.ensures.value) c.in_ok-index_files.ensures.prints in
-    inr (prints_all _ _ _ _ _ c.requires c.in_ok-walked.ensures.finds _ _ _ _ c.in_ok-walked.ensures.counted _ _ c.in_ok-walked.ensures.rises c.index_files.ensures.rises printed files)
+    inr (walk_printed _ _ _ _ _ _ _ _ _ _ _ _ _ _ _ c.requires c.in_ok-walked.ensures.finds c.in_ok-walked.ensures.counted c.in_ok-walked.ensures.rises c.index_files.ensures.rises c.deref.ensures.value c.in_ok-print_left.ensures.prints c.in_ok-indexer.ensures.log_skip c.walk.ensures.keeps (ap (map string_bytes) c.deref-2.ensures.value) c.in_ok-index_files.ensures.prints)
 
 -- a refusal that is passed on is counted as it was
 counted_on : {A : Type 0} (r : Result A CindexFault) (fault was : CindexFault) (before now later : ℕ) → r ≡ Err fault → fault ≡ was → later ≡ count_if (is_failed_write was) now → now ≡ before → later ≡ count_after is_failed_write r before

@@ -2,7 +2,7 @@ use Rattle.std.proofs.Common.{map, subst}
 use Rattle.std.specs.Prelude.{string_bytes}
 use Rattle.std.proofs.lemmas.Result.{err_from_is_err_and}
 use Rattle.cs_history.specs.Jobs.{given_texts}
-use Rattle.cs_cindex.specs.LentBytes.{lent_bytes}
+use Rattle.std.specs.Option.{option_copied}
 use Rattle.cs_cindex.specs.JobPaths.{AreCleanFault}
 use Rattle.cs_cindex.proofs.ToldLemmas.{unclean_printed}
 use Rattle.cs_cindex.proofs.walked.walked_index.Goals as goal
@@ -13,4 +13,4 @@ returns-in_err-given-clause-prints g c =
     let fault = c.in_err-given.field-0.0 in
     let texts = subst (λ paths. AreCleanFault c.deref.result.now (map string_bytes paths) fault) c.deref-2.ensures.value c.in_err-given.ensures.fault in
     let cleaned = subst (λ folder. AreCleanFault folder (given_texts c.args.job.now) fault) c.deref.ensures texts in
-    rw (p.1, p.2) (unclean_printed c.args.job.now (g.T.Tree.snapshot c.args.tree.now) (lent_bytes c.args.old) fault (g.T.Tree.failed c.args.tree.now) (g.E.Sink.taken c.args.err.now) cleaned)
+    rw (p.1, p.2) (unclean_printed c.args.job.now (g.T.Tree.snapshot c.args.tree.now) (option_copied c.args.old) fault (g.T.Tree.failed c.args.tree.now) (g.E.Sink.taken c.args.err.now) cleaned)

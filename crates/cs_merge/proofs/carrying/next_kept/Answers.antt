@@ -1,11 +1,12 @@
 use Rattle.std.proofs.Common.{◌≡◌, None, ◌∷◌, refl, sym, ap, ◌∙◌}
 use Rattle.std.specs.List.{cons_option}
 use Rattle.cs_index.specs.Postings.{ids_given}
-use Rattle.cs_merge.specs.Renumbering.{new_id, renumbered}
+use Rattle.cs_merge.specs.Renumbering.{new_id, new_ids_of}
 use Rattle.cs_merge.proofs.ListingLemmas.{no_more}
 use Rattle.cs_merge.proofs.RunLemmas.{renumbered_none}
-use Rattle.cs_merge.proofs.ReadLemmas.{told_id, told_no_id, told_end}
+use Rattle.cs_merge.proofs.ReadLemmas.{told_no_id}
 use Rattle.cs_merge.proofs.carrying.next_kept.Goals as goal
+use Rattle.cs_index.proofs.ToldLemmas.{told_ok, told_none}
 
 pub returns-in_default-told-clause-fault : goal.returns-in_default-told-clause-fault
 returns-in_default-told-clause-fault c =
@@ -13,34 +14,34 @@ returns-in_default-told-clause-fault c =
 
 pub returns-in-Some-new_id-clause-ids : goal.returns-in-Some-new_id-clause-ids
 returns-in-Some-new_id-clause-ids c =
-    let next = told_id c.ids.ids c.next.new.self c.in-Ok.id (c.in-Some.ensures.steps ∙ ap (λ x. x ∷ ids_given c.next.new.self) c.in-Ok.is) in
-    ap (λ new. cons_option new (renumbered c.args.runs.now c.next.new.self.ids)) (sym c.in-Some-new_id.is ∙ c.new_id.ensures)
-    ∙ ap (renumbered c.args.runs.now) (sym next.0)
+    let next = told_ok c.ids.ids c.next.new.self c.in-Ok.id (c.in-Some.ensures.steps ∙ ap (λ x. x ∷ ids_given c.next.new.self) c.in-Ok.is) in
+    ap (λ new. cons_option new (new_ids_of c.args.runs.now c.next.new.self.ids)) (sym c.in-Some-new_id.is ∙ c.new_id.ensures)
+    ∙ ap (new_ids_of c.args.runs.now) (sym next.0)
     ∙ c.ids.invariant.left
 
 pub returns-in-Some-new_id-clause-whole : goal.returns-in-Some-new_id-clause-whole
 returns-in-Some-new_id-clause-whole c =
-    let next = told_id c.ids.ids c.next.new.self c.in-Ok.id (c.in-Some.ensures.steps ∙ ap (λ x. x ∷ ids_given c.next.new.self) c.in-Ok.is) in
+    let next = told_ok c.ids.ids c.next.new.self c.in-Ok.id (c.in-Some.ensures.steps ∙ ap (λ x. x ∷ ids_given c.next.new.self) c.in-Ok.is) in
     sym next.1 ∙ c.ids.invariant.whole
 
 pub ids-preserved : goal.ids-preserved
 ids-preserved c =
-    let next = told_id c.ids.ids c.next.new.self c.in-Ok.id (c.in-Some.ensures.steps ∙ ap (λ x. x ∷ ids_given c.next.new.self) c.in-Ok.is) in
+    let next = told_ok c.ids.ids c.next.new.self c.in-Ok.id (c.in-Some.ensures.steps ∙ ap (λ x. x ∷ ids_given c.next.new.self) c.in-Ok.is) in
     let none : new_id c.args.runs.now c.in-Ok.id ≡ None = sym c.new_id.ensures ∙ no_more c.new_id.result c.in_default-new_id.not-Some in
     record {
       left =
           sym (renumbered_none c.args.runs.now c.in-Ok.id c.end.result c.stretch-dropped.result c.stretch-dropped.new.self.ids none c.end.ensures c.stretch-dropped.ensures.below)
-          ∙ ap (renumbered c.args.runs.now) (sym c.stretch-dropped.ensures.ids)
-          ∙ ap (λ o. cons_option o (renumbered c.args.runs.now c.next.new.self.ids)) (sym none)
-          ∙ ap (renumbered c.args.runs.now) (sym next.0)
+          ∙ ap (new_ids_of c.args.runs.now) (sym c.stretch-dropped.ensures.ids)
+          ∙ ap (λ o. cons_option o (new_ids_of c.args.runs.now c.next.new.self.ids)) (sym none)
+          ∙ ap (new_ids_of c.args.runs.now) (sym next.0)
           ∙ c.ids.invariant.left;
       whole = c.stretch-dropped.ensures.whole ∙ sym next.1 ∙ c.ids.invariant.whole;
     }
 
 pub returns-clause-ids : goal.returns-clause-ids
 returns-clause-ids c =
-    ap (renumbered c.args.runs.now) ((told_end c.next.new.self c.in_default.ensures.steps.1).0 ∙ sym (told_end c.ids.ids c.in_default.ensures.steps.0).0)
+    ap (new_ids_of c.args.runs.now) ((told_none c.next.new.self c.in_default.ensures.steps.1).0 ∙ sym (told_none c.ids.ids c.in_default.ensures.steps.0).0)
     ∙ c.ids.invariant.left
 
 pub returns-clause-end : goal.returns-clause-end
-returns-clause-end c = λ e. told_end c.next.new.self c.in_default.ensures.steps.1
+returns-clause-end c = λ e. told_none c.next.new.self c.in_default.ensures.steps.1

@@ -2,7 +2,7 @@ use Rattle.std.proofs.Common.{◌≡◌, ◌∷◌, []}
 use Rattle.std.specs.List.{list_all}
 use Rattle.std.specs.Prelude.{IfSome}
 use Rattle.cs_tree.specs.Cover.{is_covered}
-use Rattle.cs_merge.specs.Content.{paths_in}
+use Rattle.cs_index.specs.OpenedParts.{paths_in}
 use Rattle.cs_merge.specs.SomePaths.{AreAmong}
 use Rattle.cs_merge.proofs.covering.is_under.Given as goal
 

@@ -7,9 +7,8 @@ use Rattle.cs_tree.specs.PathSet as set
 use Rattle.cs_index.specs.Built.{are_paths}
 use Rattle.cs_index.specs.Image.{image_of}
 use Rattle.cs_index.specs.Laid.{entries_laid}
-use Rattle.cs_index.specs.OpenedParts.{Parts, are_whole, lists_in}
+use Rattle.cs_index.specs.OpenedParts.{Parts, are_whole, lists_in, paths_in}
 use Rattle.cs_index.specs.PostingLists.{entries_of}
-use Rattle.cs_merge.specs.Content.{paths_in}
 use Rattle.cs_merge.specs.Join.{join_paths}
 use Rattle.cs_merge.specs.Joinable.{both_whole}
 use Rattle.cs_merge.specs.Renumbering.{AreCarried}
@@ -19,8 +18,8 @@ use Rattle.cs_merge.proofs.NewNamesLemmas.{AreLaid, all_covered, laid_joined}
 use Rattle.cs_merge.proofs.ReadyLemmas.{paths_listed}
 use Rattle.cs_merge.proofs.joining.join.Goals as goal
 
-pub begun-requires : goal.begun-requires
-begun-requires c =
+pub begin-requires : goal.begin-requires
+begin-requires c =
     ap are_paths (ap (map string_bytes) c.deref.ensures.value ∙ c.in_ok-paths.ensures ∙ (λ i. set.items (join_paths (paths_in (c.index-older.ensures i)) (paths_in (c.index-later.ensures i)))))
     ∙ paths_listed c.args.old.now.parts c.args.newer.now.parts c.requires.old_ranked.are c.requires.newer_ranked.are
 
@@ -51,6 +50,6 @@ returns c =
     let paths : c.lay_lists.new.sections.paths ≡ set.items (join_paths (paths_in old) (paths_in newer)) =
     c.in_ok-lay_lists.ensures.paths ∙ c.in_ok-ids.ensures.paths ∙ c.in_ok-sections.ensures.paths ∙ ap (map string_bytes) c.deref.ensures.value ∙ joined in
     let names : c.lay_lists.new.sections.names ≡ c.lay_names.new.sections.names = c.in_ok-lay_lists.ensures.names in
-    built_says old newer c.args.most c.finished.result (image_of c.lay_lists.new.sections.paths (entries_laid c.lay_lists.new.sections))
+    built_says old newer c.args.most c.finish.result (image_of c.lay_lists.new.sections.paths (entries_laid c.lay_lists.new.sections))
     ((λ i. image_of (paths i) (entries_of 0 (names i) c.lay_lists.new.sections.lists)) ∙ laid_joined old newer c.lay_names.new.sections.names c.in_ok-ids.ids.older c.in_ok-ids.ids.newer c.lay_lists.new.sections.lists laid c.requires.tested)
-    c.requires.tested whole.0 whole.1 c.finished.ensures.ok c.finished.ensures.fault
+    c.requires.tested whole.0 whole.1 c.finish.ensures.ok c.finish.ensures.fault

@@ -3,7 +3,7 @@ use Rattle.std.proofs.lemmas.Bool.{and_parts}
 use Rattle.std.proofs.lemmas.Result.{err_from_is_err_and}
 use Rattle.cs_index.specs.PostingLists.{Ids}
 use Rattle.cs_index.specs.Rising.{RiseWithin}
-use Rattle.cs_merge.specs.Renumbering.{renumbered, AreRenumberings, RiseUnder}
+use Rattle.cs_merge.specs.Renumbering.{new_ids_of, AreRenumberings, RiseUnder}
 use Rattle.cs_merge.specs.SideBySide.{list_ids, lower_of, place_after, list_trigram, AreIds, AreListed}
 use Rattle.cs_merge.proofs.ListingLemmas.{no_more}
 use Rattle.cs_merge.proofs.PlaceLemmas.{damage_found, ids_rise}
@@ -53,7 +53,7 @@ lay_ids-requires-clause-ids c =
     let newer = list_ids c.args.newer.now c.lists.newer_place c.in-Some.trigram in
     let new_ids = new_ids_of_both (length c.lists.sections.names) (length c.args.old.now.names) (length c.args.newer.now.names) c.args.older_runs.now c.args.newer_runs.now older.ids newer.ids are.older_once are.newer_once are.apart are.older_below are.newer_below (ids_rise c.args.old.now c.lists.older_place c.in-Some.trigram) (ids_rise c.args.newer.now c.lists.newer_place c.in-Some.trigram) in
     subst (λ (r : Ids). AreIds (length c.lists.sections.names) (r.ids ++ c.in_ok-later.later.ids)) (sym c.in_ok-older.ensures.ids)
-    (subst (λ (r : Ids). AreIds (length c.lists.sections.names) (renumbered c.args.older_runs.now older.ids ++ r.ids)) (sym c.in_ok-later.ensures.ids) new_ids)
+    (subst (λ (r : Ids). AreIds (length c.lists.sections.names) (new_ids_of c.args.older_runs.now older.ids ++ r.ids)) (sym c.in_ok-later.ensures.ids) new_ids)
 
 pub lay_ids-requires-clause-below : goal.lay_ids-requires-clause-below
 lay_ids-requires-clause-below c =

@@ -1,6 +1,6 @@
 use Rattle.std.proofs.Common.{ap, ◌∙◌}
 use Rattle.cs_tree.specs.Cover.{is_covered}
-use Rattle.cs_merge.specs.Content.{paths_in}
+use Rattle.cs_index.specs.OpenedParts.{paths_in}
 use Rattle.cs_merge.proofs.RankedLemmas.{all_renumbered}
 use Rattle.cs_merge.proofs.naming.lay_names.Goals as goal
 

@@ -6,7 +6,7 @@ use Rattle.cs_tree.specs.Failures.{CountsOne}
 use Rattle.cs_words.specs.declared.jobs.Tool.TheVariants.{Csearch}
 use Rattle.cs_search.proofs.CgrepLemmas.{all_quiet}
 use Rattle.cs_search.proofs.FrontLemmas.{any_err}
-use Rattle.cs_search.proofs.PrintedLemmas.{Tells-no}
+use Rattle.cs_search.proofs.PrintedLemmas.{PrintsFaults-no}
 use Rattle.cs_search.proofs.PromiseLemmas.{like_cgrep_quiet}
 use Rattle.cs_search.proofs.csearching.csearch.Goals as goal
 
@@ -30,7 +30,7 @@ returns-in_err-plan-clause-quiet g c = all_quiet _ c.from_residual.result (Grows
 pub returns-in_err-plan-clause-faults : goal.returns-in_err-plan-clause-faults
 returns-in_err-plan-clause-faults g c = λ opened opens.
     let p = err_from_is_err_and c.from_residual.result c.from_residual.ensures.1 in
-    Tells-no Csearch c.from_residual.result p.0 opened.names (g.T.Tree.failed c.args.tree.now) (g.E.Sink.taken c.args.err.now) p.1
+    PrintsFaults-no Csearch c.from_residual.result p.0 opened.names (g.T.Tree.failed c.args.tree.now) (g.E.Sink.taken c.args.err.now) p.1
 
 pub returns-in_err-plan-clause-front : goal.returns-in_err-plan-clause-front
 returns-in_err-plan-clause-front g c = any_err c.from_residual.result (inl (Grows-same _, Grows-same _))

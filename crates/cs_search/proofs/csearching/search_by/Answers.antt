@@ -10,7 +10,7 @@ use Rattle.cs_search.specs.Refusals.{has_write_failed}
 use Rattle.cs_search.specs.declared.status.Status.{Status}
 use Rattle.cs_search.proofs.CgrepLemmas.{all_quiet, PrintsStatus-flushed}
 use Rattle.cs_search.proofs.CsearchLemmas.{search_quiet, list_unwritten}
-use Rattle.cs_search.proofs.PrintedLemmas.{PrintsSome-front, PrintsSome-all, done, undone, Tells-flushed, Tells-cut}
+use Rattle.cs_search.proofs.PrintedLemmas.{PrintsSome-front, PrintsSome-all, done, undone, PrintsFaults-flushed, PrintsFaults-cut}
 use Rattle.cs_search.proofs.PromiseLemmas.{searched, ready, faults_chosen, lists_refused}
 use Rattle.cs_search.proofs.SearchLemmas.{refused_first, refused_late, searched_to_the_end}
 use Rattle.cs_search.proofs.csearching.search_by.Goals as goal
@@ -57,7 +57,7 @@ returns-in_err-matched-clause-searches g c = λ bytes lent.
     (refused_late job bytes tree before after out out-now err err-now (ready job bytes plan c.requires parts lent whole) c.in_err-matched.field-0.0 c.in_err-matched.ensures.only
     (searched job bytes plan c.requires parts lent whole ids found tree Holds
     (λ finds keeps decides names. PrintsSome-front _ out out-now err err-now (c.in_err-matched.ensures.front finds keeps decides names)))
-    (λ opened opens. Tells-cut Csearch {A = Status} (Err c.in_err-matched.field-0.0) _ opened.names before after err err-now refl (faults_chosen job bytes plan c.requires parts lent whole ids found undone opened before after err err-now opens c.in_err-matched.ensures.faults)))
+    (λ opened opens. PrintsFaults-cut Csearch {A = Status} (Err c.in_err-matched.field-0.0) _ opened.names before after err err-now refl (faults_chosen job bytes plan c.requires parts lent whole ids found undone opened before after err err-now opens c.in_err-matched.ensures.faults)))
 
 pub returns-in_err-matched-clause-writes : goal.returns-in_err-matched-clause-writes
 returns-in_err-matched-clause-writes g c =
@@ -93,7 +93,7 @@ returns-in_err-status-clause-searches g c = λ bytes lent.
     (refused_late job bytes tree before after out out-later err err-later (ready job bytes plan c.requires parts lent whole) c.in_err-status.field-0.0 c.in_err-status.ensures.only
     (searched job bytes plan c.requires parts lent whole ids found tree Holds
     (λ finds keeps decides names. PrintsSome-all _ _ (g.O.Sink.taken c.search.new.out) _ _ err-now _ c.in_ok-matched.matched (c.in_ok-matched.ensures.prints finds keeps decides names) c.in_err-status.ensures.out c.in_err-status.ensures.err))
-    (λ opened opens. Tells-flushed Csearch {A = Status} (Err c.in_err-status.field-0.0) opened.names before after err err-now err-later
+    (λ opened opens. PrintsFaults-flushed Csearch {A = Status} (Err c.in_err-status.field-0.0) opened.names before after err err-now err-later
     (faults_chosen job bytes plan c.requires parts lent whole ids found done opened before after err err-now opens c.in_ok-matched.ensures.faults) c.in_err-status.ensures.err))
 
 pub returns-in_err-status-clause-writes : goal.returns-in_err-status-clause-writes
@@ -135,7 +135,7 @@ returns-clause-searches g c = λ bytes lent.
     searched_to_the_end job bytes tree before after out out-later err err-later (ready job bytes plan c.requires parts lent whole) c.in_ok-status.status
     (searched job bytes plan c.requires parts lent whole ids found tree Holds
     (λ finds keeps decides names. PrintsStatus-flushed _ _ (g.O.Sink.taken c.search.new.out) _ _ err-now _ c.in_ok-matched.matched c.in_ok-status.status (c.in_ok-matched.ensures.prints finds keeps decides names) c.in_ok-status.ensures.out c.in_ok-status.ensures.err c.in_ok-status.ensures.status))
-    (λ opened opens. Tells-flushed Csearch {E = ToolFault} (Ok c.in_ok-status.status) opened.names before after err err-now err-later
+    (λ opened opens. PrintsFaults-flushed Csearch {E = ToolFault} (Ok c.in_ok-status.status) opened.names before after err err-now err-later
     (faults_chosen job bytes plan c.requires parts lent whole ids found done opened before after err err-now opens c.in_ok-matched.ensures.faults) c.in_ok-status.ensures.err)
 
 pub returns-clause-flushed : goal.returns-clause-flushed

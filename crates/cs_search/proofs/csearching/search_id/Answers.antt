@@ -2,12 +2,12 @@ use Rattle.std.proofs.Common.{◌≡◌, [], ◌∷◌, true, false, refl, sym, 
 use Rattle.std.proofs.lemmas.Result.{err_from_is_err_and}
 use Rattle.std.specs.Prelude.{filter}
 use Rattle.cs_tree.specs.Snapshot.{Snapshot}
-use Rattle.cs_search.specs.Searcher.{TellsAll}
+use Rattle.cs_search.specs.Searcher.{PrintsAllFaults}
 use Rattle.cs_search.specs.declared.report.TheConstants.{MOST_SEARCHED}
 use Rattle.cs_search.specs.IndexSearch.{names_at}
 use Rattle.cs_search.specs.Printed.{all_printed, file_printed}
 use Rattle.cs_search.proofs.FrontLemmas.{any_err}
-use Rattle.cs_search.proofs.PrintedLemmas.{done, undone, Tells-none, Tells-refused}
+use Rattle.cs_search.proofs.PrintedLemmas.{done, undone, PrintsAllFaults-none, PrintsAllFaults-refused}
 use Rattle.cs_search.proofs.CsearchLemmas.{Prints-nothing, Prints-as, PrintsFront-as, none_at, left_out_at, kept_at, name_at}
 use Rattle.cs_search.proofs.csearching.search_id.Goals as goal
 
@@ -50,20 +50,20 @@ returns-in_err-matched-clause-front g c =
 
 pub returns-in_default-clause-faults : goal.returns-in_default-clause-faults
 returns-in_default-clause-faults g c =
-    Tells-none c.args.searcher.now.tool done (names_at c.args.index.now.names (c.args.id ∷ [])) (g.T.Tree.failed c.args.tree.now) (g.T.Tree.failed c.args.tree.now) (g.E.Sink.taken c.args.err.now) (g.E.Sink.taken c.args.err.now) refl refl
+    PrintsAllFaults-none c.args.searcher.now.tool done (names_at c.args.index.now.names (c.args.id ∷ [])) (g.T.Tree.failed c.args.tree.now) (g.T.Tree.failed c.args.tree.now) (g.E.Sink.taken c.args.err.now) (g.E.Sink.taken c.args.err.now) refl refl
 
 pub returns-then-not-keeps-clause-faults : goal.returns-then-not-keeps-clause-faults
 returns-then-not-keeps-clause-faults g c =
-    Tells-none c.args.searcher.now.tool done (names_at c.args.index.now.names (c.args.id ∷ [])) (g.T.Tree.failed c.args.tree.now) (g.T.Tree.failed c.args.tree.now) (g.E.Sink.taken c.args.err.now) (g.E.Sink.taken c.args.err.now) refl refl
+    PrintsAllFaults-none c.args.searcher.now.tool done (names_at c.args.index.now.names (c.args.id ∷ [])) (g.T.Tree.failed c.args.tree.now) (g.T.Tree.failed c.args.tree.now) (g.E.Sink.taken c.args.err.now) (g.E.Sink.taken c.args.err.now) refl refl
 
 pub returns-clause-faults : goal.returns-clause-faults
 returns-clause-faults g c =
-    subst (λ names. TellsAll c.args.searcher.now.tool names (g.T.Tree.failed c.args.tree.now) (g.T.Tree.failed c.search_file.new.tree) (g.E.Sink.taken c.args.err.now) (g.E.Sink.taken c.search_file.new.err) done)
+    subst (λ names. PrintsAllFaults c.args.searcher.now.tool names (g.T.Tree.failed c.args.tree.now) (g.T.Tree.failed c.search_file.new.tree) (g.E.Sink.taken c.args.err.now) (g.E.Sink.taken c.search_file.new.err) done)
     (sym (name_at c.args.index.now.names c.args.id c.in-Some.name.now (sym c.in-Some.ensures))) c.in_ok-matched.ensures.faults
 
 pub returns-in_err-matched-clause-faults : goal.returns-in_err-matched-clause-faults
 returns-in_err-matched-clause-faults g c =
     let p = err_from_is_err_and c.from_residual.result c.from_residual.ensures.1 in
-    Tells-refused c.args.searcher.now.tool c.from_residual.result p.0 (names_at c.args.index.now.names (c.args.id ∷ [])) _ _ _ _ p.1
-    (subst (λ names. TellsAll c.args.searcher.now.tool names (g.T.Tree.failed c.args.tree.now) (g.T.Tree.failed c.search_file.new.tree) (g.E.Sink.taken c.args.err.now) (g.E.Sink.taken c.search_file.new.err) undone)
+    PrintsAllFaults-refused c.args.searcher.now.tool c.from_residual.result p.0 (names_at c.args.index.now.names (c.args.id ∷ [])) _ _ _ _ p.1
+    (subst (λ names. PrintsAllFaults c.args.searcher.now.tool names (g.T.Tree.failed c.args.tree.now) (g.T.Tree.failed c.search_file.new.tree) (g.E.Sink.taken c.args.err.now) (g.E.Sink.taken c.search_file.new.err) undone)
     (sym (name_at c.args.index.now.names c.args.id c.in-Some.name.now (sym c.in-Some.ensures))) c.in_err-matched.ensures.faults)

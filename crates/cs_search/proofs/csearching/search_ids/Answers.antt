@@ -6,10 +6,10 @@ use Rattle.cs_match.specs.Finding.{Decides}
 use Rattle.cs_tree.specs.Snapshot.{Snapshot}
 use Rattle.cs_search.specs.declared.report.TheConstants.{MOST_SEARCHED}
 use Rattle.cs_search.specs.IndexSearch.{names_at, DecidesNames}
-use Rattle.cs_search.specs.Searcher.{Prints, TellsAll, PrintsFront}
+use Rattle.cs_search.specs.Searcher.{Prints, PrintsAllFaults, PrintsFront}
 use Rattle.cs_search.specs.Printed.{Printed, file_printed, all_printed}
 use Rattle.cs_search.proofs.FrontLemmas.{any_err}
-use Rattle.cs_search.proofs.PrintedLemmas.{Prints-none, Prints-then, PrintsFront-then, done, undone, Tells-none, Tells-more, Tells-rest, Tells-refused}
+use Rattle.cs_search.proofs.PrintedLemmas.{Prints-none, Prints-sequel, PrintsFront-sequel, done, undone, PrintsAllFaults-none, PrintsAllFaults-more, PrintsAllFaults-rest, PrintsAllFaults-refused}
 use Rattle.cs_search.proofs.CsearchLemmas.{chosen_more, chosen_rest, names_at_more, names_at_rest}
 use Rattle.cs_search.proofs.csearching.search_ids.Goals as goal
 
@@ -17,7 +17,7 @@ pub loop-id-init : goal.loop-id-init
 unfolding names_at
 loop-id-init g c = record {
   prints = λ finds keeps decides names. Prints-none (g.T.Tree.snapshot c.args.tree.now) (file_printed MOST_SEARCHED c.args.searcher.now.tool c.args.searcher.now.style finds) (g.O.Sink.taken c.args.out.now) (g.E.Sink.taken c.args.err.now);
-  faults = Tells-none c.args.searcher.now.tool done [] _ _ _ _ refl refl;
+  faults = PrintsAllFaults-none c.args.searcher.now.tool done [] _ _ _ _ refl refl;
   out_failed = refl;
   err_failed = refl;
   kept = record { tool = refl; style = refl; matcher = refl };
@@ -42,7 +42,7 @@ loop-id-preserved g c =
           let tools = subst (λ t. Prints (option_map (λ (s : Snapshot). all_printed (file_printed MOST_SEARCHED t c.loop-id.searcher.style finds s) (filter keeps (names_at all (id ∷ [])))) (g.T.Tree.snapshot c.loop-id.tree)) (g.O.Sink.taken c.loop-id.out) (g.O.Sink.taken c.search_id.new.out) (g.E.Sink.taken c.loop-id.err) (g.E.Sink.taken c.search_id.new.err) c.in_ok-matched.field-0) i.kept.tool one in
           let styles = subst (λ t. Prints (option_map (λ (s : Snapshot). all_printed (file_printed MOST_SEARCHED searcher.tool t finds s) (filter keeps (names_at all (id ∷ [])))) (g.T.Tree.snapshot c.loop-id.tree)) (g.O.Sink.taken c.loop-id.out) (g.O.Sink.taken c.search_id.new.out) (g.E.Sink.taken c.loop-id.err) (g.E.Sink.taken c.search_id.new.err) c.in_ok-matched.field-0) i.kept.style tools in
           let last = subst (λ tree. Prints (option_map (λ (s : Snapshot). all_printed (file s) (filter keeps (names_at all (id ∷ [])))) tree) (g.O.Sink.taken c.loop-id.out) (g.O.Sink.taken c.search_id.new.out) (g.E.Sink.taken c.loop-id.err) (g.E.Sink.taken c.search_id.new.err) c.in_ok-matched.field-0) i.keeps styles in
-          Prints-then snapshot (λ s. all_printed (file s) (filter keeps (names_at all (take at ids)))) (λ s. all_printed (file s) (filter keeps (names_at all (id ∷ [])))) (λ s. all_printed (file s) (filter keeps (names_at all (take (at + 1) ids)))) _ _ _ _ _ _ c.loop-id.matched c.in_ok-matched.field-0
+          Prints-sequel snapshot (λ s. all_printed (file s) (filter keeps (names_at all (take at ids)))) (λ s. all_printed (file s) (filter keeps (names_at all (id ∷ [])))) (λ s. all_printed (file s) (filter keeps (names_at all (take (at + 1) ids)))) _ _ _ _ _ _ c.loop-id.matched c.in_ok-matched.field-0
           (λ s. chosen_more (file s) keeps all ids at c.loop-id-test.true)
           (i.prints finds keeps decides names) last;
       faults =
@@ -50,9 +50,9 @@ loop-id-preserved g c =
           let all = c.args.index.now.names in
           let ids = c.args.ids.now in
           let at = c.loop-id.id-index in
-          let last = subst (λ t. TellsAll t (names_at all (get_or ids at 0 ∷ [])) (g.T.Tree.failed c.loop-id.tree) (g.T.Tree.failed c.search_id.new.tree) (g.E.Sink.taken c.loop-id.err) (g.E.Sink.taken c.search_id.new.err) done) i.kept.tool s.faults in
-          subst (λ l. TellsAll tool l (g.T.Tree.failed c.args.tree.now) (g.T.Tree.failed c.search_id.new.tree) (g.E.Sink.taken c.args.err.now) (g.E.Sink.taken c.search_id.new.err) done) (sym (names_at_more all ids at c.loop-id-test.true))
-          (Tells-more tool done (names_at all (take at ids)) (names_at all (get_or ids at 0 ∷ [])) _ (g.T.Tree.failed c.loop-id.tree) _ _ (g.E.Sink.taken c.loop-id.err) _ i.faults last);
+          let last = subst (λ t. PrintsAllFaults t (names_at all (get_or ids at 0 ∷ [])) (g.T.Tree.failed c.loop-id.tree) (g.T.Tree.failed c.search_id.new.tree) (g.E.Sink.taken c.loop-id.err) (g.E.Sink.taken c.search_id.new.err) done) i.kept.tool s.faults in
+          subst (λ l. PrintsAllFaults tool l (g.T.Tree.failed c.args.tree.now) (g.T.Tree.failed c.search_id.new.tree) (g.E.Sink.taken c.args.err.now) (g.E.Sink.taken c.search_id.new.err) done) (sym (names_at_more all ids at c.loop-id-test.true))
+          (PrintsAllFaults-more tool done (names_at all (take at ids)) (names_at all (get_or ids at 0 ∷ [])) _ (g.T.Tree.failed c.loop-id.tree) _ _ (g.E.Sink.taken c.loop-id.err) _ i.faults last);
       out_failed = s.writes.0 ∙ i.out_failed;
       err_failed = s.writes.1 ∙ i.err_failed;
       kept = record { tool = s.kept.tool ∙ i.kept.tool; style = s.kept.style ∙ i.kept.style; matcher = s.kept.matcher ∙ i.kept.matcher };
@@ -82,14 +82,14 @@ returns-in_err-matched-clause-front g c =
     let tools = subst (λ t. Holds (option_map (λ (s : Snapshot). all_printed (file_printed MOST_SEARCHED t c.loop-id.searcher.style finds s) (filter keeps (names_at all (id ∷ [])))) (g.T.Tree.snapshot c.loop-id.tree))) i.kept.tool one in
     let styles = subst (λ t. Holds (option_map (λ (s : Snapshot). all_printed (file_printed MOST_SEARCHED searcher.tool t finds s) (filter keeps (names_at all (id ∷ [])))) (g.T.Tree.snapshot c.loop-id.tree))) i.kept.style tools in
     let last = subst (λ tree. Holds (option_map (λ (s : Snapshot). all_printed (file s) (filter keeps (names_at all (id ∷ [])))) tree)) i.keeps styles in
-    PrintsFront-then (g.T.Tree.snapshot c.args.tree.now) (λ s. all_printed (file s) (filter keeps (names_at all (take at ids)))) (λ s. all_printed (file s) (filter keeps (names_at all (id ∷ [])))) (λ s. all_printed (file s) (filter keeps (names_at all (drop (at + 1) ids)))) (λ s. all_printed (file s) (filter keeps (names_at all ids))) _ _ _ _ _ _ c.loop-id.matched
+    PrintsFront-sequel (g.T.Tree.snapshot c.args.tree.now) (λ s. all_printed (file s) (filter keeps (names_at all (take at ids)))) (λ s. all_printed (file s) (filter keeps (names_at all (id ∷ [])))) (λ s. all_printed (file s) (filter keeps (names_at all (drop (at + 1) ids)))) (λ s. all_printed (file s) (filter keeps (names_at all ids))) _ _ _ _ _ _ c.loop-id.matched
     (λ s. chosen_rest (file s) keeps all ids at c.loop-id-test.true)
     (i.prints finds keeps decides names) last)
 
 pub returns-clause-faults : goal.returns-clause-faults
 returns-clause-faults g c =
     let i = c.loop-id.invariant in
-    subst (λ (l : List ℕ). TellsAll c.args.searcher.now.tool (names_at c.args.index.now.names l) (g.T.Tree.failed c.args.tree.now) (g.T.Tree.failed c.loop-id.tree) (g.E.Sink.taken c.args.err.now) (g.E.Sink.taken c.loop-id.err) done)
+    subst (λ (l : List ℕ). PrintsAllFaults c.args.searcher.now.tool (names_at c.args.index.now.names l) (g.T.Tree.failed c.args.tree.now) (g.T.Tree.failed c.loop-id.tree) (g.E.Sink.taken c.args.err.now) (g.E.Sink.taken c.loop-id.err) done)
     (take_all c.loop-id.id-index c.args.ids.now c.loop-id-test.false) i.faults
 
 pub returns-in_err-matched-clause-faults : goal.returns-in_err-matched-clause-faults
@@ -100,8 +100,8 @@ returns-in_err-matched-clause-faults g c =
     let all = c.args.index.now.names in
     let ids = c.args.ids.now in
     let at = c.loop-id.id-index in
-    let last = subst (λ t. TellsAll t (names_at all (get_or ids at 0 ∷ [])) (g.T.Tree.failed c.loop-id.tree) (g.T.Tree.failed c.search_id.new.tree) (g.E.Sink.taken c.loop-id.err) (g.E.Sink.taken c.search_id.new.err) undone) i.kept.tool c.in_err-matched.ensures.faults in
-    let told = Tells-more tool undone (names_at all (take at ids)) (names_at all (get_or ids at 0 ∷ [])) (g.T.Tree.failed c.args.tree.now) (g.T.Tree.failed c.loop-id.tree) (g.T.Tree.failed c.search_id.new.tree) (g.E.Sink.taken c.args.err.now) (g.E.Sink.taken c.loop-id.err) (g.E.Sink.taken c.search_id.new.err) i.faults last in
-    Tells-refused tool c.from_residual.result p.0 (names_at all ids) _ _ _ _ p.1
-    (subst (λ l. TellsAll tool l (g.T.Tree.failed c.args.tree.now) (g.T.Tree.failed c.search_id.new.tree) (g.E.Sink.taken c.args.err.now) (g.E.Sink.taken c.search_id.new.err) undone) (sym (names_at_rest all ids at c.loop-id-test.true))
-    (Tells-rest tool undone _ (names_at all (drop (at + 1) ids)) _ _ _ _ told))
+    let last = subst (λ t. PrintsAllFaults t (names_at all (get_or ids at 0 ∷ [])) (g.T.Tree.failed c.loop-id.tree) (g.T.Tree.failed c.search_id.new.tree) (g.E.Sink.taken c.loop-id.err) (g.E.Sink.taken c.search_id.new.err) undone) i.kept.tool c.in_err-matched.ensures.faults in
+    let told = PrintsAllFaults-more tool undone (names_at all (take at ids)) (names_at all (get_or ids at 0 ∷ [])) (g.T.Tree.failed c.args.tree.now) (g.T.Tree.failed c.loop-id.tree) (g.T.Tree.failed c.search_id.new.tree) (g.E.Sink.taken c.args.err.now) (g.E.Sink.taken c.loop-id.err) (g.E.Sink.taken c.search_id.new.err) i.faults last in
+    PrintsAllFaults-refused tool c.from_residual.result p.0 (names_at all ids) _ _ _ _ p.1
+    (subst (λ l. PrintsAllFaults tool l (g.T.Tree.failed c.args.tree.now) (g.T.Tree.failed c.search_id.new.tree) (g.E.Sink.taken c.args.err.now) (g.E.Sink.taken c.search_id.new.err) undone) (sym (names_at_rest all ids at c.loop-id-test.true))
+    (PrintsAllFaults-rest tool undone _ (names_at all (drop (at + 1) ids)) _ _ _ _ told))

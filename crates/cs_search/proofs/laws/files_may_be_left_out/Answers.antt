@@ -1,4 +1,4 @@
-use Rattle.cs_search.specs.Csearch.{names_meeting}
+use Rattle.cs_history.specs.Meeting.{names_meeting}
 use Rattle.cs_search.proofs.AgreementLemmas.{search_alike}
 use Rattle.cs_search.proofs.laws.files_may_be_left_out.Goals as goal
 

@@ -7,8 +7,8 @@ use Rattle.cs_tree.specs.Failures.{CountsOne}
 use Rattle.cs_tree.specs.Taken.{EndsAfter}
 use Rattle.cs_tree.specs.TakenAll.{TakesAll}
 use Rattle.cs_search.proofs.FrontLemmas.{any_err}
-use Rattle.cs_search.proofs.PrintedLemmas.{done, PrintsSome-front, PrintsSome-all, Tells-flushed}
-use Rattle.cs_search.proofs.CgrepLemmas.{all_quiet, begun_refused, decides_program, PrintsStatus-flushed, Tells-as, Tells-nothing}
+use Rattle.cs_search.proofs.PrintedLemmas.{done, PrintsSome-front, PrintsSome-all, PrintsFaults-flushed}
+use Rattle.cs_search.proofs.CgrepLemmas.{all_quiet, begun_refused, decides_program, PrintsStatus-flushed, PrintsFaultsOf-as, PrintsFaultsOf-nothing}
 use Rattle.cs_search.specs.declared.status.Status.{Status}
 use Rattle.cs_search.proofs.searching.cgrep.Goals as goal
 
@@ -32,7 +32,7 @@ returns-in_err-program-clause-quiet g c = all_quiet _ c.from_residual.result (Gr
 pub returns-in_err-program-clause-faults : goal.returns-in_err-program-clause-faults
 returns-in_err-program-clause-faults g c =
     let p = err_from_is_err_and c.from_residual.result c.from_residual.ensures.1 in
-    Tells-nothing c.from_residual.result p.0 c.args.job.now (g.T.Tree.failed c.args.tree.now) (g.R.Source.failed c.args.input.now) (g.E.Sink.taken c.args.err.now) p.1
+    PrintsFaultsOf-nothing c.from_residual.result p.0 c.args.job.now (g.T.Tree.failed c.args.tree.now) (g.R.Source.failed c.args.input.now) (g.E.Sink.taken c.args.err.now) p.1
 
 pub returns-in_err-program-clause-front : goal.returns-in_err-program-clause-front
 returns-in_err-program-clause-front g c = any_err c.from_residual.result (inl (Grows-same _, Grows-same _))
@@ -40,7 +40,7 @@ returns-in_err-program-clause-front g c = any_err c.from_residual.result (inl (G
 pub returns-in_err-searcher-clause-faults : goal.returns-in_err-searcher-clause-faults
 returns-in_err-searcher-clause-faults g c =
     let p = err_from_is_err_and c.from_residual-in_err-searcher.result c.from_residual-in_err-searcher.ensures.1 in
-    Tells-nothing c.from_residual-in_err-searcher.result p.0 c.args.job.now (g.T.Tree.failed c.args.tree.now) (g.R.Source.failed c.args.input.now) (g.E.Sink.taken c.args.err.now) p.1
+    PrintsFaultsOf-nothing c.from_residual-in_err-searcher.result p.0 c.args.job.now (g.T.Tree.failed c.args.tree.now) (g.R.Source.failed c.args.input.now) (g.E.Sink.taken c.args.err.now) p.1
 
 pub returns-in_err-searcher-clause-front : goal.returns-in_err-searcher-clause-front
 returns-in_err-searcher-clause-front g c = any_err c.from_residual-in_err-searcher.result (inl (Grows-same _, Grows-same _))
@@ -76,8 +76,8 @@ returns-in_err-status-clause-faults g c =
     let err = g.E.Sink.taken c.args.err.now in
     let now = g.E.Sink.taken c.search_job.new.err in
     let later = g.E.Sink.taken c.finish.new.err in
-    rw p.1 (Tells-as c.args.job.now _ _ _ _ (λ lines. TakesAll lines err now done) (λ lines. EndsAfter {A = Unit {0}} lines err later (Err p.0))
-    (λ tool names failed failed' told. Tells-flushed tool {A = Unit {0}} (Err p.0) names failed failed' err now later told c.in_err-status.ensures.err)
+    rw p.1 (PrintsFaultsOf-as c.args.job.now _ _ _ _ (λ lines. TakesAll lines err now done) (λ lines. EndsAfter {A = Unit {0}} lines err later (Err p.0))
+    (λ tool names failed failed' told. PrintsFaults-flushed tool {A = Unit {0}} (Err p.0) names failed failed' err now later told c.in_err-status.ensures.err)
     c.in_ok-matched.ensures.faults)
 
 pub returns-in_err-status-clause-pattern : goal.returns-in_err-status-clause-pattern
@@ -113,8 +113,8 @@ returns-clause-faults g c =
     let err = g.E.Sink.taken c.args.err.now in
     let now = g.E.Sink.taken c.search_job.new.err in
     let later = g.E.Sink.taken c.finish.new.err in
-    Tells-as c.args.job.now _ _ _ _ (λ lines. TakesAll lines err now done) (λ lines. EndsAfter lines err later done)
-    (λ tool names failed failed' told. Tells-flushed tool done names failed failed' err now later told c.in_ok-status.ensures.err)
+    PrintsFaultsOf-as c.args.job.now _ _ _ _ (λ lines. TakesAll lines err now done) (λ lines. EndsAfter lines err later done)
+    (λ tool names failed failed' told. PrintsFaults-flushed tool done names failed failed' err now later told c.in_ok-status.ensures.err)
     c.in_ok-matched.ensures.faults
 
 pub returns-clause-flushed : goal.returns-clause-flushed

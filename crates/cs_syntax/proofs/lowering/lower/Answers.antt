@@ -1,5 +1,5 @@
 use Rattle.std.proofs.Common.{◌∙◌, ap, List}
-use Rattle.cs_syntax.specs.Lowering.{ascii_forms, all_wide_forms, lowered, any_of}
+use Rattle.cs_syntax.specs.Lowering.{ascii_forms, all_wide_forms, utf8_tree, any_of}
 use Rattle.cs_syntax.specs.Node.{trees_of}
 use Rattle.cs_syntax.specs.TreeList.{append}
 use Rattle.cs_syntax.specs.declared.node.Node.{Node}
@@ -17,4 +17,4 @@ loop-run-preserved c = wide_more _ _ _ _ _ c.loop-run-test.true c.loop-run.invar
 
 pub returns : goal.returns
 returns c =
-    c.any_of.ensures ∙ ap any_of (wide_end _ _ _ _ c.loop-run-test.false c.loop-run.invariant) ∙ ap lowered c.runs-runs.ensures.runs
+    c.any_of.ensures ∙ ap any_of (wide_end _ _ _ _ c.loop-run-test.false c.loop-run.invariant) ∙ ap utf8_tree c.runs-runs.ensures.runs

@@ -1,6 +1,6 @@
 use Rattle.std.proofs.Common.{sym, ◌∙◌}
 use Rattle.std.proofs.lemmas.Bool.{eqb-true, eq-eqb, true≢false}
-use Rattle.cs_tree.proofs.Splitting.{rsplit_says, name_of-last, parent_root, parent_front}
+use Rattle.cs_tree.proofs.Splitting.{rsplit_says, last_element-last, parent_root, parent_front}
 use Rattle.cs_tree.proofs.SettledLemmas.{clean_by_elements}
 use Rattle.cs_tree.proofs.paths.split_name.Goals as goal
 
@@ -10,9 +10,9 @@ returns-in_default c = sym (clean_by_elements c.args.path.now) ∙ rw c.in_defau
 pub returns-then-is_empty : goal.returns-then-is_empty
 returns-then-is_empty c =
     let split = (rw c.in-Some.is at (rsplit_says c.args.path.now c.rsplit_once.result c.rsplit_once.ensures.cases)) in
-    (parent_root _ _ _ split (eqb-true _ 0 (sym c.is_empty.ensures ∙ c.if-is_empty.true)), sym (name_of-last _ _ _ split))
+    (parent_root _ _ _ split (eqb-true _ 0 (sym c.is_empty.ensures ∙ c.if-is_empty.true)), sym (last_element-last _ _ _ split))
 
 pub returns : goal.returns
 returns c =
     let split = (rw c.in-Some.is at (rsplit_says c.args.path.now c.rsplit_once.result c.rsplit_once.ensures.cases)) in
-    (parent_front _ _ _ split (λ e. true≢false (sym (eq-eqb _ 0 e) ∙ sym c.is_empty.ensures ∙ c.if-is_empty.false)), sym (name_of-last _ _ _ split))
+    (parent_front _ _ _ split (λ e. true≢false (sym (eq-eqb _ 0 e) ∙ sym c.is_empty.ensures ∙ c.if-is_empty.false)), sym (last_element-last _ _ _ split))

@@ -1,5 +1,5 @@
 use Rattle.std.proofs.Common.{◌≡◌, ◌⊎◌, ◌+◌, drop, inl, inr, sym, subst, arith, drop_of_length-le}
-use Rattle.cs_trigram.specs.Windows.{IsMember}
+use Rattle.cs_trigram.specs.PlainRuns.{IsMember}
 use Rattle.cs_trigram.specs.Affixes.{HasAffix}
 use Rattle.cs_trigram.proofs.SampleLemmas.{words_from}
 use Rattle.cs_trigram.proofs.affixes.affixes_of_words.Goals as goal

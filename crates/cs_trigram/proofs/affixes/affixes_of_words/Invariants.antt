@@ -1,5 +1,5 @@
 use Rattle.std.proofs.Common.{◌⊎◌, ℕ, List, drop}
-use Rattle.cs_trigram.specs.Windows.{IsMember}
+use Rattle.cs_trigram.specs.PlainRuns.{IsMember}
 use Rattle.cs_trigram.specs.Affixes.{HasSomeAffix}
 use Rattle.cs_trigram.proofs.affixes.affixes_of_words.Given as goal
 

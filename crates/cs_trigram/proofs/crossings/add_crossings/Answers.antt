@@ -7,7 +7,7 @@ use Rattle.cs_trigram.specs.declared.queries.Query.{Query}
 use Rattle.cs_trigram.specs.declared.affixes.Side.TheVariants.{Prefix}
 use Rattle.cs_trigram.specs.declared.short_word.ShortWord.TheVariants.{Empty}
 use Rattle.cs_trigram.proofs.AffixLemmas.{fits_from}
-use Rattle.cs_trigram.proofs.CrossingLemmas.{joining_held, others_held}
+use Rattle.cs_trigram.proofs.CrossingLemmas.{concatenation_held, others_held}
 use Rattle.cs_trigram.proofs.QueryLemmas.{numbers_more}
 use Rattle.cs_trigram.proofs.crossings.add_crossings.Goals as goal
 
@@ -25,7 +25,7 @@ loop-prefix-preserved c =
             | inl x ↦ inl (more set ∙ others_held set members query x)
             | inr y ↦
                 elim (fits_from Prefix c.args.prefixes.now c.loop-prefix.prefix-index none v c.loop-prefix-test.true y) [
-                  | inl e ↦ inl (more set ∙ joining_held set members query c.args.suffix.now prefix u v c.in_ok-query_across.ensures.asks a e has)
+                  | inl e ↦ inl (more set ∙ concatenation_held set members query c.args.suffix.now prefix u v c.in_ok-query_across.ensures.asks a e has)
                   | inr z ↦ inr z
                 ]
           ],

@@ -1,5 +1,5 @@
 use Rattle.std.proofs.Common.{List, ℕ, sym, subst}
-use Rattle.cs_trigram.specs.Windows.{IsMember}
+use Rattle.cs_trigram.specs.PlainRuns.{IsMember}
 use Rattle.cs_trigram.specs.Affixes.{part}
 use Rattle.cs_trigram.specs.Counted.{Counts}
 use Rattle.cs_trigram.specs.declared.counted.Counted.{Counted}

@@ -6,7 +6,8 @@ use Rattle.cs_trigram.specs.Counted.{Counts, AreCounted}
 use Rattle.cs_trigram.specs.Sample.{RunWords, IsBlocked}
 use Rattle.cs_trigram.specs.declared.counted.Counted.{Counted}
 use Rattle.cs_trigram.proofs.CountLemmas.{counted_first, counted_none}
-use Rattle.cs_trigram.proofs.FewLemmas.{run_front, run_words, not_few_behind, joined_assoc}
+use Rattle.cs_trigram.proofs.FewLemmas.{run_front, run_words, not_few_behind}
+use Rattle.cs_syntax.proofs.TreeListLemmas.{append_assoc_trees}
 use Rattle.cs_trigram.proofs.NodeLemmas.{none_of, some_of}
 use Rattle.cs_trigram.proofs.fronts.longest_front.Goals as goal
 
@@ -63,7 +64,7 @@ parts-preserved c = (
       let longer = some_of c.in_ok-longer.field-0 c.in-Some-2.longer _ _ (c.in_ok-longer.ensures h.0 next.0 run backs) c.in-Some-2.is in (
         append h.0 (more next.0 none),
         next.1,
-        h.2 ∙ ap (append h.0) next.2 ∙ sym (joined_assoc h.0 (more next.0 none) next.1),
+        h.2 ∙ ap (append h.0) next.2 ∙ sym (append_assoc_trees h.0 (more next.0 none) next.1),
         longer,
         next.4,
       ),

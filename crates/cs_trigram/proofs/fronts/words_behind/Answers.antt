@@ -3,7 +3,7 @@ use Rattle.std.specs.Prelude.{nat_lt, nat_le}
 use Rattle.std.proofs.lemmas.Bool.{and_from, lt-ltb, le-leb}
 use Rattle.cs_syntax.specs.TreeList.{append}
 use Rattle.cs_syntax.specs.Matching.{none, more}
-use Rattle.cs_trigram.specs.Sample.{is_few, with_words, joinings, RunWords}
+use Rattle.cs_trigram.specs.Sample.{is_few, with_words, concatenations, RunWords}
 use Rattle.cs_trigram.proofs.NodeLemmas.{none_of, some_of}
 use Rattle.cs_trigram.proofs.FewLemmas.{behind_words, too_many_behind, many_count}
 use Rattle.cs_trigram.proofs.fronts.words_behind.Goals as goal
@@ -12,24 +12,24 @@ pub returns-in_default : goal.returns-in_default
 returns-in_default c = λ run t words tree.
     let ws = c.args.words.now in
     let us = c.args.backs.now in
-    let many = none_of c.in_ok-joined.field-0 _ _ (c.in_ok-joined.ensures words.1.different tree.1.different) c.in_default.not-Some in
-    too_many_behind run t ws us words tree (many_count (length (with_words [] (joinings ws us))) many)
+    let many = none_of c.in_ok-longer.field-0 _ _ (c.in_ok-longer.ensures words.1.different tree.1.different) c.in_default.not-Some in
+    too_many_behind run t ws us words tree (many_count (length (with_words [] (concatenations ws us))) many)
 
 pub returns-then-len-eq0 : goal.returns-then-len-eq0
 returns-then-len-eq0 c = λ run t words tree.
     let ws = c.args.words.now in
     let us = c.args.backs.now in
-    let joined = some_of c.in_ok-joined.field-0 c.in-Some.joined _ _ (c.in_ok-joined.ensures words.1.different tree.1.different) c.in-Some.is in
-    let empty : length c.in-Some.joined.items ≡ 0 = omega arith in
-    too_many_behind run t ws us words tree (ap is_few (sym (ap length joined.0) ∙ empty))
+    let longer = some_of c.in_ok-longer.field-0 c.in-Some.longer _ _ (c.in_ok-longer.ensures words.1.different tree.1.different) c.in-Some.is in
+    let empty : length c.in-Some.longer.items ≡ 0 = omega arith in
+    too_many_behind run t ws us words tree (ap is_few (sym (ap length longer.0) ∙ empty))
 
 pub returns : goal.returns
 returns c = λ run t words tree.
     let ws = c.args.words.now in
     let us = c.args.backs.now in
-    let joined = some_of c.in_ok-joined.field-0 c.in-Some.joined _ _ (c.in_ok-joined.ensures words.1.different tree.1.different) c.in-Some.is in
-    let n = length c.in-Some.joined.items in
+    let longer = some_of c.in_ok-longer.field-0 c.in-Some.longer _ _ (c.in_ok-longer.ensures words.1.different tree.1.different) c.in-Some.is in
+    let n = length c.in-Some.longer.items in
     let some : 0 < n = omega arith in
-    let few : is_few (length (with_words [] (joinings ws us))) ≡ true =
-    ap is_few (sym (ap length joined.0)) ∙ and_from (nat_lt 0 n) (nat_le n 20) (lt-ltb 0 n some) (le-leb n 20 joined.1) in
-    subst (λ (vs : List (List ℕ)). RunWords vs (append run (more t none))) (sym joined.0) (behind_words run t ws us words tree few)
+    let few : is_few (length (with_words [] (concatenations ws us))) ≡ true =
+    ap is_few (sym (ap length longer.0)) ∙ and_from (nat_lt 0 n) (nat_le n 20) (lt-ltb 0 n some) (le-leb n 20 longer.1) in
+    subst (λ (vs : List (List ℕ)). RunWords vs (append run (more t none))) (sym longer.0) (behind_words run t ws us words tree few)

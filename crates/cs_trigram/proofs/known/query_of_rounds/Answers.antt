@@ -9,4 +9,4 @@ returns-then-least-eq0 c = λ t counts own most. all_repeated t c.args.least mos
 pub returns : goal.returns
 returns c =
     let some : 0 < c.args.least = omega arith in
-    if_ok c.asked.result _ _ c.asked.ensures (λ q right. λ t counts own most. right_repeated q t c.args.least most some (right t counts own))
+    if_ok c.query_of_words.result _ _ c.query_of_words.ensures (λ q right. λ t counts own most. right_repeated q t c.args.least most some (right t counts own))

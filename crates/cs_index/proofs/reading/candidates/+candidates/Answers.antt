@@ -1,5 +1,5 @@
 use Rattle.std.proofs.Common.{◌≡◌, ◌<◌, ◌∙◌, ◌||◌, ◌&&◌, ◌∷◌, ◌+◌, [], suc, ap, sym, subst, List, ℕ, Bool, true, false, length, get_or, drop, drop-cons, arith}
-use Rattle.cs_index.specs.Sifting.{read_for}
+use Rattle.cs_index.specs.Postings.{read_for}
 use Rattle.cs_index.specs.PostingLists.{Ids}
 use Rattle.cs_trigram.specs.Trigram.{has, Ascends}
 use Rattle.std.proofs.lemmas.List.{drop_all}
@@ -10,14 +10,15 @@ use Rattle.cs_trigram.specs.declared.queries.Query.{Query}
 use Rattle.cs_trigram.specs.declared.queries.Query.TheVariants.{Tri}
 use Rattle.cs_index.specs.Opening.{rises}
 use Rattle.cs_index.specs.OpenedParts.{Parts}
-use Rattle.cs_index.specs.Candidates.{candidates_of, meets, names_that}
+use Rattle.cs_index.specs.Candidates.{candidates_of, meets, ids_that}
 use Rattle.cs_index.specs.Answerable.{is_answerable}
 use Rattle.cs_index.proofs.ResultLemmas.{both_ok}
-use Rattle.cs_index.proofs.SiftLemmas.{ascends_filter, filter_all, filter_filter}
+use Rattle.cs_index.proofs.SiftLemmas.{filter_all, filter_filter}
 use Rattle.cs_index.proofs.ToldLemmas.{fault_of}
 use Rattle.cs_index.proofs.AskedLemmas.{answerable-All, answerable-And, answerable-Nothing, answerable-Or, answerable-Tri, candidates-All, candidates-And, candidates-Nothing, candidates-Or, candidates-Tri, candidates_ascend, candidates_below, list_ascends, list_below, some_member}
 use Rattle.cs_index.proofs.reading.candidates.+candidates.Goals as goal
 use Rattle.std.proofs.Math.Bool.{or-false}
+use Rattle.cs_trigram.proofs.SetLemmas.{ascends_filter}
 
 -- the list of the trigram that a query is
 tri_ids : (parts : Parts) (up : rises parts.entries ≡ true) (query : Query) (g : ℕ) (list : Ids) → query ≡ Tri g → list ≡ read_for parts g → list.whole ≡ true → list.ids ≡ candidates_of parts query
@@ -52,7 +53,7 @@ ids_meeting-returns-in-Tri-clause-fault t c =
 pub ids_meeting-returns-in-And-clause-ids : goal.ids_meeting-returns-in-And-clause-ids
 ids_meeting-returns-in-And-clause-ids t c =
     let parts : Parts = c.args.index.now in
-    IfOk-weaker c.ids_meeting_each.result _ _ (λ ids is. is ∙ ap (λ (ms : List Query). names_that parts (λ id. list_all (λ m. meets parts m id) ms)) c.deref.ensures.value ∙ sym (candidates-And parts c.in-And.members) ∙ ap (candidates_of parts) (sym c.in-And.is)) c.ids_meeting_each.ensures.ids
+    IfOk-weaker c.ids_meeting_each.result _ _ (λ ids is. is ∙ ap (λ (ms : List Query). ids_that parts (λ id. list_all (λ m. meets parts m id) ms)) c.deref.ensures.value ∙ sym (candidates-And parts c.in-And.members) ∙ ap (candidates_of parts) (sym c.in-And.is)) c.ids_meeting_each.ensures.ids
 
 pub ids_meeting-returns-in-And-clause-whole : goal.ids_meeting-returns-in-And-clause-whole
 ids_meeting-returns-in-And-clause-whole t c =
@@ -68,7 +69,7 @@ ids_meeting-returns-in-And-clause-fault t c =
 pub ids_meeting-returns-in-Or-clause-ids : goal.ids_meeting-returns-in-Or-clause-ids
 ids_meeting-returns-in-Or-clause-ids t c =
     let parts : Parts = c.args.index.now in
-    IfOk-weaker c.ids_meeting_some.result _ _ (λ ids is. is ∙ ap (λ (ms : List Query). names_that parts (λ id. list_any (λ m. meets parts m id) ms)) c.deref-in-Or.ensures.value ∙ sym (candidates-Or parts c.in-Or.members) ∙ ap (candidates_of parts) (sym c.in-Or.is)) c.ids_meeting_some.ensures.ids
+    IfOk-weaker c.ids_meeting_some.result _ _ (λ ids is. is ∙ ap (λ (ms : List Query). ids_that parts (λ id. list_any (λ m. meets parts m id) ms)) c.deref-in-Or.ensures.value ∙ sym (candidates-Or parts c.in-Or.members) ∙ ap (candidates_of parts) (sym c.in-Or.is)) c.ids_meeting_some.ensures.ids
 
 pub ids_meeting-returns-in-Or-clause-whole : goal.ids_meeting-returns-in-Or-clause-whole
 ids_meeting-returns-in-Or-clause-whole t c =
@@ -142,7 +143,7 @@ ids_meeting_each-loop-member-preserved t c =
     let next : suc at ≡ at + 1 = omega arith in
     let first : drop at members ≡ m ∷ rest = drop-cons members at m c.loop-member-test.true ∙ (λ i. sym c.member-item.is i ∷ drop (next i) members) in
     record {
-      ids = each_step parts (drop at members) rest m c.loop-member.ids.items c.in_ok-ids-2.ids.items (names_that parts (λ id. list_all (λ n. meets parts n id) members)) first c.loop-member.invariant.ids c.in_ok-ids-2.ensures.ids;
+      ids = each_step parts (drop at members) rest m c.loop-member.ids.items c.in_ok-ids-2.ids.items (ids_that parts (λ id. list_all (λ n. meets parts n id) members)) first c.loop-member.invariant.ids c.in_ok-ids-2.ensures.ids;
       ascend = subst Ascends (sym c.in_ok-ids-2.ensures.ids) (ascends_filter (has (candidates_of parts m)) c.loop-member.ids.items c.loop-member.invariant.ascend);
       whole = c.loop-member.invariant.whole ∙ ap (list_all (is_answerable parts)) first ∙ ap (λ b. b && list_all (is_answerable parts) rest) c.in_ok-ids-2.ensures.whole;
     }
@@ -161,6 +162,6 @@ ids_meeting_some-returns-clause-ids t c =
     let marks : List Bool = c.loop-member.marks.items in
     let done : drop c.loop-member.member-index members ≡ [] = drop_all c.loop-member.member-index members (omega arith) in
     let long : length c.deref.result.now ≡ length parts.names = ap length c.deref.ensures.value ∙ c.loop-member.invariant.length in
-    c.in_ok-marked.ensures
+    c.in_ok-marked_ids.ensures
     ∙ (λ i. filter (λ id. get_or (c.deref.ensures.value i) id false) (range_with_len 0 (long i)))
     ∙ some_member parts (λ id. get_or marks id false) members (λ id. sym (or-false (get_or marks id false)) ∙ ap (λ (ms : List Query). get_or marks id false || list_any (λ n. has (candidates_of parts n) id) ms) (sym done) ∙ c.loop-member.invariant.marks id)

@@ -1,13 +1,13 @@
 use Rattle.std.proofs.Common.{◌∙◌, ◌∷◌, ◌++◌, ap, sym, subst, List, ℕ}
 use Rattle.cs_index.specs.Postings.{ids_given}
-use Rattle.cs_index.specs.Sifting.{Sifted}
+use Rattle.cs_index.specs.Sifting.{Sift}
 use Rattle.cs_trigram.specs.Trigram.{has, Ascends}
 use Rattle.std.proofs.lemmas.List.{append-nil}
 use Rattle.std.specs.Prelude.{filter, nat_lt}
-use Rattle.cs_index.proofs.SiftLemmas.{ascends_filter, none_left, sift_on}
+use Rattle.cs_index.proofs.SiftLemmas.{none_left, sift_on}
 use Rattle.cs_index.proofs.ToldLemmas.{bad_list, told_err, told_none, told_ok}
 use Rattle.cs_index.proofs.reading.candidates.keep_listed.Goals as goal
-use Rattle.cs_trigram.proofs.SetLemmas.{ascends_tail}
+use Rattle.cs_trigram.proofs.SetLemmas.{ascends_tail, ascends_filter}
 
 pub returns-in_err-id-clause-fault : goal.returns-in_err-id-clause-fault
 returns-in_err-id-clause-fault c =
@@ -20,8 +20,8 @@ loop-id-preserved c =
     let rest : List ℕ = c.next.new.self.ids in
     let told = told_ok c.loop-id.id-iterator c.next.new.self id (c.in-Some.ensures.steps ∙ ap (λ r. r ∷ ids_given c.next.new.self) c.in_ok-id.was) in
     let row : Ascends (id ∷ rest) = subst Ascends told.0 c.loop-id.invariant.list in
-    let kept = ap (λ (s : Sifted). s.kept) c.pass.ensures in
-    let left = ap (λ (s : Sifted). s.left) c.pass.ensures in
+    let kept = ap (λ (s : Sift). s.kept) c.pass.ensures in
+    let left = ap (λ (s : Sift). s.left) c.pass.ensures in
     record {
       ids = sift_on (filter (has c.args.list.ids) c.args.ids.items) c.loop-id.sieve.left rest c.loop-id.sieve.kept c.pass.new.self.kept c.pass.new.self.left id (c.loop-id.invariant.ids ∙ ap (λ (ys : List ℕ). c.loop-id.sieve.kept ++ filter (has ys) c.loop-id.sieve.left) told.0) row c.loop-id.invariant.left kept left;
       list = ascends_tail id rest row;

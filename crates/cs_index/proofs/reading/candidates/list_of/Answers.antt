@@ -1,5 +1,5 @@
 use Rattle.std.proofs.Common.{◌∙◌, ap}
-use Rattle.cs_index.specs.Sifting.{nothing_read, read_for}
+use Rattle.cs_index.specs.Postings.{nothing_read, read_for}
 use Rattle.std.specs.Prelude.{unwrap_or}
 use Rattle.cs_index.proofs.reading.candidates.list_of.Goals as goal
 

@@ -4,19 +4,19 @@ use Rattle.cs_trigram.specs.Trigram.{closing_trigram}
 use Rattle.cs_index.specs.Image.{Posting}
 use Rattle.cs_index.specs.Laid.{with_postings, AllBelow}
 use Rattle.cs_index.specs.Rising.{RiseWithin}
-use Rattle.cs_index.specs.Segments.{listed}
+use Rattle.cs_index.specs.Segments.{lists_from}
 use Rattle.cs_index.proofs.writing.segments.lay_lists.Given as goal
 
 -- what is laid, and what the lists that are left will be
 abbrev pub invariant-lists : goal.invariant-lists
 invariant-lists l = record {
-  laid : with_postings l.sections (listed l.trigram (drop l.list-index l.lists))
-      ≡ with_postings l.initial.sections (listed l.first l.initial.lists);
+  laid : with_postings l.sections (lists_from l.trigram (drop l.list-index l.lists))
+      ≡ with_postings l.initial.sections (lists_from l.first l.initial.lists);
   names : l.sections.names ≡ l.initial.sections.names;
   at : l.trigram ≡ l.first + l.list-index;
   long : length l.lists ≡ length l.initial.lists;
   rise : AllByRecursion (RiseWithin (length l.initial.sections.names) 0) (drop l.list-index l.lists);
-  below : AllByRecursion (λ (p : Posting). p.0 < closing_trigram) (listed l.trigram (drop l.list-index l.lists));
+  below : AllByRecursion (λ (p : Posting). p.0 < closing_trigram) (lists_from l.trigram (drop l.list-index l.lists));
   above : AllBelow l.sections.lists l.trigram;
   empty : AllByRecursion (λ (ids : List ℕ). ids ≡ []) (take l.list-index l.lists);
 }

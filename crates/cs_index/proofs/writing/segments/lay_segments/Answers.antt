@@ -4,21 +4,21 @@ use Rattle.cs_trigram.specs.Trigram.{closing_trigram}
 use Rattle.cs_index.specs.IdStream.{most_ids}
 use Rattle.cs_index.specs.Laid.{Laid, with_postings, AllBelow}
 use Rattle.cs_index.specs.Rising.{RiseWithin}
-use Rattle.cs_index.specs.Segments.{all_given, listed, with_segments, AreAhead, Ordered}
+use Rattle.cs_index.specs.Segments.{ids_of_segments, lists_from, with_segments, AreAhead, SegmentKeys}
 use Rattle.cs_index.proofs.GivenLemmas.{all_below, all_given_ahead, below_skip, below_listed, below_none, each_list, given_rise, list_each, listed_within, lists_below, none_given, ordered_below, rise_wider, segment_ids}
 use Rattle.cs_index.proofs.LaidLemmas.{postings_more, postings_append}
 use Rattle.cs_index.proofs.writing.segments.lay_segments.Goals as goal
 
 -- without ids before, the lists have what the segments give
-found : (lists more : List (List ℕ)) (ss start : List Ordered) (n : ℕ) → length lists ≡ 256 →
+found : (lists more : List (List ℕ)) (ss start : List SegmentKeys) (n : ℕ) → length lists ≡ 256 →
     AllByRecursion (λ (ids : List ℕ). ids ≡ []) lists → length more ≡ 256 →
-    ((last : ℕ) → last < 256 → get_or more last [] ≡ get_or lists last [] ++ all_given ss (n + last)) →
-    ((g : ℕ) → n ≤ g → all_given ss g ≡ all_given start g) →
-    (k : ℕ) → k < length more → get_or more k [] ≡ all_given start (n + k)
+    ((last : ℕ) → last < 256 → get_or more last [] ≡ get_or lists last [] ++ ids_of_segments ss (n + last)) →
+    ((g : ℕ) → n ≤ g → ids_of_segments ss g ≡ ids_of_segments start g) →
+    (k : ℕ) → k < length more → get_or more k [] ≡ ids_of_segments start (n + k)
 found lists more ss start n long empty long' given later k h =
     let small : k < 256 = omega (arith, h, long') in
     given k small
-    ∙ ap (λ ids. ids ++ all_given ss (n + k)) (list_each (λ ids. ids ≡ []) lists k (omega (arith, small, long)) empty)
+    ∙ ap (λ ids. ids ++ ids_of_segments ss (n + k)) (list_each (λ ids. ids ≡ []) lists k (omega (arith, small, long)) empty)
     ∙ later (n + k) (omega arith)
 
 pub gather-requires-clause-rise : goal.gather-requires-clause-rise
@@ -27,15 +27,15 @@ gather-requires-clause-rise c = λ last small.
     let none : get_or c.fronts.lists last [] ≡ [] = list_each (λ ids. ids ≡ []) c.fronts.lists last
     (omega (arith, small, c.fronts.invariant.long)) c.fronts.invariant.empty in
     let names : ℕ = length c.args.sections.now.names in
-    subst (RiseWithin most_ids 0) (sym (ap (λ ids. ids ++ all_given c.fronts.segments g) none
+    subst (RiseWithin most_ids 0) (sym (ap (λ ids. ids ++ ids_of_segments c.fronts.segments g) none
     ∙ c.fronts.invariant.later g (omega arith)))
-    (rise_wider names most_ids 0 (all_given c.args.segments.now g) c.requires.few
+    (rise_wider names most_ids 0 (ids_of_segments c.args.segments.now g) c.requires.few
     (given_rise names c.args.segments.now c.requires.each g))
 
 pub lay_lists-requires-clause-above : goal.lay_lists-requires-clause-above
 lay_lists-requires-clause-above c =
     let n : ℕ = c.fronts.front * 256 in
-    let f = all_given c.args.segments.now in
+    let f = ids_of_segments c.args.segments.now in
     subst (λ (l : Laid). AllBelow l.lists n) (sym c.fronts.invariant.laid)
     (subst (λ ps. AllBelow ps n) (sym ((postings_more c.args.sections.now (lists_below n f)).2
     ∙ ap (λ ps. ps ++ lists_below n f) c.requires.none)) (all_below n f))
@@ -45,7 +45,7 @@ lay_lists-requires-clause-rise c =
     let n : ℕ = c.fronts.front * 256 in
     let names : ℕ = length c.args.sections.now.names in
     let same : length c.fronts.sections.names ≡ names = ap length (ap (λ (l : Laid). l.names) c.fronts.invariant.laid
-    ∙ (postings_more c.args.sections.now (lists_below n (all_given c.args.segments.now))).1) in
+    ∙ (postings_more c.args.sections.now (lists_below n (ids_of_segments c.args.segments.now))).1) in
     let are = found c.fronts.lists c.gather.new.lists c.fronts.segments c.args.segments.now n c.fronts.invariant.long
     c.fronts.invariant.empty c.gather.ensures.long c.in_ok-gather.ensures.given c.fronts.invariant.later in
     subst (λ m. AllByRecursion (RiseWithin m 0) c.gather.new.lists) (sym same)
@@ -61,19 +61,19 @@ lay_lists-requires-clause-below c =
     ∙ none_given c.args.segments.now (n + k) c.requires.order past)
 
 -- no segment has a trigram between two fronts
-skipped : (ss start : List Ordered) (n m : ℕ) → n ≤ m → AllByRecursion (λ (s : Ordered). AreAhead m s.keys) ss →
-    ((g : ℕ) → n * 256 ≤ g → all_given ss g ≡ all_given start g) →
-    lists_below (n * 256) (all_given start) ≡ lists_below (m * 256) (all_given start)
+skipped : (ss start : List SegmentKeys) (n m : ℕ) → n ≤ m → AllByRecursion (λ (s : SegmentKeys). AreAhead m s.keys) ss →
+    ((g : ℕ) → n * 256 ≤ g → ids_of_segments ss g ≡ ids_of_segments start g) →
+    lists_below (n * 256) (ids_of_segments start) ≡ lists_below (m * 256) (ids_of_segments start)
 skipped ss start n m le ahead later =
     let k : ℕ = m * 256 - n * 256 in
-    sym (below_skip (n * 256) k (all_given start) (λ g past less. sym (later g past)
+    sym (below_skip (n * 256) k (ids_of_segments start) (λ g past less. sym (later g past)
     ∙ all_given_ahead m g ss ahead (omega (arith, less, le))))
-    ∙ ap (λ i. lists_below i (all_given start)) (let z : n * 256 + k ≡ m * 256 = omega (arith, le) in z)
+    ∙ ap (λ i. lists_below i (ids_of_segments start)) (let z : n * 256 + k ≡ m * 256 = omega (arith, le) in z)
 
 pub fronts-init : goal.fronts-init
 fronts-init c =
     let next : ℕ = c.next_front-front.result in
-    let f = all_given c.args.segments.now in
+    let f = ids_of_segments c.args.segments.now in
     record {
       laid = ap (with_postings c.args.sections.now) (sym (below_none f) ∙ skipped c.args.segments.now c.args.segments.now 0
           next (omega arith) c.next_front-front.ensures.ahead (λ g past. refl));
@@ -87,21 +87,21 @@ fronts-init c =
 pub fronts-preserved : goal.fronts-preserved
 fronts-preserved c =
     let n : ℕ = c.fronts.front * 256 in
-    let f = all_given c.args.segments.now in
+    let f = ids_of_segments c.args.segments.now in
     let start : Laid = c.args.sections.now in
     let new : List (List ℕ) = c.gather.new.lists in
     let inv = c.fronts.invariant in
     let are = found c.fronts.lists new c.fronts.segments c.args.segments.now n inv.long inv.empty c.gather.ensures.long
     c.in_ok-gather.ensures.given inv.later in
     let on : n + length new ≡ (c.fronts.front + 1) * 256 = omega (arith, c.gather.ensures.long) in
-    let step : lists_below n f ++ listed n new ≡ lists_below ((c.fronts.front + 1) * 256) f =
+    let step : lists_below n f ++ lists_from n new ≡ lists_below ((c.fronts.front + 1) * 256) f =
     below_listed n f new are ∙ ap (λ m. lists_below m f) on in
-    let later : (g : ℕ) → (c.fronts.front + 1) * 256 ≤ g → all_given c.gather.new.segments g ≡ f g =
+    let later : (g : ℕ) → (c.fronts.front + 1) * 256 ≤ g → ids_of_segments c.gather.new.segments g ≡ f g =
     λ g past. c.in_ok-gather.ensures.later g past ∙ inv.later g (omega (arith, past)) in
     let next : ℕ = c.next_front-front-in-fronts.result in
     record {
-      laid = c.in_ok-lay_lists.ensures.laid ∙ ap (λ l. with_postings l (listed n new)) inv.laid
-          ∙ sym (postings_append start (lists_below n f) (listed n new))
+      laid = c.in_ok-lay_lists.ensures.laid ∙ ap (λ l. with_postings l (lists_from n new)) inv.laid
+          ∙ sym (postings_append start (lists_below n f) (lists_from n new))
           ∙ ap (with_postings start) (step ∙ skipped c.gather.new.segments c.args.segments.now (c.fronts.front + 1) next
           c.next_front-front-in-fronts.ensures.from c.next_front-front-in-fronts.ensures.ahead later);
       later = λ g past. later g (omega (arith, past, c.next_front-front-in-fronts.ensures.from));
@@ -113,7 +113,7 @@ fronts-preserved c =
 
 pub returns : goal.returns
 returns c =
-    let f = all_given c.args.segments.now in
+    let f = ids_of_segments c.args.segments.now in
     let names : ℕ = length c.args.sections.now.names in
     c.fronts.invariant.laid
     ∙ ap (with_postings c.args.sections.now) (ordered_below names (c.fronts.front * 256) (with_segments [] c.args.segments.now) f

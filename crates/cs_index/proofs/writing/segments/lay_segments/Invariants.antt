@@ -1,16 +1,16 @@
 use Rattle.std.proofs.Common.{◌≡◌, ◌*◌, ◌-◌, ◌≤◌, ℕ, List, [], length}
 use Rattle.std.specs.List.{AllByRecursion}
 use Rattle.cs_index.specs.Laid.{with_postings}
-use Rattle.cs_index.specs.Segments.{all_given, AreAhead, Ordered}
+use Rattle.cs_index.specs.Segments.{ids_of_segments, AreAhead, SegmentKeys}
 use Rattle.cs_index.proofs.GivenLemmas.{lists_below}
 use Rattle.cs_index.proofs.writing.segments.lay_segments.Given as goal
 
 -- the lists of the trigrams so far are laid, and the segments have the ids of the others
 abbrev pub invariant-fronts : goal.invariant-fronts
 invariant-fronts l = record {
-  laid : l.sections ≡ with_postings l.initial.sections (lists_below (l.front * 256) (all_given l.initial.segments));
-  later : (g : ℕ) → l.front * 256 ≤ g → all_given l.segments g ≡ all_given l.initial.segments g;
-  ahead : AllByRecursion (λ (s : Ordered). AreAhead l.front s.keys) l.segments;
+  laid : l.sections ≡ with_postings l.initial.sections (lists_below (l.front * 256) (ids_of_segments l.initial.segments));
+  later : (g : ℕ) → l.front * 256 ≤ g → ids_of_segments l.segments g ≡ ids_of_segments l.initial.segments g;
+  ahead : AllByRecursion (λ (s : SegmentKeys). AreAhead l.front s.keys) l.segments;
   within : l.front ≤ 65536;
   long : length l.lists ≡ 256;
   empty : AllByRecursion (λ (ids : List ℕ). ids ≡ []) l.lists;

@@ -1,29 +1,29 @@
 use Rattle.std.proofs.Common.{◌≡◌, ◌+◌, ◌≤◌, ◌∷◌, ℕ, List, get_or, take, drop, drop-cons, add-one, sym, ap, subst, ◌∙◌, arith}
 use Rattle.std.proofs.lemmas.List.{take_more}
 use Rattle.std.specs.List.{AllByRecursion}
-use Rattle.cs_index.specs.Segments.{AreAhead, Ordered}
+use Rattle.cs_index.specs.Segments.{AreAhead, SegmentKeys}
 use Rattle.cs_index.proofs.GivenLemmas.{ahead_less, each_ahead_less, each_push}
 use Rattle.cs_index.proofs.writing.segments.next_front.Goals as goal
 
 pub segments-preserved : goal.segments-preserved
 segments-preserved c =
-    let ss : List Ordered = c.args.segments.now in
+    let ss : List SegmentKeys = c.args.segments.now in
     let i : ℕ = c.segments.segment-index in
-    let d : Ordered = c.segment-item.result in
+    let d : SegmentKeys = c.segment-item.result in
     let least : ℕ = c.min-front.result in
     let is = c.min-front.ensures in
     let next : drop i ss ≡ get_or ss i d ∷ drop (i + 1) ss = drop-cons ss i d c.segments-test.true
     ∙ ap (λ j. get_or ss i d ∷ drop j ss) (sym (add-one i)) in
-    let rest = subst (AllByRecursion (λ (s : Ordered). AreAhead c.args.from s.keys)) next c.segments.invariant.rest in
+    let rest = subst (AllByRecursion (λ (s : SegmentKeys). AreAhead c.args.from s.keys)) next c.segments.invariant.rest in
     let here : c.args.from ≤ c.front.result = c.front.ensures.least c.args.from c.requires.few
-    (subst (λ (s : Ordered). AreAhead c.args.from s.keys) (sym c.segment-item.is) rest.0) in
+    (subst (λ (s : SegmentKeys). AreAhead c.args.from s.keys) (sym c.segment-item.is) rest.0) in
     record {
       from = omega (arith, is, here, c.segments.invariant.from);
       within = omega (arith, is, c.segments.invariant.within);
-      ahead = subst (AllByRecursion (λ (s : Ordered). AreAhead least s.keys)) (sym (take_more ss i d c.segments-test.true))
-          (each_push (λ (s : Ordered). AreAhead least s.keys) (take i ss) (get_or ss i d)
+      ahead = subst (AllByRecursion (λ (s : SegmentKeys). AreAhead least s.keys)) (sym (take_more ss i d c.segments-test.true))
+          (each_push (λ (s : SegmentKeys). AreAhead least s.keys) (take i ss) (get_or ss i d)
           (each_ahead_less c.segments.front least (take i ss) (omega (arith, is)) c.segments.invariant.ahead)
-          (subst (λ (s : Ordered). AreAhead least s.keys) c.segment-item.is
+          (subst (λ (s : SegmentKeys). AreAhead least s.keys) c.segment-item.is
           (ahead_less c.front.result least d.keys (omega (arith, is)) c.front.ensures.ahead)));
       rest = rest.1;
     }

@@ -1,8 +1,8 @@
 use Rattle.std.proofs.Common.{◌≡◌, ℕ, ◌/◌, ◌<◌, false, length, get_or, ◌∙◌, ap, arith, below_more, add-one, length-set, get_or-set_same, get_or-set_other}
 use Rattle.std.proofs.lemmas.List.{get_or_read}
-use Rattle.cs_match.specs.Marks.{marks_of, shifted}
+use Rattle.cs_match.specs.Marks.{marks_of, shift_and}
 use Rattle.cs_match.proofs.BitsLemmas.{same_count, same_length}
-use Rattle.cs_match.proofs.ShiftBitsLemmas.{carry, next_word, AreMarks-shifted, marks_of-shifted}
+use Rattle.cs_match.proofs.ShiftBitsLemmas.{carry, next_word, AreMarks-shift_and, marks_of-shift_and}
 use Rattle.cs_match.proofs.marks.Marks.shift.Goals as goal
 use Rattle.cs_match.proofs.marks.Marks.shift.Goals.{After-loop-at}
 
@@ -59,7 +59,7 @@ all-done c k h = c.loop-at.invariant.done k (omega (arith, h, c.len-at-end.ensur
 
 pub invariant_of-self : goal.invariant_of-self
 invariant_of-self c =
-    rw c.loop-at.invariant.places (AreMarks-shifted _ _ _ _ c.self.inside.count c.self.invariant (rw (firsts-count c) at c.firsts.invariant) (rw (takers-count c) at c.takers.invariant) c.loop-at.invariant.as_many (all-done c))
+    rw c.loop-at.invariant.places (AreMarks-shift_and _ _ _ _ c.self.inside.count c.self.invariant (rw (firsts-count c) at c.firsts.invariant) (rw (takers-count c) at c.takers.invariant) c.loop-at.invariant.as_many (all-done c))
 
 pub returns : goal.returns
 returns c =
@@ -69,7 +69,7 @@ returns c =
     let takers = c.takers.inside.words.items in
     let count = c.self.inside.count in
     ap (marks_of new) c.loop-at.invariant.places
-    ∙ marks_of-shifted new old firsts takers count c.self.invariant (rw (firsts-count c) at c.firsts.invariant) (rw (takers-count c) at c.takers.invariant) c.loop-at.invariant.as_many (all-done c)
-    ∙ ap (λ x. shifted false (marks_of firsts count) (marks_of takers count) x) c.self.view_is
-    ∙ ap (λ x. shifted false x (marks_of takers count) c.args.self.now) (rw (firsts-count c) at c.firsts.view_is)
-    ∙ ap (λ x. shifted false c.args.firsts.now x c.args.self.now) (rw (takers-count c) at c.takers.view_is)
+    ∙ marks_of-shift_and new old firsts takers count c.self.invariant (rw (firsts-count c) at c.firsts.invariant) (rw (takers-count c) at c.takers.invariant) c.loop-at.invariant.as_many (all-done c)
+    ∙ ap (λ x. shift_and false (marks_of firsts count) (marks_of takers count) x) c.self.view_is
+    ∙ ap (λ x. shift_and false x (marks_of takers count) c.args.self.now) (rw (firsts-count c) at c.firsts.view_is)
+    ∙ ap (λ x. shift_and false c.args.firsts.now x c.args.self.now) (rw (takers-count c) at c.takers.view_is)

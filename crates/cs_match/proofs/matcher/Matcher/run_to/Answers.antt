@@ -1,8 +1,8 @@
 use Rattle.std.proofs.Common.{subst, sym}
 use Rattle.cs_match.specs.Finding.{Decides}
-use Rattle.cs_match.specs.Chains.{TellsLines}
+use Rattle.cs_match.specs.Chains.{ShowsLines}
 use Rattle.cs_match.specs.Remembering.{tree_in}
-use Rattle.cs_match.proofs.QuietLemmas.{table_tells}
+use Rattle.cs_match.proofs.QuietLemmas.{table_shows}
 use Rattle.cs_match.proofs.matcher.Matcher.run_to.Goals as goal
 
 pub returns : goal.returns
@@ -15,7 +15,7 @@ returns c =
       high = h.high;
       whole = h.whole;
       none = λ finds decides.
-          h.none finds (subst (TellsLines finds) (sym c.deref.ensures.value)
-          (table_tells (tree_in table) table.rows.items table.used table.cells.items right.rows.few right.cells right.rows right.looped finds
+          h.none finds (subst (ShowsLines finds) (sym c.deref.ensures.value)
+          (table_shows (tree_in table) table.rows.items table.used table.cells.items right.rows.few right.cells right.rows right.looped finds
           (subst (Decides finds) (sym c.self.view_is) decides)));
     }

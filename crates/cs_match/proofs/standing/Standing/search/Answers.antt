@@ -3,9 +3,9 @@ use Rattle.std.proofs.lemmas.List.{take_all}
 use Rattle.cs_syntax.specs.Node.{tree_of}
 use Rattle.cs_match.specs.declared.standing.Standing.{Standing}
 use Rattle.cs_match.specs.Places.{exits, exit_at}
-use Rattle.cs_match.specs.Standings.{standing, moved, ahead, at_end}
+use Rattle.cs_match.specs.Standings.{standing, next_standing, ahead, at_end}
 use Rattle.cs_match.proofs.FindingLemmas.{found_at, found_last}
-use Rattle.cs_match.proofs.StandingLemmas.{length-standing, moved_more, left_ahead, left_by_end}
+use Rattle.cs_match.proofs.StandingLemmas.{length-standing, next_more, left_ahead, left_by_end}
 use Rattle.cs_match.proofs.standing.Standing.search.Goals as goal
 
 pub move_over-requires-clause-one_each : goal.move_over-requires-clause-one_each
@@ -34,7 +34,7 @@ returns-then-move_over-clause-one_each c =
     let t = tree_of c.args.root.now in
     let line = c.args.line.now in
     let i = c.loop-b.b-index in
-    ap (λ (n : Standing). length n.marks) (c.move_over.ensures.moved ∙ ap (λ (n : Standing). moved t n (get_or line i 0)) c.loop-b.invariant.here ∙ moved_more t line i (omega arith))
+    ap (λ (n : Standing). length n.marks) (c.move_over.ensures.moved ∙ ap (λ (n : Standing). next_standing t n (get_or line i 0)) c.loop-b.invariant.here ∙ next_more t line i (omega arith))
     ∙ length-standing t line (i + 1) (omega arith)
 
 pub loop-b-preserved : goal.loop-b-preserved
@@ -46,7 +46,7 @@ loop-b-preserved c =
     let byte = get_or line i 0 in
     let stays = sym (left_ahead t line i (omega arith)) ∙ ap (λ (n : Standing). exits t true n.marks (ahead n byte)) (sym given.here) ∙ sym c.move_over.ensures.left ∙ c.if-move_over.false in
     record {
-      here = c.move_over.ensures.moved ∙ ap (λ (n : Standing). moved t n byte) given.here ∙ moved_more t line i (omega arith);
+      here = c.move_over.ensures.moved ∙ ap (λ (n : Standing). next_standing t n byte) given.here ∙ next_more t line i (omega arith);
       loops = c.move_over.ensures.loops ∙ given.loops;
       none = below_more _ _ given.none stays;
     }

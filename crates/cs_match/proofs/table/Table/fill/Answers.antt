@@ -1,5 +1,5 @@
 use Rattle.std.proofs.Common.{◌∙◌, ap, length}
-use Rattle.cs_match.proofs.StandingLemmas.{length-after}
+use Rattle.cs_match.proofs.StandingLemmas.{length-standing_beyond}
 use Rattle.cs_match.specs.declared.standing.Standing.{Standing}
 use Rattle.cs_match.specs.Remembering.{tree_in}
 use Rattle.cs_match.proofs.table.Table.fill.Goals as goal
@@ -12,7 +12,7 @@ put-requires-clause-right c =
       shifts = c.requires.right.shifts;
       rows = c.requires.right.rows;
       cells = c.requires.right.cells;
-      room = ap (λ (n : Standing). length n.marks) c.pass_from.ensures.moved ∙ length-after (tree_in s) c.index.result.now c.args.byte;
+      room = ap (λ (n : Standing). length n.marks) c.pass_from.ensures.moved ∙ length-standing_beyond (tree_in s) c.index.result.now c.args.byte;
       loops = c.requires.right.loops;
     }
 
@@ -24,6 +24,6 @@ next_row-requires-clause-right c =
       shifts = c.requires.right.shifts;
       rows = c.requires.right.rows;
       cells = c.requires.right.cells;
-      room = ap (λ (n : Standing). length n.marks) c.pass_from.ensures.moved ∙ length-after (tree_in s) c.index.result.now c.args.byte;
+      room = ap (λ (n : Standing). length n.marks) c.pass_from.ensures.moved ∙ length-standing_beyond (tree_in s) c.index.result.now c.args.byte;
       loops = c.requires.right.loops;
     }

@@ -1,13 +1,13 @@
 use Rattle.std.proofs.Common.{◌≡◌, ◌+◌, ◌*◌, ◌/◌, ◌<◌, ◌∙◌, ap, sym, arith, get_or, ℕ, subst}
 use Rattle.cs_match.specs.Table.{IsCell}
 use Rattle.std.specs.Prelude.{bit_or}
-use Rattle.cs_match.proofs.TableLemmas.{cell_place, known_tells}
+use Rattle.cs_match.proofs.TableLemmas.{cell_place, known_leads}
 use Rattle.std.proofs.lemmas.List.{get_or_read}
 use Rattle.cs_match.specs.Remembering.{tree_in}
 use Rattle.cs_match.proofs.table.Table.next.Goals as goal
 
-pub returns-else-next-clause-told : goal.returns-else-next-clause-told
-returns-else-next-clause-told c =
+pub returns-else-next-clause-leads : goal.returns-else-next-clause-leads
+returns-else-next-clause-leads c =
     let s = c.args.self.now in
     let row = c.args.from / 256 in
     let place : bit_or c.args.from c.from.result ≡ 256 * row + c.args.byte =
@@ -19,4 +19,4 @@ returns-else-next-clause-told c =
     let few : row < 254 = omega (arith, c.requires.row.in_use, c.requires.right.rows.few) in
     let told = c.requires.right.cells.right row c.args.byte few (omega arith) in
     let P : ℕ → Type 0 = λ x. IsCell (tree_in s) s.rows.items s.used row c.args.byte x in
-    known_tells (tree_in s) s.rows.items s.used row c.args.byte c.index-next.result.now (subst P (sym here) told) c.if-next.false
+    known_leads (tree_in s) s.rows.items s.used row c.args.byte c.index-next.result.now (subst P (sym here) told) c.if-next.false

@@ -2,7 +2,7 @@ use Rattle.std.proofs.Common.{◌≡◌, ℕ, ◌+◌, ◌-◌, ◌<◌, ◌≤�
 use Rattle.std.proofs.lemmas.Option.{same_Some}
 use Rattle.std.specs.List.{cons_option, AllByRecursion}
 use Rattle.cs_index.specs.PostingLists.{Ids}
-use Rattle.cs_merge.specs.Renumbering.{renumbered}
+use Rattle.cs_merge.specs.Renumbering.{new_ids_of}
 use Rattle.cs_merge.specs.SideBySide.{IsStretchOf}
 use Rattle.cs_merge.proofs.RunLemmas.{is_run}
 use Rattle.cs_merge.proofs.carrying.Carried.run.Goals as goal
@@ -14,7 +14,7 @@ none_some n e = cc
 pub returns-clause-run : goal.returns-clause-run
 returns-clause-run c =
     let s = c.self.inside in
-    let there : slice_get (cons_option s.first (renumbered s.runs.now s.rest.ids)) 0 ≡ Some c.args.id = ap (λ (r : Ids). slice_get r.ids 0) c.self.view_is ∙ c.requires in
+    let there : slice_get (cons_option s.first (new_ids_of s.runs.now s.rest.ids)) 0 ≡ Some c.args.id = ap (λ (r : Ids). slice_get r.ids 0) c.self.view_is ∙ c.requires in
     let short : (least : ℕ) → c.args.limit ≡ Some least → c.match-limit.most ≤ s.last + (least - c.args.id) =
     elim c.match-limit.branch [
       | in-None w ↦ λ least e. absurd (none_some least (sym w.in-None.is ∙ e))
@@ -22,7 +22,7 @@ returns-clause-run c =
           let same = same_Some w.in-Some.limit least (sym w.in-Some.is ∙ e) in
           omega (arith, same, w.saturating_sub.ensures, w.saturating_add-most.ensures, w.most-is)
     ] in
-    subst (λ (ids : List ℕ). IsStretchOf c.args.id c.args.limit c.stretch.result ids (cons_option s.first (renumbered s.runs.now c.stretch.new.self.ids))) (ap (λ (r : Ids). r.ids) c.self.view_is)
+    subst (λ (ids : List ℕ). IsStretchOf c.args.id c.args.limit c.stretch.result ids (cons_option s.first (new_ids_of s.runs.now c.stretch.new.self.ids))) (ap (λ (r : Ids). r.ids) c.self.view_is)
     (is_run s.runs.now s.first s.last c.args.id s.rest c.self.invariant there c.args.limit c.end-end.result c.match-limit.most c.stretch.result c.stretch.new.self.ids
     c.stretch.ensures.ids c.end-end.ensures
     (subst (λ n. AllByRecursion (λ other. s.last + 1 + other < n) c.stretch.result) c.min.ensures c.stretch.ensures.below) short)

@@ -6,7 +6,6 @@ use Rattle.cs_tree.specs.NameOrder.{bytes_cmp}
 use Rattle.cs_tree.specs.PathParts.{texts}
 use Rattle.cs_tree.specs.PathSet as set
 use Rattle.cs_tree.proofs.ReduceLemmas.{ordered_items, sorted-items}
-use Rattle.cs_merge.specs.Content.{paths_in}
 use Rattle.cs_merge.proofs.HoldingLemmas.{set_of_items}
 use Rattle.cs_merge.proofs.covering.Cover.new.Goals as goal
 
@@ -16,7 +15,6 @@ invariant_of-result c =
     subst (IsStrictlySortedBy bytes_cmp) (sym ordered) (sorted-items (set.from_list (texts c.paths.paths.items)))
 
 pub returns : goal.returns
-unfolding paths_in
 returns c =
     let ordered : texts c.dedup.new.self.items ≡ set.items (set.from_list (texts c.paths.paths.items)) = ordered_items c.paths.paths.items c.sort_unstable.new.self.items c.dedup.new.self.items c.sort_unstable.ensures.permutation c.sort_unstable.ensures.sorted (dedup_is _ _ _ c.dedup.ensures.filtered) in
     let all : texts c.paths.paths.items ≡ c.args.index.now.paths = sym (append-nil (texts c.paths.paths.items)) ∙ ap (λ (rest : List (List ℕ)). texts c.paths.paths.items ++ rest) (sym c.in-None.ensures.steps.0) ∙ c.paths.invariant in

@@ -13,8 +13,8 @@ put : {E : Type 0} (parts : Parts) (ids : List ℕ) (ranks : NewIds) (result : R
 put parts ids ranks (Ok new_ids) is all long each = put_by_rank parts ids is ranks new_ids all long each
 put parts ids ranks (Err fault) is all long each = tt
 
-pub placed-requires-clause-order : goal.placed-requires-clause-order
-placed-requires-clause-order c =
+pub place-requires-clause-order : goal.place-requires-clause-order
+place-requires-clause-order c =
     let parts = c.self.inside.index.now in
     let e : c.args.self.now ≡ in_order parts c.in-Some.ids.items = sym c.self.view_is ∙ ap (λ o. let r : Ranked = record { parts = parts; order = option_map (λ ids. ids.items) o } in r) c.in-Some.is in
     subst IsOrdering (sym c.deref.ensures.value) (are_ordering parts c.in-Some.ids.items (subst IsRanked e c.requires.ranked))
@@ -24,5 +24,5 @@ returns-in-Some c =
     let parts = c.self.inside.index.now in
     let ids : List ℕ = c.deref.result.now in
     let e : c.args.self.now ≡ in_order parts ids = sym c.self.view_is ∙ ap (λ o. let r : Ranked = record { parts = parts; order = option_map (λ ids. ids.items) o } in r) c.in-Some.is ∙ ap (in_order parts) (sym c.deref.ensures.value) in
-    subst (λ (r : Ranked). IfOk c.placed.result (λ new_ids. AreByRank r c.args.ranks new_ids)) (sym e)
-    (put parts ids c.args.ranks c.placed.result (subst IsRanked e c.requires.ranked) (c.requires.all ∙ ap (λ (r : Ranked). length r.parts.names) e) c.placed.ensures.long c.placed.ensures.each)
+    subst (λ (r : Ranked). IfOk c.place.result (λ new_ids. AreByRank r c.args.ranks new_ids)) (sym e)
+    (put parts ids c.args.ranks c.place.result (subst IsRanked e c.requires.ranked) (c.requires.all ∙ ap (λ (r : Ranked). length r.parts.names) e) c.place.ensures.long c.place.ensures.each)

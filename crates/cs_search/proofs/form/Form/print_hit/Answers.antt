@@ -1,10 +1,10 @@
 use Rattle.std.proofs.Common.{rules}
-use Rattle.cs_search.specs.TestedLines.{shown}
+use Rattle.cs_search.specs.TestedLines.{hit_output}
 use Rattle.cs_search.proofs.Printing.{printing}
 use Rattle.cs_search.proofs.form.Form.print_hit.Goals as goal
 
 pub returns-clause-written : goal.returns-clause-written
-unfolding shown
+unfolding hit_output
 returns-clause-written g c = search (rules, printing)
 
 pub returns-clause-failed : goal.returns-clause-failed

@@ -4,17 +4,17 @@ use Rattle.cs_search.specs.Printed.{Printed}
 use Rattle.cs_search.specs.IndexSearch.{names_at}
 use Rattle.cs_search.specs.Searcher.{Prints, PrintsFront}
 use Rattle.cs_search.proofs.FrontLemmas.{any_err}
-use Rattle.cs_search.proofs.PrintedLemmas.{Tells-none}
+use Rattle.cs_search.proofs.PrintedLemmas.{PrintsAllFaults-none}
 use Rattle.cs_search.proofs.CsearchLemmas.{by_csearch}
 use Rattle.cs_search.proofs.plan.Plan.search.Goals as goal
 
 pub returns-in_err-searcher-clause-faults : goal.returns-in_err-searcher-clause-faults
 returns-in_err-searcher-clause-faults g c =
-    Tells-none Csearch c.from_residual.result (names_at c.args.index.now.names c.args.ids.now) (g.T.Tree.failed c.args.tree.now) (g.T.Tree.failed c.args.tree.now) (g.E.Sink.taken c.args.err.now) (g.E.Sink.taken c.args.err.now) refl refl
+    PrintsAllFaults-none Csearch c.from_residual.result (names_at c.args.index.now.names c.args.ids.now) (g.T.Tree.failed c.args.tree.now) (g.T.Tree.failed c.args.tree.now) (g.E.Sink.taken c.args.err.now) (g.E.Sink.taken c.args.err.now) refl refl
 
 pub returns-in_err-kept-clause-faults : goal.returns-in_err-kept-clause-faults
 returns-in_err-kept-clause-faults g c =
-    Tells-none Csearch c.from_residual-in_err-kept.result (names_at c.args.index.now.names c.args.ids.now) (g.T.Tree.failed c.args.tree.now) (g.T.Tree.failed c.args.tree.now) (g.E.Sink.taken c.args.err.now) (g.E.Sink.taken c.args.err.now) refl refl
+    PrintsAllFaults-none Csearch c.from_residual-in_err-kept.result (names_at c.args.index.now.names c.args.ids.now) (g.T.Tree.failed c.args.tree.now) (g.T.Tree.failed c.args.tree.now) (g.E.Sink.taken c.args.err.now) (g.E.Sink.taken c.args.err.now) refl refl
 
 pub returns-in_err-matched-clause-front : goal.returns-in_err-matched-clause-front
 returns-in_err-matched-clause-front g c =

@@ -7,7 +7,7 @@ use Rattle.cs_tree.specs.Failures.{count_if}
 use Rattle.cs_tree.specs.Told.{Grows}
 use Rattle.cs_tree.specs.Taken.{TakesFront}
 use Rattle.cs_search.proofs.FrontLemmas.{any_err}
-use Rattle.cs_search.proofs.PrintedLemmas.{fault_text, Prints-input, PrintsFront-input, PrintsFront-fault, done, undone, Tells-none, Tells-left, Tells-refused}
+use Rattle.cs_search.proofs.PrintedLemmas.{fault_text, Prints-input, PrintsFront-input, PrintsFront-fault, done, undone, PrintsAllFaults-none, PrintsAllFaults-left, PrintsAllFaults-refused}
 use Rattle.cs_search.proofs.searcher.Searcher.search.Goals as goal
 
 pub returns-in_ok-print_fault-clause-prints : goal.returns-in_ok-print_fault-clause-prints
@@ -31,7 +31,7 @@ returns-in_ok-print_fault-clause-faults g c =
     let name = c.args.name.now in
     let failed = c.in_ok-answer.ensures.read_failed in
     let written = subst (λ fault. Grows (g.E.Sink.taken c.args.err.now) (g.E.Sink.taken c.print_fault.new.err) (fault_line_of tool name fault)) c.of_input.ensures c.in_ok-print_fault.ensures.written in
-    Tells-left tool done c.in-Some.fault name (g.R.Source.failed c.args.input.now) (g.R.Source.failed c.grep_within.new.input) (g.E.Sink.taken c.args.err.now) (g.E.Sink.taken c.print_fault.new.err)
+    PrintsAllFaults-left tool done c.in-Some.fault name (g.R.Source.failed c.args.input.now) (g.R.Source.failed c.grep_within.new.input) (g.E.Sink.taken c.args.err.now) (g.E.Sink.taken c.print_fault.new.err)
     (subst (λ fault. g.R.Source.failed c.grep_within.new.input ≡ count_if (is_failed_read fault) (g.R.Source.failed c.args.input.now)) c.in-Some.is failed) written
 
 pub returns-in_err-answer-clause-front : goal.returns-in_err-answer-clause-front
@@ -51,15 +51,15 @@ returns-in_err-print_fault-clause-front g c =
 
 pub returns-in_default-clause-faults : goal.returns-in_default-clause-faults
 returns-in_default-clause-faults g c =
-    Tells-none c.args.self.now.tool done (c.args.name.now ∷ []) (g.R.Source.failed c.args.input.now) (g.R.Source.failed c.grep_within.new.input) (g.E.Sink.taken c.args.err.now) (g.E.Sink.taken c.args.err.now)
+    PrintsAllFaults-none c.args.self.now.tool done (c.args.name.now ∷ []) (g.R.Source.failed c.args.input.now) (g.R.Source.failed c.grep_within.new.input) (g.E.Sink.taken c.args.err.now) (g.E.Sink.taken c.args.err.now)
     (subst (λ fault. g.R.Source.failed c.grep_within.new.input ≡ count_if (is_failed_read fault) (g.R.Source.failed c.args.input.now)) c.in_default.is c.in_ok-answer.ensures.read_failed) refl
 
 pub returns-in_err-answer-clause-faults : goal.returns-in_err-answer-clause-faults
 returns-in_err-answer-clause-faults g c =
     let p = err_from_is_err_and c.from_residual.result c.from_residual.ensures.1 in
     let err = g.E.Sink.taken c.args.err.now in
-    Tells-refused c.args.self.now.tool c.from_residual.result p.0 (c.args.name.now ∷ []) _ _ err err p.1
-    (Tells-none c.args.self.now.tool undone (c.args.name.now ∷ []) (g.R.Source.failed c.args.input.now) (g.R.Source.failed c.grep_within.new.input) err err c.in_err-answer.ensures.read_failed refl)
+    PrintsAllFaults-refused c.args.self.now.tool c.from_residual.result p.0 (c.args.name.now ∷ []) _ _ err err p.1
+    (PrintsAllFaults-none c.args.self.now.tool undone (c.args.name.now ∷ []) (g.R.Source.failed c.args.input.now) (g.R.Source.failed c.grep_within.new.input) err err c.in_err-answer.ensures.read_failed refl)
 
 pub returns-in_err-print_fault-clause-faults : goal.returns-in_err-print_fault-clause-faults
 returns-in_err-print_fault-clause-faults g c =
@@ -69,6 +69,6 @@ returns-in_err-print_fault-clause-faults g c =
     let err = g.E.Sink.taken c.args.err.now in
     let later = g.E.Sink.taken c.print_fault.new.err in
     let failed = subst (λ fault. g.R.Source.failed c.grep_within.new.input ≡ count_if (is_failed_read fault) (g.R.Source.failed c.args.input.now)) c.in-Some.is c.in_ok-answer.ensures.read_failed in
-    Tells-refused tool c.from_residual-in_err-print_fault.result p.0 (name ∷ []) _ _ err later p.1
-    (Tells-left tool undone c.in-Some.fault name (g.R.Source.failed c.args.input.now) (g.R.Source.failed c.grep_within.new.input) err later failed
+    PrintsAllFaults-refused tool c.from_residual-in_err-print_fault.result p.0 (name ∷ []) _ _ err later p.1
+    (PrintsAllFaults-left tool undone c.in-Some.fault name (g.R.Source.failed c.args.input.now) (g.R.Source.failed c.grep_within.new.input) err later failed
     (subst (λ fault. TakesFront (fault_line_of tool name fault) err later) c.of_input.ensures c.in_err-print_fault.ensures.written))

@@ -10,7 +10,7 @@ use Rattle.cs_search.specs.Searcher.{Prints, PrintsFront}
 use Rattle.cs_tree.specs.Taken.{TakesFront}
 use Rattle.cs_search.specs.Printed.{input_printed}
 use Rattle.cs_search.proofs.FrontLemmas.{any_err}
-use Rattle.cs_search.proofs.PrintedLemmas.{Prints-opened, Prints-refused, PrintsFront-none, PrintsFront-opened, PrintsFront-refused, done, undone, Tells-none, Tells-open, Tells-refused}
+use Rattle.cs_search.proofs.PrintedLemmas.{Prints-opened, Prints-refused, PrintsFront-none, PrintsFront-opened, PrintsFront-refused, done, undone, PrintsAllFaults-none, PrintsAllFaults-open, PrintsAllFaults-refused}
 use Rattle.cs_search.proofs.searcher.Searcher.search_file.Goals as goal
 
 pub returns-in-Err-clause-prints : goal.returns-in-Err-clause-prints
@@ -35,7 +35,7 @@ returns-in-Err-clause-faults g c =
     let tool = c.args.self.now.tool in
     let name = c.args.name.now in
     let file = c.in_ok-fault.ensures.file in
-    Tells-open tool done c.in-Err.fault name (g.T.Tree.failed c.args.tree.now) (g.T.Tree.failed c.open.new.self) (g.E.Sink.taken c.args.err.now) (g.E.Sink.taken c.print_fault.new.err) file.1 c.in-Err.ensures.failed
+    PrintsAllFaults-open tool done c.in-Err.fault name (g.T.Tree.failed c.args.tree.now) (g.T.Tree.failed c.open.new.self) (g.E.Sink.taken c.args.err.now) (g.E.Sink.taken c.print_fault.new.err) file.1 c.in-Err.ensures.failed
     (subst (λ fault. Grows (g.E.Sink.taken c.args.err.now) (g.E.Sink.taken c.print_fault.new.err) (fault_line_of tool name fault)) file.0 c.in_ok-print_fault.ensures.written)
 
 pub returns-in_err-fault-clause-front : goal.returns-in_err-fault-clause-front
@@ -65,8 +65,8 @@ returns-in_err-fault-clause-faults g c =
     let p = err_from_is_err_and c.from_residual.result c.from_residual.ensures.1 in
     let tool = c.args.self.now.tool in
     let err = g.E.Sink.taken c.args.err.now in
-    Tells-refused tool c.from_residual.result p.0 (c.args.name.now ∷ []) _ _ err err p.1
-    (Tells-none tool undone (c.args.name.now ∷ []) (g.T.Tree.failed c.args.tree.now) (g.T.Tree.failed c.open.new.self) err err
+    PrintsAllFaults-refused tool c.from_residual.result p.0 (c.args.name.now ∷ []) _ _ err err p.1
+    (PrintsAllFaults-none tool undone (c.args.name.now ∷ []) (g.T.Tree.failed c.args.tree.now) (g.T.Tree.failed c.open.new.self) err err
     (subst (λ fault. g.T.Tree.failed c.open.new.self ≡ count_after {A = Unit {0}} is_tree_failure (Err fault) (g.T.Tree.failed c.args.tree.now)) c.in_err-fault.ensures.memory c.in-Err.ensures.failed) refl)
 
 pub returns-in_err-print_fault-clause-faults : goal.returns-in_err-print_fault-clause-faults
@@ -77,6 +77,6 @@ returns-in_err-print_fault-clause-faults g c =
     let file = c.in_ok-fault.ensures.file in
     let err = g.E.Sink.taken c.args.err.now in
     let later = g.E.Sink.taken c.print_fault.new.err in
-    Tells-refused tool c.from_residual-in_err-print_fault.result p.0 (name ∷ []) _ _ err later p.1
-    (Tells-open tool undone c.in-Err.fault name (g.T.Tree.failed c.args.tree.now) (g.T.Tree.failed c.open.new.self) err later file.1 c.in-Err.ensures.failed
+    PrintsAllFaults-refused tool c.from_residual-in_err-print_fault.result p.0 (name ∷ []) _ _ err later p.1
+    (PrintsAllFaults-open tool undone c.in-Err.fault name (g.T.Tree.failed c.args.tree.now) (g.T.Tree.failed c.open.new.self) err later file.1 c.in-Err.ensures.failed
     (subst (λ fault. TakesFront (fault_line_of tool name fault) err later) file.0 c.in_err-print_fault.ensures.written))

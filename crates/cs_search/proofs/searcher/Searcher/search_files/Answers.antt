@@ -6,16 +6,16 @@ use Rattle.cs_match.specs.Finding.{Decides}
 use Rattle.cs_words.specs.declared.jobs.Tool.{Tool}
 use Rattle.cs_tree.specs.Snapshot.{Snapshot}
 use Rattle.cs_search.specs.declared.report.TheConstants.{MOST_SEARCHED}
-use Rattle.cs_search.specs.Searcher.{Prints, TellsAll, PrintsFront}
+use Rattle.cs_search.specs.Searcher.{Prints, PrintsAllFaults, PrintsFront}
 use Rattle.cs_search.specs.Printed.{Printed, file_printed, all_printed}
 use Rattle.cs_search.proofs.FrontLemmas.{any_err}
-use Rattle.cs_search.proofs.PrintedLemmas.{Prints-none, Prints-then, PrintsFront-then, all_mapped, all_more, mapped_more, mapped_rest, done, undone, Tells-none, Tells-more, Tells-rest, Tells-refused}
+use Rattle.cs_search.proofs.PrintedLemmas.{Prints-none, Prints-sequel, PrintsFront-sequel, all_mapped, all_more, mapped_more, mapped_rest, done, undone, PrintsAllFaults-none, PrintsAllFaults-more, PrintsAllFaults-rest, PrintsAllFaults-refused}
 use Rattle.cs_search.proofs.searcher.Searcher.search_files.Goals as goal
 
 pub loop-name-init : goal.loop-name-init
 loop-name-init g c = record {
   prints = λ finds decides. Prints-none (g.T.Tree.snapshot c.args.tree.now) (file_printed MOST_SEARCHED c.args.self.now.tool c.args.self.now.style finds) (g.O.Sink.taken c.args.out.now) (g.E.Sink.taken c.args.err.now);
-  faults = Tells-none c.args.self.now.tool done [] _ _ _ _ refl refl;
+  faults = PrintsAllFaults-none c.args.self.now.tool done [] _ _ _ _ refl refl;
   out_failed = refl;
   err_failed = refl;
   kept = record { tool = refl; style = refl; matcher = refl };
@@ -38,7 +38,7 @@ loop-name-preserved g c =
           let styles = subst (λ t. Prints (option_map (λ (s : Snapshot). file_printed MOST_SEARCHED self.tool t finds s c.as_str.result.now) (g.T.Tree.snapshot c.loop-name.tree)) (g.O.Sink.taken c.loop-name.out) (g.O.Sink.taken c.search_file.new.out) (g.E.Sink.taken c.loop-name.err) (g.E.Sink.taken c.search_file.new.err) c.in_ok-matched.field-0) i.kept.style tools in
           let trees = subst (λ tree. Prints (option_map (λ (s : Snapshot). file s c.as_str.result.now) tree) (g.O.Sink.taken c.loop-name.out) (g.O.Sink.taken c.search_file.new.out) (g.E.Sink.taken c.loop-name.err) (g.E.Sink.taken c.search_file.new.err) c.in_ok-matched.field-0) i.keeps styles in
           let last = subst (λ name. Prints (option_map (λ (s : Snapshot). file s name) (g.T.Tree.snapshot c.args.tree.now)) (g.O.Sink.taken c.loop-name.out) (g.O.Sink.taken c.search_file.new.out) (g.E.Sink.taken c.loop-name.err) (g.E.Sink.taken c.search_file.new.err) c.in_ok-matched.field-0) c.as_str.ensures.value trees in
-          Prints-then (g.T.Tree.snapshot c.args.tree.now) (λ s. all_printed (file s) (map string_bytes (take at names))) (λ s. file s (string_bytes item)) (λ s. all_printed (file s) (map string_bytes (take (at + 1) names))) _ _ _ _ _ _ c.loop-name.matched c.in_ok-matched.field-0
+          Prints-sequel (g.T.Tree.snapshot c.args.tree.now) (λ s. all_printed (file s) (map string_bytes (take at names))) (λ s. file s (string_bytes item)) (λ s. all_printed (file s) (map string_bytes (take (at + 1) names))) _ _ _ _ _ _ c.loop-name.matched c.in_ok-matched.field-0
           (λ s. ap (all_printed (file s)) (mapped_more string_bytes names at item c.loop-name-test.true c.name-item.is) ∙ all_more (file s) (map string_bytes (take at names)) (string_bytes item))
           (i.prints finds decides) last;
       faults =
@@ -46,10 +46,10 @@ loop-name-preserved g c =
           let names = c.args.names.now in
           let at = c.loop-name.name-index in
           let item = c.name-item.result in
-          let Tells = λ (t : Tool) (name : List ℕ). TellsAll t (name ∷ []) (g.T.Tree.failed c.loop-name.tree) (g.T.Tree.failed c.search_file.new.tree) (g.E.Sink.taken c.loop-name.err) (g.E.Sink.taken c.search_file.new.err) done in
+          let Tells = λ (t : Tool) (name : List ℕ). PrintsAllFaults t (name ∷ []) (g.T.Tree.failed c.loop-name.tree) (g.T.Tree.failed c.search_file.new.tree) (g.E.Sink.taken c.loop-name.err) (g.E.Sink.taken c.search_file.new.err) done in
           let last = subst (Tells tool) c.as_str.ensures.value (subst (λ t. Tells t c.as_str.result.now) i.kept.tool s.faults) in
-          subst (λ l. TellsAll tool l (g.T.Tree.failed c.args.tree.now) (g.T.Tree.failed c.search_file.new.tree) (g.E.Sink.taken c.args.err.now) (g.E.Sink.taken c.search_file.new.err) done) (sym (mapped_more string_bytes names at item c.loop-name-test.true c.name-item.is))
-          (Tells-more tool done (map string_bytes (take at names)) (string_bytes item ∷ []) _ (g.T.Tree.failed c.loop-name.tree) _ _ (g.E.Sink.taken c.loop-name.err) _ i.faults last);
+          subst (λ l. PrintsAllFaults tool l (g.T.Tree.failed c.args.tree.now) (g.T.Tree.failed c.search_file.new.tree) (g.E.Sink.taken c.args.err.now) (g.E.Sink.taken c.search_file.new.err) done) (sym (mapped_more string_bytes names at item c.loop-name-test.true c.name-item.is))
+          (PrintsAllFaults-more tool done (map string_bytes (take at names)) (string_bytes item ∷ []) _ (g.T.Tree.failed c.loop-name.tree) _ _ (g.E.Sink.taken c.loop-name.err) _ i.faults last);
       out_failed = s.writes.0 ∙ i.out_failed;
       err_failed = s.writes.1 ∙ i.err_failed;
       kept = record { tool = s.kept.tool ∙ i.kept.tool; style = s.kept.style ∙ i.kept.style; matcher = s.kept.matcher ∙ i.kept.matcher };
@@ -78,14 +78,14 @@ returns-in_err-matched-clause-front g c =
     let styles = subst (λ t. Holds (option_map (λ (s : Snapshot). file_printed MOST_SEARCHED self.tool t finds s c.as_str.result.now) (g.T.Tree.snapshot c.loop-name.tree))) i.kept.style tools in
     let trees = subst (λ tree. Holds (option_map (λ (s : Snapshot). file s c.as_str.result.now) tree)) i.keeps styles in
     let last = subst (λ name. Holds (option_map (λ (s : Snapshot). file s name) (g.T.Tree.snapshot c.args.tree.now))) c.as_str.ensures.value trees in
-    PrintsFront-then (g.T.Tree.snapshot c.args.tree.now) (λ s. all_printed (file s) (map string_bytes (take at names))) (λ s. file s (string_bytes item)) (λ s. all_printed (file s) (map string_bytes (drop (at + 1) names))) (λ s. all_printed (file s) (map string_bytes names)) _ _ _ _ _ _ c.loop-name.matched
+    PrintsFront-sequel (g.T.Tree.snapshot c.args.tree.now) (λ s. all_printed (file s) (map string_bytes (take at names))) (λ s. file s (string_bytes item)) (λ s. all_printed (file s) (map string_bytes (drop (at + 1) names))) (λ s. all_printed (file s) (map string_bytes names)) _ _ _ _ _ _ c.loop-name.matched
     (λ s. all_mapped (file s) string_bytes names at item c.loop-name-test.true c.name-item.is)
     (i.prints finds decides) last)
 
 pub returns-clause-faults : goal.returns-clause-faults
 returns-clause-faults g c =
     let i = c.loop-name.invariant in
-    subst (λ (l : List _). TellsAll c.args.self.now.tool (map string_bytes l) (g.T.Tree.failed c.args.tree.now) (g.T.Tree.failed c.loop-name.tree) (g.E.Sink.taken c.args.err.now) (g.E.Sink.taken c.loop-name.err) done)
+    subst (λ (l : List _). PrintsAllFaults c.args.self.now.tool (map string_bytes l) (g.T.Tree.failed c.args.tree.now) (g.T.Tree.failed c.loop-name.tree) (g.E.Sink.taken c.args.err.now) (g.E.Sink.taken c.loop-name.err) done)
     (take_all c.loop-name.name-index c.args.names.now c.loop-name-test.false) i.faults
 
 pub returns-in_err-matched-clause-faults : goal.returns-in_err-matched-clause-faults
@@ -96,9 +96,9 @@ returns-in_err-matched-clause-faults g c =
     let names = c.args.names.now in
     let at = c.loop-name.name-index in
     let item = c.name-item.result in
-    let Tells = λ (t : Tool) (name : List ℕ). TellsAll t (name ∷ []) (g.T.Tree.failed c.loop-name.tree) (g.T.Tree.failed c.search_file.new.tree) (g.E.Sink.taken c.loop-name.err) (g.E.Sink.taken c.search_file.new.err) undone in
+    let Tells = λ (t : Tool) (name : List ℕ). PrintsAllFaults t (name ∷ []) (g.T.Tree.failed c.loop-name.tree) (g.T.Tree.failed c.search_file.new.tree) (g.E.Sink.taken c.loop-name.err) (g.E.Sink.taken c.search_file.new.err) undone in
     let last = subst (Tells tool) c.as_str.ensures.value (subst (λ t. Tells t c.as_str.result.now) i.kept.tool c.in_err-matched.ensures.faults) in
-    let told = Tells-more tool undone (map string_bytes (take at names)) (string_bytes item ∷ []) (g.T.Tree.failed c.args.tree.now) (g.T.Tree.failed c.loop-name.tree) (g.T.Tree.failed c.search_file.new.tree) (g.E.Sink.taken c.args.err.now) (g.E.Sink.taken c.loop-name.err) (g.E.Sink.taken c.search_file.new.err) i.faults last in
-    Tells-refused tool c.from_residual.result p.0 (map string_bytes names) _ _ _ _ p.1
-    (subst (λ l. TellsAll tool l (g.T.Tree.failed c.args.tree.now) (g.T.Tree.failed c.search_file.new.tree) (g.E.Sink.taken c.args.err.now) (g.E.Sink.taken c.search_file.new.err) undone) (sym (mapped_rest string_bytes names at item c.loop-name-test.true c.name-item.is))
-    (Tells-rest tool undone _ (map string_bytes (drop (at + 1) names)) _ _ _ _ told))
+    let told = PrintsAllFaults-more tool undone (map string_bytes (take at names)) (string_bytes item ∷ []) (g.T.Tree.failed c.args.tree.now) (g.T.Tree.failed c.loop-name.tree) (g.T.Tree.failed c.search_file.new.tree) (g.E.Sink.taken c.args.err.now) (g.E.Sink.taken c.loop-name.err) (g.E.Sink.taken c.search_file.new.err) i.faults last in
+    PrintsAllFaults-refused tool c.from_residual.result p.0 (map string_bytes names) _ _ _ _ p.1
+    (subst (λ l. PrintsAllFaults tool l (g.T.Tree.failed c.args.tree.now) (g.T.Tree.failed c.search_file.new.tree) (g.E.Sink.taken c.args.err.now) (g.E.Sink.taken c.search_file.new.err) undone) (sym (mapped_rest string_bytes names at item c.loop-name-test.true c.name-item.is))
+    (PrintsAllFaults-rest tool undone _ (map string_bytes (drop (at + 1) names)) _ _ _ _ told))

@@ -1,11 +1,11 @@
 use Rattle.std.proofs.Common.{ap, ◌∙◌, rules}
-use Rattle.cs_tree.specs.Folders.{is_name}
+use Rattle.cs_tree.specs.Folders.{is_element}
 use Rattle.cs_tree.proofs.Splitting.{clean_name}
 use Rattle.cs_tree.proofs.SettledLemmas.{clean_below}
 use Rattle.cs_tree.proofs.stored.MemTree.put_listed.Goals as goal
 
 pub list_in-requires-clause-name : goal.list_in-requires-clause-name
-list_in-requires-clause-name c = ap is_name c.requires.name ∙ clean_name c.args.path.now (clean_below c.args.path.now c.requires.below_root ∙ c.requires.clean) c.requires.no_nul
+list_in-requires-clause-name c = ap is_element c.requires.name ∙ clean_name c.args.path.now (clean_below c.args.path.now c.requires.below_root ∙ c.requires.clean) c.requires.no_nul
 
 pub returns-then-is_folder-clause-answer : goal.returns-then-is_folder-clause-answer
 returns-then-is_folder-clause-answer c = search rules

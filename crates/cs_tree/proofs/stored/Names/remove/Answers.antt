@@ -1,19 +1,19 @@
 use Rattle.std.proofs.Common.{rules, not, map, ap, sym, ◌∙◌}
-use Rattle.cs_tree.specs.Folders.{child, are_names}
+use Rattle.cs_tree.specs.Folders.{child, are_elements}
 use Rattle.std.proofs.lemmas.Fn.{filter_same}
 use Rattle.std.specs.Prelude.{string_bytes}
 use Rattle.cs_tree.specs.Cover.{same}
 use Rattle.cs_tree.specs.MemoryItems.{listed_names}
-use Rattle.cs_tree.proofs.NameLemmas.{map-filter, are_names-filter, names_beside, names_below}
+use Rattle.cs_tree.proofs.NameLemmas.{map-filter, are_elements-filter, names_beside, names_below}
 use Rattle.cs_tree.proofs.stored.Names.remove.Goals as goal
 
 pub invariant_of-self-else-covers : goal.invariant_of-self-else-covers
 invariant_of-self-else-covers c =
     let kept = filter_same _ (λ s. not (same (child c.args.folder.now (string_bytes s)) c.args.path.now)) _ (λ x b f' k. search rules) _ _ c.retain.ensures.filtered in
     record {
-      named = ap (λ items. are_names (map string_bytes items)) kept
-          ∙ ap are_names (map-filter string_bytes (λ name. not (same (child c.args.folder.now name) c.args.path.now)) c.args.self.now.list.items)
-          ∙ are_names-filter (λ name. not (same (child c.args.folder.now name) c.args.path.now)) (listed_names c.args.self.now) c.args.self.now.named;
+      named = ap (λ items. are_elements (map string_bytes items)) kept
+          ∙ ap are_elements (map-filter string_bytes (λ name. not (same (child c.args.folder.now name) c.args.path.now)) c.args.self.now.list.items)
+          ∙ are_elements-filter (λ name. not (same (child c.args.folder.now name) c.args.path.now)) (listed_names c.args.self.now) c.args.self.now.named;
     }
 
 pub returns-then-covers : goal.returns-then-covers

@@ -3,7 +3,7 @@ use Rattle.cs_trigram.proofs.asked.Asked.put.Goals as goal
 
 pub returns-in-Some-clause-asks : goal.returns-in-Some-clause-asks
 returns-in-Some-clause-asks c =
-    on_ok c.join.result _ _ c.join.ensures.asks
+    on_ok c.put_few.result _ _ c.put_few.ensures.asks
     (λ f. λ t ts counts own parts. f t ts (some_of c.few.result c.in-Some.few _ _ c.few.ensures c.in-Some.is t counts) parts)
 
 pub returns-in-None-clause-asks : goal.returns-in-None-clause-asks

@@ -1,7 +1,7 @@
 use Rattle.std.proofs.Common.{◌≡◌, ◌<◌, List, ℕ, [], length, sym, ap, ◌∙◌, subst, arith, ◌++◌, ◌≤◌, map}
 use Rattle.std.proofs.lemmas.List.{length-map}
 use Rattle.cs_syntax.specs.Matching.{cat}
-use Rattle.cs_trigram.specs.Sample.{SamplesTree, with_words, joinings}
+use Rattle.cs_trigram.specs.Sample.{SamplesTree, with_words, concatenations}
 use Rattle.cs_trigram.specs.Counted.{Counts}
 use Rattle.cs_trigram.specs.declared.counted.Counted.{Counted}
 use Rattle.cs_trigram.proofs.CountLemmas.{many_back, samples_pair, samples_one, only_word, pair}
@@ -12,10 +12,10 @@ returns-else-fronts-eq0 c = λ t u s le h.
     let some : 0 < length c.args.fronts.now = omega arith in
     many_back t u c.args.fronts.now s (subst (λ (x : Counted). Counts x u) c.in-Many.is h) some
 
-pub returns-in_ok-joined_words-in-Few : goal.returns-in_ok-joined_words-in-Few
-returns-in_ok-joined_words-in-Few c = λ t u s le h.
-    let same : c.in_ok-joined_words-in-Few.field-0.items ≡ with_words [] (joinings c.args.fronts.now c.in-Few.backs.items) =
-    c.in_ok-joined_words-in-Few.ensures ∙ ap (λ (vs : List (List ℕ)). with_words [] (joinings c.args.fronts.now vs)) c.deref.ensures.value in
+pub returns-in_ok-concatenate_words-in-Few : goal.returns-in_ok-concatenate_words-in-Few
+returns-in_ok-concatenate_words-in-Few c = λ t u s le h.
+    let same : c.in_ok-concatenate_words-in-Few.field-0.items ≡ with_words [] (concatenations c.args.fronts.now c.in-Few.backs.items) =
+    c.in_ok-concatenate_words-in-Few.ensures ∙ ap (λ (vs : List (List ℕ)). with_words [] (concatenations c.args.fronts.now vs)) c.deref.ensures.value in
     c.of.ensures (cat (pair t u))
     (subst (λ (ws : List (List ℕ)). SamplesTree ws (cat (pair t u))) (sym same)
     (samples_pair c.args.fronts.now c.in-Few.backs.items t u s (subst (λ (x : Counted). Counts x u) c.in-Few.is h).0))

@@ -1,5 +1,5 @@
 use Rattle.std.proofs.Common.{◌≡◌, ◌≢◌, ◌≤◌, ◌<◌, ◌+◌, ◌∙◌, ◌∷◌, ◌++◌, [], ap, sym, subst, cond, List, ℕ, length, get_or, take, drop, set, length-set, arith}
-use Rattle.cs_index.specs.Sifting.{Sifted}
+use Rattle.cs_index.specs.Sifting.{Sift}
 use Rattle.cs_trigram.specs.Trigram.{has, Ascends}
 use Rattle.std.proofs.lemmas.Grind.{get_or_default_zero}
 use Rattle.std.specs.Prelude.{filter, nat_lt}
@@ -8,7 +8,7 @@ use Rattle.cs_index.proofs.reading.sieve.Sieve.pass.Goals as goal
 use Rattle.cs_index.proofs.reading.sieve.Sieve.pass.Goals.{else-at-len-via-then-at-len+else-index-id, else-at-len-via-else-at-len}
 
 -- what the model says of what was passed
-as_sifted : (id : ℕ) (now : Sifted) (kept left kept' left' : List ℕ) → ◌≡◌ {A = Sifted} (record { kept = kept; left = left }) now → Passed id kept left kept' left' → ◌≡◌ {A = Sifted} (record { kept = kept'; left = left' }) (record { kept = cond (has now.left id) (now.kept ++ id ∷ []) now.kept; left = filter (λ other. nat_lt id other) now.left })
+as_sifted : (id : ℕ) (now : Sift) (kept left kept' left' : List ℕ) → ◌≡◌ {A = Sift} (record { kept = kept; left = left }) now → Passed id kept left kept' left' → ◌≡◌ {A = Sift} (record { kept = kept'; left = left' }) (record { kept = cond (has now.left id) (now.kept ++ id ∷ []) now.kept; left = filter (λ other. nat_lt id other) now.left })
 as_sifted id now kept left kept' left' is passed =
     (λ i. record { kept = passed.kept_is i; left = passed.left_is i })
     ∙ (λ i. record { kept = cond (has (is i).left id) ((is i).kept ++ id ∷ []) (is i).kept; left = filter (λ other. nat_lt id other) (is i).left })

@@ -3,7 +3,7 @@ use Rattle.cs_tree.specs.Store.{part_of}
 use Rattle.cs_index.specs.Opening.{entries_in, is_list_index}
 use Rattle.std.specs.Prelude.{None}
 use Rattle.cs_index.specs.Postings.{entry_of}
-use Rattle.cs_index.specs.Stored.{Held}
+use Rattle.cs_index.specs.Stored.{StoredParts}
 use Rattle.cs_index.specs.Copies.{AreBelow, HasCopy, IsFound}
 use Rattle.cs_index.proofs.ResultLemmas.{both_on_ok}
 use Rattle.cs_index.proofs.StoredLemmas.{told_any, told_so}
@@ -20,7 +20,7 @@ pub returns-in_default-clause-copied : goal.returns-in_default-clause-copied
 returns-in_default-clause-copied g c =
     told_so (λ _. Unit {0}) _ (g.S.Store.told c.args.store.now)
     (λ bytes none.
-    subst (λ (h : Held). HasCopy (part_of bytes h.start h.room) h.entries c.args.postings.now.items (entries_in c.args.list_index.now.items) c.args.trigram) c.self.view_is
+    subst (λ (h : StoredParts). HasCopy (part_of bytes h.start h.room) h.entries c.args.postings.now.items (entries_in c.args.list_index.now.items) c.args.trigram) c.self.view_is
     (none_copied (part_of bytes c.self.inside.start c.self.inside.room) (entries_in c.self.inside.list_index.items) c.args.postings.now.items (entries_in c.args.list_index.now.items) c.args.trigram
     (subst (λ b. entry_of (entries_in b) c.args.trigram ≡ None) c.deref.ensures.value c.in_default.ensures.none) c.requires.below))
     (told_any (g.S.Store.told c.args.store.now))
@@ -45,7 +45,7 @@ returns-clause-copied g c =
     (λ bytes made.
     both_on_ok c.copy_part.result _ _ _
     (λ is grown.
-    subst (λ (h : Held). HasCopy (part_of bytes h.start h.room) h.entries c.copy_part.new.postings.items (entries_in c.lay_entry.new.out.items) c.args.trigram) c.self.view_is
+    subst (λ (h : StoredParts). HasCopy (part_of bytes h.start h.room) h.entries c.copy_part.new.postings.items (entries_in c.lay_entry.new.out.items) c.args.trigram) c.self.view_is
     (subst (λ ps. HasCopy (part_of bytes c.self.inside.start c.self.inside.room) (entries_in c.self.inside.list_index.items) ps (entries_in c.lay_entry.new.out.items) c.args.trigram) (sym is)
     (copied bytes c.self.inside.start c.self.inside.room (entries_in c.self.inside.list_index.items) c.args.postings.now.items (entries_in c.args.list_index.now.items) (entries_in c.lay_entry.new.out.items) c.args.trigram c.in-Some.count c.in-Some.offset
     (subst (λ b. IsFound c.self.inside.room (entries_in b) c.args.trigram c.in-Some.count c.in-Some.offset) c.deref.ensures.value c.in-Some.ensures.some) c.requires.below grown)))

@@ -195,9 +195,11 @@ invariant_of-self-2 c =
       batch = h.held;
       built = subst IsBuilt (sym h.is) (built_added c.args.self.now c.args.name.now (set_of_numbers
           c.args.trigrams.now) (subst IsBuilt c.self.view_is c.self.invariant.built) c.in_ok-push.ensures.each
-          c.requires.above
-          (all_of_set (λ g. g < closing_trigram) c.args.trigrams.now c.requires.below) (ascends_set
-          c.args.trigrams.now) c.requires.few);
+          c.requires.above (
+            ascends_set c.args.trigrams.now,
+            all_of_set (λ g. g < closing_trigram) c.args.trigrams.now
+                c.requires.below,
+          ) c.requires.few);
     }
 
 pub returns-clause-ok : goal.returns-clause-ok

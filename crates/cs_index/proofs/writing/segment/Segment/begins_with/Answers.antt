@@ -1,7 +1,7 @@
 use Rattle.std.proofs.Common.{◌≡◌, ◌+◌, ◌*◌, ◌%◌, ℕ, sym, subst, arith}
 use Rattle.cs_trigram.specs.Trigram.{Ascends}
 use Rattle.cs_index.specs.Keys.{trigram_of}
-use Rattle.cs_index.specs.Segments.{BeginsWith, Ordered}
+use Rattle.cs_index.specs.Segments.{BeginsWith, SegmentKeys}
 use Rattle.cs_index.proofs.SegmentLemmas.{ahead_more}
 use Rattle.cs_index.proofs.HeadLemmas.{begins}
 use Rattle.cs_index.proofs.writing.segment.Segment.begins_with.Goals as goal
@@ -11,7 +11,7 @@ returns-then-trigram-front-clause-none c = λ none.
     ahead_more c.args.front (trigram_of c.in_ok-head.field-0.now) c.args.self.now.keys
     (begins c.self.inside c.deref.result.now c.in_ok-head.field-0.now c.args.self.now c.self.invariant c.self.view_is
     c.deref.ensures.value (sym c.in_ok-head.ensures.lookup.0) c.in_ok-head.ensures.lookup.1)
-    (subst (λ (o : Ordered). Ascends o.keys) c.self.view_is
+    (subst (λ (o : SegmentKeys). Ascends o.keys) c.self.view_is
     c.self.invariant.packed.order.ascend)
     c.requires c.if-trigram-front.true
 

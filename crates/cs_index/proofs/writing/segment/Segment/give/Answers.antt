@@ -2,25 +2,25 @@ use Rattle.std.proofs.Common.{◌≡◌, ◌≢◌, ◌+◌, ◌*◌, ◌<◌, �
 use Rattle.std.proofs.lemmas.Bool.{cases_Bool, true≢false, eqb-true, eq-eqb}
 use Rattle.std.proofs.lemmas.List.{append-nil, get_or_default, get_or-set_same, get_or-set_other, length-set}
 use Rattle.cs_index.specs.Keys.{trigram_of}
-use Rattle.cs_index.specs.Segments.{ids_given, AreAhead, BeginsWith, Ordered}
+use Rattle.cs_index.specs.Segments.{ids_of_segment, AreAhead, BeginsWith, SegmentKeys}
 use Rattle.cs_index.proofs.GivenLemmas.{given_ahead}
 use Rattle.cs_index.proofs.SegmentLemmas.{all_behind}
 use Rattle.cs_index.proofs.writing.segment.Segment.give.Goals as goal
 
 -- the lists after the first of a segment's keys went into one of them
-more : (lists : List (List ℕ)) (front last place : ℕ) (new lent : List ℕ) (old now : Ordered) → last < length lists →
+more : (lists : List (List ℕ)) (front last place : ℕ) (new lent : List ℕ) (old now : SegmentKeys) → last < length lists →
     lent ≡ get_or lists last lent → BeginsWith (front * 256 + last) old.keys →
-    ((g : ℕ) → BeginsWith g old.keys → new ++ ids_given now g ≡ get_or lists last lent ++ ids_given old g) →
-    ((g h : ℕ) → BeginsWith g old.keys → h ≢ g → ids_given now h ≡ ids_given old h) →
-    get_or (set lists last new) place [] ++ ids_given now (front * 256 + place)
-    ≡ get_or lists place [] ++ ids_given old (front * 256 + place)
+    ((g : ℕ) → BeginsWith g old.keys → new ++ ids_of_segment now g ≡ get_or lists last lent ++ ids_of_segment old g) →
+    ((g h : ℕ) → BeginsWith g old.keys → h ≢ g → ids_of_segment now h ≡ ids_of_segment old h) →
+    get_or (set lists last new) place [] ++ ids_of_segment now (front * 256 + place)
+    ≡ get_or lists place [] ++ ids_of_segment old (front * 256 + place)
 more lists front last place new lent old now within is begins given others = elim (cases_Bool (eqb place last)) [
   | inl here ↦
-      subst (λ k. get_or (set lists last new) k [] ++ ids_given now (front * 256 + k)
-      ≡ get_or lists k [] ++ ids_given old (front * 256 + k)) (sym (eqb-true place last here))
-      (ap (λ ids. ids ++ ids_given now (front * 256 + last)) (get_or-set_same lists last new [] within)
+      subst (λ k. get_or (set lists last new) k [] ++ ids_of_segment now (front * 256 + k)
+      ≡ get_or lists k [] ++ ids_of_segment old (front * 256 + k)) (sym (eqb-true place last here))
+      (ap (λ ids. ids ++ ids_of_segment now (front * 256 + last)) (get_or-set_same lists last new [] within)
       ∙ given (front * 256 + last) begins
-      ∙ ap (λ ids. ids ++ ids_given old (front * 256 + last)) (get_or_default lists last lent [] within))
+      ∙ ap (λ ids. ids ++ ids_of_segment old (front * 256 + last)) (get_or_default lists last lent [] within))
   | inr apart ↦
       let other : place ≢ last = λ e. true≢false (sym (eq-eqb place last e) ∙ apart) in
       (λ i. get_or-set_other lists last place new [] other i

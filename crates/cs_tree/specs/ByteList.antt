@@ -1,0 +1,6 @@
+-- Lists of bytes.
+use Rattle.std.specs.Prelude.{ℕ, ◌<◌, All, List}
+
+-- each number is a byte
+abbrev pub AreBytes : List ℕ → Type 0
+AreBytes bytes = All (λ b. b < 256) bytes

@@ -1,0 +1,127 @@
+-- Concatenations of words that differ.
+use Rattle.std.proofs.Common.{◌≡◌, ℕ, ◌+◌, ◌-◌, ◌*◌, ◌<◌, ◌≤◌, ◌&&◌, inl, inr, not, Bool, true, false, List, [], ◌∷◌, ◌++◌, take, drop, length, map, refl, sym, ◌∙◌, ap, subst, arith, append_assoc, length-append, length-drop}
+use Rattle.std.specs.Prelude.{nat_le, nat_eq, if◌then◌else◌}
+use Rattle.std.specs.List.{list_any, list_all}
+use Rattle.std.specs.Str.{bytes_eq}
+use Rattle.std.proofs.Math.Nat.{suc-mul}
+use Rattle.std.proofs.Math.Seq.{take-append_seam}
+use Rattle.std.proofs.lemmas.Bool.{and_parts, le-leb, cases_lt, eqb-true, both_ways}
+use Rattle.std.proofs.lemmas.List.{append-nil, append_cancel_left, length-map, take-append-drop, take_all}
+use Rattle.std.proofs.lemmas.Slice.Eq.{bytes_eq-Decides}
+use Rattle.cs_trigram.specs.PlainRuns.{IsMember}
+use Rattle.cs_trigram.specs.Sample.{with_word, with_words, concatenations, AreDifferent}
+use Rattle.cs_trigram.proofs.MemberLemmas.{member_append, member_right, member_map, any_member, different_within, different_map}
+use Rattle.cs_trigram.proofs.SampleLemmas.{sample_of, concatenation_parts}
+
+-- a word that is not there, where there is room
+with_word_new : (ws : List (List ℕ)) (w : List ℕ) → length ws ≤ 20 → (IsMember w ws → ⊥) → with_word ws w ≡ ws ++ w ∷ []
+with_word_new ws w le new = by (nat_le (length ws) 20) (list_any (λ v. bytes_eq v w) ws) (le-leb (length ws) 20 le) (λ e. new (any_member w ws e))
+  where
+    by : (room there : Bool) → room ≡ true → (there ≡ true → ⊥) → (if room && not there then ws ++ w ∷ [] else ws) ≡ ws ++ w ∷ []
+    by true false r t = refl
+    by true true r t = absurd (t refl)
+    by false there r t = let odd : false ≡ true = r in (cc)
+
+apart : (ws vs : List (List ℕ)) (v : List ℕ) → AreDifferent (ws ++ v ∷ vs) → IsMember v ws → ⊥
+apart [] vs v d m = m
+apart (w ∷ ws) vs v d m =
+    elim m [
+      | inl e ↦ d.0 (subst (λ (x : List ℕ). IsMember x (ws ++ v ∷ vs)) e (member_right v ws (v ∷ vs) (inl refl)))
+      | inr n ↦ apart ws vs v d.1 n
+    ]
+
+-- different words are all added, where there is room
+pub with_words_all : (ws vs : List (List ℕ)) → AreDifferent (ws ++ vs) → length ws + length vs ≤ 20 → with_words ws vs ≡ ws ++ vs
+with_words_all ws [] d le = sym (append-nil ws)
+with_words_all ws (v ∷ vs) d le =
+    let seam : (ws ++ v ∷ []) ++ vs ≡ ws ++ v ∷ vs = append_assoc ws (v ∷ []) vs in
+    ap (λ (xs : List (List ℕ)). with_words xs vs) (with_word_new ws v (omega arith) (apart ws vs v d))
+    ∙ with_words_all (ws ++ v ∷ []) vs (subst AreDifferent (sym seam) d) (omega (arith, length-append ws (v ∷ []), le))
+    ∙ seam
+
+-- the concatenations of one word
+pub concatenations_of_one : (u : List ℕ) (vs : List (List ℕ)) → AreDifferent vs → length vs ≤ 20 → with_words [] (concatenations (u ∷ []) vs) ≡ map (λ v. u ++ v) vs
+concatenations_of_one u vs d le =
+    let same : concatenations (u ∷ []) vs ≡ map (λ v. u ++ v) vs = append-nil (map (λ v. u ++ v) vs) in
+    ap (with_words []) same
+    ∙ with_words_all [] (map (λ v. u ++ v) vs) (different_map (λ v. u ++ v) (λ a b e. append_cancel_left u a b e) vs d) (omega (arith, length-map vs (λ (v : List ℕ). u ++ v), le))
+
+different_both : (xs ys : List (List ℕ)) → AreDifferent xs → AreDifferent ys → ((w : List ℕ) → IsMember w xs → IsMember w ys → ⊥) → AreDifferent (xs ++ ys)
+different_both [] ys d e apart = e
+different_both (x ∷ xs) ys d e apart = (
+  λ m. elim (member_append x xs ys m) [ inl a ↦ d.0 a | inr b ↦ apart x (inl refl) b ],
+  different_both xs ys d.1 e (λ w m n. apart w (inr m) n),
+)
+
+-- of words of one length
+abbrev HaveLength : ℕ → List (List ℕ) → Type 0
+HaveLength n us = list_all (λ (w : List ℕ). nat_eq (length w) n) us ≡ true
+
+length_of : (n : ℕ) (us : List (List ℕ)) (u : List ℕ) → HaveLength n us → IsMember u us → length u ≡ n
+length_of n [] u h m = absurd m
+length_of n (x ∷ us) u h m =
+    let p = and_parts (nat_eq (length x) n) (list_all (λ (w : List ℕ). nat_eq (length w) n) us) h in
+    elim m [
+      | inl e ↦ ap length e ∙ eqb-true (length x) n p.0
+      | inr k ↦ length_of n us u p.1 k
+    ]
+
+same_front : (u v x y : List ℕ) → length u ≡ length x → u ++ v ≡ x ++ y → u ≡ x
+same_front u v x y len e = sym (take-append_seam u v) ∙ ap (λ n. take n (u ++ v)) len ∙ ap (take (length x)) e ∙ take-append_seam x y
+
+different_concatenations : (n : ℕ) (us vs : List (List ℕ)) → HaveLength n us → AreDifferent us → AreDifferent vs → AreDifferent (concatenations us vs)
+different_concatenations n [] vs h d e = tt
+different_concatenations n (u ∷ us) vs h d e =
+    let p = and_parts (nat_eq (length u) n) (list_all (λ (w : List ℕ). nat_eq (length w) n) us) h in
+    different_both (map (λ v. u ++ v) vs) (concatenations us vs)
+    (different_map (λ v. u ++ v) (λ a b k. append_cancel_left u a b k) vs e)
+    (different_concatenations n us vs p.1 d.1 e)
+    (λ w m k.
+    let a = member_map (λ v. u ++ v) w vs m in
+    let b = concatenation_parts w us vs k in
+    let len : length u ≡ length b.0 = eqb-true (length u) n p.0 ∙ sym (length_of n us b.0 p.1 b.2) in
+    let same : u ≡ b.0 = same_front u a.0 b.0 b.1 len (sym a.2 ∙ b.4) in
+    d.0 (subst (λ (x : List ℕ). IsMember x us) (sym same) b.2))
+
+count_concatenations : (us vs : List (List ℕ)) → length (concatenations us vs) ≡ length us * length vs
+count_concatenations [] vs = omega arith
+count_concatenations (u ∷ us) vs =
+    omega (arith, length-append (map (λ v. u ++ v) vs) (concatenations us vs), length-map vs (λ (v : List ℕ). u ++ v), count_concatenations us vs, suc-mul (length us) (length vs))
+
+-- concatenations of different words of one length with different words are as many as the pairs
+pub many_concatenations : (n : ℕ) (us vs : List (List ℕ)) → HaveLength n us → AreDifferent us → AreDifferent vs → 20 < length us * length vs →
+    20 < length (with_words [] (concatenations us vs))
+many_concatenations n us vs h d e lt =
+    let all = sample_of (concatenations us vs) in
+    elim (cases_lt 20 (length (with_words [] (concatenations us vs)))) [
+      | inl many ↦ many
+      | inr few ↦
+          let fits = different_within (concatenations us vs) (with_words [] (concatenations us vs)) (different_concatenations n us vs h d e) (λ w m. all.whole few w m) in
+          absurd (omega (arith, fits, few, lt, count_concatenations us vs))
+    ]
+
+-- whether a word is the one and then the other, part by part
+both_or_none : (a b : Bool) → (a ≡ true → b ≡ true) → (b ≡ true → a ≡ true) → a ≡ b
+both_or_none true true f g = refl
+both_or_none true false f g = sym (f refl)
+both_or_none false true f g = g refl
+both_or_none false false f g = refl
+
+pub concatenated_behind : (s u v : List ℕ) → length s ≡ length u + length v → bytes_eq (take (length u) s) u ≡ true →
+    bytes_eq (take (length s - length u) (drop (length u) s)) v ≡ bytes_eq s (u ++ v)
+concatenated_behind s u v len front =
+    let first : take (length u) s ≡ u = (bytes_eq-Decides (take (length u) s) u).0 front in
+    let back = drop (length u) s in
+    let all : take (length s - length u) back ≡ back = take_all (length s - length u) back (omega (arith, length-drop (length u) s)) in
+    let whole : s ≡ u ++ back = sym (take-append-drop (length u) s) ∙ ap (λ (x : List ℕ). x ++ back) first in
+    ap (λ (x : List ℕ). bytes_eq x v) all
+    ∙ both_or_none (bytes_eq back v) (bytes_eq s (u ++ v))
+    (λ e. (bytes_eq-Decides s (u ++ v)).1 (whole ∙ ap (λ (x : List ℕ). u ++ x) ((bytes_eq-Decides back v).0 e)))
+    (λ e. (bytes_eq-Decides back v).1 (append_cancel_left u back v (sym whole ∙ (bytes_eq-Decides s (u ++ v)).0 e)))
+
+pub not_concatenated : (s u v : List ℕ) → bytes_eq (take (length u) s) u ≡ false → false ≡ bytes_eq s (u ++ v)
+not_concatenated s u v other =
+    both_or_none false (bytes_eq s (u ++ v)) (λ e. absurd (both_ways false refl e))
+    (λ e.
+    let whole = (bytes_eq-Decides s (u ++ v)).0 e in
+    sym other ∙ (bytes_eq-Decides (take (length u) s) u).1 (ap (take (length u)) whole ∙ take-append_seam u v))

@@ -1,9 +1,0 @@
-use Rattle.std.proofs.Common.{inl}
-use Rattle.cs_trigram.specs.Affixes.{laid}
-use Rattle.cs_trigram.proofs.NodeLemmas.{on_ok}
-use Rattle.cs_trigram.proofs.affixes.add_joined.Goals as goal
-
-pub returns-then-not-near-clause-joins : goal.returns-then-not-near-clause-joins
-returns-then-not-near-clause-joins c =
-    on_ok c.add_affix.result _ _ c.add_affix.ensures
-    (λ wider. λ le all u v cuts a b. wider c.args.side (laid c.args.side u v) (inl (c.open_affix.ensures u v a)))

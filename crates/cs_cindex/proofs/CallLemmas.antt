@@ -1,8 +1,8 @@
 -- One job after another.
 use Rattle.std.proofs.Common.{◌≡◌, ℕ, ◌+◌, ◌<◌, List, [], ◌∷◌, ◌++◌, length, map, take, set, get_or, refl, sym, ap, subst, ◌∙◌, arith, Option}
 use Rattle.cs_tree.specs.Folders.{Tells}
-use Rattle.std.proofs.lemmas.List.{take_more, take_more_set, length-take-le, get_or-map, length-map}
-use Rattle.std.specs.List.{AllByRecursion, AllZip}
+use Rattle.std.proofs.lemmas.List.{take_more, take_more_set, length-take-le, get_or-map, length-map, map-append}
+use Rattle.std.specs.List.{AllByRecursion}
 use Rattle.cs_tree.specs.Snapshot.{Snapshot}
 use Rattle.cs_words.specs.declared.jobs.IndexJob.{IndexJob}
 use Rattle.cs_words.specs.declared.jobs.Reply.{Reply}
@@ -10,10 +10,10 @@ use Rattle.cs_history.specs.History.{History, index_of}
 use Rattle.cs_history.specs.Jobs.{history_after, IsFitting}
 use Rattle.cs_history.specs.Premises.{snapshot_told, Premises}
 use Rattle.cs_history.specs.Headline.{Indexes}
-use Rattle.cs_history.proofs.FollowingLemmas.{followed-push, later_premises}
+use Rattle.cs_history.proofs.FollowingLemmas.{followed-push, later_premises, zip_push}
 use Rattle.cs_history.proofs.RefusalLemmas.{right_more}
 use Rattle.cs_cindex.specs.Outcomes.{RightAfter}
-use Rattle.cs_cindex.specs.Steps.{RightAll, Standing, JobTree, job_tree, job_trees, IsWholeStep, Steps}
+use Rattle.cs_cindex.specs.Steps.{RightAll, State, JobTree, job_tree, job_trees, IsWholeStep, Steps}
 
 all_front : {A : Type 0} (P : A → Type 0) (xs ys : List A) → AllByRecursion P (xs ++ ys) → AllByRecursion P xs
 all_front P [] ys all = tt
@@ -22,16 +22,6 @@ all_front P (x ∷ xs) ys all = (all.0, all_front P xs ys all.1)
 all_back : {A : Type 0} (P : A → Type 0) (xs ys : List A) → AllByRecursion P (xs ++ ys) → AllByRecursion P ys
 all_back P [] ys all = all
 all_back P (x ∷ xs) ys all = all_back P xs ys all.1
-
-zip_push : {A B : Type 0} (R : A → B → Type 0) (xs : List A) (ys : List B) (x : A) (y : B) → AllZip R xs ys → R x y → AllZip R (xs ++ x ∷ []) (ys ++ y ∷ [])
-zip_push R [] [] x y all h = (h, tt)
-zip_push R [] (b ∷ ys) x y all h = absurd all
-zip_push R (a ∷ xs) [] x y all h = absurd all
-zip_push R (a ∷ xs) (b ∷ ys) x y all h = (all.0, zip_push R xs ys x y all.1 h)
-
-map_push : {A B : Type 0} (f : A → B) (xs : List A) (x : A) → map f (xs ++ x ∷ []) ≡ map f xs ++ f x ∷ []
-map_push f [] x = refl
-map_push f (y ∷ xs) x = ap (λ ys. f y ∷ ys) (map_push f xs x)
 
 module _ (jobs : List IndexJob) (trees : List (Option Snapshot)) (replies : List Reply) (job : IndexJob) (tree : Option Snapshot) (reply : Reply) (old mid : Option (List ℕ)) where
   -- the premises of the jobs, and of one more
@@ -48,7 +38,7 @@ module _ (jobs : List IndexJob) (trees : List (Option Snapshot)) (replies : List
   indexes_push new e f so_far here = record {
     index = λ earlier p.
         here.index (history_after earlier jobs (map snapshot_told trees) replies) (last_premises earlier p so_far)
-        ∙ ap index_of (sym (ap (λ ts. history_after earlier (jobs ++ job ∷ []) ts (replies ++ reply ∷ [])) (map_push snapshot_told trees tree)
+        ∙ ap index_of (sym (ap (λ ts. history_after earlier (jobs ++ job ∷ []) ts (replies ++ reply ∷ [])) (map-append snapshot_told trees (tree ∷ []))
         ∙ followed-push earlier jobs (map snapshot_told trees) replies job (snapshot_told tree) reply (told_more e) f));
     fitting = zip_push IsFitting jobs replies job reply so_far.fitting here.fitting.0;
     short = λ h. here.short (so_far.short h);
@@ -56,7 +46,7 @@ module _ (jobs : List IndexJob) (trees : List (Option Snapshot)) (replies : List
 
   pub right_push : length trees ≡ length jobs → length replies ≡ length jobs → Indexes jobs trees replies old mid → RightAll trees old jobs replies → RightAfter tree mid job reply → RightAll (trees ++ tree ∷ []) old (jobs ++ job ∷ []) (replies ++ reply ∷ [])
   right_push e f so_far right here earlier p =
-      subst (λ ts. Rattle.cs_history.specs.Replies.AreRightReplies earlier (jobs ++ job ∷ []) ts (replies ++ reply ∷ [])) (sym (map_push snapshot_told trees tree))
+      subst (λ ts. Rattle.cs_history.specs.Replies.AreRightReplies earlier (jobs ++ job ∷ []) ts (replies ++ reply ∷ [])) (sym (map-append snapshot_told trees (tree ∷ [])))
       (right_more earlier jobs (map snapshot_told trees) replies job (snapshot_told tree) reply (told_more e) f (right earlier (front_premises earlier p))
       (here (history_after earlier jobs (map snapshot_told trees) replies) (last_premises earlier p so_far)))
 
@@ -99,9 +89,9 @@ indexes_none index = record { index = λ earlier p. sym p.they_left; fitting = t
 
 -- ---- one step after another
 
-module _ (job : IndexJob) (tree : JobTree) (reply : Reply) (mid new : Standing) where
-  pub steps_push : (jobs : List IndexJob) (trees : List JobTree) (replies : List Reply) (old : Standing) → Steps jobs trees replies old mid → IsWholeStep job tree reply mid new → Steps (jobs ++ job ∷ []) (trees ++ tree ∷ []) (replies ++ reply ∷ []) old new
-  steps_push [] [] [] old h step = (new, subst (λ (m : Standing). IsWholeStep job tree reply m new) h step, refl)
+module _ (job : IndexJob) (tree : JobTree) (reply : Reply) (mid new : State) where
+  pub steps_push : (jobs : List IndexJob) (trees : List JobTree) (replies : List Reply) (old : State) → Steps jobs trees replies old mid → IsWholeStep job tree reply mid new → Steps (jobs ++ job ∷ []) (trees ++ tree ∷ []) (replies ++ reply ∷ []) old new
+  steps_push [] [] [] old h step = (new, subst (λ (m : State). IsWholeStep job tree reply m new) h step, refl)
   steps_push [] [] (r ∷ rs) old h step = absurd h
   steps_push [] (t ∷ ts) rs old h step = absurd h
   steps_push (j ∷ js) [] rs old h step = absurd h
@@ -115,7 +105,7 @@ module _ {T : Type 0} (snapshot : T → Option Snapshot) (failed : T → ℕ) wh
   trees_push (t ∷ ts) [] tree then e = absurd (omega (arith, e))
   trees_push (t ∷ ts) (u ∷ us) tree then e = ap (λ rest. job_tree snapshot failed t u ∷ rest) (trees_push ts us tree then (omega (arith, e)))
 
-  pub steps_more : (jobs : List IndexJob) (trees later : List T) (replies : List Reply) (i : ℕ) (job : IndexJob) (tree then : T) (reply : Reply) (old mid new : Standing) → length trees ≡ length jobs → length later ≡ length jobs → length replies ≡ length jobs → i < length jobs → job ≡ get_or jobs i job → tree ≡ get_or trees i tree → Steps (take i jobs) (job_trees snapshot failed (take i trees) (take i later)) (take i replies) old mid → IsWholeStep job (job_tree snapshot failed tree then) reply mid new → Steps (take (i + 1) jobs) (job_trees snapshot failed (take (i + 1) trees) (take (i + 1) (set later i then))) (take (i + 1) (set replies i reply)) old new
+  pub steps_more : (jobs : List IndexJob) (trees later : List T) (replies : List Reply) (i : ℕ) (job : IndexJob) (tree then : T) (reply : Reply) (old mid new : State) → length trees ≡ length jobs → length later ≡ length jobs → length replies ≡ length jobs → i < length jobs → job ≡ get_or jobs i job → tree ≡ get_or trees i tree → Steps (take i jobs) (job_trees snapshot failed (take i trees) (take i later)) (take i replies) old mid → IsWholeStep job (job_tree snapshot failed tree then) reply mid new → Steps (take (i + 1) jobs) (job_trees snapshot failed (take (i + 1) trees) (take (i + 1) (set later i then))) (take (i + 1) (set replies i reply)) old new
   steps_more jobs trees later replies i job tree then reply old mid new e g f within is_job is_tree so_far step =
       let one : JobTree = job_tree snapshot failed tree then in
       let js : take (i + 1) jobs ≡ take i jobs ++ job ∷ [] = take_more jobs i job within ∙ ap (λ j. take i jobs ++ j ∷ []) (sym is_job) in

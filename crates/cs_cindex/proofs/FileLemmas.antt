@@ -191,15 +191,11 @@ last_pushed : (names : List (List ℕ)) (name : List ℕ) → slice_get (names +
 last_pushed [] name = refl
 last_pushed (first ∷ names) name = last_pushed names name
 
-names_push : (entries : List Entry) (entry : Entry) → names_of (entries ++ entry ∷ []) ≡ names_of entries ++ entry.0 ∷ []
-names_push [] entry = refl
-names_push (e ∷ entries) entry = ap (λ rest. e.0 ∷ rest) (names_push entries entry)
-
 above_pushed : (entries : List Entry) (name : List ℕ) (trigrams : List ℕ) (next : List ℕ) → is_above (names_of (entries ++ (name, trigrams) ∷ [])) next ≡ is_lt (bytes_cmp name next)
 above_pushed entries name trigrams next =
     let names = names_of entries in
     let size : length (names ++ name ∷ []) - 1 ≡ length names = omega (arith, length-append names (name ∷ [])) in
-    ap (λ ns. is_above ns next) (names_push entries (name, trigrams))
+    ap (λ ns. is_above ns next) (map-append (λ (entry : Entry). entry.0) entries ((name, trigrams) ∷ []))
     ∙ ap (λ i. option_map_or (λ last. is_lt (bytes_cmp last next)) (slice_get (names ++ name ∷ []) i) true) size
     ∙ ap (λ o. option_map_or (λ last. is_lt (bytes_cmp last next)) o true) (last_pushed names name)
 

@@ -27,14 +27,15 @@ use Rattle.std.specs.Result.{IsOkAnd}
 use Rattle.cs_cindex.specs.Joins.{IsSound}
 use Rattle.cs_cindex.specs.Next.{IsIndex}
 use Rattle.cs_cindex.specs.JobPaths.{AreCleaned, starts}
-use Rattle.cs_cindex.proofs.PathLemmas.{set_of_items, all_taken, settled_storable, reduced_paths}
+use Rattle.cs_cindex.proofs.PathLemmas.{all_taken, settled_storable, reduced_paths}
+use Rattle.cs_merge.proofs.HoldingLemmas.{set_of_items}
 use Rattle.cs_cindex.proofs.OldLemmas.{OpensWith, opened_image}
 
 -- ---- the paths that are walked
 
 -- the list that is walked, as a set
 pub walk_as_set : (paths start_paths : List (List ℕ)) → paths ≡ set.items (least (set.from_list start_paths)) → set.from_list paths ≡ least (set.from_list start_paths)
-walk_as_set paths start_paths e = ap set.from_list e ∙ set_of_items (least (set.from_list start_paths))
+walk_as_set paths start_paths e = ap set.from_list e ∙ sym (set_of_items (least (set.from_list start_paths)))
 
 pub count_texts : (job : IndexJob) (ts : List (List ℕ)) → AreCleaned job ts → length ts ≡ length job.paths.items
 count_texts job ts clean = ap length clean.are ∙ length-map (given_texts job) (λ text. clean_path (string_bytes job.cwd) text) ∙ length-map job.paths.items string_bytes

@@ -1,5 +1,5 @@
 -- The index of the files that a walk finds.
-use Rattle.std.proofs.Common.{◌≡◌, ℕ, ◌+◌, ◌*◌, ◌^◌, ◌≤◌, Bool, true, false, cond, not, ◌&&◌, ◌||◌, List, [], ◌∷◌, ◌++◌, map, length, refl, sym, ap, subst, ◌∙◌, arith, Option, Some, None, length-append, inl, inr}
+use Rattle.std.proofs.Common.{◌≡◌, ℕ, ◌*◌, ◌^◌, ◌≤◌, Bool, true, false, cond, ◌&&◌, ◌||◌, List, [], ◌∷◌, ◌++◌, map, length, refl, sym, ap, subst, ◌∙◌, arith, Option, Some, None, length-append, inl, inr}
 use Rattle.cs_history.specs.JobIndex.{tree_index}
 use Rattle.cs_history.specs.Replies.{IsLong}
 use Rattle.cs_history.specs.FileTrigrams.{file_trigrams}
@@ -15,14 +15,14 @@ use Rattle.std.specs.List.{list_any, list_all, cons_option, AllByRecursion}
 use Rattle.std.specs.Ordering.{is_lt, eq_by_cmp}
 use Rattle.std.specs.Cmp.Lexicographic.{nat_list_cmp_total, bytes_decides}
 use Rattle.std.specs.FinMap as map'
-use Rattle.std.specs.FinMap.Entries.{find}
+use Rattle.std.specs.FinMap.Entries.{below_all, find}
 use Rattle.cs_tree.specs.PathSet as set
 use Rattle.cs_tree.specs.Clean.{longest_path}
-use Rattle.cs_tree.specs.Cover.{covers, is_covered, same}
+use Rattle.cs_tree.specs.Cover.{is_covered, same}
 use Rattle.cs_tree.specs.Snapshot.{Snapshot, Item, folder, file, cut, other, bad, item_at}
 use Rattle.cs_tree.specs.Reached.{files_reached, read_item, is_reached}
 use Rattle.cs_tree.specs.Walks.{Left, Finds, FindsIn, is_among, is_file}
-use Rattle.cs_tree.proofs.Sets.{alike, entries_in_order, items_in_order}
+use Rattle.cs_tree.proofs.Sets.{alike, entries_in_order}
 use Rattle.cs_tree.proofs.Collect.{get-collected}
 use Rattle.cs_tree.proofs.Found.{get-found}
 use Rattle.cs_trigram.specs.Text.{limits, text_trigrams}
@@ -30,48 +30,27 @@ use Rattle.cs_trigram.specs.TrigramSets.{IsTrigramSet}
 use Rattle.cs_merge.specs.Content.{IsContent, LieUnder}
 use Rattle.cs_merge.proofs.HoldingLemmas.{from_list_all}
 use Rattle.cs_index.specs.Image.{Entry, IsString, image, image_of, names_of, concat, with_nul, four_bytes, starts_from, name_offsets, magic, trailer, sections_of, postings_of}
-use Rattle.cs_index.specs.Built.{Built, IsBuilt, are_paths, are_reduced, is_before, is_storable}
+use Rattle.cs_index.specs.Built.{Built, IsBuilt, are_paths, are_reduced, is_storable}
 use Rattle.cs_index.proofs.StringLemmas.{length-starts_from}
 use Rattle.cs_index.proofs.PlaceLemmas.{length-fours}
+use Rattle.cs_index.proofs.ImageLemmas.{image_in_order, true_T}
 use Rattle.cs_index.proofs.PathLemmas.{tail_up}
 use Rattle.cs_cindex.specs.Output.{AreTooMany}
 use Rattle.cs_cindex.specs.Next.{IsIndex, IsIndexOf, IsTreeTooLarge}
 use Rattle.cs_cindex.specs.Files.{texts_at, are_storable, AreTextsIn, AreTooManyIn, HaveNamesOf}
 use Rattle.cs_cindex.proofs.FileLemmas.{AreAfter, ascend_after, with_name}
 use Rattle.cs_cindex.proofs.NameLemmas.{found_storable}
-use Rattle.cs_cindex.proofs.OrderLemmas.{same_tied, true_T, below_all}
-
--- ---- paths in order
-
-marked_below : (path : List ℕ) (paths : List (List ℕ)) → list_all (is_before path) paths ≡ true → below_all path (set.with_units paths) ≡ true
-marked_below path [] h = refl
-marked_below path (q ∷ paths) h =
-    let both = and_parts (is_before path q) (list_all (is_before path) paths) h in
-    let less = and_parts (is_lt (bytes_cmp path q)) (not (covers path q)) both.0 in
-    and_from (is_lt (bytes_cmp path q)) (below_all path (set.with_units paths)) less.0 (marked_below path paths both.1)
-
-reduced_sorted : (paths : List (List ℕ)) → are_reduced paths ≡ true → map'.is_sorted bytes_cmp (set.with_units paths) ≡ true
-reduced_sorted [] h = refl
-reduced_sorted (p ∷ paths) h =
-    let both = and_parts (list_all (is_before p) paths) (are_reduced paths) h in
-    and_from (below_all p (set.with_units paths)) (map'.is_sorted bytes_cmp (set.with_units paths)) (marked_below p paths both.0) (reduced_sorted paths both.1)
-
-image_is : (paths : List (List ℕ)) (entries : List Entry) → are_paths paths ≡ true → map'.is_sorted bytes_cmp entries ≡ true → image_of paths entries ≡ image (set.from_list paths) (map'.from_entries entries)
-unfolding image
-image_is paths entries h up =
-    let sorted = reduced_sorted paths (and_parts (list_all is_storable paths) (are_reduced paths) h).1 in
-    ap (λ ps. image_of ps entries) (sym (items_in_order paths (true_T _ sorted)))
-    ∙ ap (image_of (set.items (set.from_list paths))) (sym (entries_in_order entries (true_T _ up)))
+use Rattle.cs_cindex.proofs.OrderLemmas.{same_tied}
 
 -- ---- texts in order
 
-below_texts : (tree : Snapshot) (name : List ℕ) (rest : List (List ℕ)) → AreAfter name rest → below_all name (texts_at tree rest) ≡ true
+below_texts : (tree : Snapshot) (name : List ℕ) (rest : List (List ℕ)) → AreAfter name rest → below_all bytes_cmp name (texts_at tree rest) ≡ true
 below_texts tree name [] h = refl
 below_texts tree name (next ∷ rest) h =
     let later = below_texts tree name rest h.1 in
-    elim (file_trigrams tree next) as (λ o. below_all name (cons_option (with_name next o) (texts_at tree rest)) ≡ true) [
+    elim (file_trigrams tree next) as (λ o. below_all bytes_cmp name (cons_option (with_name next o) (texts_at tree rest)) ≡ true) [
       | None ↦ later
-      | Some trigrams ↦ and_from (is_lt (bytes_cmp name next)) (below_all name (texts_at tree rest)) h.0 later
+      | Some trigrams ↦ and_from (is_lt (bytes_cmp name next)) (below_all bytes_cmp name (texts_at tree rest)) h.0 later
     ]
 
 texts_sorted : (tree : Snapshot) (names : List (List ℕ)) → are_ascending names ≡ true → map'.is_sorted bytes_cmp (texts_at tree names) ≡ true
@@ -80,7 +59,7 @@ texts_sorted tree (name ∷ rest) h =
     let later = texts_sorted tree rest (tail_up name rest h) in
     elim (file_trigrams tree name) as (λ o. map'.is_sorted bytes_cmp (cons_option (with_name name o) (texts_at tree rest)) ≡ true) [
       | None ↦ later
-      | Some trigrams ↦ and_from (below_all name (texts_at tree rest)) (map'.is_sorted bytes_cmp (texts_at tree rest)) (below_texts tree name rest (ascend_after name rest h)) later
+      | Some trigrams ↦ and_from (below_all bytes_cmp name (texts_at tree rest)) (map'.is_sorted bytes_cmp (texts_at tree rest)) (below_texts tree name rest (ascend_after name rest h)) later
     ]
 
 -- ---- the texts that a walk finds
@@ -111,7 +90,7 @@ texts_found tree paths names faults finds = map'.same_map nat_list_cmp_total ali
 module _ (tree : Snapshot) (paths names : List (List ℕ)) (faults : List Left) (ok : are_paths paths ≡ true) (finds : Finds tree (set.from_list paths) names faults) where
   image_found : image_of paths (texts_at tree names) ≡ tree_index tree (set.from_list paths)
   image_found =
-      image_is paths (texts_at tree names) ok (texts_sorted tree names finds.names_ascend)
+      image_in_order paths (texts_at tree names) ok (texts_sorted tree names finds.names_ascend)
       ∙ ap (image (set.from_list paths)) (texts_found tree (set.from_list paths) names faults finds)
 
   pub names_stored : IsTree tree → are_storable names ≡ true
@@ -225,5 +204,5 @@ index_built paths built bytes same is under bytes_are = record {
   files = map'.from_entries built.entries;
   content = subst (λ ps. IsContent (set.from_list ps) (map'.from_entries built.entries)) same (built_content built is);
   under = under;
-  is = bytes_are ∙ image_is built.paths built.entries is.paths is.ascend ∙ ap (λ ps. image (set.from_list ps) (map'.from_entries built.entries)) same;
+  is = bytes_are ∙ image_in_order built.paths built.entries is.paths is.ascend ∙ ap (λ ps. image (set.from_list ps) (map'.from_entries built.entries)) same;
 }

@@ -1,8 +1,9 @@
 -- Lines that were printed, and failures that were counted.
-use Rattle.std.proofs.Common.{◌≡◌, ℕ, ◌+◌, ◌<◌, ◌≤◌, ◌⊎◌, inl, inr, Bool, List, [], ◌∷◌, ◌++◌, map, take, drop, get_or, length, refl, sym, ap, subst, ◌∙◌, arith, Option, Some, None, Result, Ok, Err, append-nil, append_assoc}
+use Rattle.std.proofs.Common.{◌≡◌, ℕ, ◌+◌, ◌<◌, ◌≤◌, ◌⊎◌, inl, inr, Bool, List, [], ◌∷◌, ◌++◌, map, take, drop, get_or, length, refl, sym, ap, subst, ◌∙◌, arith, Option, Some, None, Result, Err, append-nil, append_assoc}
 use Rattle.cs_words.specs.SkipLines.{skip_line_of}
 use Rattle.cs_tree.specs.PathSet.{Paths}
 use Rattle.cs_words.specs.FileFaults.{fault_line_of}
+use Rattle.cs_tree.specs.Failures.{most_failures}
 use Rattle.cs_tree.specs.FailureCount.{HasFailed}
 use Rattle.std.proofs.lemmas.List.{take_more, take-append-drop, map-append}
 use Rattle.std.proofs.lemmas.List.Concat.{flat_map-append}
@@ -11,7 +12,7 @@ use Rattle.cs_tree.specs.Told.{Grows, Taken}
 use Rattle.cs_tree.specs.Walks.{Left, left_entry, CountsFault, CountsFaults}
 use Rattle.cs_tree.specs.declared.walking.WalkFault.{WalkFault}
 use Rattle.cs_tree.specs.declared.walking.WalkFault.TheVariants as walk
-use Rattle.std.specs.Prelude.{String, OnErr}
+use Rattle.std.specs.Prelude.{String}
 use Rattle.std.specs.declared.alloc.Global.{Global}
 use Rattle.cs_tree.proofs.Growing.{Grows-chain}
 use Rattle.cs_trigram.specs.declared.scan.Reason.{Reason}
@@ -107,7 +108,7 @@ wider most a b c d low high (inr ended) = inr (omega (arith, ended))
 
 module _ (a b c d : ℕ) (low : a ≤ b) (high : c ≤ d) where
   pub HasFailed-wider : HasFailed b c → HasFailed a d
-  HasFailed-wider h = wider 18446744073709551615 a b c d low high h
+  HasFailed-wider h = wider most_failures a b c d low high h
 
   pub IsCounted-wider : (why : FileFault) → IsCounted why b c → IsCounted why a d
   IsCounted-wider why h = λ fails. HasFailed-wider (h fails)
@@ -133,12 +134,6 @@ module _ (log_skip : Bool) (paths : Paths) where
 
   pub Front-none : (told : Option Snapshot) (failed failed' : ℕ) (taken : Option Taken) → PrintsFront (BeginLinesIn log_skip told paths) failed failed' taken taken
   Front-none told failed failed' taken = record { lines = []; due = Begin-none told; counted = tt; front = front_none [] taken }
-
--- ---- clauses on a `Result`, from what holds at any
-
-pub any_err : {T E P : Type 0} (r : Result T E) → P → OnErr r P
-any_err (Ok x) p = tt
-any_err (Err e) p = p
 
 -- ---- the failures of a walk
 

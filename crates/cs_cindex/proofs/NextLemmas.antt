@@ -1,5 +1,5 @@
 -- The index after a job that walks.
-use Rattle.std.proofs.Common.{◌≡◌, ◌≢◌, ℕ, ◌<◌, ◌≤◌, ◌^◌, ◌⊎◌, ◌&&◌, Bool, true, false, cond, List, [], ◌∷◌, length, map, refl, sym, ap, subst, ◌∙◌, inl, inr, arith, Option, Some, None, Result, Ok, Err}
+use Rattle.std.proofs.Common.{◌≡◌, ℕ, ◌<◌, ◌≤◌, ◌^◌, ◌⊎◌, ◌&&◌, Bool, true, false, cond, List, [], ◌∷◌, length, map, refl, sym, ap, subst, ◌∙◌, inl, inr, arith, Option, Some, None, Result, Ok, Err}
 use Rattle.cs_history.specs.JobIndex.{files_found, tree_index}
 use Rattle.cs_tree.specs.Folders.{Tells}
 use Rattle.cs_tree.specs.PathSet.{Paths}
@@ -7,7 +7,7 @@ use Rattle.cs_tree.specs.NameOrder.{bytes_cmp}
 use Rattle.std.specs.Prelude.{string_bytes, is_some}
 use Rattle.std.specs.FinMap as map'
 use Rattle.std.specs.Cmp.Lexicographic.{nat_list_cmp_total}
-use Rattle.std.proofs.lemmas.Bool.{true≢false, and_parts, cases_Bool, ne_eqb, eqb-true, eqb-false}
+use Rattle.std.proofs.lemmas.Bool.{true≢false, and_parts, cases_Bool, eqb-true, eqb-false}
 use Rattle.std.proofs.lemmas.List.{length-map}
 use Rattle.cs_tree.specs.PathSet as set
 use Rattle.cs_tree.specs.Cover.{least}
@@ -30,7 +30,7 @@ use Rattle.cs_history.specs.Replies.{IsLong, Walks}
 use Rattle.cs_history.proofs.JobLemmas.{taken_visit}
 use Rattle.cs_history.proofs.FollowingLemmas.{first_premises}
 use Rattle.cs_history.proofs.HistoryLemmas.{walk_content, walk_lies}
-use Rattle.cs_history.proofs.IndexLemmas.{joined_as, first_index, given_some, walked_again, no_index}
+use Rattle.cs_history.proofs.IndexLemmas.{joined_as, first_index, given_some, walked_own, walked_again, no_index}
 use Rattle.std.specs.Result.{IsOkAnd}
 use Rattle.cs_cindex.specs.Joins.{IsSound, JoinsTo, IsJoinRefusal}
 use Rattle.cs_cindex.specs.Next.{opening_paths, base_paths, paths_walked, opening_join, next_index, HasWholeLists, IsIndex, IsIndexOf, IsTreeTooLarge, IsOwn, IsNextLong, alone, joined, IsNext}
@@ -123,7 +123,7 @@ module _ (job : IndexJob) (tree : Option Snapshot) (old : List ℕ) (parts : Par
 pub record On (job : IndexJob) (tree : Snapshot) (old : Option (List ℕ)) (earlier : History) : Type 0 where
   pub history : IsHistory (visit_of job tree ⊳ earlier)
   pub left : index_of earlier ≡ old
-  pub few : IsShort old
+  pub bound : IsShort old
 
 no_length : set.len (set.from_list []) ≡ 0
 no_length = ap set.len (same_set (set.from_list []) set.empty (λ q. ap is_some (map'.get-from_entries nat_list_cmp_total (set.with_units []) q ∙ sym (map'.get-empty bytes_cmp q)))) ∙ map'.len-empty bytes_cmp (Unit {0})
@@ -135,23 +135,20 @@ none_given job none = ap (λ ts. set.len (set.from_list (map (λ text. clean_pat
     no_texts [] e = refl
     no_texts (t ∷ ts) e = absurd (omega (arith, e))
 
-walked_own : (visit : Visit) (before : History) → set.len visit.given ≢ 0 → walked_paths visit before ≡ least visit.given
-walked_own visit before some = ap (λ b. cond b (paths_of before) (least visit.given)) (ne_eqb (set.len visit.given) 0 some)
-
 content_paths : (opening : Result Parts IndexFault) (earlier : History) → OpensFor earlier opening → least (opening_paths opening) ≡ paths_of earlier
 content_paths (Ok parts) earlier h = h.paths_are
 content_paths (Err fault) earlier h = absurd h
 
 recorded_left : (old : Option (List ℕ)) (earlier : History) → IsHistory earlier → index_of earlier ≡ old → IsShort old → least (base_paths old) ≡ paths_of earlier
-recorded_left None earlier is left few = ap paths_of (sym (no_index earlier left))
-recorded_left (Some bytes) earlier is left few = content_paths (opening bytes) earlier (history_opens earlier bytes is left few)
+recorded_left None earlier is left bound = ap paths_of (sym (no_index earlier left))
+recorded_left (Some bytes) earlier is left bound = content_paths (opening bytes) earlier (history_opens earlier bytes is left bound)
 
 walked_is : (job : IndexJob) (tree : Snapshot) (old : Option (List ℕ)) (earlier : History) → On job tree old earlier → paths_walked job old ≡ walked_paths (visit_of job tree) earlier
 walked_is job tree old earlier on =
     elim (cases_Bool (has_no_path job)) [
       | inl none ↦
           ap (λ b. least (cond b (base_paths old) (given_paths job))) none
-          ∙ recorded_left old earlier on.history.1 on.left on.few
+          ∙ recorded_left old earlier on.history.1 on.left on.bound
           ∙ sym (walked_again (visit_of job tree) earlier (none_given job none))
       | inr some ↦
           ap (λ b. least (cond b (base_paths old) (given_paths job))) some
@@ -172,7 +169,7 @@ next_is job tree (Some bytes) earlier on short =
     let visit = visit_of job tree in
     let own = index_alone job tree (Some bytes) in
     content_joined visit earlier (opening bytes) (opening own)
-    (history_opens earlier bytes on.history.1 on.left on.few)
+    (history_opens earlier bytes on.history.1 on.left on.bound)
     (opened_image own (walked_paths visit earlier) (files_found visit earlier) (walk_content visit earlier on.history) (walk_lies visit earlier) (own_is job tree (Some bytes) earlier on) short)
 
 -- what is too large is so in the words of the history
@@ -200,7 +197,7 @@ base_premises job tree old earlier p = elim job.reset as (λ r. Premises (tree �
 pub on_base : (job : IndexJob) (tree : Option Snapshot) (old : Option (List ℕ)) (earlier : History) → AreTaken job → Premises (tree ∷ []) old earlier → On job (snapshot_told tree) (base job old) (cond job.reset nothing earlier)
 on_base job tree old earlier taken p =
     let b = base_premises job tree old earlier p in
-    record { history = (taken_visit job tree p.trees_tell.0 taken, b.jobs_were); left = b.they_left; few = b.short }
+    record { history = (taken_visit job tree p.trees_tell.0 taken, b.jobs_were); left = b.they_left; bound = b.short }
 
 pub walks_on : (job : IndexJob) (tree : Snapshot) (earlier : History) → Walks job → after_done earlier job tree ≡ visit_of job tree ⊳ cond job.reset nothing earlier
 walks_on job tree earlier w =

@@ -1,21 +1,20 @@
 -- The index that some jobs left.
-use Rattle.std.proofs.Common.{◌≡◌, ℕ, ◌<◌, ◌^◌, Bool, true, false, cond, not, List, [], ◌∷◌, length, refl, sym, ap, subst, ◌∙◌, Option, Some, None, Result, Ok, Err}
+use Rattle.std.proofs.Common.{◌≡◌, ℕ, ◌<◌, ◌^◌, true, false, cond, not, List, [], ◌∷◌, length, refl, sym, ap, subst, ◌∙◌, Option, Some, None, Result, Ok, Err}
 use Rattle.cs_tree.specs.PathSet.{Paths}
 use Rattle.cs_tree.specs.NameOrder.{bytes_cmp}
 use Rattle.cs_tree.specs.NamesAscending.{are_ascending}
 use Rattle.cs_index.specs.Roundtrip.{parts_written}
-use Rattle.std.specs.Prelude.{is_some, T}
+use Rattle.std.specs.Prelude.{is_some}
 use Rattle.std.specs.Ordering.{is_lt, eq_by_cmp}
 use Rattle.std.specs.FinMap.Entries.{below_all}
 use Rattle.std.proofs.lemmas.Bool.{true≢false, and_parts, and_from, or_left, or_right}
 use Rattle.std.specs.List.{AllByRecursion, list_any, list_all}
 use Rattle.std.specs.FinMap as map'
-use Rattle.std.specs.Cmp.Lexicographic.{nat_list_cmp_total}
 use Rattle.cs_tree.specs.PathSet as set
 use Rattle.cs_tree.specs.Cover.{is_covered, least}
 use Rattle.cs_tree.specs.Folders.{are_distinct}
 use Rattle.cs_tree.proofs.Listed.{ascending_distinct}
-use Rattle.cs_tree.proofs.Sets.{tied_same, entries_in_order}
+use Rattle.cs_tree.proofs.Sets.{tied_same}
 use Rattle.cs_index.specs.Image.{Files, Entry, image, names_of}
 use Rattle.cs_index.specs.Indexable.{IsIndexable}
 use Rattle.cs_index.proofs.WrittenLemmas.{image_has, image_opens}
@@ -26,7 +25,7 @@ use Rattle.cs_index.specs.declared.fault.IndexFault.TheVariants.{BadPaths}
 use Rattle.cs_words.specs.declared.fault.CindexFault.TheVariants.{BadIndex, Unsorted}
 use Rattle.cs_merge.specs.Content.{IsContent, LieUnder}
 use Rattle.cs_merge.proofs.ContentLemmas.{content_indexable, ascending_sets}
-use Rattle.cs_history.specs.History.{History, nothing, handed_in, ◌⊳◌, all_paths_given, paths_of, files_of, index_of}
+use Rattle.cs_history.specs.History.{History, nothing, handed_in, ◌⊳◌, all_given_paths, paths_of, files_of, index_of}
 use Rattle.cs_history.specs.WellFormed.{AreClean, IsBeginning, IsHistory}
 use Rattle.cs_history.proofs.BeginningLemmas.{begun_opens}
 use Rattle.cs_history.proofs.HistoryLemmas.{history_content, history_lies, has_beginning, files_begun, index_is, clean_paths, least_twice}
@@ -35,7 +34,9 @@ use Rattle.cs_merge.specs.Joinable.{are_covered}
 use Rattle.std.specs.Result.{IsOkAnd}
 use Rattle.cs_cindex.specs.Joins.{IsSound}
 use Rattle.cs_cindex.specs.Refusals.{opening_fault, unfit_parts_fault, IsDamaged}
-use Rattle.cs_cindex.proofs.PathLemmas.{marked_items, set_of_items}
+use Rattle.cs_tree.proofs.ReduceLemmas.{contains-from_list, true_from_T}
+use Rattle.cs_merge.proofs.HoldingLemmas.{set_of_items, map_of_entries}
+use Rattle.cs_cindex.proofs.PathLemmas.{all_pass}
 
 -- ---- what an index that opens holds
 
@@ -49,23 +50,12 @@ OpensWith opening paths files = IsOkAnd opening (λ parts. HasContent parts path
 
 -- ---- images open
 
-pub all_pass : (test : List ℕ → Bool) (ps : List (List ℕ)) → AllByRecursion (λ p. test p ≡ true) ps → list_all test ps ≡ true
-all_pass test [] all = refl
-all_pass test (p ∷ ps) all = and_from (test p) (list_all test ps) all.0 (all_pass test ps all.1)
-
 ascend_names : (es : List Entry) → map'.is_sorted bytes_cmp es ≡ true → are_ascending (names_of es) ≡ true
 ascend_names [] up = refl
 ascend_names (e ∷ []) up = refl
 ascend_names (e ∷ f ∷ es) up =
     let both = and_parts (below_all bytes_cmp e.0 (f ∷ es)) (map'.is_sorted bytes_cmp (f ∷ es)) up in
     and_from (is_lt (bytes_cmp e.0 f.0)) (are_ascending (names_of (f ∷ es))) (and_parts (is_lt (bytes_cmp e.0 f.0)) (below_all bytes_cmp e.0 es) both.0).0 (ascend_names (f ∷ es) both.1)
-
-map_of_entries : (files : Files) → map'.from_entries (map'.entries files) ≡ files
-map_of_entries files = map'.same_entries_map (map'.from_entries (map'.entries files)) files (entries_in_order (map'.entries files) (map'.entries_sorted files))
-
-from_T : (b : Bool) → T b → b ≡ true
-from_T true h = refl
-from_T false h = absurd h
 
 -- the names of a map whose files lie under paths
 each_key : (P : List ℕ → Type 0) (files : Files) → ((name trigrams : List ℕ) → map'.get files name ≡ Some trigrams → P name) → AllByRecursion P (map'.keys files)
@@ -90,9 +80,9 @@ written_content : (paths : Paths) (files : Files) → IsContent paths files → 
 written_content paths files content under indexable =
     let has = image_has (set.items paths) (map'.entries files) indexable in
     record {
-      paths_are = ap set.from_list has.has_paths ∙ set_of_items paths;
-      files_are = ap (λ (es : List Entry). map'.from_entries es) (has.has_files (ascending_sets files content.sets_are)) ∙ map_of_entries files;
-      sound = record { distinct = ascending_distinct (parts_written (set.items paths) (map'.entries files)).names (ap are_ascending has.has_names ∙ ascend_names (map'.entries files) (from_T _ (map'.entries_sorted files))); covered = covered_names (parts_written (set.items paths) (map'.entries files)) paths files (ap set.from_list has.has_paths ∙ set_of_items paths) has.has_names under; whole = has.whole };
+      paths_are = ap set.from_list has.has_paths ∙ sym (set_of_items paths);
+      files_are = ap (λ (es : List Entry). map'.from_entries es) (has.has_files (ascending_sets files content.sets_are)) ∙ sym (map_of_entries files);
+      sound = record { distinct = ascending_distinct (parts_written (set.items paths) (map'.entries files)).names (ap are_ascending has.has_names ∙ ascend_names (map'.entries files) (true_from_T _ (map'.entries_sorted files))); covered = covered_names (parts_written (set.items paths) (map'.entries files)) paths files (ap set.from_list has.has_paths ∙ sym (set_of_items paths)) has.has_names under; whole = has.whole };
     }
 
 pub image_content : (paths : Paths) (files : Files) → IsContent paths files → LieUnder paths files → length (image paths files) < 2 ^ 32 → OpensWith (opening (image paths files)) paths files
@@ -106,7 +96,7 @@ opened_image bytes paths files content under is short = subst (λ b. OpensWith (
 
 -- what holds of the members of a set holds of the list that it was made of
 pub each_listed : (P : List ℕ → Type 0) (ps : List (List ℕ)) → ((path : List ℕ) → set.contains (set.from_list ps) path ≡ true → P path) → AllByRecursion P ps
-each_listed P ps h = each ps (λ path member. h path (ap is_some (map'.get-from_entries nat_list_cmp_total (set.with_units ps) path) ∙ marked_items path ps ∙ member))
+each_listed P ps h = each ps (λ path member. h path (contains-from_list ps path ∙ member))
   where
     each : (qs : List (List ℕ)) → ((path : List ℕ) → list_any (eq_by_cmp bytes_cmp path) qs ≡ true → P path) → AllByRecursion P qs
     each [] g = tt
@@ -127,7 +117,7 @@ OpensFor earlier opening = IsOkAnd opening (GoesOn earlier)
 content_goes : (earlier : History) (opening : Result Parts IndexFault) → AreClean (paths_of earlier) → OpensWith opening (paths_of earlier) (files_of earlier) → OpensFor earlier opening
 content_goes earlier (Err fault) clean h = h
 content_goes earlier (Ok parts) clean h = record {
-  paths_are = ap least h.paths_are ∙ least_twice (all_paths_given earlier);
+  paths_are = ap least h.paths_are ∙ least_twice (all_given_paths earlier);
   files_are = h.files_are;
   settled = all_pass is_settled parts.paths (each_listed (λ p. is_settled p ≡ true) parts.paths (λ p member. (clean p (subst (λ s. set.contains s p ≡ true) h.paths_are member)).settled));
   sound = h.sound;

@@ -1,21 +1,22 @@
 -- Lists in order: a walk finds one list of names and one of faults.
-use Rattle.std.proofs.Common.{◌≡◌, ℕ, Bool, true, false, cond, ◌&&◌, ◌||◌, List, [], ◌∷◌, map, refl, sym, ap, subst, ◌∙◌, Option, Some, None}
+use Rattle.std.proofs.Common.{◌≡◌, ℕ, Bool, true, false, cond, ◌||◌, List, [], ◌∷◌, map, refl, sym, ap, subst, ◌∙◌, Option, Some, None}
 use Rattle.cs_tree.specs.PathSet.{Paths}
 use Rattle.cs_tree.specs.NameOrder.{bytes_cmp}
 use Rattle.cs_tree.specs.NamesAscending.{are_ascending}
-use Rattle.std.proofs.lemmas.Bool.{true≢false, and_from}
-use Rattle.std.specs.Prelude.{T}
+use Rattle.std.proofs.lemmas.Bool.{and_from}
 use Rattle.std.specs.Cmp.{both_ways}
 use Rattle.std.specs.Cmp.Lexicographic.{bytes_decides, nat_list_cmp_total}
 use Rattle.std.specs.Ordering.{is_lt, eq_by_cmp}
 use Rattle.std.specs.FinMap as map'
 use Rattle.std.specs.FinMap.{find}
+use Rattle.std.specs.FinMap.Entries.{below_all}
 use Rattle.cs_tree.specs.PathSet as set
 use Rattle.cs_tree.specs.Cover.{same}
 use Rattle.cs_tree.specs.Snapshot.{Snapshot}
 use Rattle.cs_tree.specs.Walks.{Left, Finds, is_among, fault_among}
 use Rattle.cs_tree.proofs.Sets.{alike, tied_is, tied_same, entries_in_order}
 use Rattle.cs_cindex.specs.Notices.{Line, AreLines, lines_for}
+use Rattle.cs_index.proofs.ImageLemmas.{true_T}
 use Rattle.cs_index.proofs.PathLemmas.{tail_up}
 use Rattle.cs_cindex.proofs.FileLemmas.{AreAfter, ascend_after}
 
@@ -24,26 +25,18 @@ same_tied p q = both_ways (eq_by_cmp bytes_cmp q p) (same p q)
     (λ tied. (bytes_decides p q).1 (sym (tied_is q p tied)))
     (λ here. subst (λ x. eq_by_cmp bytes_cmp q x ≡ true) (sym ((bytes_decides p q).0 here)) (tied_same q))
 
-pub true_T : (b : Bool) → b ≡ true → T b
-true_T true h = tt
-true_T false h = absurd (true≢false (sym h))
-
 module _ {X : Type 0} where
   abbrev pub keys_of : List (List ℕ × X) → List (List ℕ)
   keys_of entries = map (λ (e : List ℕ × X). e.0) entries
 
-  abbrev pub below_all : List ℕ → List (List ℕ × X) → Bool
-  below_all name [] = true
-  below_all name (e ∷ entries) = is_lt (bytes_cmp name e.0) && below_all name entries
-
-  after_below : (name : List ℕ) (entries : List (List ℕ × X)) → AreAfter name (keys_of entries) → below_all name entries ≡ true
+  after_below : (name : List ℕ) (entries : List (List ℕ × X)) → AreAfter name (keys_of entries) → below_all bytes_cmp name entries ≡ true
   after_below name [] h = refl
-  after_below name (e ∷ entries) h = and_from (is_lt (bytes_cmp name e.0)) (below_all name entries) h.0 (after_below name entries h.1)
+  after_below name (e ∷ entries) h = and_from (is_lt (bytes_cmp name e.0)) (below_all bytes_cmp name entries) h.0 (after_below name entries h.1)
 
   pub ascend_sorted : (entries : List (List ℕ × X)) → are_ascending (keys_of entries) ≡ true → map'.is_sorted bytes_cmp entries ≡ true
   ascend_sorted [] h = refl
   ascend_sorted (e ∷ entries) h =
-      and_from (below_all e.0 entries) (map'.is_sorted bytes_cmp entries) (after_below e.0 entries (ascend_after e.0 (keys_of entries) h)) (ascend_sorted entries (tail_up e.0 (keys_of entries) h))
+      and_from (below_all bytes_cmp e.0 entries) (map'.is_sorted bytes_cmp entries) (after_below e.0 entries (ascend_after e.0 (keys_of entries) h)) (ascend_sorted entries (tail_up e.0 (keys_of entries) h))
 
   -- entries in order that answer alike are the same
   one_list : (a b : List (List ℕ × X)) → are_ascending (keys_of a) ≡ true → are_ascending (keys_of b) ≡ true → ((q : List ℕ) → find bytes_cmp q a ≡ find bytes_cmp q b) → a ≡ b

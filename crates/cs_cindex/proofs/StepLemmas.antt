@@ -27,7 +27,7 @@ use Rattle.cs_tree.specs.Taken.{TakesFront, MayEnd}
 use Rattle.cs_cindex.specs.Next.{IsNext}
 use Rattle.cs_cindex.specs.Output.{JobPrintsBy, WalkPrints, WalkPrintsSome, index_lines, list_lines, is_failed_write}
 use Rattle.cs_cindex.specs.Refusals.{JobKind, lists, clears, walks, job_kind, base, list_fault, early_walk_fault, early_fault_of, IsOutputFault, IsWalkFault, IsLateFault, EarlyOr}
-use Rattle.cs_cindex.specs.Steps.{JobTree, Outputs, Standing, IsStep, IsWholeStep}
+use Rattle.cs_cindex.specs.Steps.{JobTree, Outputs, State, IsStep, IsWholeStep}
 use Rattle.cs_cindex.specs.declared.outcome.Outcome.{Outcome}
 use Rattle.cs_cindex.specs.Outcomes.{IsWholeStepTo, index_from, reply_of}
 use Rattle.cs_tree.proofs.Fronts.{front_none, front_all}
@@ -79,7 +79,7 @@ never_done fault e = cc
 
 -- ---- a job, before the outputs are flushed
 
-module _ (job : IndexJob) (tree : JobTree) (old : Standing) (later : Outputs) where
+module _ (job : IndexJob) (tree : JobTree) (old : State) (later : Outputs) where
   pub list_done : job.list ≡ true → list_fault old.index ≡ None → Grows old.outputs.out later.out (index_lines old.index) → Grows old.outputs.err later.err [] → later.out_failed ≡ old.outputs.out_failed → later.err_failed ≡ old.outputs.err_failed → IsStep job tree Done old (record { index = old.index; outputs = later })
   list_done l none out err o e =
       let kind = ap (λ b. cond b lists (cond (job.reset && has_no_path job) clears walks)) l in
@@ -167,7 +167,7 @@ is_write io.Failed = refl
 is_write io.Memory = refl
 
 -- refused before the outputs are flushed
-pub step_refused : (job : IndexJob) (tree : JobTree) (old : Standing) (later : Outputs) (fault : CindexFault) → IsStep job tree (Refused fault) old (record { index = old.index; outputs = later }) → IsWholeStep job tree (Refused fault) old (record { index = old.index; outputs = later })
+pub step_refused : (job : IndexJob) (tree : JobTree) (old : State) (later : Outputs) (fault : CindexFault) → IsStep job tree (Refused fault) old (record { index = old.index; outputs = later }) → IsWholeStep job tree (Refused fault) old (record { index = old.index; outputs = later })
 step_refused job tree old later fault step = record {
   printed = later;
   step = step;
@@ -176,7 +176,7 @@ step_refused job tree old later fault step = record {
   err_failed = refl;
 }
 
-module _ (job : IndexJob) (tree : JobTree) (old : Standing) (index : Option (List ℕ)) (mid later : Outputs) (done : IsStep job tree Done old (record { index = index; outputs = mid })) where
+module _ (job : IndexJob) (tree : JobTree) (old : State) (index : Option (List ℕ)) (mid later : Outputs) (done : IsStep job tree Done old (record { index = index; outputs = mid })) where
   pub step_flushed : GrowsFlushed mid.out later.out [] → GrowsFlushed mid.err later.err [] → later.out_failed ≡ mid.out_failed → later.err_failed ≡ mid.err_failed → IsWholeStep job tree Done old (record { index = index; outputs = later })
   step_flushed out err o e = record { printed = mid; step = done; flushes = (out, err); out_failed = o; err_failed = e }
 

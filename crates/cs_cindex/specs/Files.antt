@@ -12,7 +12,8 @@ use Rattle.cs_cindex.specs.Notices.{Line, file_line}
 
 -- the files at these names that are text, each with its trigrams
 abbrev pub texts_at : Snapshot → List (List ℕ) → List Entry
-texts_at tree names = filter_map (λ name. option_map (λ (trigrams : List ℕ). (name, trigrams)) (file_trigrams tree name)) names
+texts_at tree names =
+    filter_map (λ name. option_map (λ (trigrams : List ℕ). (name, trigrams)) (file_trigrams tree name)) names
 
 abbrev pub are_storable : List (List ℕ) → Bool
 are_storable names = list_all is_storable names
@@ -34,7 +35,8 @@ AreTooManyIn (Some tree) names = are_storable names ≡ true → most_names ≤ 
 -- The lines are those of the files at these names.
 abbrev pub AreFileLinesIn : Bool → Option Snapshot → List (List ℕ) → List Line → Type 0
 AreFileLinesIn log_skip None names lines = Unit {0}
-AreFileLinesIn log_skip (Some tree) names lines = are_storable names ≡ true → lines ≡ filter_map (file_line log_skip tree) names
+AreFileLinesIn log_skip (Some tree) names lines =
+    are_storable names ≡ true → lines ≡ filter_map (file_line log_skip tree) names
 
 abbrev pub BeginFileLinesIn : Bool → Option Snapshot → List (List ℕ) → List Line → Type 0
 BeginFileLinesIn log_skip None names lines = Unit {0}

@@ -21,12 +21,14 @@ pub record IsSound (parts : Parts) : Type 0 where
 
 -- what opens is an index that can be joined to the old one, and these bytes are that of both
 abbrev pub JoinsTo : Parts → Result Parts IndexFault → List ℕ → Type 0
-JoinsTo old opening bytes = IsOkAnd opening (λ newer. AreJoinable old newer × (bytes ≡ joined_index old newer))
+JoinsTo old opening bytes =
+    IsOkAnd opening (λ newer. AreJoinable old newer × (bytes ≡ joined_index old newer))
 
 -- why an index is not joined with that of a walk
 abbrev pub IsJoinRefusal : Parts → Result Parts IndexFault → CindexFault → Type 0
 IsJoinRefusal old newer (BadIndex fault) = IsOkAnd newer IsSound → (fault ≡ BadList) × (are_whole old ≡ false)
-IsJoinRefusal old newer TooLarge = IsOkAnd newer (λ newer. AreJoinable old newer × IsLong (Some (joined_index old newer)))
+IsJoinRefusal old newer TooLarge =
+    IsOkAnd newer (λ newer. AreJoinable old newer × IsLong (Some (joined_index old newer)))
 IsJoinRefusal old newer Memory = Unit {0}
 IsJoinRefusal old newer Unsorted = IsOkAnd newer IsSound → ⊥
 IsJoinRefusal old newer _ = ⊥

@@ -70,7 +70,8 @@ IsTreeTooLarge tree paths = Tells tree → IsLong (Some (tree_index (snapshot_to
 
 -- A job's own index is one of the paths that it walks, and 32 bits count its bytes. Where the tree tells what
 -- stands in it, it is that of what the job finds.
-pub record IsOwn (job : IndexJob) (tree : Option Snapshot) (old : Option (List ℕ)) (own : List ℕ) : Type 0 where
+pub record IsOwn (job : IndexJob) (tree : Option Snapshot) (old : Option (List ℕ))
+    (own : List ℕ) : Type 0 where
   pub index : IsIndex (paths_walked job old) own
   pub told : IsIndexOf tree (paths_walked job old) own
   pub short : length own < 2 ^ 32

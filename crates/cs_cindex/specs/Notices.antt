@@ -84,7 +84,8 @@ AreLinesIn log_skip (Some tree) paths lines = IsTree tree → AreLines log_skip 
 -- the first of a job's lines
 abbrev pub BeginLinesIn : Bool → Option Snapshot → Paths → List Line → Type 0
 BeginLinesIn log_skip None paths lines = Unit {0}
-BeginLinesIn log_skip (Some tree) paths lines = IsTree tree → (all : List Line) → AreLines log_skip tree paths all → lines ≡ take (length lines) all
+BeginLinesIn log_skip (Some tree) paths lines =
+    IsTree tree → (all : List Line) → AreLines log_skip tree paths all → lines ≡ take (length lines) all
 
 -- ---- what was printed
 
@@ -107,7 +108,8 @@ pub record Prints (Due : List Line → Type 0) (failed failed' : ℕ) (taken tak
   pub grows : Grows taken taken' (text_of lines)
 
 -- The same, but of the last of these lines maybe not all bytes.
-pub record PrintsFront (Due : List Line → Type 0) (failed failed' : ℕ) (taken taken' : Option Taken) : Type 0 where
+pub record PrintsFront (Due : List Line → Type 0) (failed failed' : ℕ)
+    (taken taken' : Option Taken) : Type 0 where
   pub lines : List Line
   pub due : Due lines
   pub counted : AreCounted lines failed failed'

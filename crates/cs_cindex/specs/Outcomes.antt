@@ -13,7 +13,7 @@ use Rattle.cs_history.specs.Premises.{snapshot_told, Premises}
 use Rattle.cs_history.specs.Replies.{IsRightReply}
 use Rattle.cs_cindex.specs.Refusals.{EarlyOr}
 use Rattle.cs_cindex.specs.Output.{WalkPrints, WalkPrintsSome}
-use Rattle.cs_cindex.specs.Steps.{JobTree, Outputs, Standing, IsStep, IsWholeStep}
+use Rattle.cs_cindex.specs.Steps.{JobTree, Outputs, State, IsStep, IsWholeStep}
 
 -- ---- the index
 
@@ -33,28 +33,35 @@ reply_of (Ok answer) = Done
 reply_of (Err fault) = Refused fault
 
 -- With the index that an outcome leaves, and with the reply to it, the job has made its step.
-abbrev pub IsStepTo : IndexJob → JobTree → Result Outcome CindexFault → Standing → Outputs → Type 0
+abbrev pub IsStepTo : IndexJob → JobTree → Result Outcome CindexFault → State → Outputs → Type 0
 IsStepTo job tree outcome old later =
     IsStep job tree (reply_of outcome) old (record { index = index_from old.index outcome; outputs = later })
 
 -- that, its flushes among it
-abbrev pub IsWholeStepTo : IndexJob → JobTree → Result Outcome CindexFault → Standing → Outputs → Type 0
+abbrev pub IsWholeStepTo : IndexJob → JobTree → Result Outcome CindexFault → State → Outputs → Type 0
 IsWholeStepTo job tree outcome old later =
-    IsWholeStep job tree (reply_of outcome) old (record { index = index_from old.index outcome; outputs = later })
+    IsWholeStep job tree (reply_of outcome) old
+    (record { index = index_from old.index outcome; outputs = later })
 
 -- ---- the reply
 
 -- the reply is right, whichever jobs left the index
 abbrev pub RightAfter : Option Snapshot → Option (List ℕ) → IndexJob → Reply → Type 0
-RightAfter tree old job reply = (earlier : History) → Premises (tree ∷ []) old earlier → IsRightReply earlier job (snapshot_told tree) reply
+RightAfter tree old job reply =
+    (earlier : History) → Premises (tree ∷ []) old earlier →
+    IsRightReply earlier job (snapshot_told tree) reply
 
 -- An answer is given only where there is no early fault, and each refusal has its cause.
-abbrev pub AnswersFor : {A : Type 0} → Result A CindexFault → Option CindexFault → (CindexFault → Type 0) → Type 0
-AnswersFor result early IsLate = MatchResult result (λ _. early ≡ None) (λ fault. EarlyOr early (IsLate fault) fault)
+abbrev pub AnswersFor : {A : Type 0} → Result A CindexFault → Option CindexFault → (CindexFault → Type 0) →
+    Type 0
+AnswersFor result early IsLate =
+    MatchResult result (λ _. early ≡ None) (λ fault. EarlyOr early (IsLate fault) fault)
 
 -- ---- what was printed
 
 -- by a job that walks, by its answer
-abbrev pub WalkPrintsFor : {A : Type 0} → Result A CindexFault → Option CindexFault → IndexJob → Option Snapshot → Option (List ℕ) → ℕ → ℕ → Option Taken → Option Taken → Type 0
+abbrev pub WalkPrintsFor : {A : Type 0} → Result A CindexFault → Option CindexFault → IndexJob →
+    Option Snapshot → Option (List ℕ) → ℕ → ℕ → Option Taken → Option Taken → Type 0
 WalkPrintsFor result early job tree old failed failed_then err later =
-    MatchResult result (λ _. WalkPrints job tree old failed failed_then err later) (λ fault. WalkPrintsSome early fault job tree old failed failed_then err later)
+    MatchResult result (λ _. WalkPrints job tree old failed failed_then err later)
+    (λ fault. WalkPrintsSome early fault job tree old failed failed_then err later)

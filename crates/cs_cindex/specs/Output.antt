@@ -50,12 +50,16 @@ TakesBy (Refused fault) bytes taken later = TakesFront bytes taken later
 -- ---- standard error
 
 -- a job that walks has printed the lines that are due, of what its walk leaves and of its files
-abbrev pub WalkPrints : IndexJob → Option Snapshot → Option (List ℕ) → ℕ → ℕ → Option Taken → Option Taken → Type 0
-WalkPrints job tree old failed failed_then err later = Prints (AreLinesIn job.log_skip tree (paths_walked job old)) failed failed_then err later
+abbrev pub WalkPrints : IndexJob → Option Snapshot → Option (List ℕ) → ℕ → ℕ → Option Taken → Option Taken →
+    Type 0
+WalkPrints job tree old failed failed_then err later =
+    Prints (AreLinesIn job.log_skip tree (paths_walked job old)) failed failed_then err later
 
 -- a front of them
-abbrev pub WalkPrintsFront : IndexJob → Option Snapshot → Option (List ℕ) → ℕ → ℕ → Option Taken → Option Taken → Type 0
-WalkPrintsFront job tree old failed failed_then err later = PrintsFront (BeginLinesIn job.log_skip tree (paths_walked job old)) failed failed_then err later
+abbrev pub WalkPrintsFront : IndexJob → Option Snapshot → Option (List ℕ) → ℕ → ℕ → Option Taken →
+    Option Taken → Type 0
+WalkPrintsFront job tree old failed failed_then err later =
+    PrintsFront (BeginLinesIn job.log_skip tree (paths_walked job old)) failed failed_then err later
 
 -- More texts are found than an index may name: then it would be too large in any case.
 abbrev pub AreTooMany : Option Snapshot → Paths → Type 0
@@ -74,22 +78,28 @@ IsMidway Unsorted tree paths = ⊥
 IsMidway (BadPath place) tree paths = ⊥
 
 -- One that was refused early has printed nothing, and another all of them, or a front where it was refused midway.
-abbrev pub WalkPrintsSome : Option CindexFault → CindexFault → IndexJob → Option Snapshot → Option (List ℕ) → ℕ → ℕ → Option Taken → Option Taken → Type 0
+abbrev pub WalkPrintsSome : Option CindexFault → CindexFault → IndexJob → Option Snapshot →
+    Option (List ℕ) → ℕ → ℕ → Option Taken → Option Taken → Type 0
 WalkPrintsSome None fault job tree old failed failed_then err later =
     WalkPrints job tree old failed failed_then err later
     ⊎ (IsMidway fault tree (paths_walked job old) × WalkPrintsFront job tree old failed failed_then err later)
 WalkPrintsSome (Some early) fault job tree old failed failed_then err later = Grows err later []
 
 -- what one has printed, by its reply
-abbrev pub WalkPrintsBy : Reply → IndexJob → Option Snapshot → Option (List ℕ) → ℕ → ℕ → Option Taken → Option Taken → Type 0
-WalkPrintsBy Done job tree old failed failed_then err later = WalkPrints job tree old failed failed_then err later
-WalkPrintsBy (Refused fault) job tree old failed failed_then err later = WalkPrintsSome (early_walk_fault job old) fault job tree old failed failed_then err later
+abbrev pub WalkPrintsBy : Reply → IndexJob → Option Snapshot → Option (List ℕ) → ℕ → ℕ → Option Taken →
+    Option Taken → Type 0
+WalkPrintsBy Done job tree old failed failed_then err later =
+    WalkPrints job tree old failed failed_then err later
+WalkPrintsBy (Refused fault) job tree old failed failed_then err later =
+    WalkPrintsSome (early_walk_fault job old) fault job tree old failed failed_then err later
 
 -- No other job prints there.
-abbrev pub JobPrintsBy : JobKind → Reply → IndexJob → Option Snapshot → Option (List ℕ) → ℕ → ℕ → Option Taken → Option Taken → Type 0
+abbrev pub JobPrintsBy : JobKind → Reply → IndexJob → Option Snapshot → Option (List ℕ) → ℕ → ℕ →
+    Option Taken → Option Taken → Type 0
 JobPrintsBy lists reply job tree old failed failed_then err later = Grows err later []
 JobPrintsBy clears reply job tree old failed failed_then err later = Grows err later []
-JobPrintsBy walks reply job tree old failed failed_then err later = WalkPrintsBy reply job tree (base job old) failed failed_then err later
+JobPrintsBy walks reply job tree old failed failed_then err later =
+    WalkPrintsBy reply job tree (base job old) failed failed_then err later
 
 -- ---- outputs that fail
 

@@ -67,7 +67,9 @@ base_fault job (Some bytes) = opening_fault unfit_parts_fault (opening bytes)
 
 -- why a job is refused before it walks: for its paths, and then for the index that it goes on from
 abbrev pub early_walk_fault : IndexJob → Option (List ℕ) → Option CindexFault
-early_walk_fault job old = option_or (option_map (λ place. BadPath place) (first_bad (string_bytes job.cwd) (given_texts job))) (base_fault job old)
+early_walk_fault job old =
+    option_or (option_map (λ place. BadPath place) (first_bad (string_bytes job.cwd) (given_texts job)))
+    (base_fault job old)
 
 -- why a job is refused before it prints anything
 abbrev pub early_fault_of : JobKind → IndexJob → Option (List ℕ) → Option CindexFault
@@ -92,7 +94,8 @@ IsDamaged None = ⊥
 IsDamaged (Some bytes) = IsOkAnd (opening bytes) (λ parts. are_whole parts ≡ false)
 
 -- Why a job is refused for a list: it has its own index, and one of the index that it goes on from is damaged.
-pub record IsDamageFault (job : IndexJob) (tree : Option Snapshot) (old : Option (List ℕ)) (fault : IndexFault) : Type 0 where
+pub record IsDamageFault (job : IndexJob) (tree : Option Snapshot) (old : Option (List ℕ))
+    (fault : IndexFault) : Type 0 where
   pub is : fault ≡ BadList
   pub damaged : IsDamaged old
   pub own : List ℕ
@@ -127,4 +130,5 @@ EarlyOr (Some early) late fault = IsEarly early fault
 -- A job that has an early fault is not done, and each refusal has its cause.
 abbrev pub HasCause : IndexJob → Option Snapshot → Option (List ℕ) → Reply → Type 0
 HasCause job tree old Done = early_fault job old ≡ None
-HasCause job tree old (Refused fault) = EarlyOr (early_fault job old) (IsLateFault (job_kind job) job tree old fault) fault
+HasCause job tree old (Refused fault) =
+    EarlyOr (early_fault job old) (IsLateFault (job_kind job) job tree old fault) fault

@@ -23,13 +23,16 @@ use Rattle.cs_history.specs.Replies.{Walks, AreRightReplies}
 abbrev pub KeepsIndex : IndexJob → Reply → Option (List ℕ) → Option (List ℕ) → Type 0
 KeepsIndex job (Refused fault) old new = new ≡ old
 KeepsIndex job Done old new =
-    (job.list ≡ true → new ≡ old) × (job.list ≡ false → job.reset ≡ true → has_no_path job ≡ true → new ≡ None)
+    (job.list ≡ true → new ≡ old)
+    × (job.list ≡ false → job.reset ≡ true → has_no_path job ≡ true → new ≡ None)
 
 -- ---- the replies
 
 -- each reply is right after the jobs before it, whichever jobs left the old index
 abbrev pub RightAll : List (Option Snapshot) → Option (List ℕ) → List IndexJob → List Reply → Type 0
-RightAll trees old jobs replies = (earlier : History) → Premises trees old earlier → AreRightReplies earlier jobs (map snapshot_told trees) replies
+RightAll trees old jobs replies =
+    (earlier : History) → Premises trees old earlier →
+    AreRightReplies earlier jobs (map snapshot_told trees) replies
 
 -- ---- job by job
 
@@ -41,12 +44,13 @@ pub record Outputs : Type 0 where
   pub err_failed : ℕ
 
 -- What jobs change: the index and the outputs.
-pub record Standing : Type 0 where
+pub record State : Type 0 where
   pub index : Option (List ℕ)
   pub outputs : Outputs
 
 -- of two sinks, by what they tell
-module _ {O E : Type 0} (out_taken : O → Option Taken) (out_failed : O → ℕ) (err_taken : E → Option Taken) (err_failed : E → ℕ) where
+module _ {O E : Type 0} (out_taken : O → Option Taken) (out_failed : O → ℕ) (err_taken : E → Option Taken)
+    (err_failed : E → ℕ) where
   abbrev pub outputs : O → E → Outputs
   outputs out err = record {
     out = out_taken out;
@@ -55,8 +59,8 @@ module _ {O E : Type 0} (out_taken : O → Option Taken) (out_failed : O → ℕ
     err_failed = err_failed err;
   }
 
-  abbrev pub standing : Option (List ℕ) → O → E → Standing
-  standing index out err = record { index = index; outputs = outputs out err }
+  abbrev pub state : Option (List ℕ) → O → E → State
+  state index out err = record { index = index; outputs = outputs out err }
 
 -- the tree of a job: what it tells, and how many of its calls have failed before the job and after it
 pub record JobTree : Type 0 where
@@ -76,15 +80,17 @@ module _ {T : Type 0} (snapshot : T → Option Snapshot) (failed : T → ℕ) wh
 
 -- What a job does, but for flushes: the index after it is that of its history, its refusal has a cause, the index is
 -- kept where it has to be and joined where the job walks, and the lines that are due are printed.
-pub record IsStep (job : IndexJob) (tree : JobTree) (reply : Reply) (old new : Standing) : Type 0 where
+pub record IsStep (job : IndexJob) (tree : JobTree) (reply : Reply) (old new : State) : Type 0 where
   pub index : Indexes (job ∷ []) (tree.snapshot ∷ []) (reply ∷ []) old.index new.index
   pub cause : HasCause job tree.snapshot old.index reply
   pub keeps : KeepsIndex job reply old.index new.index
   -- where the job walks; with `-reset` it goes on from none
   pub walked : reply ≡ Done → Walks job → IsNext job tree.snapshot (base job old.index) new.index
   pub out : TakesBy reply (list_lines (job_kind job) old.index) old.outputs.out new.outputs.out
-  pub err : JobPrintsBy (job_kind job) reply job tree.snapshot old.index tree.failed tree.failed_then old.outputs.err new.outputs.err
-  pub writes : CountsOne (has_failed_write reply) old.outputs.out_failed new.outputs.out_failed old.outputs.err_failed new.outputs.err_failed
+  pub err : JobPrintsBy (job_kind job) reply job tree.snapshot old.index
+      tree.failed tree.failed_then old.outputs.err new.outputs.err
+  pub writes : CountsOne (has_failed_write reply) old.outputs.out_failed new.outputs.out_failed
+      old.outputs.err_failed new.outputs.err_failed
 
 -- A job that is done ends by flushing both outputs once; in a refused one `out` was flushed once at most and `err` never:
 -- so `out` is flushed first.
@@ -93,7 +99,7 @@ FlushesBy Done printed later = GrowsFlushed printed.out later.out [] × GrowsFlu
 FlushesBy (Refused fault) printed later = MayEnd [] printed.out later.out × Grows printed.err later.err []
 
 -- What a job does: it prints, and then it flushes.
-pub record IsWholeStep (job : IndexJob) (tree : JobTree) (reply : Reply) (old new : Standing) : Type 0 where
+pub record IsWholeStep (job : IndexJob) (tree : JobTree) (reply : Reply) (old new : State) : Type 0 where
   pub printed : Outputs
   pub step : IsStep job tree reply old (record { index = new.index; outputs = printed })
   pub flushes : FlushesBy reply printed new.outputs
@@ -106,9 +112,10 @@ LeavesFlushed Done outputs = HasFlushed outputs.out × HasFlushed outputs.err
 LeavesFlushed (Refused fault) outputs = Unit {0}
 
 -- each job in order goes on from what the one before it left
-abbrev pub Steps : List IndexJob → List JobTree → List Reply → Standing → Standing → Type 0
+abbrev pub Steps : List IndexJob → List JobTree → List Reply → State → State → Type 0
 Steps [] [] [] old new = new ≡ old
-Steps (job ∷ jobs) (tree ∷ trees) (reply ∷ replies) old new = (mid : Standing) × IsWholeStep job tree reply old mid × Steps jobs trees replies mid new
+Steps (job ∷ jobs) (tree ∷ trees) (reply ∷ replies) old new =
+    (mid : State) × IsWholeStep job tree reply old mid × Steps jobs trees replies mid new
 Steps [] [] (reply ∷ replies) old new = ⊥
 Steps [] (tree ∷ trees) replies old new = ⊥
 Steps (job ∷ jobs) [] replies old new = ⊥

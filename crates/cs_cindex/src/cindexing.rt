@@ -3,7 +3,7 @@ ghost use Rattle.std.specs.Prelude.{◌≡◌, map, length, All};
 ghost use Rattle.cs_history.specs.Headline.{Indexes};
 ghost use Rattle.cs_history.specs.Jobs.{HasAbsoluteFolder};
 ghost use Rattle.cs_cindex.specs.Bytes.{index_bytes};
-ghost use Rattle.cs_cindex.specs.Steps.{RightAll, Steps, job_trees, standing};
+ghost use Rattle.cs_cindex.specs.Steps.{RightAll, Steps, job_trees, state};
 
 use crate::job::do_job;
 use cs_tree::{Sink, Tree};
@@ -30,9 +30,9 @@ pub fn cindex<T: Tree, O: Sink, E: Sink>(
         (index_bytes old) (index_bytes result) }
     ensures replies { RightAll (map T.snapshot trees.old) (index_bytes old) jobs.now replies.new }
     ensures steps { Steps jobs.now (job_trees T.snapshot T.failed trees.old trees.new) replies.new
-        (standing O.taken O.failed E.taken E.failed
+        (state O.taken O.failed E.taken E.failed
         (index_bytes old) out.old err.old)
-        (standing O.taken O.failed E.taken E.failed
+        (state O.taken O.failed E.taken E.failed
         (index_bytes result) out.new err.new) }
     ensures keeps { map T.snapshot trees.new ≡ map T.snapshot trees.old }
 {

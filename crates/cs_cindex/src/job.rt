@@ -4,7 +4,7 @@ ghost use Rattle.cs_cindex.specs.Bytes.{index_bytes};
 ghost use Rattle.std.specs.Option.{option_copied};
 ghost use Rattle.cs_cindex.specs.Outcomes.{IsStepTo, IsWholeStepTo, RightAfter};
 ghost use Rattle.cs_history.specs.Jobs.{HasAbsoluteFolder};
-ghost use Rattle.cs_cindex.specs.Steps.{IsWholeStep, job_tree, outputs, standing};
+ghost use Rattle.cs_cindex.specs.Steps.{IsWholeStep, job_tree, outputs, state};
 
 use crate::listing::list_paths;
 use crate::outcome::{Outcome, index_and_reply};
@@ -25,9 +25,9 @@ pub(crate) fn do_job<T: Tree, O: Sink, E: Sink>(
     requires { HasAbsoluteFolder job.now }
     ensures replies { RightAfter (T.snapshot tree.old) (index_bytes old) job.now result.1 }
     ensures step { IsWholeStep job.now (job_tree T.snapshot T.failed tree.old tree.new) result.1
-        (standing O.taken O.failed E.taken E.failed
+        (state O.taken O.failed E.taken E.failed
         (index_bytes old) out.old err.old)
-        (standing O.taken O.failed E.taken E.failed
+        (state O.taken O.failed E.taken E.failed
         (index_bytes result.0) out.new err.new) }
     ensures tree_keeps { T.snapshot tree.new ≡ T.snapshot tree.old }
 {
@@ -46,7 +46,7 @@ fn run_job<T: Tree, O: Sink, E: Sink>(
 ) -> Result<Outcome, CindexFault>
     requires { HasAbsoluteFolder job.now }
     ensures step { IsWholeStepTo job.now (job_tree T.snapshot T.failed tree.old tree.new) result
-        (standing O.taken O.failed E.taken E.failed
+        (state O.taken O.failed E.taken E.failed
         (option_copied old.entry) out.old err.old)
         (outputs O.taken O.failed E.taken E.failed out.new err.new) }
     ensures tree_keeps { T.snapshot tree.new ≡ T.snapshot tree.old }
@@ -68,7 +68,7 @@ fn outcome_of<T: Tree, O: Sink, E: Sink>(
 ) -> Result<Outcome, CindexFault>
     requires { HasAbsoluteFolder job.now }
     ensures step { IsStepTo job.now (job_tree T.snapshot T.failed tree.old tree.new) result
-        (standing O.taken O.failed E.taken E.failed
+        (state O.taken O.failed E.taken E.failed
         (option_copied old.entry) out.old err.old)
         (outputs O.taken O.failed E.taken E.failed out.new err.new) }
     ensures tree_keeps { T.snapshot tree.new ≡ T.snapshot tree.old }

@@ -8,7 +8,7 @@ ghost use Rattle.std.specs.Option.{option_copied};
 ghost use Rattle.cs_cindex.specs.Outcomes.{AnswersFor, reply_of};
 ghost use Rattle.cs_cindex.specs.Output.{index_lines, path_lines, is_failed_write};
 ghost use Rattle.cs_cindex.specs.Refusals.{IsOutputFault, list_fault};
-ghost use Rattle.cs_cindex.specs.Steps.{IsWholeStep, JobTree, LeavesFlushed, outputs, standing};
+ghost use Rattle.cs_cindex.specs.Steps.{IsWholeStep, JobTree, LeavesFlushed, outputs, state};
 
 use cs_index::{Index, IndexFault, StoredIndex, Texts};
 use cs_tree::{Sink, write_all};
@@ -23,9 +23,9 @@ pub fn list_stored<O: Sink, E: Sink>(
 ) -> Reply
     ensures step { (job : IndexJob') (tree : JobTree) (bytes : List ℕ) → job.list ≡ true →
         OpensAs bytes opened → IsWholeStep job tree result
-        (standing O.taken O.failed E.taken E.failed
+        (state O.taken O.failed E.taken E.failed
         (Some bytes) out.old err.old)
-        (standing O.taken O.failed E.taken E.failed
+        (state O.taken O.failed E.taken E.failed
         (Some bytes) out.new err.new) }
     ensures flushed { LeavesFlushed result
         (outputs O.taken O.failed E.taken E.failed out.new err.new) }
@@ -44,9 +44,9 @@ fn list_opened<O: Sink, E: Sink>(
 ) -> Result<(), CindexFault>
     ensures step { (job : IndexJob') (tree : JobTree) (bytes : List ℕ) → job.list ≡ true →
         OpensAs bytes opened → IsWholeStep job tree (reply_of result)
-        (standing O.taken O.failed E.taken E.failed
+        (state O.taken O.failed E.taken E.failed
         (Some bytes) out.old err.old)
-        (standing O.taken O.failed E.taken E.failed
+        (state O.taken O.failed E.taken E.failed
         (Some bytes) out.new err.new) }
     ensures flushed { LeavesFlushed (reply_of result)
         (outputs O.taken O.failed E.taken E.failed out.new err.new) }

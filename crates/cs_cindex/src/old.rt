@@ -1,5 +1,5 @@
 // The index that a job goes on from.
-ghost use Rattle.std.specs.Prelude.{◌≡◌, false, map, string_bytes, IfErr, IfOk, MatchResult, Ok, Some, None};
+ghost use Rattle.std.specs.Prelude.{◌≡◌, false, map, string_bytes, IfErr, IfOk, MatchResult, Ok, None};
 ghost use Rattle.std.specs.List.{list_all};
 ghost use Rattle.cs_index.specs.Opening.{opening};
 ghost use Rattle.cs_tree.specs.Folders.{are_distinct};

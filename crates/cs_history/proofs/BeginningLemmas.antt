@@ -1,5 +1,5 @@
 -- An index that opens, whoever wrote it: what it spells can be held by an index.
-use Rattle.std.proofs.Common.{◌≡◌, ℕ, ◌+◌, ◌-◌, Bool, true, false, cond, not, ◌||◌, eqb, leb, ltb, List, [], ◌∷◌, length, map, take, drop, refl, sym, ap, subst, ◌∙◌, inl, inr, Some, Result, Ok, Err}
+use Rattle.std.proofs.Common.{◌≡◌, ℕ, ◌+◌, Bool, true, false, cond, not, ◌||◌, eqb, leb, ltb, List, [], ◌∷◌, length, map, take, drop, refl, sym, ap, subst, ◌∙◌, inl, inr, Some, Result, Ok, Err}
 use Rattle.std.proofs.lemmas.Bool.{cases_Bool, and_parts, or_cases, eqb-true, ltb-true}
 use Rattle.std.specs.List.{AllByRecursion, list_all}
 use Rattle.std.specs.Ordering.{eq_by_cmp}
@@ -47,10 +47,10 @@ from_sections : (s : Sections) (parts : Parts) → read_cut (Ok s) ≡ Ok parts 
 from_sections s parts h =
     let passed = all_passed (is_section (0 ∷ []) s.paths) (is_names_section s.names) (is_name_index s.name_index (texts_of s.names)) (is_list_index (length s.postings) s.list_index) (parts_of s) parts h in
     subst AreOpened passed.3 (record {
-      each_path = (section_read (0 ∷ []) s.paths passed.0).each;
+      each_path = (section_read (0 ∷ []) s.paths passed.0).0;
       each_name = elim (or_cases (is_section (0 ∷ []) s.names) (is_section [] s.names) passed.1) [
-        | inl closed ↦ (section_read (0 ∷ []) s.names closed).each
-        | inr bare ↦ (section_read [] s.names bare).each
+        | inl closed ↦ (section_read (0 ∷ []) s.names closed).0
+        | inr bare ↦ (section_read [] s.names bare).0
       ];
       rise = entries_rise (length s.postings) s.list_index passed.2;
       fit = entries_fit (length s.postings) s.list_index passed.2;

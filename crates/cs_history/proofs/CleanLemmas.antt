@@ -1,23 +1,23 @@
 -- A cleaned path is text without NUL where what was given is.
-use Rattle.std.proofs.Common.{ℕ, cond, ◌||◌, List, [], ◌∷◌}
+use Rattle.std.proofs.Common.{ℕ, cond, ◌||◌, List, [], ◌∷◌, drop}
 use Rattle.std.proofs.lemmas.Bool.{cond_both}
 use Rattle.std.specs.Prelude.{codes}
 use Rattle.std.specs.List.{AllByRecursion}
 use Rattle.cs_tree.specs.Cover.{same}
-use Rattle.cs_tree.specs.Clean.{elements, without_first, with_element, steps, with_slashes, path_of, absolute, clean_path}
+use Rattle.cs_tree.specs.Clean.{elements, with_element, steps, with_slashes, path_of, absolute, clean_path}
 use Rattle.cs_history.proofs.PathLemmas.{IsPart, part_joined, part_empty, parts_of_text}
 
 -- ---- what steps keep
 
-all_without : (above : List (List ℕ)) → AllByRecursion IsPart above → AllByRecursion IsPart (without_first above)
+all_without : (above : List (List ℕ)) → AllByRecursion IsPart above → AllByRecursion IsPart (drop 1 above)
 all_without [] all = tt
 all_without (x ∷ above) all = all.1
 
 all_stepped : (above : List (List ℕ)) (name : List ℕ) → AllByRecursion IsPart above → IsPart name → AllByRecursion IsPart (with_element above name)
 all_stepped above name all part =
-    cond_both (same name [] || same name (codes ".")) above (cond (same name (codes "..")) (without_first above) (name ∷ above)) (AllByRecursion IsPart)
+    cond_both (same name [] || same name (codes ".")) above (cond (same name (codes "..")) (drop 1 above) (name ∷ above)) (AllByRecursion IsPart)
     (λ _. all)
-    (λ _. cond_both (same name (codes "..")) (without_first above) (name ∷ above) (AllByRecursion IsPart) (λ _. all_without above all) (λ _. (part, all)))
+    (λ _. cond_both (same name (codes "..")) (drop 1 above) (name ∷ above) (AllByRecursion IsPart) (λ _. all_without above all) (λ _. (part, all)))
 
 all_steps : (above names : List (List ℕ)) → AllByRecursion IsPart above → AllByRecursion IsPart names → AllByRecursion IsPart (steps above names)
 all_steps above [] all parts = all

@@ -20,7 +20,7 @@ use Rattle.cs_merge.proofs.ContentLemmas.{content_joined, under_joined}
 use Rattle.cs_merge.proofs.HoldingLemmas.{content_held, held_once, held_names, held_set}
 use Rattle.cs_index.specs.Opening.{opening}
 use Rattle.cs_index.specs.OpenedParts.{Parts, are_whole, paths_in, files_in}
-use Rattle.cs_history.specs.History.{Visit, History, nothing, handed_in, ◌⊳◌, all_paths_given, paths_of, walked_paths, files_of, index_of}
+use Rattle.cs_history.specs.History.{Visit, History, nothing, handed_in, ◌⊳◌, all_given_paths, paths_of, walked_paths, files_of, index_of}
 use Rattle.cs_history.specs.JobIndex.{files_found}
 use Rattle.cs_history.specs.FileTrigrams.{file_trigrams}
 use Rattle.cs_tree.proofs.SettledLemmas.{settled_filled, settled_no_nul, no_nul_bytes}
@@ -43,13 +43,13 @@ clean_union : (a b : Paths) → AreClean a → AreClean b → AreClean (set.unio
 clean_union a b f g path member =
     elim (or_cases (set.contains a path) (set.contains b path) (sym (contains-union a b path) ∙ member)) [ inl here ↦ f path here | inr there ↦ g path there ]
 
-clean_given : (history : History) → IsHistory history → AreClean (all_paths_given history)
+clean_given : (history : History) → IsHistory history → AreClean (all_given_paths history)
 clean_given nothing is path member = absurd (true≢false (sym member ∙ contains-empty path))
 clean_given (handed_in bytes parts) is path member = begun_clean bytes parts is path member
-clean_given (visit ⊳ before) is path member = clean_union (all_paths_given before) visit.given (clean_given before is.1) is.0.given_are path member
+clean_given (visit ⊳ before) is path member = clean_union (all_given_paths before) visit.given (clean_given before is.1) is.0.given_are path member
 
 pub clean_paths : (history : History) → IsHistory history → AreClean (paths_of history)
-clean_paths history is = clean_least (all_paths_given history) (clean_given history is)
+clean_paths history is = clean_least (all_given_paths history) (clean_given history is)
 
 -- what holds of the paths before and of the job's own holds of those that it walks
 module _ (P : Paths → Type 0) (visit : Visit) (before : History) where
@@ -60,7 +60,7 @@ pub clean_walked : (visit : Visit) (before : History) → IsHistory (visit ⊳ b
 clean_walked visit before is = by_walked AreClean visit before (clean_paths before is.1) (clean_least visit.given is.0.given_are)
 
 pub reduced_walked : (visit : Visit) (before : History) → least (walked_paths visit before) ≡ walked_paths visit before
-reduced_walked visit before = by_walked (λ paths. least paths ≡ paths) visit before (least_twice (all_paths_given before)) (least_twice visit.given)
+reduced_walked visit before = by_walked (λ paths. least paths ≡ paths) visit before (least_twice (all_given_paths before)) (least_twice visit.given)
 
 pub clean_string : (path : List ℕ) → IsClean path → IsString path
 clean_string path is = (settled_filled path is.settled, no_nul_bytes path (settled_no_nul path is.settled), is.utf8)
@@ -157,7 +157,7 @@ history_opens (visit ⊳ before) bytes is h short =
     record {
       parts = held.parts;
       opened = held.opened;
-      paths_are = ap least held.has.paths_are ∙ least_twice (all_paths_given (visit ⊳ before));
+      paths_are = ap least held.has.paths_are ∙ least_twice (all_given_paths (visit ⊳ before));
       files_are = held.has.files_are;
       whole = held.has.whole;
     }

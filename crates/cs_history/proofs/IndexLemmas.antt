@@ -23,7 +23,7 @@ use Rattle.cs_merge.proofs.OpeningLemmas.{held_opens}
 use Rattle.cs_tree.proofs.Least.{least-union}
 use Rattle.cs_merge.specs.Content.{Holds}
 use Rattle.cs_merge.proofs.HoldingLemmas.{content_held}
-use Rattle.cs_history.specs.History.{History, nothing, handed_in, ◌⊳◌, Visit, all_paths_given, paths_of, walked_paths, kept_at, files_of, index_of}
+use Rattle.cs_history.specs.History.{History, nothing, handed_in, ◌⊳◌, Visit, all_given_paths, paths_of, walked_paths, kept_at, files_of, index_of}
 use Rattle.cs_history.specs.JobIndex.{files_found}
 use Rattle.cs_history.specs.WellFormed.{IsHistory}
 use Rattle.cs_history.specs.Begun.{HasBeginning}
@@ -62,7 +62,7 @@ given_some job some = some_len (map (λ text. clean_path (string_bytes job.cwd) 
     some_len [] h e = h refl
     some_len (p ∷ ps) h e = true≢false (sym (contains_first p ps) ∙ ap (λ s. set.contains s p) (map'.empty_of_len (set.from_list (p ∷ ps)) e) ∙ contains-empty p)
 
-walked_own : (visit : Visit) (before : History) → set.len visit.given ≢ 0 → walked_paths visit before ≡ least visit.given
+pub walked_own : (visit : Visit) (before : History) → set.len visit.given ≢ 0 → walked_paths visit before ≡ least visit.given
 walked_own visit before some = ap (λ b. cond b (paths_of before) (least visit.given)) (ne_eqb (set.len visit.given) 0 some)
 
 pub index_begun : (before : History) (job : IndexJob) (tree : Snapshot) → job.list ≡ false → job.reset ≡ true → has_no_path job ≡ false → index_of (after_done before job tree) ≡ Some (image (least (given_paths job)) (files_reached (text_trigrams limits) tree (least (given_paths job))))
@@ -80,7 +80,7 @@ index_none before job tree l r p =
 -- ---- a job without paths
 
 pub paths_again : (visit : Visit) (before : History) → set.len visit.given ≡ 0 → paths_of (visit ⊳ before) ≡ paths_of before
-paths_again visit before none = ap least (no_paths visit.given none (all_paths_given before))
+paths_again visit before none = ap least (no_paths visit.given none (all_given_paths before))
 
 pub walked_again : (visit : Visit) (before : History) → set.len visit.given ≡ 0 → walked_paths visit before ≡ paths_of before
 walked_again visit before none = ap (λ n. cond (eqb n 0) (paths_of before) (least visit.given)) none
@@ -120,9 +120,9 @@ first_index (handed_in old parts) visit bytes none is = cc
 first_index (v ⊳ before) visit bytes none is = cc
 
 -- on an index: what comes of merging it with what the job found
-module _ (before : History) (visit : Visit) (old newer bytes : List ℕ) (is : IsHistory (visit ⊳ before)) (there : index_of before ≡ Some old) (short : length old < 2 ^ 32) (found : newer ≡ image (walked_paths visit before) (files_found visit before)) (few : length newer < 2 ^ 32) where
+module _ (before : History) (visit : Visit) (old newer bytes : List ℕ) (is : IsHistory (visit ⊳ before)) (there : index_of before ≡ Some old) (short : length old < 2 ^ 32) (found : newer ≡ image (walked_paths visit before) (files_found visit before)) (bound : length newer < 2 ^ 32) where
   own_holds : Holds newer (walked_paths visit before) (files_found visit before)
-  own_holds = subst (λ b. Holds b (walked_paths visit before) (files_found visit before)) (sym found) (content_held (walked_paths visit before) (files_found visit before) (walk_content visit before is) (subst (λ b. length b < 2 ^ 32) found few))
+  own_holds = subst (λ b. Holds b (walked_paths visit before) (files_found visit before)) (sym found) (content_held (walked_paths visit before) (files_found visit before) (walk_content visit before is) (subst (λ b. length b < 2 ^ 32) found bound))
 
   pub merged_index : IsByJobs before → ((p q : Paths) (f g : Files) → Holds old p f → Holds newer q g → bytes ≡ image (join_paths p q) (join_files q f g)) → Some bytes ≡ index_of (visit ⊳ before)
   merged_index by merged =

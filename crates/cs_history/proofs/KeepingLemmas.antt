@@ -19,7 +19,7 @@ use Rattle.cs_tree.proofs.Found.{found_under}
 use Rattle.cs_merge.specs.Join.{join_files, join_paths}
 use Rattle.cs_merge.proofs.JoinLemmas.{get-join_files}
 use Rattle.cs_index.specs.OpenedParts.{Parts}
-use Rattle.cs_history.specs.History.{Visit, History, nothing, handed_in, ◌⊳◌, all_paths_given, paths_of, walked_paths, kept_at, names_found, kept_files}
+use Rattle.cs_history.specs.History.{Visit, History, nothing, handed_in, ◌⊳◌, all_given_paths, paths_of, walked_paths, kept_at, names_found, kept_files}
 
 list_any-append : (test : List ℕ → Bool) (xs ys : List (List ℕ)) → list_any test (xs ++ ys) ≡ (list_any test xs || list_any test ys)
 list_any-append test [] ys = refl
@@ -104,11 +104,11 @@ join_paths_of history visit =
     elim (cases_Bool (eqb (set.len visit.given) 0)) [
       | inl none ↦
           ap (λ b. join_paths (paths_of history) (cond b (paths_of history) (least visit.given))) none
-          ∙ least_settled _ _ (λ name. ap (λ f. f name) (union_itself (paths_of history) (paths_of history) (λ n. refl)) ∙ covered-least (all_paths_given history) name)
-          ∙ sym (ap least (no_paths visit.given (eqb-true _ _ none) (all_paths_given history)))
+          ∙ least_settled _ _ (λ name. ap (λ f. f name) (union_itself (paths_of history) (paths_of history) (λ n. refl)) ∙ covered-least (all_given_paths history) name)
+          ∙ sym (ap least (no_paths visit.given (eqb-true _ _ none) (all_given_paths history)))
       | inr some ↦
           ap (λ b. join_paths (paths_of history) (cond b (paths_of history) (least visit.given))) some
-          ∙ least-union (all_paths_given history) visit.given
+          ∙ least-union (all_given_paths history) visit.given
     ]
 
 -- ---- the first job of a history

@@ -24,9 +24,9 @@ pub index_or_path : (job : IndexJob) (place : ℕ) → NeedsIndex job → IsFirs
 index_or_path job place (inl lists) bad = true≢false (sym lists ∙ bad.walks)
 index_or_path job place (inr alone) bad =
     let none : length job.paths.items ≡ 0 = eqb-true (length job.paths.items) 0 alone.1 in
-    let few : length (given_texts job) ≡ length job.paths.items = length-map job.paths.items string_bytes in
+    let bound : length (given_texts job) ≡ length job.paths.items = length-map job.paths.items string_bytes in
     let within = bad.within in
-    omega (arith, none, few, within)
+    omega (arith, none, bound, within)
 
 -- what holds of a front holds within it
 at_front : (P : List ℕ → Type 0) (given_texts : List (List ℕ)) (front k : ℕ) (d : List ℕ) → AllByRecursion P (take front given_texts) → k < front → k < length given_texts → P (get_or given_texts k d)

@@ -20,7 +20,7 @@ use Rattle.cs_index.specs.Image.{Entry, image, image_of}
 use Rattle.cs_merge.specs.Join.{join_files}
 use Rattle.cs_history.specs.Shards.{files_of_both}
 use Rattle.cs_index.specs.OpenedParts.{Parts, files_read}
-use Rattle.cs_history.specs.History.{Visit, History, nothing, handed_in, ◌⊳◌, all_paths_given, paths_of, walked_paths, kept_at, names_found, kept_files, files_of, index_of}
+use Rattle.cs_history.specs.History.{Visit, History, nothing, handed_in, ◌⊳◌, all_given_paths, paths_of, walked_paths, kept_at, names_found, kept_files, files_of, index_of}
 
 -- ---- maps
 
@@ -149,14 +149,14 @@ given_in begun (rows ∷ before) = laid (given_in begun before ++ rows.given)
 abbrev walked_in : Option Parts → Rows → List Rows → PathRows
 walked_in begun rows before = cond (nat_eq (length rows.given) 0) (least_rows (given_in begun before)) (least_rows rows.given)
 
-given-rows : (history : History) → map'.entries (all_paths_given history) ≡ given_in (begun_of history) (jobs_of history)
+given-rows : (history : History) → map'.entries (all_given_paths history) ≡ given_in (begun_of history) (jobs_of history)
 given-rows nothing = entries_in_order [] tt
 given-rows (handed_in bytes parts) = entries-laid (set.with_units parts.paths)
 given-rows (visit ⊳ before) =
-    entries-laid (map'.entries (all_paths_given before) ++ map'.entries visit.given) ∙ ap (λ es. laid (es ++ map'.entries visit.given)) (given-rows before)
+    entries-laid (map'.entries (all_given_paths before) ++ map'.entries visit.given) ∙ ap (λ es. laid (es ++ map'.entries visit.given)) (given-rows before)
 
 paths-rows : (history : History) → map'.entries (paths_of history) ≡ least_rows (given_in (begun_of history) (jobs_of history))
-paths-rows history = entries-least (all_paths_given history) ∙ ap least_rows (given-rows history)
+paths-rows history = entries-least (all_given_paths history) ∙ ap least_rows (given-rows history)
 
 walked-rows : (visit : Visit) (before : History) → map'.entries (walked_paths visit before) ≡ walked_in (begun_of before) (record { given = map'.entries visit.given; tree = map'.entries visit.tree }) (jobs_of before)
 walked-rows visit before =

@@ -29,14 +29,14 @@ pub data History : Type 0 where
 -- ---- the paths that remain
 
 -- all paths that were given
-abbrev pub all_paths_given : History → Paths
-all_paths_given nothing = set.empty
-all_paths_given (handed_in bytes parts) = paths_in parts
-all_paths_given (visit ⊳ before) = set.union (all_paths_given before) visit.given
+abbrev pub all_given_paths : History → Paths
+all_given_paths nothing = set.empty
+all_given_paths (handed_in bytes parts) = paths_in parts
+all_given_paths (visit ⊳ before) = set.union (all_given_paths before) visit.given
 
 -- those that no other one covers: the paths of the index
 abbrev pub paths_of : History → Paths
-paths_of history = least (all_paths_given history)
+paths_of history = least (all_given_paths history)
 
 -- the paths that a job walks: its own, or where it was given none, those of the index before it
 abbrev pub walked_paths : Visit → History → Paths

@@ -20,12 +20,9 @@ use Rattle.cs_index.specs.Answerable.{asks_for, asks_step, is_answerable}
 use Rattle.cs_index.proofs.OpenedLemmas.{rise_read}
 use Rattle.cs_index.proofs.SiftLemmas.{ascends_range, below_range, filter_all, filter_filter, has_below, has_range, read_rise, rise_ascends, rise_below}
 use Rattle.cs_trigram.proofs.SetLemmas.{ascends_tail, ascends_head, below_none, ascends_same, ascends_filter, filter_within, has-filter}
+use Rattle.cs_tree.proofs.NameLemmas.{list_any-map}
 
 -- ---- the equations of queries
-
-list_any-map : (f : Query → Bool) (xs : List Query) → list_any (λ b. b) (map f xs) ≡ list_any f xs
-list_any-map f [] = refl
-list_any-map f (x ∷ xs) = ap (λ b. f x || b) (list_any-map f xs)
 
 module _ (set : ℕ → Bool) where
   pub holds-All : holds All set ≡ true
@@ -45,7 +42,7 @@ module _ (set : ℕ → Bool) where
   pub holds-Or : (members : Vec Query Global) → holds (Or members) set ≡ list_any (λ q. holds q set) members.items
   holds-Or members =
       ap (λ q. holds q set) (sym (rolls-Or members)) ∙ fold-roll-Query Bool (holds_step set) (Query-F.Or members)
-      ∙ list_any-map (λ q. holds q set) members.items
+      ∙ list_any-map (λ q. holds q set) (λ b. b) members.items
 
 module _ (g : ℕ) where
   asks-All : asks_for All g ≡ false
@@ -60,12 +57,12 @@ module _ (g : ℕ) where
   pub asks-And : (members : Vec Query Global) → asks_for (And members) g ≡ list_any (λ q. asks_for q g) members.items
   asks-And members =
       ap (λ q. asks_for q g) (sym (rolls-And members)) ∙ fold-roll-Query Bool (asks_step g) (Query-F.And members)
-      ∙ list_any-map (λ q. asks_for q g) members.items
+      ∙ list_any-map (λ q. asks_for q g) (λ b. b) members.items
 
   pub asks-Or : (members : Vec Query Global) → asks_for (Or members) g ≡ list_any (λ q. asks_for q g) members.items
   asks-Or members =
       ap (λ q. asks_for q g) (sym (rolls-Or members)) ∙ fold-roll-Query Bool (asks_step g) (Query-F.Or members)
-      ∙ list_any-map (λ q. asks_for q g) members.items
+      ∙ list_any-map (λ q. asks_for q g) (λ b. b) members.items
 
 -- ---- lists of members
 

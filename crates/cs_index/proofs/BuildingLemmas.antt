@@ -54,16 +54,16 @@ ascend_push (e ∷ es) entry up h = (sorted_push entry e es up (ap (λ (o : Opti
 
 -- ---- one name more
 
-all_push : {X : Type 0} (P : X → Type 0) (xs : List X) (x : X) → AllByRecursion P xs → P x → AllByRecursion P (xs ++ x ∷ [])
+pub all_push : {X : Type 0} (P : X → Type 0) (xs : List X) (x : X) → AllByRecursion P xs → P x → AllByRecursion P (xs ++ x ∷ [])
 all_push P [] x all h = (h, tt)
 all_push P (y ∷ xs) x all h = (all.0, all_push P xs x all.1 h)
 
-names_push : (es : List Entry) (entry : Entry) → names_of (es ++ entry ∷ []) ≡ names_of es ++ entry.0 ∷ []
+pub names_push : (es : List Entry) (entry : Entry) → names_of (es ++ entry ∷ []) ≡ names_of es ++ entry.0 ∷ []
 names_push [] entry = refl
 names_push (e ∷ es) entry = ap (λ rest. e.0 ∷ rest) (names_push es entry)
 
 pub built_added : (built : Built) (name trigrams : List ℕ) → IsBuilt built → IsString name → is_above (names_of built.entries) name ≡ true → IsTrigramSet trigrams → length built.entries < 1073741824 → IsBuilt (with_name built name trigrams)
-built_added built name trigrams is text above set few =
+built_added built name trigrams is text above set bound =
     let more : length (built.entries ++ (name, trigrams) ∷ []) ≡ length built.entries + 1 = length_push built.entries (name, trigrams) in
     record {
       paths = is.paths;
@@ -71,7 +71,7 @@ built_added built name trigrams is text above set few =
       each_name = subst (AllByRecursion IsString) (sym (names_push built.entries (name, trigrams))) (all_push IsString (names_of built.entries) name is.each_name text);
       ascend = ascend_push built.entries (name, trigrams) is.ascend above;
       sets = all_push (λ (entry : Entry). IsTrigramSet entry.1) built.entries (name, trigrams) is.sets set;
-      few = omega (arith, more, few);
+      bound = omega (arith, more, bound);
     }
 
 -- ---- what was built can be written
@@ -85,20 +85,20 @@ built_indexable built bytes is written short = record {
   each_path = is.each_path;
   each_name = is.each_name;
   trigrams = sets_below built.entries is.sets;
-  few = omega (arith, is.few);
+  bound = omega (arith, is.bound);
   short = subst (λ (bs : List ℕ). length bs < 2 ^ 32) written short;
 }
 
 -- ---- the lists when a name is added
 
-rise_further : (names next : ℕ) (ids : List ℕ) → RiseWithin names next ids → RiseWithin (names + 1) next ids
-rise_further names next [] up = tt
-rise_further names next (id ∷ ids) up = (up.0, omega (arith, up.1), rise_further names (id + 1) ids up.2)
+rise_further : (name_count next : ℕ) (ids : List ℕ) → RiseWithin name_count next ids → RiseWithin (name_count + 1) next ids
+rise_further name_count next [] up = tt
+rise_further name_count next (id ∷ ids) up = (up.0, omega (arith, up.1), rise_further name_count (id + 1) ids up.2)
 
-pub rise_next : (names next : ℕ) (ids : List ℕ) → RiseWithin names next ids → next ≤ names → next_after next ids ≤ names
-rise_next names next [] up h = h
-rise_next names next (id ∷ ids) up h = rise_next names (id + 1) ids up.2 (omega (arith, up.1))
+pub rise_next : (name_count next : ℕ) (ids : List ℕ) → RiseWithin name_count next ids → next ≤ name_count → next_after next ids ≤ name_count
+rise_next name_count next [] up h = h
+rise_next name_count next (id ∷ ids) up h = rise_next name_count (id + 1) ids up.2 (omega (arith, up.1))
 
-pub each_further : (names : ℕ) (lists : List Posting) → AllByRecursion (IsPosting names) lists → AllByRecursion (IsPosting (names + 1)) lists
-each_further names [] all = tt
-each_further names (p ∷ lists) all = ((all.0.0, rise_further names 0 p.1 all.0.1), each_further names lists all.1)
+pub each_further : (name_count : ℕ) (lists : List Posting) → AllByRecursion (IsPosting name_count) lists → AllByRecursion (IsPosting (name_count + 1)) lists
+each_further name_count [] all = tt
+each_further name_count (p ∷ lists) all = ((all.0.0, rise_further name_count 0 p.1 all.0.1), each_further name_count lists all.1)

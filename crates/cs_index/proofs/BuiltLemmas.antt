@@ -77,21 +77,21 @@ pub set_ascends : (lists : List Posting) (k : ℕ) → Ascends (set_at k (ordere
 set_ascends lists k = ascends_set_at (ids_of lists) k (set_of_numbers (keys lists)) (ascends_set (keys lists))
 
 -- ids of a trigram are those of a list
-pub ids_posting : (names : ℕ) (lists : List Posting) (g : ℕ) → AllByRecursion (IsPosting names) lists → has (keys lists) g ≡ true → IsPosting names (g, ids_of lists g)
-ids_posting names [] g all here = absurd (true≢false (sym here))
-ids_posting names (p ∷ lists) g all here =
+pub ids_posting : (name_count : ℕ) (lists : List Posting) (g : ℕ) → AllByRecursion (IsPosting name_count) lists → has (keys lists) g ≡ true → IsPosting name_count (g, ids_of lists g)
+ids_posting name_count [] g all here = absurd (true≢false (sym here))
+ids_posting name_count (p ∷ lists) g all here =
     elim (cases_Bool (eqb p.0 g)) [
-      | inl first ↦ subst (λ ids. IsPosting names (g, ids)) (sym (ap (λ b. cond b p.1 (ids_of lists g)) first)) all.0
+      | inl first ↦ subst (λ ids. IsPosting name_count (g, ids)) (sym (ap (λ b. cond b p.1 (ids_of lists g)) first)) all.0
       | inr later ↦
           let there : has (keys lists) g ≡ true = sym (ap (λ b. b || has (keys lists) g) later) ∙ here in
-          subst (λ ids. IsPosting names (g, ids)) (sym (ap (λ b. cond b p.1 (ids_of lists g)) later)) (ids_posting names lists g all.1 there)
+          subst (λ ids. IsPosting name_count (g, ids)) (sym (ap (λ b. cond b p.1 (ids_of lists g)) later)) (ids_posting name_count lists g all.1 there)
     ]
 
-pub ids_rise_within : (names : ℕ) (lists : List Posting) (g : ℕ) → AllByRecursion (IsPosting names) lists → RiseWithin names 0 (ids_of lists g)
-ids_rise_within names lists g all =
+pub ids_rise_within : (name_count : ℕ) (lists : List Posting) (g : ℕ) → AllByRecursion (IsPosting name_count) lists → RiseWithin name_count 0 (ids_of lists g)
+ids_rise_within name_count lists g all =
     elim (cases_Bool (has (keys lists) g)) [
-      | inl here ↦ (ids_posting names lists g all here).1
-      | inr absent ↦ subst (RiseWithin names 0) (sym (ids_new lists g absent)) tt
+      | inl here ↦ (ids_posting name_count lists g all here).1
+      | inr absent ↦ subst (RiseWithin name_count 0) (sym (ids_new lists g absent)) tt
     ]
 
 -- lists that give each trigram the same ids give each name the same trigrams
@@ -166,22 +166,22 @@ entries_added names name lists more gs given =
 
 -- ---- one trigram that waited
 
-rise_end : (names next : ℕ) (ids : List ℕ) (id : ℕ) → RiseWithin names next ids → next_after next ids ≤ id → id < names → RiseWithin names next (ids ++ id ∷ [])
-rise_end names next [] id up h few = (h, few, tt)
-rise_end names next (x ∷ ids) id up h few = (up.0, up.1, rise_end names (x + 1) ids id up.2 h few)
+rise_end : (name_count next : ℕ) (ids : List ℕ) (id : ℕ) → RiseWithin name_count next ids → next_after next ids ≤ id → id < name_count → RiseWithin name_count next (ids ++ id ∷ [])
+rise_end name_count next [] id up h bound = (h, bound, tt)
+rise_end name_count next (x ∷ ids) id up h bound = (up.0, up.1, rise_end name_count (x + 1) ids id up.2 h bound)
 
-pub each_gathered : (names : ℕ) (lists : List Posting) (g id : ℕ) → AllByRecursion (IsPosting names) lists → next_after 0 (ids_of lists g) ≤ id → id < names → AllByRecursion (IsPosting names) (with_id lists g id)
-each_gathered names [] g id all above few = (((λ e. cc), (omega arith, few, tt)), tt)
-each_gathered names (p ∷ lists) g id all above few =
+pub each_gathered : (name_count : ℕ) (lists : List Posting) (g id : ℕ) → AllByRecursion (IsPosting name_count) lists → next_after 0 (ids_of lists g) ≤ id → id < name_count → AllByRecursion (IsPosting name_count) (with_id lists g id)
+each_gathered name_count [] g id all above bound = (((λ e. cc), (omega arith, bound, tt)), tt)
+each_gathered name_count (p ∷ lists) g id all above bound =
     elim (cases_Bool (eqb p.0 g)) [
       | inl here ↦
           let last : next_after 0 p.1 ≤ id = subst (λ ids. next_after 0 ids ≤ id) (ap (λ b. cond b p.1 (ids_of lists g)) here) above in
-          subst (AllByRecursion (IsPosting names)) (sym (ap (λ b. cond b ((p.0, p.1 ++ id ∷ []) ∷ lists) (p ∷ with_id lists g id)) here))
-          (((λ e. no_end p.1 e), rise_end names 0 p.1 id all.0.1 last few), all.1)
+          subst (AllByRecursion (IsPosting name_count)) (sym (ap (λ b. cond b ((p.0, p.1 ++ id ∷ []) ∷ lists) (p ∷ with_id lists g id)) here))
+          (((λ e. no_end p.1 e), rise_end name_count 0 p.1 id all.0.1 last bound), all.1)
       | inr apart ↦
           let rest : next_after 0 (ids_of lists g) ≤ id = subst (λ ids. next_after 0 ids ≤ id) (ap (λ b. cond b p.1 (ids_of lists g)) apart) above in
-          subst (AllByRecursion (IsPosting names)) (sym (ap (λ b. cond b ((p.0, p.1 ++ id ∷ []) ∷ lists) (p ∷ with_id lists g id)) apart))
-          (all.0, each_gathered names lists g id all.1 rest few)
+          subst (AllByRecursion (IsPosting name_count)) (sym (ap (λ b. cond b ((p.0, p.1 ++ id ∷ []) ∷ lists) (p ∷ with_id lists g id)) apart))
+          (all.0, each_gathered name_count lists g id all.1 rest bound)
     ]
   where
     no_end : (ids : List ℕ) → ids ++ id ∷ [] ≡ [] → ⊥

@@ -1,6 +1,6 @@
 -- Lists that were copied, one after the other.
 use Rattle.std.proofs.Common.{◌≡◌, ◌≢◌, ℕ, zero, suc, ◌+◌, ◌-◌, ◌*◌, ◌<◌, ◌≤◌, ◌^◌, min, Bool, true, false, cond, ◌||◌, eqb, ltb, List, [], ◌∷◌, ◌++◌, length, map, take, drop, Option, Some, None, refl, sym, ap, subst, ◌∙◌, inl, inr, arith, length-drop, length-take, length-append}
-use Rattle.std.proofs.lemmas.Bool.{and_parts, cases_Bool, eq-eqb, eqb-true, leb-true, ne_eqb, true≢false}
+use Rattle.std.proofs.lemmas.Bool.{and_parts, cases_Bool, cases_eq, eq-eqb, eqb-true, leb-true, ne_eqb, true≢false}
 use Rattle.std.proofs.lemmas.List.{append-nil, drop-append-le, drop-drop, drop-take, drop_at, take-append-le}
 use Rattle.std.proofs.lemmas.Grind.{flat_map-append}
 use Rattle.std.proofs.Math.Seq.{take-length}
@@ -21,6 +21,7 @@ use Rattle.cs_index.proofs.ListReadLemmas.{Small, trigram_small}
 use Rattle.cs_index.proofs.OpenedLemmas.{entries_spelled}
 use Rattle.cs_index.proofs.PartsLemmas.{entries_fit}
 use Rattle.cs_index.proofs.PlaceLemmas.{number_small}
+use Rattle.cs_index.proofs.BuildingLemmas.{all_push}
 
 -- ---- parts of parts
 
@@ -74,7 +75,7 @@ is_found room g at count offset bytes is small found count_is offset_is =
     record {
       found = found ∙ (λ i. Some (record { trigram = same i; count = sym count_is i; offset = sym offset_is i }));
       small = subst (λ n. n < 2 ^ 24) same (trigram_small bytes at small);
-      few = subst (λ n. n < 2 ^ 32) (sym count_is) (number_small bytes (at + 3) small);
+      short = subst (λ n. n < 2 ^ 32) (sym count_is) (number_small bytes (at + 3) small);
       closing = λ last. count_is ∙ closed e both.1 (same ∙ last);
       room = subst (λ n. n + 4 ≤ room) (sym offset_is) (leb-true (e.offset + 4) room both.0);
     }
@@ -115,11 +116,10 @@ longer postings more [] all = tt
 longer postings more (e ∷ es) all =
     let l = length-append postings more in
     let r = all.0.room in
-    (record { trigram = all.0.trigram; count = all.0.count; offset = all.0.offset; closing = all.0.closing; room = omega (arith, l, r) }, longer postings more es all.1)
+    (record { trigram = all.0.trigram; count = all.0.count; offset = all.0.offset; room = omega (arith, l, r) }, longer postings more es all.1)
 
-all_push : (P : ListEntry → Type 0) (es : List ListEntry) (e : ListEntry) → AllByRecursion P es → P e → AllByRecursion P (es ++ e ∷ [])
-all_push P [] e all last = (last, tt)
-all_push P (d ∷ es) e all last = (all.0, all_push P es e all.1 last)
+below_last : (g : ℕ) → g < 2 ^ 24 → (g ≡ 16777215 → ⊥) → g < 16777215
+below_last g below apart = omega (arith, below, apart)
 
 -- A list index with one entry more.
 pub record Grown (list_index later postings : List ℕ) (e : ListEntry) : Type 0 where
@@ -136,10 +136,12 @@ grown list_index later postings more room entries g count offset are below found
     let s = are.short in
     let each : AllByRecursion (IsEntry (postings ++ more)) (es ++ copy ∷ []) =
     all_push (IsEntry (postings ++ more)) es copy (longer postings more es are.entries.0) (record {
-      trigram = found.small;
-      count = found.few;
+      trigram = elim (cases_eq g 16777215) [
+        | inl closing ↦ inr (closing, found.closing closing)
+        | inr other ↦ inl (below_last g found.small other)
+      ];
+      count = found.short;
       offset = s;
-      closing = found.closing;
       room = omega (arith, l, long);
     }) in
     let laid : later ≡ flat_map entry_bytes (es ++ copy ∷ []) =

@@ -69,48 +69,48 @@ module _ (later : List ℕ) where
   zero_alike k (Some cut) None h = absurd h
   zero_alike k (Some cut) (Some found) h = ap (λ n. eqb n 0) h.0
 
-  delta_alike : (names next k : ℕ) (more : ℕ → List ℕ → Ids) (cut found : Option (ℕ × List ℕ)) → IsFrontOf 5 k cut found
-      → ((next j : ℕ) (rest : List ℕ) → k ≤ j + 5 → more next (take j rest ++ pad) ≡ more next rest) → after_delta names next more cut ≡ after_delta names next more found
-  delta_alike names next k more None None h so = refl
-  delta_alike names next k more None (Some found) h so = absurd h
-  delta_alike names next k more (Some cut) None h so = absurd h
-  delta_alike names next k more (Some cut) (Some found) h so =
-      (λ i. cond (ltb 0 (h.0 i) && ltb (next + h.0 i) (names + 1)) (onto (next + h.0 i - 1) (more (next + h.0 i) (h.1.1.1 i))) damage)
-      ∙ ap (λ r. cond (ltb 0 found.0 && ltb (next + found.0) (names + 1)) (onto (next + found.0 - 1) r) damage) (so (next + found.0) h.1.0 found.1 h.1.1.0)
+  delta_alike : (name_count next k : ℕ) (more : ℕ → List ℕ → Ids) (cut found : Option (ℕ × List ℕ)) → IsFrontOf 5 k cut found
+      → ((next j : ℕ) (rest : List ℕ) → k ≤ j + 5 → more next (take j rest ++ pad) ≡ more next rest) → after_delta name_count next more cut ≡ after_delta name_count next more found
+  delta_alike name_count next k more None None h so = refl
+  delta_alike name_count next k more None (Some found) h so = absurd h
+  delta_alike name_count next k more (Some cut) None h so = absurd h
+  delta_alike name_count next k more (Some cut) (Some found) h so =
+      (λ i. cond (ltb 0 (h.0 i) && ltb (next + h.0 i) (name_count + 1)) (onto (next + h.0 i - 1) (more (next + h.0 i) (h.1.1.1 i))) damage)
+      ∙ ap (λ r. cond (ltb 0 found.0 && ltb (next + found.0) (name_count + 1)) (onto (next + found.0 - 1) r) damage) (so (next + found.0) h.1.0 found.1 h.1.1.0)
 
   -- a list is read of its first bytes alone
-  pub ids_alike : (names count next k : ℕ) (bytes : List ℕ) → 5 * count + 5 ≤ k → read_ids names count next (take k bytes ++ pad) ≡ read_ids names count next bytes
-  ids_alike names zero next k bytes h = ap (λ t. record { ids = []; whole = t }) (zero_alike k (read_varint (take k bytes ++ pad)) (read_varint bytes) (front_read k bytes (omega (arith, h))))
-  ids_alike names (suc count) next k bytes h =
-      delta_alike names next k (read_ids names count) (read_varint (take k bytes ++ pad)) (read_varint bytes) (front_read k bytes (omega (arith, h)))
-      (λ after j rest g. ids_alike names count after j rest (omega (arith, h, g)))
+  pub ids_alike : (name_count count next k : ℕ) (bytes : List ℕ) → 5 * count + 5 ≤ k → read_ids name_count count next (take k bytes ++ pad) ≡ read_ids name_count count next bytes
+  ids_alike name_count zero next k bytes h = ap (λ t. record { ids = []; whole = t }) (zero_alike k (read_varint (take k bytes ++ pad)) (read_varint bytes) (front_read k bytes (omega (arith, h))))
+  ids_alike name_count (suc count) next k bytes h =
+      delta_alike name_count next k (read_ids name_count count) (read_varint (take k bytes ++ pad)) (read_varint bytes) (front_read k bytes (omega (arith, h)))
+      (λ after j rest g. ids_alike name_count count after j rest (omega (arith, h, g)))
 
 -- ---- the list at an entry
 
 -- what is read where a piece lies, of the list that the piece was cut of
-piece_read : (names count g : ℕ) (list later : List ℕ) → 4 ≤ length list → (room : ℕ) → room ≡ 8 + 5 * count
-    → cond (same (take 3 ((take room list ++ endless) ++ later)) (three_bytes g)) (read_ids names count 0 (drop 3 ((take room list ++ endless) ++ later))) damage
-    ≡ cond (same (take 3 list) (three_bytes g)) (read_ids names count 0 (drop 3 list)) damage
-piece_read names count g [] later h room is = absurd (omega (arith, h))
-piece_read names count g (a ∷ []) later h room is = absurd (omega (arith, h))
-piece_read names count g (a ∷ b ∷ []) later h room is = absurd (omega (arith, h))
-piece_read names count g (a ∷ b ∷ c ∷ rest) later h zero is = absurd (omega (arith, is))
-piece_read names count g (a ∷ b ∷ c ∷ rest) later h (suc zero) is = absurd (omega (arith, is))
-piece_read names count g (a ∷ b ∷ c ∷ rest) later h (suc (suc zero)) is = absurd (omega (arith, is))
-piece_read names count g (a ∷ b ∷ c ∷ rest) later h (suc (suc (suc room))) is =
+piece_read : (name_count count g : ℕ) (list later : List ℕ) → 4 ≤ length list → (room : ℕ) → room ≡ 8 + 5 * count
+    → cond (same (take 3 ((take room list ++ endless) ++ later)) (three_bytes g)) (read_ids name_count count 0 (drop 3 ((take room list ++ endless) ++ later))) damage
+    ≡ cond (same (take 3 list) (three_bytes g)) (read_ids name_count count 0 (drop 3 list)) damage
+piece_read name_count count g [] later h room is = absurd (omega (arith, h))
+piece_read name_count count g (a ∷ []) later h room is = absurd (omega (arith, h))
+piece_read name_count count g (a ∷ b ∷ []) later h room is = absurd (omega (arith, h))
+piece_read name_count count g (a ∷ b ∷ c ∷ rest) later h zero is = absurd (omega (arith, is))
+piece_read name_count count g (a ∷ b ∷ c ∷ rest) later h (suc zero) is = absurd (omega (arith, is))
+piece_read name_count count g (a ∷ b ∷ c ∷ rest) later h (suc (suc zero)) is = absurd (omega (arith, is))
+piece_read name_count count g (a ∷ b ∷ c ∷ rest) later h (suc (suc (suc room))) is =
     ap (λ r. cond (same (a ∷ b ∷ c ∷ []) (three_bytes g)) r damage)
-    (ap (read_ids names count 0) (append_assoc (take room rest) endless later) ∙ ids_alike later names count 0 room rest (omega (arith, is)))
+    (ap (read_ids name_count count 0) (append_assoc (take room rest) endless later) ∙ ids_alike later name_count count 0 room rest (omega (arith, is)))
 
 -- what is read of an entry is read of its copy
-pub copy_read : (section postings : List ℕ) (names : ℕ) (e copy : ListEntry) → e.offset + 4 ≤ length section → IsCopy section postings e copy → read_list postings names copy ≡ read_list section names e
-copy_read section postings names e copy within is =
+pub copy_read : (section postings : List ℕ) (name_count : ℕ) (e copy : ListEntry) → e.offset + 4 ≤ length section → IsCopy section postings e copy → read_list postings name_count copy ≡ read_list section name_count e
+copy_read section postings name_count e copy within is =
     let piece : List ℕ = piece_of section e in
     let later : List ℕ = drop (length piece) (drop copy.offset postings) in
     let there : drop copy.offset postings ≡ piece ++ later =
     sym (take-append-drop (length piece) (drop copy.offset postings)) ∙ ap (λ front. front ++ later) is.piece in
     let three : (at : ℕ) (bytes : List ℕ) → drop (at + 3) bytes ≡ drop 3 (drop at bytes) = λ at bytes. sym (drop-drop 3 at bytes) in
     let long = length-drop e.offset section in
-    (λ i. cond (same (take 3 (drop copy.offset postings)) (three_bytes (is.trigram i))) (read_ids names (is.count i) 0 (three copy.offset postings i)) damage)
-    ∙ (λ i. cond (same (take 3 (there i)) (three_bytes e.trigram)) (read_ids names e.count 0 (drop 3 (there i))) damage)
-    ∙ piece_read names e.count e.trigram (drop e.offset section) later (omega (arith, long, within)) (8 + 5 * e.count) refl
-    ∙ ap (λ bytes. cond (same (take 3 (drop e.offset section)) (three_bytes e.trigram)) (read_ids names e.count 0 bytes) damage) (sym (three e.offset section))
+    (λ i. cond (same (take 3 (drop copy.offset postings)) (three_bytes (is.trigram i))) (read_ids name_count (is.count i) 0 (three copy.offset postings i)) damage)
+    ∙ (λ i. cond (same (take 3 (there i)) (three_bytes e.trigram)) (read_ids name_count e.count 0 (drop 3 (there i))) damage)
+    ∙ piece_read name_count e.count e.trigram (drop e.offset section) later (omega (arith, long, within)) (8 + 5 * e.count) refl
+    ∙ ap (λ bytes. cond (same (take 3 (drop e.offset section)) (three_bytes e.trigram)) (read_ids name_count e.count 0 bytes) damage) (sym (three e.offset section))

@@ -4,7 +4,7 @@ use Rattle.cs_index.specs.PostingLists.{read_list}
 use Rattle.cs_index.specs.Image.{Entry, deltas_from, ids_from, image_of, posting_list, varint}
 use Rattle.cs_index.specs.OpenedParts.{whole_ids}
 use Rattle.cs_index.specs.Built.{are_paths, is_above, is_storable}
-use Rattle.cs_index.specs.Ascending.{is_alone}
+use Rattle.cs_tree.specs.Cover.{is_alone}
 use Rattle.cs_index.specs.Segments.{ids_of_segments, keys_in, lists_from}
 use Rattle.cs_index.specs.Keys.{keys_of, with_keys}
 use Rattle.cs_index.specs.Laid.{Laid, entries_laid, last_ids, with_last_id, with_list}
@@ -89,7 +89,7 @@ three_laid = with_list (record {
   paths = codes "/t" ∷ [];
   names = codes "/t/0" ∷ codes "/t/1" ∷ codes "/t/2" ∷ [];
   lists = (0x616263, 0 ∷ 2 ∷ []) ∷ [];
-  begun = Some 0x616263;
+  last_trigram = Some 0x616263;
 }) 0x616264
 
 no_trace : entries_laid three_laid ≡

@@ -8,14 +8,15 @@ use Rattle.cs_tree.specs.ByteList.{AreBytes}
 use Rattle.cs_index.specs.Image.{concat, with_nul, Sections, magic, trailer_magic, ListEntry}
 use Rattle.cs_index.specs.Opening.{cut_before, cut_of, entries_in, has_trailer, is_list_index, is_name_index, is_section, opening, parts_of, read_cut, read_sections, texts_of}
 use Rattle.cs_index.specs.OpenedParts.{Parts}
-use Rattle.cs_index.specs.Failing.{HasMagic, HasTrailer, AreLaid, ArePaths, AreNames, AreOffsets, AreEntries, HavePaths, HaveNames, Fails}
+use Rattle.cs_index.specs.Failing.{HasMagic, HasTrailer, AreLaid, ArePaths, AreNames, HavePaths, HaveNames, Fails}
+use Rattle.cs_index.specs.Spelling.{AreEntries, AreOffsets}
 use Rattle.cs_index.specs.declared.fault.IndexFault.{IndexFault}
 use Rattle.cs_index.specs.declared.fault.IndexFault.TheVariants.{BadMagic, BadTrailer, BadOffsets, BadPaths, BadNames, BadNameIndex, BadListIndex, BadList, Memory}
-use Rattle.cs_index.proofs.OnceLemmas.{lengths}
+use Rattle.cs_index.proofs.OnceLemmas.{lengths, names_tail}
 use Rattle.cs_index.proofs.ListReadLemmas.{Small, small_bytes}
 use Rattle.cs_index.proofs.TextLemmas.{formed_spelled, section_read, section_spelled, texts_spelled}
 use Rattle.cs_index.proofs.OpenLemmas.{cut_ended, no_magic, no_trailer}
-use Rattle.cs_index.proofs.OpenedLemmas.{cut_spelled, cut_from, names_read, offsets_read, list_index_read, name_index_spelled, list_index_spelled, tail_of}
+use Rattle.cs_index.proofs.OpenedLemmas.{cut_spelled, cut_from, names_read, offsets_read, list_index_read, name_index_spelled, list_index_spelled}
 
 -- ---- one test
 
@@ -65,42 +66,42 @@ paths_tested : (paths : List (List ℕ)) (section : List ℕ) → ArePaths paths
 paths_tested paths section are = ap (is_section (0 ∷ [])) are.1 ∙ section_spelled paths (0 ∷ []) are.0 (inr refl)
 
 paths_there : (section : List ℕ) → is_section (0 ∷ []) section ≡ true → ArePaths (texts_of section) section
-paths_there section h = let read = section_read (0 ∷ []) section h in (read.each, read.bytes)
+paths_there section h = section_read (0 ∷ []) section h
 
 abbrev are_names : List ℕ → Bool
 are_names section = is_section (0 ∷ []) section || is_section [] section
 
 names_tested : (names : List (List ℕ)) (section : List ℕ) → AreNames names section → are_names section ≡ true
 names_tested names section are =
-    let tail = tail_of section names are.1 in
-    ap are_names tail.2 ∙ formed_spelled names tail.0 are.0 tail.1
+    let tail = names_tail section names are in
+    ap are_names tail.1.1 ∙ formed_spelled names tail.0 tail.1.0 tail.2
 
 names_there : (section : List ℕ) → are_names section ≡ true → AreNames (texts_of section) section
-names_there section h = let read = names_read section h in (read.each, read.are)
+names_there section h = names_read section h
 
 texts_are : (names : List (List ℕ)) (section : List ℕ) → AreNames names section → texts_of section ≡ names
 texts_are names section are =
-    let tail = tail_of section names are.1 in
-    ap texts_of tail.2 ∙ texts_spelled names tail.0 are.0 tail.1
+    let tail = names_tail section names are in
+    ap texts_of tail.1.1 ∙ texts_spelled names tail.0 tail.1.0 tail.2
 
 few_bytes : (names : List (List ℕ)) (section : List ℕ) → AreNames names section → length section < 2 ^ 32 → length (concat (map with_nul names)) < 2 ^ 32
 few_bytes names section are short =
-    let tail = tail_of section names are.1 in
-    let a = ap length tail.2 in
+    let tail = names_tail section names are in
+    let a = ap length tail.1.1 in
     let b = length-append (concat (map with_nul names)) tail.0 in
     omega (arith, a, b, short)
 
 offsets_tested : (names : List (List ℕ)) (section : List ℕ) → length (concat (map with_nul names)) < 2 ^ 32 → AreOffsets names section → is_name_index section names ≡ true
-offsets_tested names section few are = ap (λ bytes. is_name_index bytes names) are.2 ∙ name_index_spelled names are.0 are.1 few
+offsets_tested names section bound are = ap (λ bytes. is_name_index bytes names) are.2 ∙ name_index_spelled names are.0 are.1 bound
 
 offsets_there : (names : List (List ℕ)) (section : List ℕ) → Small section → is_name_index section names ≡ true → AreOffsets names section
-offsets_there names section small h = let read = offsets_read section names small h in (_, read.four, read.is)
+offsets_there names section small h = offsets_read section names small h
 
 entries_tested : (postings : List ℕ) (entries : List ListEntry) (section : List ℕ) → AreEntries postings entries section → is_list_index (length postings) section ≡ true
-entries_tested postings entries section are = list_index_spelled postings section entries are.2 are.0 are.1
+entries_tested postings entries section are = list_index_spelled postings section entries are
 
 entries_there : (postings section : List ℕ) → Small section → is_list_index (length postings) section ≡ true → AreEntries postings (entries_in section) section
-entries_there postings section small h = let read = list_index_read postings section small h in (read.each, read.ascend, read.is)
+entries_there postings section small h = list_index_read postings section small h
 
 -- ---- sections
 
@@ -140,8 +141,8 @@ module _ (bytes : List ℕ) (s : Sections) (small : Small bytes) (is : cut_of by
   abbrev with_names : is_section (0 ∷ []) s.paths ≡ true → are_names s.names ≡ true → HaveNames bytes
   with_names h k = record { above = with_paths h; names = texts_of s.names; are_names = names_there s.names k }
 
-  few : are_names s.names ≡ true → length (concat (map with_nul (texts_of s.names))) < 2 ^ 32
-  few k = few_bytes (texts_of s.names) s.names (names_there s.names k) (short_names bytes s laid)
+  bound : are_names s.names ≡ true → length (concat (map with_nul (texts_of s.names))) < 2 ^ 32
+  bound k = few_bytes (texts_of s.names) s.names (names_there s.names k) (short_names bytes s laid)
 
   fails_sections : (fault : IndexFault) → read_sections s ≡ Err fault → Fails bytes fault
   fails_sections fault h = elim (failed (is_section (0 ∷ []) s.paths) BadPaths fault _ h) [
@@ -149,7 +150,7 @@ module _ (bytes : List ℕ) (s : Sections) (small : Small bytes) (is : cut_of by
     | inr paths ↦ elim (failed (are_names s.names) BadNames fault _ paths.1) [
       | inl second ↦ subst (Fails bytes) second.1 (with_paths paths.0, λ names are. true≢false (sym (names_tested names s.names are) ∙ second.0))
       | inr names ↦ elim (failed (is_name_index s.name_index (texts_of s.names)) BadNameIndex fault _ names.1) [
-        | inl third ↦ subst (Fails bytes) third.1 (with_names paths.0 names.0, λ are. true≢false (sym (offsets_tested (texts_of s.names) s.name_index (few names.0) are) ∙ third.0))
+        | inl third ↦ subst (Fails bytes) third.1 (with_names paths.0 names.0, λ are. true≢false (sym (offsets_tested (texts_of s.names) s.name_index (bound names.0) are) ∙ third.0))
         | inr offsets ↦ elim (failed (is_list_index (length s.postings) s.list_index) BadListIndex fault (Ok (parts_of s)) offsets.1) [
           | inl fourth ↦
               subst (Fails bytes) fourth.1 (

@@ -53,9 +53,9 @@ set_among k p (q ∷ qs) up (inr a) =
     (λ _. ap (λ t. t || has (set_at k qs) p.0) apart ∙ rest) (λ _. rest)
 
 -- ---- ids in order
-pub rise_beyond : (names next k : ℕ) (ids : List ℕ) → names ≤ k → RiseWithin names next ids → has ids k ≡ false
-rise_beyond names next k [] h up = refl
-rise_beyond names next k (id ∷ ids) h up = ap (λ t. t || has ids k) (ne_eqb id k (λ e. absurd (omega (arith, e, h, up.1)))) ∙ rise_beyond names (id + 1) k ids h up.2
+pub rise_beyond : (name_count next k : ℕ) (ids : List ℕ) → name_count ≤ k → RiseWithin name_count next ids → has ids k ≡ false
+rise_beyond name_count next k [] h up = refl
+rise_beyond name_count next k (id ∷ ids) h up = ap (λ t. t || has ids k) (ne_eqb id k (λ e. absurd (omega (arith, e, h, up.1)))) ∙ rise_beyond name_count (id + 1) k ids h up.2
 
 -- ---- the names of gathered lists
 pub length-entries_of : (first : ℕ) (names : List (List ℕ)) (ps : List Posting) → length (entries_of first names ps) ≡ length names
@@ -120,14 +120,14 @@ key_among g (q ∷ qs) h =
       | inr there ↦ let found = key_among g qs there in (found.0, inr found.1, found.2)
     ]
 
-each_among : (names : ℕ) (p : Posting) (ps : List Posting) → AllByRecursion (IsPosting names) ps → Among p ps → IsPosting names p
-each_among names p [] all a = absurd a
-each_among names p (q ∷ qs) all (inl e) = subst (IsPosting names) (sym e) all.0
-each_among names p (q ∷ qs) all (inr a) = each_among names p qs all.1 a
+each_among : (name_count : ℕ) (p : Posting) (ps : List Posting) → AllByRecursion (IsPosting name_count) ps → Among p ps → IsPosting name_count p
+each_among name_count p [] all a = absurd a
+each_among name_count p (q ∷ qs) all (inl e) = subst (IsPosting name_count) (sym e) all.0
+each_among name_count p (q ∷ qs) all (inr a) = each_among name_count p qs all.1 a
 
-first_id : (names : ℕ) (ids : List ℕ) → ids ≢ [] → RiseWithin names 0 ids → (k : ℕ) × (k < names) × (has ids k ≡ true)
-first_id names [] some up = absurd (some refl)
-first_id names (id ∷ ids) some up = (id, up.1, or_left (eqb id id) _ (eq-eqb id id refl))
+first_id : (name_count : ℕ) (ids : List ℕ) → ids ≢ [] → RiseWithin name_count 0 ids → (k : ℕ) × (k < name_count) × (has ids k ≡ true)
+first_id name_count [] some up = absurd (some refl)
+first_id name_count (id ∷ ids) some up = (id, up.1, or_left (eqb id id) _ (eq-eqb id id refl))
 
 pub keys_flat : (g : ℕ) (names : List (List ℕ)) (ps : List Posting) → ArePostings (length names) ps → has (keys ps) g ≡ true → has (flat_map (λ (e : Entry). e.1) (entries_of 0 names ps)) g ≡ true
 keys_flat g names ps are h =

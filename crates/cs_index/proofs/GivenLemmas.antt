@@ -58,19 +58,19 @@ given_below base most g (key ∷ keys) below more =
 
 -- ---- ids in order
 
-pub rise_front : (names next : ℕ) (xs ys : List ℕ) → RiseWithin names next (xs ++ ys) → RiseWithin names next xs
-rise_front names next [] ys up = tt
-rise_front names next (x ∷ xs) ys up = (up.0, up.1, rise_front names (x + 1) xs ys up.2)
+pub rise_front : (name_count next : ℕ) (xs ys : List ℕ) → RiseWithin name_count next (xs ++ ys) → RiseWithin name_count next xs
+rise_front name_count next [] ys up = tt
+rise_front name_count next (x ∷ xs) ys up = (up.0, up.1, rise_front name_count (x + 1) xs ys up.2)
 
-pub rise_behind : (names next : ℕ) (xs ys : List ℕ) → RiseWithin names next (xs ++ ys) →
-    RiseWithin names (next_after next xs) ys
-rise_behind names next [] ys up = up
-rise_behind names next (x ∷ xs) ys up = rise_behind names (x + 1) xs ys up.2
+pub rise_behind : (name_count next : ℕ) (xs ys : List ℕ) → RiseWithin name_count next (xs ++ ys) →
+    RiseWithin name_count (next_after next xs) ys
+rise_behind name_count next [] ys up = up
+rise_behind name_count next (x ∷ xs) ys up = rise_behind name_count (x + 1) xs ys up.2
 
-pub rise_wider : (names most next : ℕ) (ids : List ℕ) → names ≤ most → RiseWithin names next ids →
+pub rise_wider : (name_count most next : ℕ) (ids : List ℕ) → name_count ≤ most → RiseWithin name_count next ids →
     RiseWithin most next ids
-rise_wider names most next [] le up = tt
-rise_wider names most next (id ∷ ids) le up = (up.0, omega (arith, up.1, le), rise_wider names most (id + 1) ids le up.2)
+rise_wider name_count most next [] le up = tt
+rise_wider name_count most next (id ∷ ids) le up = (up.0, omega (arith, up.1, le), rise_wider name_count most (id + 1) ids le up.2)
 
 -- ---- the ids of a trigram in the lists of segments
 
@@ -106,10 +106,10 @@ ids_behind g lists (s ∷ ss) =
 pub segment_ids : (ss : List SegmentKeys) (g : ℕ) → ids_of (with_segments [] ss) g ≡ ids_of_segments ss g
 segment_ids ss g = ids_behind g [] ss
 
-pub given_rise : (names : ℕ) (ss : List SegmentKeys) → AllByRecursion (IsPosting names) (with_segments [] ss) → (g : ℕ) →
-    RiseWithin names 0 (ids_of_segments ss g)
-given_rise names ss each g = subst (RiseWithin names 0) (segment_ids ss g)
-    (ids_rise_within names (with_segments [] ss) g each)
+pub given_rise : (name_count : ℕ) (ss : List SegmentKeys) → AllByRecursion (IsPosting name_count) (with_segments [] ss) → (g : ℕ) →
+    RiseWithin name_count 0 (ids_of_segments ss g)
+given_rise name_count ss each g = subst (RiseWithin name_count 0) (segment_ids ss g)
+    (ids_rise_within name_count (with_segments [] ss) g each)
 
 -- ---- lists of trigrams in order
 
@@ -231,10 +231,10 @@ has_below (suc n) f g =
     neither true = refl
     neither false = refl
 
-has_ids : (names : ℕ) (lists : List Posting) (g : ℕ) → AllByRecursion (IsPosting names) lists →
+has_ids : (name_count : ℕ) (lists : List Posting) (g : ℕ) → AllByRecursion (IsPosting name_count) lists →
     has (keys lists) g ≡ some_ids (ids_of lists g)
-has_ids names lists g each = elim (cases_Bool (has (keys lists) g)) [
-  | inl here ↦ here ∙ sym (are_some (ids_of lists g) (ids_posting names lists g each here).0)
+has_ids name_count lists g each = elim (cases_Bool (has (keys lists) g)) [
+  | inl here ↦ here ∙ sym (are_some (ids_of lists g) (ids_posting name_count lists g each here).0)
   | inr absent ↦ absent ∙ sym (ap some_ids (ids_new lists g absent))
 ]
   where
@@ -243,13 +243,13 @@ has_ids names lists g each = elim (cases_Bool (has (keys lists) g)) [
     are_some (id ∷ ids) some = refl
 
 -- the lists of all trigrams in order are those that were gathered
-pub ordered_below : (names most : ℕ) (lists : List Posting) (f : ℕ → List ℕ) → AllByRecursion (IsPosting names) lists →
+pub ordered_below : (name_count most : ℕ) (lists : List Posting) (f : ℕ → List ℕ) → AllByRecursion (IsPosting name_count) lists →
     ((g : ℕ) → ids_of lists g ≡ f g) → ((g : ℕ) → most ≤ g → f g ≡ []) → lists_below most f ≡ ordered_lists lists
-ordered_below names most lists f each same none =
+ordered_below name_count most lists f each same none =
     below_is most f
     ∙ ap (map (λ g. (g, f g))) (ascends_same _ _ (below_ascends most f) (ascends_set (keys lists)) (λ g.
     has_below most f g ∙ within g
-    ∙ ap some_ids (sym (same g)) ∙ sym (has_ids names lists g each) ∙ sym (has-set_of_numbers g (keys lists))))
+    ∙ ap some_ids (sym (same g)) ∙ sym (has_ids name_count lists g each) ∙ sym (has-set_of_numbers g (keys lists))))
     ∙ pairs (set_of_numbers (keys lists))
   where
     within : (g : ℕ) → (ltb g most && some_ids (f g)) ≡ some_ids (f g)

@@ -5,7 +5,8 @@ use Rattle.std.proofs.lemmas.Bool.{true≢false, cases_Bool, eqb-true, eq-eqb, n
 use Rattle.std.specs.List.{AllByRecursion, list_any}
 use Rattle.cs_trigram.specs.Trigram.{has, with_number, set_of_numbers, Ascends, closing_trigram}
 use Rattle.cs_trigram.specs.Scans.{AreTrigramsOnce}
-use Rattle.cs_trigram.proofs.SetLemmas.{ascends_set, ascends_tail, ascends_head, all_above, all_member, below_none, has-append, has-set_of_numbers, members_all, with_number-member, length-with_number-le, length-set_of_numbers-le}
+use Rattle.cs_trigram.proofs.SetLemmas.{all_from_set, all_set, all_weaker, ascends_set, ascends_tail, ascends_head, all_above, below_none, has-append, has-set_of_numbers, with_number-member, length-with_number-le, length-set_of_numbers-le}
+use Rattle.cs_tree.proofs.Gathering.{all-append}
 use Rattle.cs_index.specs.Image.{Posting}
 use Rattle.cs_index.specs.Rising.{next_after}
 use Rattle.cs_index.specs.Gathering.{AreDistinct, GiveSame}
@@ -63,44 +64,35 @@ file_gives base place (h ∷ gs) g id small =
     grouped false b e = refl
 
 -- no key gives an id that no name has yet
-none_gives : (base names : ℕ) (ks : List ℕ) (g : ℕ) → AllByRecursion (λ key. id_of base key < names) ks →
-    list_any (gives base g names) ks ≡ false
-none_gives base names [] g named = refl
-none_gives base names (k ∷ ks) g named =
-    ap (λ b. (eqb (trigram_of k) g && b) || list_any (gives base g names) ks) (ne_eqb (id_of base k) names (λ e.
+none_gives : (base name_count : ℕ) (ks : List ℕ) (g : ℕ) → AllByRecursion (λ key. id_of base key < name_count) ks →
+    list_any (gives base g name_count) ks ≡ false
+none_gives base name_count [] g named = refl
+none_gives base name_count (k ∷ ks) g named =
+    ap (λ b. (eqb (trigram_of k) g && b) || list_any (gives base g name_count) ks) (ne_eqb (id_of base k) name_count (λ e.
     absurd (omega (arith, e, named.0))))
-    ∙ neither (eqb (trigram_of k) g) (list_any (gives base g names) ks) (none_gives base names ks g named.1)
+    ∙ neither (eqb (trigram_of k) g) (list_any (gives base g name_count) ks) (none_gives base name_count ks g named.1)
   where
     neither : (a b : Bool) → b ≡ false → ((a && false) || b) ≡ false
     neither true b h = h
     neither false b h = h
 
 -- the keys of a file after those of the files before it
-pub file_given : (names base place : ℕ) (lists : List Posting) (ks gs : List ℕ) → AreWaiting names base lists ks →
-    place < 256 → base + place ≡ names →
-    WereGiven (with_keys base lists ks) (with_keys base lists (ks ++ keys_of place gs)) names gs
-file_given names base place lists ks gs waits small at = record {
+pub file_given : (name_count base place : ℕ) (lists : List Posting) (ks gs : List ℕ) → AreWaiting name_count base lists ks →
+    place < 256 → base + place ≡ name_count →
+    WereGiven (with_keys base lists ks) (with_keys base lists (ks ++ keys_of place gs)) name_count gs
+file_given name_count base place lists ks gs waits small at = record {
   ids = λ g k.
       ap (λ ps. has (ids_of ps g) k) (with_keys-append base lists ks (keys_of place gs))
       ∙ has_keys base (with_keys base lists ks) (keys_of place gs) g k
       ∙ ap (λ b. has (ids_of (with_keys base lists ks) g) k || b) (file_gives base place gs g k small
       ∙ ap (λ id. has gs g && eqb id k) at);
   fresh = λ g.
-      has_keys base lists ks g names
-      ∙ (λ i. rise_beyond names 0 names (ids_of lists g) (omega arith) (ids_rise_within names lists g waits.each) i
-      || none_gives base names ks g waits.named i);
+      has_keys base lists ks g name_count
+      ∙ (λ i. rise_beyond name_count 0 name_count (ids_of lists g) (omega arith) (ids_rise_within name_count lists g waits.each) i
+      || none_gives base name_count ks g waits.named i);
 }
 
 -- ---- one file more
-
-all_append : (P : ℕ → Type 0) (xs ys : List ℕ) → AllByRecursion P xs → AllByRecursion P ys →
-    AllByRecursion P (xs ++ ys)
-all_append P [] ys all more = more
-all_append P (x ∷ xs) ys all more = (all.0, all_append P xs ys all.1 more)
-
-all_weaker : (P Q : ℕ → Type 0) (xs : List ℕ) → ((x : ℕ) → P x → Q x) → AllByRecursion P xs → AllByRecursion Q xs
-all_weaker P Q [] h all = tt
-all_weaker P Q (x ∷ xs) h all = (h x all.0, all_weaker P Q xs h all.1)
 
 -- what holds of each key of a file
 all_keys : (P : ℕ → Type 0) (place : ℕ) (gs : List ℕ) → ((g : ℕ) → P (g * 256 + place)) →
@@ -150,20 +142,20 @@ distinct_append base place (k ∷ ks) gs small earlier up more = (
   distinct_append base place ks gs small earlier.1 up.1 more,
 )
 
-pub waiting_added : (names base place : ℕ) (lists : List Posting) (ks gs : List ℕ) → AreWaiting names base lists ks →
-    place < 256 → base + place ≡ names → AreDistinct gs → AllByRecursion (λ g. g < closing_trigram) gs →
-    AreWaiting (names + 1) base lists (ks ++ keys_of place gs)
-waiting_added names base place lists ks gs waits small at distinct below = record {
-  each = each_further names lists waits.each;
-  ready = all_append _ ks (keys_of place gs) waits.ready (all_keys _ place gs (λ g.
-      let last = rise_next names 0 (ids_of lists (trigram_of (g * 256 + place))) (ids_rise_within names lists
+pub waiting_added : (name_count base place : ℕ) (lists : List Posting) (ks gs : List ℕ) → AreWaiting name_count base lists ks →
+    place < 256 → base + place ≡ name_count → AreDistinct gs → AllByRecursion (λ g. g < closing_trigram) gs →
+    AreWaiting (name_count + 1) base lists (ks ++ keys_of place gs)
+waiting_added name_count base place lists ks gs waits small at distinct below = record {
+  each = each_further name_count lists waits.each;
+  ready = all-append _ ks (keys_of place gs) waits.ready (all_keys _ place gs (λ g.
+      let last = rise_next name_count 0 (ids_of lists (trigram_of (g * 256 + place))) (ids_rise_within name_count lists
       (trigram_of (g * 256 + place)) waits.each) (omega arith) in
       omega (arith, last, at, id_back base g place small)));
-  named = all_append _ ks (keys_of place gs) (all_weaker _ _ ks (λ k h. omega (arith, h)) waits.named)
+  named = all-append _ ks (keys_of place gs) (all_weaker _ _ (λ k h. omega (arith, h)) ks waits.named)
       (all_keys _ place gs (λ g. omega (arith, at, id_back base g place small)));
   distinct = distinct_append base place ks gs small (subst (λ n. AllByRecursion (λ key. id_of base key < n) ks) (sym
       at) waits.named) waits.distinct (distinct_file place gs distinct);
-  below = all_append _ ks (keys_of place gs) waits.below (below_keys place gs small below);
+  below = all-append _ ks (keys_of place gs) waits.below (below_keys place gs small below);
 }
 
 pub ascends_distinct : (ns : List ℕ) → Ascends ns → AreDistinct ns
@@ -208,11 +200,11 @@ ready_after base key lists [] above all = tt
 ready_after base key lists (k ∷ ks) above all =
     (ready_one base key k lists above.0 all.0, ready_after base key lists ks above.1 all.1)
 
-pub waiting_after : (names base key : ℕ) (lists : List Posting) (ks : List ℕ) → Ascends (key ∷ ks) →
-    AreWaiting names base lists (key ∷ ks) →
-    AreWaiting names base (with_id lists (trigram_of key) (id_of base key)) ks
-waiting_after names base key lists ks up waits = record {
-  each = each_gathered names lists (trigram_of key) (id_of base key) waits.each waits.ready.0 waits.named.0;
+pub waiting_after : (name_count base key : ℕ) (lists : List Posting) (ks : List ℕ) → Ascends (key ∷ ks) →
+    AreWaiting name_count base lists (key ∷ ks) →
+    AreWaiting name_count base (with_id lists (trigram_of key) (id_of base key)) ks
+waiting_after name_count base key lists ks up waits = record {
+  each = each_gathered name_count lists (trigram_of key) (id_of base key) waits.each waits.ready.0 waits.named.0;
   ready = ready_after base key lists ks (all_above key ks up) waits.ready.1;
   named = waits.named.1;
   distinct = waits.distinct.1;
@@ -245,20 +237,15 @@ any_same p xs ys same = elim (cases_Bool (list_any p xs)) [
   ]
 ]
 
--- what holds of each number holds of those of its set
-pub all_of_set : (P : ℕ → Type 0) (ns : List ℕ) → AllByRecursion P ns → AllByRecursion P (set_of_numbers ns)
-all_of_set P ns all = members_all P (set_of_numbers ns) (λ n h. all_member P ns n all (sym (has-set_of_numbers n ns)
-    ∙ h))
-
 -- Keys in order give what they gave.
-pub record AreOrdered (names base : ℕ) (lists : List Posting) (ks ms : List ℕ) : Type 0 where
+pub record AreOrdered (name_count base : ℕ) (lists : List Posting) (ks ms : List ℕ) : Type 0 where
   pub ascend : Ascends ms
-  pub waits : AreWaiting names base lists ms
+  pub waits : AreWaiting name_count base lists ms
   pub same : GiveSame (with_keys base lists ms) (with_keys base lists ks)
 
-pub keys_ordered : (names base : ℕ) (lists : List Posting) (ks ms : List ℕ) → AreWaiting names base lists ks →
-    ms ≡ set_of_numbers ks → AreOrdered names base lists ks ms
-keys_ordered names base lists ks ms waits is =
+pub keys_ordered : (name_count base : ℕ) (lists : List Posting) (ks ms : List ℕ) → AreWaiting name_count base lists ks →
+    ms ≡ set_of_numbers ks → AreOrdered name_count base lists ks ms
+keys_ordered name_count base lists ks ms waits is =
     let up : Ascends ms = subst Ascends (sym is) (ascends_set ks) in
     record {
       ascend = up;
@@ -276,7 +263,7 @@ keys_ordered names base lists ks ms waits is =
     }
   where
     all_moved : (P : ℕ → Type 0) → AllByRecursion P ks → AllByRecursion P ms
-    all_moved P all = subst (AllByRecursion P) (sym is) (all_of_set P ks all)
+    all_moved P all = subst (AllByRecursion P) (sym is) (all_set P ks all)
 
 -- as many keys as their set has
 pub keys_once : (ks : List ℕ) → AreDistinct ks → length ks ≡ length (set_of_numbers ks)
@@ -301,4 +288,4 @@ once_distinct gs once = as_many_distinct gs once.1
 
 pub once_below : (gs : List ℕ) → AreTrigramsOnce gs → AllByRecursion (λ g. g < closing_trigram) gs
 once_below gs once =
-    members_all (λ g. g < closing_trigram) gs (λ g h. all_member (λ g. g < closing_trigram) (set_of_numbers gs) g once.0.1 (has-set_of_numbers g gs ∙ h))
+    all_from_set (λ g. g < closing_trigram) gs once.0.1

@@ -1,12 +1,12 @@
 -- What is laid out, and one step more.
-use Rattle.std.proofs.Common.{◌≡◌, ◌≢◌, ℕ, suc, ◌+◌, ◌*◌, ◌^◌, ◌<◌, ◌≤◌, false, cond, eqb, List, [], ◌∷◌, ◌++◌, length, map, Option, None, Some, refl, sym, ap, subst, ◌∙◌, inl, inr, arith, append_assoc, length-append}
+use Rattle.std.proofs.Common.{◌≡◌, ◌≢◌, ℕ, ◌+◌, ◌*◌, ◌^◌, ◌<◌, ◌≤◌, false, cond, eqb, List, [], ◌∷◌, ◌++◌, length, map, Option, None, Some, refl, sym, ap, subst, ◌∙◌, inl, inr, arith, append_assoc, length-append}
 use Rattle.cs_trigram.specs.Trigram.{has, Ascends}
 use Rattle.cs_trigram.proofs.SetLemmas.{Above, ascends_cons, ascends_tail, ascends_head, ascends_set, ascends_same, all_above, has-set_of_numbers}
 use Rattle.std.proofs.lemmas.Bool.{true≢false, cases_Bool, cond_both, eq-eqb, ne_eqb}
-use Rattle.std.proofs.lemmas.List.{append-nil, length_push}
-use Rattle.std.specs.Prelude.{flat_map, filter}
+use Rattle.std.proofs.lemmas.List.{append-nil, length_push, length-map}
+use Rattle.std.specs.Prelude.{filter}
 use Rattle.std.specs.List.{AllByRecursion}
-use Rattle.cs_index.specs.Image.{Entry, Posting, IsString, Sections, in_order, image_of, layout, trailer, postings_of, sections_of, with_nul, concat, starts_from, four_bytes, name_offsets}
+use Rattle.cs_index.specs.Image.{Entry, Posting, IsString, image_of, layout, postings_of, sections_of, with_nul, concat, starts_from, four_bytes, name_offsets}
 use Rattle.cs_index.specs.Rising.{next_after, ArePostings, IsPosting}
 use Rattle.cs_index.specs.Gathering.{keys, lists_of, ordered_lists}
 use Rattle.cs_index.specs.Laid.{ids_of, with_id, Laid, IsLaid, IsLastList, entries_laid, with_laid_name, with_laid_id, with_list, with_posting, with_postings, AllBelow}
@@ -15,21 +15,23 @@ use Rattle.cs_index.specs.PostingLists.{entries_of, set_at}
 use Rattle.cs_index.proofs.BuildingLemmas.{names_entries}
 use Rattle.cs_index.proofs.BuiltLemmas.{each_gathered}
 use Rattle.cs_index.proofs.GatheredLemmas.{length-entries_of, postings_gathered}
-use Rattle.cs_index.proofs.StringLemmas.{all_texts}
+use Rattle.cs_index.proofs.StringLemmas.{all_texts, length-starts_from}
+use Rattle.cs_index.proofs.OnceLemmas.{lengths}
+use Rattle.cs_index.proofs.PlaceLemmas.{length-fours}
 
 -- ---- one name more
 
-no_lists : (names more : ℕ) (lists : List Posting) → lists ≡ [] → ArePostings names lists → ArePostings more lists
-no_lists names more lists none are = subst (ArePostings more) (sym none) (record { ascend = tt; each = tt })
+no_lists : (name_count more : ℕ) (lists : List Posting) → lists ≡ [] → ArePostings name_count lists → ArePostings more lists
+no_lists name_count more lists none are = subst (ArePostings more) (sym none) (record { ascend = tt; each = tt })
 
 pub laid_named : (laid : Laid) (name : List ℕ) → IsLaid laid → laid.lists ≡ [] → IsString name →
     length laid.names < 2 ^ 31 → IsLaid (with_laid_name laid name)
-laid_named laid name is none text few =
+laid_named laid name is none text bound =
     let more : length (laid.names ++ name ∷ []) ≡ length laid.names + 1 = length_push laid.names name in
     record {
       each_path = is.each_path;
       each_name = all_texts laid.names name is.each_name text;
-      few = omega (arith, more, few);
+      bound = omega (arith, more, bound);
       postings = no_lists (length laid.names) (length (laid.names ++ name ∷ [])) laid.lists none is.postings;
       last = is.last;
     }
@@ -46,7 +48,7 @@ pub laid_listed : (laid : Laid) (trigram : ℕ) → IsLaid laid → trigram < 16
 laid_listed laid trigram is small above = record {
   each_path = is.each_path;
   each_name = is.each_name;
-  few = is.few;
+  bound = is.bound;
   postings = is.postings;
   last = (small, at_most laid.lists trigram above);
 }
@@ -95,14 +97,14 @@ last_id (p ∷ lists) trigram id all =
           (all.0, last_id lists trigram id all.1)
     ]
 
-pub laid_given : (laid : Laid) (trigram id : ℕ) → IsLaid laid → laid.begun ≡ Some trigram →
+pub laid_given : (laid : Laid) (trigram id : ℕ) → IsLaid laid → laid.last_trigram ≡ Some trigram →
     next_after 0 (ids_of laid.lists trigram) ≤ id → id < length laid.names → IsLaid (with_laid_id laid trigram id)
 laid_given laid trigram id is begun above named =
     let last : IsLastList laid.lists (Some trigram) = subst (IsLastList laid.lists) begun is.last in
     record {
       each_path = is.each_path;
       each_name = is.each_name;
-      few = is.few;
+      bound = is.bound;
       postings = record {
         ascend = ascend_id laid.lists trigram id is.postings.ascend last.1;
         each = each_gathered (length laid.names) laid.lists trigram id is.postings.each above named;
@@ -133,7 +135,7 @@ pub laid_begun : (laid : Laid) (p : Posting) → IsLaid laid → p.0 < 16777215 
 laid_begun laid p is small above posting = record {
   each_path = is.each_path;
   each_name = is.each_name;
-  few = is.few;
+  bound = is.bound;
   postings = record {
     ascend = ascend_push laid.lists p is.postings.ascend above;
     each = each_push (IsPosting (length laid.names)) laid.lists p is.postings.each posting;
@@ -176,53 +178,32 @@ sets_below : (first : ℕ) (names : List (List ℕ)) (lists : List Posting) →
 sets_below first [] lists all = tt
 sets_below first (name ∷ names) lists all = (set_below first lists all, sets_below (first + 1) names lists all)
 
--- an index has four bytes for each name
-numbers_length : (ns : List ℕ) → length (flat_map four_bytes ns) ≡ 4 * length ns
-numbers_length [] = refl
-numbers_length (n ∷ ns) = let rest = numbers_length ns in omega (arith, rest)
-
-starts_length : (at : ℕ) (texts : List (List ℕ)) → length (starts_from at (map with_nul texts)) ≡ length texts
-starts_length at [] = refl
-starts_length at (t ∷ texts) = ap suc (starts_length (at + length (with_nul t)) texts)
-
-name_index_short : (s : Sections) → length s.name_index ≤ length (layout s)
-name_index_short s =
-    let a : length (layout s) ≡ 16 + length (concat (in_order s) ++ trailer s) = omega arith in
-    let b : length (concat (in_order s) ++ trailer s) ≡ length (concat (in_order s)) + length (trailer s) =
-    length-append (concat (in_order s)) (trailer s) in
-    let c : length (concat (in_order s)) ≡ length s.paths + length
-    (s.names ++ (s.postings ++ (s.name_index ++ (s.list_index ++ [])))) = length-append s.paths _ in
-    let d : length (s.names ++ (s.postings ++ (s.name_index ++ (s.list_index ++ [])))) ≡ length s.names + length
-    (s.postings ++ (s.name_index ++ (s.list_index ++ []))) = length-append s.names _ in
-    let e : length (s.postings ++ (s.name_index ++ (s.list_index ++ []))) ≡ length s.postings + length
-    (s.name_index ++ (s.list_index ++ [])) = length-append s.postings _ in
-    let f : length (s.name_index ++ (s.list_index ++ [])) ≡ length s.name_index + length (s.list_index ++ []) =
-    length-append s.name_index _ in
-    omega (arith, a, b, c, d, e, f)
-
-few_names : (paths names : List (List ℕ)) (lists : List Posting) →
-    length (layout (sections_of paths names lists)) < 2 ^ 32 → length names < 2 ^ 31
-few_names paths names lists short =
-    let index : length (name_offsets names ++ four_bytes (length (concat (map with_nul names)))) ≤ length
-    (layout (sections_of paths names lists)) = name_index_short (sections_of paths names lists) in
+-- each name has four bytes in its index, and four more stand behind them
+pub names_within : (paths names : List (List ℕ)) (lists : List Posting) →
+    4 * length names + 4 ≤ length (layout (sections_of paths names lists))
+names_within paths names lists =
+    let l = lengths (sections_of paths names lists) in
     let parts : length (name_offsets names ++ four_bytes (length (concat (map with_nul names)))) ≡ length
     (name_offsets names) + 4 = length-append (name_offsets names) _ in
-    let offsets : length (name_offsets names) ≡ 4 * length (starts_from 0 (map with_nul names)) = numbers_length
-    (starts_from 0 (map with_nul names)) in
-    let count = starts_length 0 names in
-    omega (arith, index, parts, offsets, count, short)
+    let offsets = length-fours (starts_from 0 (map with_nul names)) in
+    let count = length-starts_from 0 (map with_nul names) ∙ length-map names with_nul in
+    omega (arith, l.whole, l.laid, parts, offsets, count)
+
+pub few_names : (paths names : List (List ℕ)) (lists : List Posting) →
+    length (layout (sections_of paths names lists)) < 2 ^ 32 → length names < 2 ^ 31
+few_names paths names lists short = let within = names_within paths names lists in omega (arith, within, short)
 
 pub laid_indexable : (laid : Laid) → IsLaid laid → length (image_of laid.paths (entries_laid laid)) < 2 ^ 32 →
     IsIndexable laid.paths (entries_laid laid)
 laid_indexable laid is short =
-    let few : length laid.names < 2 ^ 31 = few_names laid.paths laid.names laid.lists
+    let bound : length laid.names < 2 ^ 31 = few_names laid.paths laid.names laid.lists
     (subst (λ (bytes : List ℕ). length bytes < 2 ^ 32) (sym (laid_image laid is)) short) in
     let many : length (entries_laid laid) ≡ length laid.names = length-entries_of 0 laid.names laid.lists in
     record {
       each_path = is.each_path;
       each_name = subst (AllByRecursion IsString) (sym (names_entries 0 laid.names laid.lists)) is.each_name;
-      trigrams = sets_below 0 laid.names laid.lists (below_closing laid.lists laid.begun is.last);
-      few = omega (arith, few, many);
+      trigrams = sets_below 0 laid.names laid.lists (below_closing laid.lists laid.last_trigram is.last);
+      bound = omega (arith, bound, many);
       short = short;
     }
 

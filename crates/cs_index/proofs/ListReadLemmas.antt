@@ -47,19 +47,19 @@ pub trigram_small : (bytes : List ℕ) (at : ℕ) → Small bytes → trigram_at
 unfolding trigram_at
 trigram_small bytes at small = let a = small at in let b = small (at + 1) in let d = small (at + 2) in omega (arith, a, b, d)
 
-pub list_short : (postings list_index : List ℕ) (at names : ℕ) → length postings < number_at list_index (at + 7) + 3 → damage ≡ read_list postings names (entry_at list_index at)
-list_short postings list_index at names h =
+pub list_short : (postings list_index : List ℕ) (at name_count : ℕ) → length postings < number_at list_index (at + 7) + 3 → damage ≡ read_list postings name_count (entry_at list_index at)
+list_short postings list_index at name_count h =
     let e : ListEntry = entry_at list_index at in
     let cut : length (take 3 (drop e.offset postings)) < 3 = let l = length-drop e.offset postings in let m = length-take 3 (drop e.offset postings) in omega (arith, h, l, m) in
-    sym (ap (λ b. cond b (read_ids names e.count 0 (drop (e.offset + 3) postings)) damage) (false_from_ne_true (same (take 3 (drop e.offset postings)) (three_bytes e.trigram)) (λ t. let long = not_longer (take 3 (drop e.offset postings)) (three_bytes e.trigram) t in omega (arith, cut, long))))
+    sym (ap (λ b. cond b (read_ids name_count e.count 0 (drop (e.offset + 3) postings)) damage) (false_from_ne_true (same (take 3 (drop e.offset postings)) (three_bytes e.trigram)) (λ t. let long = not_longer (take 3 (drop e.offset postings)) (three_bytes e.trigram) t in omega (arith, cut, long))))
 
-pub list_other : (postings list_index : List ℕ) (at names : ℕ) → number_at list_index (at + 7) + 3 ≤ length postings → Small postings → Small list_index → trigram_at postings (number_at list_index (at + 7)) ≢ trigram_at list_index at → damage ≡ read_list postings names (entry_at list_index at)
-list_other postings list_index at names h small small' apart =
+pub list_other : (postings list_index : List ℕ) (at name_count : ℕ) → number_at list_index (at + 7) + 3 ≤ length postings → Small postings → Small list_index → trigram_at postings (number_at list_index (at + 7)) ≢ trigram_at list_index at → damage ≡ read_list postings name_count (entry_at list_index at)
+list_other postings list_index at name_count h small small' apart =
     let e : ListEntry = entry_at list_index at in
-    sym (ap (λ b. cond b (read_ids names e.count 0 (drop (e.offset + 3) postings)) damage) (false_from_ne_true (same (take 3 (drop e.offset postings)) (three_bytes e.trigram)) (λ t.
+    sym (ap (λ b. cond b (read_ids name_count e.count 0 (drop (e.offset + 3) postings)) damage) (false_from_ne_true (same (take 3 (drop e.offset postings)) (three_bytes e.trigram)) (λ t.
     apart (three_once (trigram_at postings e.offset) e.trigram (trigram_small postings e.offset small) (trigram_small list_index at small') (three_of postings e.offset h small ∙ (bytes_decides (take 3 (drop e.offset postings)) (three_bytes e.trigram)).0 t)))))
 
-pub list_there : (postings list_index : List ℕ) (at names : ℕ) → number_at list_index (at + 7) + 3 ≤ length postings → Small postings → trigram_at postings (number_at list_index (at + 7)) ≡ trigram_at list_index at → read_ids names (number_at list_index (at + 3)) 0 (drop (number_at list_index (at + 7) + 3) postings) ≡ read_list postings names (entry_at list_index at)
-list_there postings list_index at names h small is =
+pub list_there : (postings list_index : List ℕ) (at name_count : ℕ) → number_at list_index (at + 7) + 3 ≤ length postings → Small postings → trigram_at postings (number_at list_index (at + 7)) ≡ trigram_at list_index at → read_ids name_count (number_at list_index (at + 3)) 0 (drop (number_at list_index (at + 7) + 3) postings) ≡ read_list postings name_count (entry_at list_index at)
+list_there postings list_index at name_count h small is =
     let e : ListEntry = entry_at list_index at in
-    sym (ap (λ b. cond b (read_ids names e.count 0 (drop (e.offset + 3) postings)) damage) ((bytes_decides (take 3 (drop e.offset postings)) (three_bytes e.trigram)).1 (sym (three_of postings e.offset h small) ∙ ap three_bytes is)))
+    sym (ap (λ b. cond b (read_ids name_count e.count 0 (drop (e.offset + 3) postings)) damage) ((bytes_decides (take 3 (drop e.offset postings)) (three_bytes e.trigram)).1 (sym (three_of postings e.offset h small) ∙ ap three_bytes is)))

@@ -10,7 +10,8 @@ use Rattle.cs_tree.specs.Cover.{same}
 use Rattle.cs_index.specs.Image.{concat, with_nul, starts_from, IsString}
 use Rattle.cs_index.specs.Opening.{is_name_index, is_section, number_at, numbers_from, texts_of}
 use Rattle.cs_index.proofs.ReadingLemmas.{formed}
-use Rattle.cs_index.proofs.TextLemmas.{AreRead, section_read, texts_spelled, formed_spelled, string_begins}
+use Rattle.cs_index.specs.Spelling.{AreStrings}
+use Rattle.cs_index.proofs.TextLemmas.{section_read, texts_spelled, formed_spelled, string_begins}
 
 number_in : (bytes : List ℕ) (at count k : ℕ) → k < count → get_or (numbers_from bytes at count) k 0 ≡ number_at bytes (at + 4 * k)
 number_in bytes at zero k h = absurd (omega (arith, h))
@@ -28,12 +29,12 @@ pub record StandFrom (names : List ℕ) (offset id : ℕ) : Type 0 where
   pub formed : formed (drop offset names) ≡ true
   pub texts : texts_of (drop offset names) ≡ drop id (texts_of names)
 
-begin_at : (closing names : List ℕ) (offset id : ℕ) → (closing ≡ []) ⊎ (closing ≡ 0 ∷ []) → AreRead closing names → offset ≡ get_or (starts_from 0 (map with_nul (texts_of names))) id 0 → id < length (texts_of names) → StandFrom names offset id
+begin_at : (closing names : List ℕ) (offset id : ℕ) → (closing ≡ []) ⊎ (closing ≡ 0 ∷ []) → AreStrings closing (texts_of names) names → offset ≡ get_or (starts_from 0 (map with_nul (texts_of names))) id 0 → id < length (texts_of names) → StandFrom names offset id
 begin_at closing names offset id tail read at h =
     let begins = string_begins (texts_of names) closing id h in
-    let whole : names ≡ concat (map with_nul (texts_of names)) ++ closing = read.bytes in
+    let whole : names ≡ concat (map with_nul (texts_of names)) ++ closing = read.1 in
     let rest : drop offset names ≡ concat (map with_nul (drop id (texts_of names))) ++ closing = (λ i. drop (at i) (whole i)) ∙ begins.rest in
-    let each = drop_strings id (texts_of names) read.each in
+    let each = drop_strings id (texts_of names) read.0 in
     record {
       within = subst (λ (n : ℕ). n ≤ length names) (sym at) (subst (λ (bs : List ℕ). get_or (starts_from 0 (map with_nul (texts_of names))) id 0 ≤ length bs) (sym whole) begins.within);
       formed = ap formed rest ∙ formed_spelled (drop id (texts_of names)) closing each tail;
@@ -85,7 +86,7 @@ past_end texts n k none h =
 
 -- the text after some that were passed over
 pub text_given : (texts later : List (List ℕ)) (place : ℕ) (found : Option (Bor (List ℕ))) → SkipsThenYields FirstOf texts place found later → option_copied found ≡ slice_get texts place
-text_given texts later place None (passed, then, few) =
-    sym (past_end texts (length passed) place (passed_over texts then.0 passed then.1 ∙ then.2.0) few)
+text_given texts later place None (passed, then, bound) =
+    sym (past_end texts (length passed) place (passed_over texts then.0 passed then.1 ∙ then.2.0) bound)
 text_given texts later place (Some x) (passed, then, count) =
     name_given texts then.0 later place (Some x) (sym (passed_over texts then.0 passed then.1) ∙ ap (λ n. drop n texts) count) then.2

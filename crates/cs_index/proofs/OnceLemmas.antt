@@ -5,8 +5,8 @@ use Rattle.std.proofs.lemmas.Nat.{from_be_bytes-to_be_bytes_4}
 use Rattle.std.specs.Prelude.{flat_map}
 use Rattle.std.specs.Int.{from_be_bytes, w32}
 use Rattle.std.specs.List.{AllByRecursion}
-use Rattle.cs_index.specs.Image.{three_bytes, four_bytes, concat, with_nul, starts_from, Sections, in_order, trailer, trailer_magic, magic, layout, strings_section, ListEntry, entry_bytes, IsString}
-use Rattle.cs_index.specs.Spelling.{IsEntry, Spells}
+use Rattle.cs_index.specs.Image.{three_bytes, four_bytes, concat, with_nul, starts_from, Sections, in_order, trailer, trailer_magic, magic, layout, ListEntry, entry_bytes, IsString}
+use Rattle.cs_index.specs.Spelling.{AreStrings, IsEntry, Spells}
 
 pub apart : (a b c d : List ℕ) → length a ≡ length c → a ++ b ≡ c ++ d → (a ≡ c) × (b ≡ d)
 apart a b c d l e = (
@@ -35,7 +35,7 @@ text_once (c ∷ p) (d ∷ q) x y a b e =
     (λ i. head i ∷ more.0 i, more.1)
 
 -- what may follow the last string
-abbrev IsTail : List ℕ → Type 0
+abbrev pub IsTail : List ℕ → Type 0
 IsTail x = (x ≡ []) ⊎ (x ≡ 0 ∷ [])
 
 string_first : (p rest x : List ℕ) → IsString p → IsTail x → p ++ 0 ∷ rest ≡ x → ⊥
@@ -56,11 +56,17 @@ strings_once (p ∷ ps) (q ∷ qs) x y a b t u e =
     λ i. both.0 i ∷ rest i
 
 -- ---- entries of the list index
+pub small_trigram : (postings : List ℕ) (e : ListEntry) → IsEntry postings e → e.trigram < 2 ^ 24
+small_trigram postings e is = elim is.trigram [
+  | inl below ↦ omega (arith, below)
+  | inr closing ↦ let at : e.trigram ≡ 16777215 = closing.0 in omega (arith, at)
+]
+
 entry_once : (d e : ListEntry) (sd se : List ℕ) → IsEntry sd d → IsEntry se e → entry_bytes d ≡ entry_bytes e → d ≡ e
 entry_once d e sd se fd fe h =
     let first = apart (three_bytes d.trigram) _ (three_bytes e.trigram) _ refl h in
     let rest = apart (four_bytes d.count) (four_bytes d.offset) (four_bytes e.count) (four_bytes e.offset) refl first.1 in
-    let a = three_once d.trigram e.trigram fd.trigram fe.trigram first.0 in
+    let a = three_once d.trigram e.trigram (small_trigram sd d fd) (small_trigram se e fe) first.0 in
     let b = four_once d.count e.count fd.count fe.count rest.0 in
     let c = four_once d.offset e.offset fd.offset fe.offset rest.1 in
     λ i. record { trigram = a i; count = b i; offset = c i }
@@ -124,16 +130,17 @@ sections_once s t f g e =
     let five : s.list_index ≡ t.list_index = sym (append-nil s.list_index) ∙ four.1 ∙ append-nil t.list_index in
     λ i. record { paths = one.0 i; names = two.0 i; postings = three.0 i; name_index = four.0 i; list_index = five i }
 
-names_tail : (section : List ℕ) (names : List (List ℕ)) → (section ≡ strings_section names) ⊎ (section ≡ concat (map with_nul names)) → (x : List ℕ) × IsTail x × (section ≡ concat (map with_nul names) ++ x)
-names_tail section names (inl e) = (0 ∷ [], inr refl, e)
-names_tail section names (inr e) = ([], inl refl, e ∙ sym (append-nil (concat (map with_nul names))))
+-- a section of names with one NUL more, or without
+pub names_tail : (section : List ℕ) (names : List (List ℕ)) → AreStrings (0 ∷ []) names section ⊎ AreStrings [] names section → (closing : List ℕ) × AreStrings closing names section × IsTail closing
+names_tail section names (inl are) = (0 ∷ [], are, inr refl)
+names_tail section names (inr are) = ([], are, inl refl)
 
 pub spelled_once : (bytes : List ℕ) (p q n m : List (List ℕ)) (d e : List ListEntry) → Spells bytes p n d → Spells bytes q m e → (p ≡ q) × (n ≡ m) × (d ≡ e)
 spelled_once bytes p q n m d e g h =
     let s = sections_once g.sections h.sections (subst (λ b. length b < 2 ^ 32) g.laid g.short) (subst (λ b. length b < 2 ^ 32) h.laid h.short) (sym g.laid ∙ h.laid) in
     let a = names_tail g.sections.names n g.names_are in
     let b = names_tail h.sections.names m h.names_are in (
-      strings_once p q (0 ∷ []) (0 ∷ []) g.each_path h.each_path (inr refl) (inr refl) (sym g.paths_are ∙ ap (λ (t : Sections). t.paths) s ∙ h.paths_are),
-      strings_once n m a.0 b.0 g.each_name h.each_name a.1 b.1 (sym a.2 ∙ ap (λ (t : Sections). t.names) s ∙ b.2),
-      entries_once d e g.sections.postings h.sections.postings g.each_entry h.each_entry (sym g.list_index_is ∙ ap (λ (t : Sections). t.list_index) s ∙ h.list_index_is),
+      strings_once p q (0 ∷ []) (0 ∷ []) g.paths_are.0 h.paths_are.0 (inr refl) (inr refl) (sym g.paths_are.1 ∙ ap (λ (t : Sections). t.paths) s ∙ h.paths_are.1),
+      strings_once n m a.0 b.0 a.1.0 b.1.0 a.2 b.2 (sym a.1.1 ∙ ap (λ (t : Sections). t.names) s ∙ b.1.1),
+      entries_once d e g.sections.postings h.sections.postings g.list_index_is.0 h.list_index_is.0 (sym g.list_index_is.2 ∙ ap (λ (t : Sections). t.list_index) s ∙ h.list_index_is.2),
     )

@@ -29,9 +29,9 @@ pub cut_there : (bytes : List ℕ) → starts_with nat_eq bytes magic ≡ true �
 unfolding cut_of
 cut_there bytes h g = ap (λ b. cond (not b) (Err BadMagic) (cut_ended bytes)) h ∙ ap (λ b. cond (not b) (Err BadTrailer) (cut_before bytes (length bytes - 36))) g
 
-pub name_count : (bytes : List ℕ) (names : List (List ℕ)) → is_name_index bytes names ≡ true → length bytes ≡ 4 * (length names + 1)
+pub offsets_long : (bytes : List ℕ) (names : List (List ℕ)) → is_name_index bytes names ≡ true → length bytes ≡ 4 * (length names + 1)
 unfolding is_name_index
-name_count bytes names h =
+offsets_long bytes names h =
     let both = and_parts (eqb (length bytes) (0 + 4 * (length names + 1))) (same (numbers_from bytes 0 (length names)) (starts_from 0 (map with_nul names))) h in
     let long = eqb-true (length bytes) (0 + 4 * (length names + 1)) both.0 in
     omega (arith, long)
@@ -42,10 +42,10 @@ entries_rise room bytes h =
     (and_parts (rises (entries_in bytes)) (list_all (is_entry room) (entries_in bytes)) (and_parts (eqb (length bytes % 11) 0) (rises (entries_in bytes) && list_all (is_entry room) (entries_in bytes)) h).1).0
 
 pub few_read : (s : Sections) → IsRead s → length (texts_of s.names) < 2 ^ 31
-few_read s is = let long = name_count s.name_index (texts_of s.names) is.name_index in omega (arith, long, is.few_names)
+few_read s is = let long = offsets_long s.name_index (texts_of s.names) is.name_index in omega (arith, long, is.few_names)
 
-pub list_given : (s : Sections) (now : Parts) (place names g : ℕ) → parts_of s ≡ now → place < length s.list_index / 11 → names ≡ length now.names → g ≡ trigram_at s.list_index (11 * place) → ◌≡◌ {A = Option (ℕ × Ids)} (Some (g, read_list s.postings names (entry_at s.list_index (11 * place)))) (option_map (λ (e : ListEntry). (e.trigram, ids_read now e)) (slice_get now.entries place))
-list_given s now place names g is h count tri =
+pub list_given : (s : Sections) (now : Parts) (place name_count g : ℕ) → parts_of s ≡ now → place < length s.list_index / 11 → name_count ≡ length now.names → g ≡ trigram_at s.list_index (11 * place) → ◌≡◌ {A = Option (ℕ × Ids)} (Some (g, read_list s.postings name_count (entry_at s.list_index (11 * place)))) (option_map (λ (e : ListEntry). (e.trigram, ids_read now e)) (slice_get now.entries place))
+list_given s now place name_count g is h count tri =
     (λ i. Some (tri i, read_list (postings i) (count i) (entry_at s.list_index (11 * place))))
     ∙ sym (ap (option_map (λ (e : ListEntry). (e.trigram, ids_read now e))) (ap (λ (p : Parts). slice_get p.entries place) (sym is) ∙ get-in s.list_index place h))
   where

@@ -1,9 +1,9 @@
 -- Bytes open where they are spelled.
 use Rattle.std.proofs.Common.{◌≡◌, ℕ, zero, suc, ◌+◌, ◌-◌, ◌*◌, ◌/◌, ◌%◌, ◌<◌, ◌≤◌, ◌^◌, Bool, true, false, not, cond, ◌&&◌, ◌||◌, eqb, ltb, leb, List, [], ◌∷◌, ◌++◌, length, map, take, drop, get_or, Result, Ok, Err, refl, sym, ap, subst, ◌∙◌, ◌⊎◌, inl, inr, arith, append_assoc, length-append, length-drop, length-take}
 use Rattle.cs_tree.specs.ByteList.{AreBytes}
-use Rattle.cs_index.specs.Spelling.{SpellsParts, IsEntry}
+use Rattle.cs_index.specs.Spelling.{AreEntries, AreOffsets, AreStrings, SpellsParts, IsEntry}
 use Rattle.cs_trigram.specs.Trigram.{Ascends}
-use Rattle.std.proofs.lemmas.Bool.{or_cases, and_parts, and_from, eqb-true, eq-eqb, leb-true, le-leb, ltb-true, ltb-false, lt-ltb}
+use Rattle.std.proofs.lemmas.Bool.{or_cases, or_left, or_right, and_parts, and_from, cases_lt, eqb-true, eq-eqb, leb-true, le-leb, ltb-true, lt-ltb}
 use Rattle.std.proofs.lemmas.List.{take_at, drop_at, append-nil, drop_all, length-map}
 use Rattle.std.proofs.lemmas.List.Folds.{drop_split}
 use Rattle.std.specs.Prelude.{flat_map, slice_range}
@@ -12,11 +12,11 @@ use Rattle.std.specs.Cmp.Lexicographic.{bytes_decides}
 use Rattle.cs_tree.specs.Cover.{same}
 use Rattle.cs_index.specs.declared.fault.IndexFault.{IndexFault}
 use Rattle.cs_index.specs.declared.fault.IndexFault.TheVariants.{BadMagic, BadTrailer, BadOffsets, BadPaths, BadNames, BadNameIndex, BadListIndex}
-use Rattle.cs_index.specs.Image.{four_bytes, concat, with_nul, starts_from, in_order, Sections, magic, trailer, trailer_magic, layout, strings_section, ListEntry, entry_bytes, name_offsets, IsString}
-use Rattle.cs_index.proofs.OpenLemmas.{cut_ended, cut_there, name_count}
+use Rattle.cs_index.specs.Image.{four_bytes, concat, with_nul, starts_from, in_order, Sections, magic, trailer, trailer_magic, layout, ListEntry, entry_bytes, name_offsets}
+use Rattle.cs_index.proofs.OpenLemmas.{cut_ended, cut_there, offsets_long}
 use Rattle.cs_index.specs.Opening.{are_starts, cut_at, cut_before, cut_of, entries_from, entries_in, entry_at, has_trailer, is_entry, is_list_index, is_name_index, is_section, number_at, numbers_from, opening, parts_of, read_cut, read_sections, rises, texts_of}
 use Rattle.cs_index.specs.OpenedParts.{Parts}
-use Rattle.cs_index.proofs.OnceLemmas.{lengths, starts_fit}
+use Rattle.cs_index.proofs.OnceLemmas.{lengths, names_tail, small_trigram, starts_fit}
 use Rattle.cs_index.proofs.PlaceLemmas.{Fits, entries_back, entries_laid, length-entries, length-fours, number_small, numbers_back, numbers_laid, slice_laid, slice_small}
 use Rattle.cs_index.proofs.ListReadLemmas.{Small, small_bytes, trigram_small}
 use Rattle.cs_index.proofs.StringLemmas.{length-starts_from}
@@ -132,7 +132,7 @@ name_index_spelled names last four short =
 
 entries_fit : (postings : List ℕ) (es : List ListEntry) → AllByRecursion (IsEntry postings) es → AllByRecursion Fits es
 entries_fit postings [] all = tt
-entries_fit postings (e ∷ es) all = ((all.0.trigram, all.0.count, all.0.offset), entries_fit postings es all.1)
+entries_fit postings (e ∷ es) all = ((small_trigram postings e all.0, all.0.count, all.0.offset), entries_fit postings es all.1)
 
 pub entries_spelled : (postings : List ℕ) (es : List ListEntry) → AllByRecursion (IsEntry postings) es → entries_in (flat_map entry_bytes es) ≡ es
 unfolding entries_in
@@ -146,9 +146,9 @@ rise_spelled [] up = refl
 rise_spelled (d ∷ []) up = refl
 rise_spelled (d ∷ e ∷ es) up = and_from (ltb d.trigram e.trigram) (rises (e ∷ es)) (lt-ltb d.trigram e.trigram up.0) (rise_spelled (e ∷ es) up.1)
 
-or_true : (a b : Bool) → (a ≡ false → b ≡ true) → (a || b) ≡ true
-or_true true b h = refl
-or_true false b h = h refl
+fits_tested : (g count : ℕ) → (g < 16777215) ⊎ ((g ≡ 16777215) × (count ≡ 0)) → (ltb g 16777215 || eqb count 0) ≡ true
+fits_tested g count (inl below) = or_left (ltb g 16777215) (eqb count 0) (lt-ltb g 16777215 below)
+fits_tested g count (inr closing) = or_right (ltb g 16777215) (eqb count 0) (eq-eqb count 0 closing.1)
 
 all_entries : (postings : List ℕ) (es : List ListEntry) → AllByRecursion (IsEntry postings) es → list_all (is_entry (length postings)) es ≡ true
 all_entries postings [] all = refl
@@ -156,19 +156,16 @@ all_entries postings (e ∷ es) all =
     and_from (is_entry (length postings) e) (list_all (is_entry (length postings)) es)
     (and_from (leb (e.offset + 4) (length postings)) (ltb e.trigram 16777215 || eqb e.count 0)
     (le-leb (e.offset + 4) (length postings) all.0.room)
-    (or_true (ltb e.trigram 16777215) (eqb e.count 0) (λ f. eq-eqb e.count 0 (all.0.closing (last e.trigram f all.0.trigram)))))
+    (fits_tested e.trigram e.count all.0.trigram))
     (all_entries postings es all.1)
-  where
-    last : (g : ℕ) → ltb g 16777215 ≡ false → g < 2 ^ 24 → g ≡ 16777215
-    last g f h = let more = ltb-false g 16777215 f in omega (arith, more, h)
 
-pub list_index_spelled : (postings list_index : List ℕ) (es : List ListEntry) → list_index ≡ flat_map entry_bytes es → AllByRecursion (IsEntry postings) es → Ascends (map (λ (e : ListEntry). e.trigram) es) → is_list_index (length postings) list_index ≡ true
+pub list_index_spelled : (postings list_index : List ℕ) (es : List ListEntry) → AreEntries postings es list_index → is_list_index (length postings) list_index ≡ true
 unfolding is_list_index
-list_index_spelled postings list_index es is all up =
-    let entries : entries_in list_index ≡ es = ap entries_in is ∙ entries_spelled postings es all in
-    let long : length list_index % 11 ≡ 0 = let a = ap length is in let b = length-entries es in omega (arith, a, b) in
+list_index_spelled postings list_index es are =
+    let entries : entries_in list_index ≡ es = ap entries_in are.2 ∙ entries_spelled postings es are.0 in
+    let long : length list_index % 11 ≡ 0 = let a = ap length are.2 in let b = length-entries es in omega (arith, a, b) in
     and_from (eqb (length list_index % 11) 0) (rises (entries_in list_index) && list_all (is_entry (length postings)) (entries_in list_index)) (eq-eqb (length list_index % 11) 0 long)
-    (and_from (rises (entries_in list_index)) (list_all (is_entry (length postings)) (entries_in list_index)) (ap rises entries ∙ rise_spelled es up) (ap (list_all (is_entry (length postings))) entries ∙ all_entries postings es all))
+    (and_from (rises (entries_in list_index)) (list_all (is_entry (length postings)) (entries_in list_index)) (ap rises entries ∙ rise_spelled es are.1) (ap (list_all (is_entry (length postings))) entries ∙ all_entries postings es are.0))
 
 -- each test passes
 all_tests : (s : Sections) (parts : Parts) → is_section (0 ∷ []) s.paths ≡ true → (is_section (0 ∷ []) s.names || is_section [] s.names) ≡ true → is_name_index s.name_index (texts_of s.names) ≡ true → is_list_index (length s.postings) s.list_index ≡ true → parts_of s ≡ parts → read_sections s ≡ Ok parts
@@ -178,23 +175,18 @@ all_tests s parts paths names name_index list_index is =
     (cond (not (name_index i)) (Err BadNameIndex)
     (cond (not (list_index i)) (Err BadListIndex) (Ok (is i))))))
 
--- a section of names with one NUL more, or without
-pub tail_of : (section : List ℕ) (names : List (List ℕ)) → (section ≡ strings_section names) ⊎ (section ≡ concat (map with_nul names)) → (closing : List ℕ) × ((closing ≡ []) ⊎ (closing ≡ 0 ∷ [])) × (section ≡ concat (map with_nul names) ++ closing)
-tail_of section names (inl e) = (0 ∷ [], inr refl, e)
-tail_of section names (inr e) = ([], inl refl, e ∙ sym (append-nil (concat (map with_nul names))))
-
-opens_sections : (s : Sections) (parts : Parts) → s.postings ≡ parts.postings → s.paths ≡ strings_section parts.paths → AllByRecursion IsString parts.paths → (s.names ≡ strings_section parts.names) ⊎ (s.names ≡ concat (map with_nul parts.names)) → AllByRecursion IsString parts.names → (last : List ℕ) → length last ≡ 4 → s.name_index ≡ name_offsets parts.names ++ last → s.list_index ≡ flat_map entry_bytes parts.entries → AllByRecursion (IsEntry s.postings) parts.entries → Ascends (map (λ (e : ListEntry). e.trigram) parts.entries) → length s.names < 2 ^ 32 → read_sections s ≡ Ok parts
-opens_sections s parts postings paths each_path names each_name last four name_index list_index each_entry up short =
-    let tail = tail_of s.names parts.names names in
-    let texts : texts_of s.names ≡ parts.names = ap texts_of tail.2 ∙ texts_spelled parts.names tail.0 each_name tail.1 in
-    let few : length (concat (map with_nul parts.names)) < 2 ^ 32 = let a = ap length tail.2 in let b = length-append (concat (map with_nul parts.names)) tail.0 in omega (arith, a, b, short) in
-    let path_texts : texts_of s.paths ≡ parts.paths = ap texts_of paths ∙ texts_spelled parts.paths (0 ∷ []) each_path (inr refl) in
-    let entries : entries_in s.list_index ≡ parts.entries = ap entries_in list_index ∙ entries_spelled s.postings parts.entries each_entry in
+opens_sections : (s : Sections) (parts : Parts) → s.postings ≡ parts.postings → AreStrings (0 ∷ []) parts.paths s.paths → AreStrings (0 ∷ []) parts.names s.names ⊎ AreStrings [] parts.names s.names → AreOffsets parts.names s.name_index → AreEntries s.postings parts.entries s.list_index → length s.names < 2 ^ 32 → read_sections s ≡ Ok parts
+opens_sections s parts postings paths names offsets lists short =
+    let tail = names_tail s.names parts.names names in
+    let texts : texts_of s.names ≡ parts.names = ap texts_of tail.1.1 ∙ texts_spelled parts.names tail.0 tail.1.0 tail.2 in
+    let bound : length (concat (map with_nul parts.names)) < 2 ^ 32 = let a = ap length tail.1.1 in let b = length-append (concat (map with_nul parts.names)) tail.0 in omega (arith, a, b, short) in
+    let path_texts : texts_of s.paths ≡ parts.paths = ap texts_of paths.1 ∙ texts_spelled parts.paths (0 ∷ []) paths.0 (inr refl) in
+    let entries : entries_in s.list_index ≡ parts.entries = ap entries_in lists.2 ∙ entries_spelled s.postings parts.entries lists.0 in
     all_tests s parts
-    (ap (is_section (0 ∷ [])) paths ∙ section_spelled parts.paths (0 ∷ []) each_path (inr refl))
-    ((λ i. is_section (0 ∷ []) (tail.2 i) || is_section [] (tail.2 i)) ∙ formed_spelled parts.names tail.0 each_name tail.1)
-    ((λ i. is_name_index (name_index i) (texts i)) ∙ name_index_spelled parts.names last four few)
-    (list_index_spelled s.postings s.list_index parts.entries list_index each_entry up)
+    (ap (is_section (0 ∷ [])) paths.1 ∙ section_spelled parts.paths (0 ∷ []) paths.0 (inr refl))
+    ((λ i. is_section (0 ∷ []) (tail.1.1 i) || is_section [] (tail.1.1 i)) ∙ formed_spelled parts.names tail.0 tail.1.0 tail.2)
+    ((λ i. is_name_index (offsets.2 i) (texts i)) ∙ name_index_spelled parts.names offsets.0 offsets.1 bound)
+    (list_index_spelled s.postings s.list_index parts.entries lists)
     (λ i. record { paths = path_texts i; names = texts i; entries = entries i; postings = postings i })
 
 pub opens_spelled : (bytes : List ℕ) (parts : Parts) → SpellsParts bytes parts → opening bytes ≡ Ok parts
@@ -205,7 +197,7 @@ opens_spelled bytes parts h =
     let short : length (layout s) < 2 ^ 32 = subst (λ (bs : List ℕ). length bs < 2 ^ 32) spelled.laid spelled.short in
     let cut : cut_of bytes ≡ Ok s = ap cut_of spelled.laid ∙ cut_spelled s short in
     let l = lengths s in
-    ap read_cut cut ∙ opens_sections s parts h.postings spelled.paths_are spelled.each_path spelled.names_are spelled.each_name spelled.last_offset spelled.last_is_four spelled.name_index_is spelled.list_index_is spelled.each_entry spelled.ascending (omega (arith, l.whole, l.laid, short))
+    ap read_cut cut ∙ opens_sections s parts h.postings spelled.paths_are spelled.names_are spelled.name_index_is spelled.list_index_is (omega (arith, l.whole, l.laid, short))
 
 -- ---- what opens is laid out
 
@@ -328,40 +320,41 @@ pass_from s parts h =
     let four = passed (is_list_index (length s.postings) s.list_index) BadListIndex (Ok (parts_of s)) parts three.1 in
     record { paths = one.0; names = two.0; name_index = three.0; list_index = four.0; are = let o = four.1 in cc }
 
--- A name index is the offsets of the names and four bytes.
-pub record Offsets (bytes : List ℕ) (names : List (List ℕ)) (last : List ℕ) : Type 0 where
-  pub is : bytes ≡ name_offsets names ++ last
-  pub four : length last ≡ 4
-
-pub offsets_read : (bytes : List ℕ) (names : List (List ℕ)) → Small bytes → is_name_index bytes names ≡ true → Offsets bytes names (drop (4 * length names) bytes)
+-- a name index is the offsets of the names and four bytes
+pub offsets_read : (bytes : List ℕ) (names : List (List ℕ)) → Small bytes → is_name_index bytes names ≡ true → AreOffsets names bytes
 unfolding is_name_index
 offsets_read bytes names small h =
     let starts : List ℕ = starts_from 0 (map with_nul names) in
-    let long = name_count bytes names h in
+    let long = offsets_long bytes names h in
     let both = and_parts (eqb (length bytes) (0 + 4 * (length names + 1))) (same (numbers_from bytes 0 (length names)) starts) h in
     let numbers : numbers_from bytes 0 (length names) ≡ starts = (bytes_decides (numbers_from bytes 0 (length names)) starts).0 both.1 in
-    let at : 0 + 4 * length names ≡ 4 * length names = omega arith in
-    record {
-      is = numbers_back bytes 0 (length names) (omega (arith, long)) small ∙ (λ i. flat_map four_bytes (numbers i) ++ drop (at i) bytes);
-      four = let l = length-drop (4 * length names) bytes in omega (arith, l, long);
-    }
+    let at : 0 + 4 * length names ≡ 4 * length names = omega arith in (
+      drop (4 * length names) bytes,
+      let l = length-drop (4 * length names) bytes in omega (arith, l, long),
+      numbers_back bytes 0 (length names) (omega (arith, long)) small ∙ (λ i. flat_map four_bytes (numbers i) ++ drop (at i) bytes),
+    )
 
 pub rise_read : (es : List ListEntry) → rises es ≡ true → Ascends (map (λ (e : ListEntry). e.trigram) es)
 rise_read [] h = tt
 rise_read (d ∷ []) h = tt
 rise_read (d ∷ e ∷ es) h = let both = and_parts (ltb d.trigram e.trigram) (rises (e ∷ es)) h in (ltb-true d.trigram e.trigram both.0, rise_read (e ∷ es) both.1)
 
+fits_read : (g count : ℕ) → g < 2 ^ 24 → (ltb g 16777215 || eqb count 0) ≡ true → (g < 16777215) ⊎ ((g ≡ 16777215) × (count ≡ 0))
+fits_read g count small h = elim (or_cases (ltb g 16777215) (eqb count 0) h) [
+  | inl less ↦ inl (ltb-true g 16777215 less)
+  | inr none ↦ elim (cases_lt g 16777215) [
+    | inl below ↦ inl below
+    | inr above ↦ inr (omega (arith, small, above), eqb-true count 0 none)
+  ]
+]
+
 entry_read : (postings : List ℕ) (e : ListEntry) → Fits e → is_entry (length postings) e ≡ true → IsEntry postings e
 entry_read postings e fits h =
     let both = and_parts (leb (e.offset + 4) (length postings)) (ltb e.trigram 16777215 || eqb e.count 0) h in
     record {
-      trigram = fits.0;
+      trigram = fits_read e.trigram e.count fits.0 both.1;
       count = fits.1;
       offset = fits.2;
-      closing = λ last. elim (or_cases (ltb e.trigram 16777215) (eqb e.count 0) both.1) [
-        | inl less ↦ let below = ltb-true e.trigram 16777215 less in absurd (omega (arith, below, last))
-        | inr none ↦ eqb-true e.count 0 none
-      ];
       room = leb-true (e.offset + 4) (length postings) both.0;
     }
 
@@ -374,58 +367,38 @@ entries_read postings bytes at (suc n) small h =
       entries_read postings bytes (at + 11) n small both.1,
     )
 
--- A list index is its entries.
-pub record Listed (postings bytes : List ℕ) : Type 0 where
-  pub is : bytes ≡ flat_map entry_bytes (entries_in bytes)
-  pub each : AllByRecursion (IsEntry postings) (entries_in bytes)
-  pub ascend : Ascends (map (λ (e : ListEntry). e.trigram) (entries_in bytes))
-
-pub list_index_read : (postings bytes : List ℕ) → Small bytes → is_list_index (length postings) bytes ≡ true → Listed postings bytes
+-- a list index is its entries
+pub list_index_read : (postings bytes : List ℕ) → Small bytes → is_list_index (length postings) bytes ≡ true → AreEntries postings (entries_in bytes) bytes
 unfolding is_list_index entries_in
 list_index_read postings bytes small h =
     let n : ℕ = length bytes / 11 in
     let es : List ListEntry = entries_from bytes 0 n in
     let one = and_parts (eqb (length bytes % 11) 0) (rises es && list_all (is_entry (length postings)) es) h in
     let two = and_parts (rises es) (list_all (is_entry (length postings)) es) one.1 in
-    let long : 0 + 11 * n ≡ length bytes = let z = eqb-true (length bytes % 11) 0 one.0 in omega (arith, z) in
-    record {
-      is = entries_back bytes 0 n (omega (arith, long)) small ∙ ap (λ bs. flat_map entry_bytes es ++ bs) (drop_all (0 + 11 * n) bytes (omega (arith, long))) ∙ append-nil (flat_map entry_bytes es);
-      each = entries_read postings bytes 0 n small two.1;
-      ascend = rise_read es two.0;
-    }
+    let long : 0 + 11 * n ≡ length bytes = let z = eqb-true (length bytes % 11) 0 one.0 in omega (arith, z) in (
+      entries_read postings bytes 0 n small two.1,
+      rise_read es two.0,
+      entries_back bytes 0 n (omega (arith, long)) small ∙ ap (λ bs. flat_map entry_bytes es ++ bs) (drop_all (0 + 11 * n) bytes (omega (arith, long))) ∙ append-nil (flat_map entry_bytes es),
+    )
 
 -- names are read with one NUL more, or without
-pub record NamesRead (section : List ℕ) : Type 0 where
-  pub are : (section ≡ strings_section (texts_of section)) ⊎ (section ≡ concat (map with_nul (texts_of section)))
-  pub each : AllByRecursion IsString (texts_of section)
-
-pub names_read : (section : List ℕ) → (is_section (0 ∷ []) section || is_section [] section) ≡ true → NamesRead section
+pub names_read : (section : List ℕ) → (is_section (0 ∷ []) section || is_section [] section) ≡ true → AreStrings (0 ∷ []) (texts_of section) section ⊎ AreStrings [] (texts_of section) section
 names_read section h = elim (or_cases (is_section (0 ∷ []) section) (is_section [] section) h) [
-  | inl closed ↦ let r = section_read (0 ∷ []) section closed in record { are = inl r.bytes; each = r.each }
-  | inr bare ↦ let r = section_read [] section bare in record { are = inr (r.bytes ∙ append-nil (concat (map with_nul (texts_of section)))); each = r.each }
+  | inl closed ↦ inl (section_read (0 ∷ []) section closed)
+  | inr bare ↦ inr (section_read [] section bare)
 ]
 
 spells_parts : (bytes : List ℕ) (s : Sections) (parts : Parts) → CutFrom bytes s → Pass s parts → SpellsParts bytes parts
 spells_parts bytes s parts cut pass =
-    let paths = section_read (0 ∷ []) s.paths pass.paths in
-    let names = names_read s.names pass.names in
-    let offsets = offsets_read s.name_index (texts_of s.names) cut.name_index pass.name_index in
-    let lists = list_index_read s.postings s.list_index cut.list_index pass.list_index in
     subst (SpellsParts bytes) pass.are (record {
       spelled = record {
         sections = s;
         laid = cut.laid;
         short = cut.short;
-        paths_are = paths.bytes;
-        each_path = paths.each;
-        names_are = names.are;
-        each_name = names.each;
-        last_offset = drop (4 * length (texts_of s.names)) s.name_index;
-        last_is_four = offsets.four;
-        name_index_is = offsets.is;
-        list_index_is = lists.is;
-        each_entry = lists.each;
-        ascending = lists.ascend;
+        paths_are = section_read (0 ∷ []) s.paths pass.paths;
+        names_are = names_read s.names pass.names;
+        name_index_is = offsets_read s.name_index (texts_of s.names) cut.name_index pass.name_index;
+        list_index_is = list_index_read s.postings s.list_index cut.list_index pass.list_index;
       };
       postings = refl;
     })

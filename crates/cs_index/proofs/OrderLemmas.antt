@@ -76,9 +76,9 @@ pair_climbs ns at d some within h =
     ∙ ap (λ k. are_ascending (map name_lent (drop k ns))) e
 
 short_ascends : (ns : List Lent) → length ns ≤ 1 → are_ascending (map name_lent ns) ≡ true
-short_ascends [] few = refl
-short_ascends (n ∷ []) few = refl
-short_ascends (n ∷ m ∷ ns) few = absurd (omega (arith, few))
+short_ascends [] bound = refl
+short_ascends (n ∷ []) bound = refl
+short_ascends (n ∷ m ∷ ns) bound = absurd (omega (arith, bound))
 
 pub last_ascends : (ns : List Lent) (at : ℕ) → length ns ≤ at → are_ascending (map name_lent (drop (at - 1) ns)) ≡ true
 last_ascends ns at end = short_ascends (drop (at - 1) ns) (omega (arith, end, length-drop (at - 1) ns))
@@ -125,20 +125,20 @@ distinct_few name (n ∷ ns) h =
     ]
 
 alone_from : (n : Lent) (ns : List Lent) → ((name : List ℕ) → many name (n ∷ ns) ≤ 1) → dedup_from (same_key name_lent) n ns ≡ n ∷ ns
-alone_from n [] few = refl
-alone_from n (m ∷ ns) few =
+alone_from n [] bound = refl
+alone_from n (m ∷ ns) bound =
     elim (cases_Bool (same_key name_lent m n)) [
       | inl tied ↦
           let self : same (name_lent n) (name_lent n) ≡ true = (bytes_decides (name_lent n) (name_lent n)).1 refl in
-          absurd (omega (arith, few (name_lent n), many-more (name_lent n) n (m ∷ ns), many-more (name_lent n) m ns, here (name_lent n) n self, here (name_lent n) m tied))
+          absurd (omega (arith, bound (name_lent n), many-more (name_lent n) n (m ∷ ns), many-more (name_lent n) m ns, here (name_lent n) n self, here (name_lent n) m tied))
       | inr apart ↦
           ap (λ b. cond b (dedup_from (same_key name_lent) n ns) (n ∷ dedup_from (same_key name_lent) m ns)) apart
-          ∙ ap (λ ms. n ∷ ms) (alone_from m ns (λ name. omega (arith, few name, many-more name n (m ∷ ns))))
+          ∙ ap (λ ms. n ∷ ms) (alone_from m ns (λ name. omega (arith, bound name, many-more name n (m ∷ ns))))
     ]
 
 alone : (ns : List Lent) → ((name : List ℕ) → many name ns ≤ 1) → dedup (same_key name_lent) ns ≡ ns
-alone [] few = refl
-alone (n ∷ ns) few = alone_from n ns few
+alone [] bound = refl
+alone (n ∷ ns) bound = alone_from n ns bound
 
 -- names that were sorted and do not ascend are not distinct
 pub sorted_twins : (ns sorted : List Lent) → IsPermutation ns sorted → IsSorted (by_key name_lent) sorted →
@@ -146,8 +146,8 @@ pub sorted_twins : (ns sorted : List Lent) → IsPermutation ns sorted → IsSor
 sorted_twins ns sorted moved up falling =
     elim (cases_Bool (are_distinct (map name_lent ns))) [
       | inl distinct ↦
-          let few : (name : List ℕ) → many name sorted ≤ 1 = λ name. omega (arith, distinct_few name ns distinct, sum_by-IsPermutation (one name) ns sorted moved) in
-          absurd (true≢false (sym (sorted_once name_lent sorted up) ∙ ap (λ ms. are_ascending (map name_lent ms)) (alone sorted few) ∙ falling))
+          let bound : (name : List ℕ) → many name sorted ≤ 1 = λ name. omega (arith, distinct_few name ns distinct, sum_by-IsPermutation (one name) ns sorted moved) in
+          absurd (true≢false (sym (sorted_once name_lent sorted up) ∙ ap (λ ms. are_ascending (map name_lent ms)) (alone sorted bound) ∙ falling))
       | inr twice ↦ twice
     ]
 

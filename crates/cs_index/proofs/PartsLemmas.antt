@@ -6,7 +6,7 @@ use Rattle.std.specs.List.{list_all}
 use Rattle.cs_index.specs.Image.{ListEntry, Sections}
 use Rattle.cs_index.specs.Opening.{texts_of, is_section, is_entry, is_list_index, entries_in, rises, parts_of}
 use Rattle.cs_index.specs.Parts.{AreParts}
-use Rattle.cs_index.proofs.OpenLemmas.{name_count, entries_rise}
+use Rattle.cs_index.proofs.OpenLemmas.{offsets_long, entries_rise}
 use Rattle.cs_index.proofs.TextLemmas.{section_read}
 
 pub entries_fit : (room : ℕ) (bytes : List ℕ) → is_list_index room bytes ≡ true → list_all (λ (e : ListEntry). is_entry room e) (entries_in bytes) ≡ true
@@ -16,12 +16,12 @@ entries_fit room bytes h =
 
 pub parts_read : (s : Sections) → IsRead s → AreParts (parts_of s)
 parts_read s is = record {
-  each_path = (section_read (0 ∷ []) s.paths is.paths).each;
+  each_path = (section_read (0 ∷ []) s.paths is.paths).0;
   each_name = elim (or_cases (is_section (0 ∷ []) s.names) (is_section [] s.names) is.names) [
-    | inl closed ↦ (section_read (0 ∷ []) s.names closed).each
-    | inr bare ↦ (section_read [] s.names bare).each
+    | inl closed ↦ (section_read (0 ∷ []) s.names closed).0
+    | inr bare ↦ (section_read [] s.names bare).0
   ];
-  few_names = let long = name_count s.name_index (texts_of s.names) is.name_index in omega (arith, long, is.few_names);
+  few_names = let long = offsets_long s.name_index (texts_of s.names) is.name_index in omega (arith, long, is.few_names);
   rise = entries_rise (length s.postings) s.list_index is.list_index;
   fit = entries_fit (length s.postings) s.list_index is.list_index;
 }

@@ -1,38 +1,24 @@
 -- Paths in order, and those that no other one covers.
-use Rattle.std.proofs.Common.{◌≡◌, ℕ, ◌+◌, ◌-◌, ◌≤◌, Bool, true, false, not, ◌&&◌, ◌||◌, List, [], ◌∷◌, ◌++◌, length, map, drop, get_or, string_bytes, String, Global, length-drop, refl, sym, ap, ◌∙◌, inl, inr, arith}
-use Rattle.std.specs.Prelude.{Result, Ok, Err, is_ok}
+use Rattle.std.proofs.Common.{◌≡◌, ℕ, ◌+◌, ◌-◌, ◌≤◌, Bool, true, false, not, ◌&&◌, ◌||◌, List, [], ◌∷◌, ◌++◌, length, map, drop, string_bytes, String, Global, length-drop, refl, sym, ap, ◌∙◌, arith}
 use Rattle.std.specs.List.{list_all, list_any, AllByRecursion}
-use Rattle.std.specs.List.Sorted.{IsSorted, IsStrictlySortedBy, IsBinarySearchResult, IsSearchInRange}
-use Rattle.std.specs.Ordering.{is_lt, is_eq, nat_cmp, ordering_reverse, ordering_then}
+use Rattle.std.specs.List.Sorted.{IsStrictlySortedBy}
+use Rattle.std.specs.Ordering.{is_lt, ordering_reverse, ordering_then}
 use Rattle.std.specs.Cmp.{both_ways as same_tests, nat_cmp_is}
-use Rattle.std.specs.Cmp.Lexicographic.{bytes_decides, slice_cmp, nat_list_cmp_total, texts_ties}
+use Rattle.std.specs.Cmp.Lexicographic.{bytes_decides, nat_list_cmp_total}
 use Rattle.std.specs.declared.cmp.Ordering.TheVariants.{Less, Equal, Greater}
-use Rattle.std.proofs.lemmas.Bool.{and_parts, and_from, or_parts, false_from_ne_true, cases_lt, not-true, not_from_false}
-use Rattle.std.proofs.lemmas.List.{length-map}
-use Rattle.std.proofs.lemmas.List.Folds.{list_any_none, list_any_at}
-use Rattle.std.proofs.lemmas.List.Sorted.{searchable_from_sorted}
-use Rattle.std.proofs.lemmas.Map.Keys.{Less-from_sorted}
-use Rattle.std.proofs.Math.ListN.{get_or-map}
+use Rattle.std.proofs.lemmas.Bool.{and_parts, and_from, or_parts, false_from_ne_true, not-true, not_from_false}
 use Rattle.cs_tree.specs.NameOrder.{bytes_cmp}
 use Rattle.cs_tree.specs.NamesAscending.{are_ascending}
-use Rattle.cs_tree.specs.Cover.{slash, same, covers}
+use Rattle.cs_tree.specs.Cover.{slash, same, covers, is_alone}
 use Rattle.cs_tree.specs.Covering.{Covers, itself, below, root}
-use Rattle.cs_tree.specs.Reducing.{other_covers}
 use Rattle.cs_tree.proofs.Covering.{covers_says}
-use Rattle.cs_tree.proofs.Sets.{alike}
 use Rattle.cs_index.specs.Built.{are_reduced, is_before}
-use Rattle.cs_index.specs.Ascending.{is_alone}
 use Rattle.cs_tree.proofs.BeforeLemmas.{less_from}
 
 pub list_all-map : {X Y : Type 0} (test : Y → Bool) (f : X → Y) (xs : List X) →
     list_all test (map f xs) ≡ list_all (λ x. test (f x)) xs
 list_all-map test f [] = refl
 list_all-map test f (x ∷ xs) = ap (λ b. test (f x) && b) (list_all-map test f xs)
-
-list_any-map : {X Y : Type 0} (test : Y → Bool) (f : X → Y) (xs : List X) →
-    list_any test (map f xs) ≡ list_any (λ x. test (f x)) xs
-list_any-map test f [] = refl
-list_any-map test f (x ∷ xs) = ap (λ b. test (f x) || b) (list_any-map test f xs)
 
 -- ---- what covers a path is not above it
 
@@ -99,12 +85,13 @@ reduced_up (p ∷ q ∷ ps) h =
 
 -- the first of some paths covers none of those above it, and none covers it
 none_covers : (p : List ℕ) (ps : List (List ℕ)) → AllByRecursion (λ q. bytes_cmp p q ≡ Less) ps →
-    list_any (other_covers p) ps ≡ false
+    is_alone ps p ≡ true
 none_covers p [] all = refl
 none_covers p (q ∷ ps) all =
-    ap (λ b. (b && not (same q p)) || list_any (other_covers p) ps) (not_above p q all.0) ∙ none_covers p ps all.1
+    ap (λ b. not ((b && not (same q p)) || list_any (λ other. covers other p && not (same other p)) ps)) (not_above p q all.0)
+    ∙ none_covers p ps all.1
 
-not_itself : (p : List ℕ) → other_covers p p ≡ false
+not_itself : (p : List ℕ) → (covers p p && not (same p p)) ≡ false
 not_itself p = ap (λ b. covers p p && not b) ((bytes_decides p p).1 refl) ∙ and_false (covers p p)
   where
     and_false : (b : Bool) → (b && false) ≡ false
@@ -113,7 +100,8 @@ not_itself p = ap (λ b. covers p p && not b) ((bytes_decides p p).1 refl) ∙ a
 
 alone_first : (p : List ℕ) (ps : List (List ℕ)) → AllByRecursion (λ q. bytes_cmp p q ≡ Less) ps →
     is_alone (p ∷ ps) p ≡ true
-alone_first p ps all = ap not (ap (λ b. b || list_any (other_covers p) ps) (not_itself p) ∙ none_covers p ps all)
+alone_first p ps all =
+    ap (λ b. not (b || list_any (λ other. covers other p && not (same other p)) ps)) (not_itself p) ∙ none_covers p ps all
 
 -- a path stands alone below another one exactly where that one does not cover it
 alone_more : (p : List ℕ) (all ps : List (List ℕ)) → list_all (is_before p) ps ≡ true →
@@ -125,7 +113,7 @@ alone_more p all (q ∷ ps) h g =
     let apart : covers p q ≡ false = not-true (covers p q)
     (and_parts (is_lt (bytes_cmp p q)) (not (covers p q)) before.0).1 in
     and_from (is_alone (p ∷ all) q) (list_all (is_alone (p ∷ all)) ps)
-    (ap (λ b. not ((b && not (same p q)) || list_any (other_covers q) all)) apart ∙ alone.0)
+    (ap (λ b. not ((b && not (same p q)) || list_any (λ other. covers other q && not (same other q)) all)) apart ∙ alone.0)
     (alone_more p all ps before.1 alone.1)
 
 alone_fewer : (p : List ℕ) (all ps : List (List ℕ)) → AllByRecursion (λ q. bytes_cmp p q ≡ Less) ps →
@@ -133,14 +121,15 @@ alone_fewer : (p : List ℕ) (all ps : List (List ℕ)) → AllByRecursion (λ q
 alone_fewer p all [] up h = (refl, refl)
 alone_fewer p all (q ∷ ps) up h =
     let parts = and_parts (is_alone (p ∷ all) q) (list_all (is_alone (p ∷ all)) ps) h in
-    let neither = or_parts (other_covers q p) (list_any (other_covers q) all) (not-true _ parts.0) in
+    let neither = or_parts (covers p q && not (same p q)) (list_any (λ other. covers other q && not (same other q)) all)
+    (not-true _ parts.0) in
     let rest = alone_fewer p all ps up.1 parts.1 in
     let uncovered : covers p q ≡ false = sym (and_true (covers p q))
     ∙ ap (λ b. covers p q && not b) (sym (apart p q up.0)) ∙ neither.0 in (
       and_from (is_before p q) (list_all (is_before p) ps)
           (and_from (is_lt (bytes_cmp p q)) (not (covers p q)) (ap is_lt up.0) (not_from_false (covers p q) uncovered))
           rest.0,
-      and_from (is_alone all q) (list_all (is_alone all) ps) (not_from_false (list_any (other_covers q) all) neither.1)
+      and_from (is_alone all q) (list_all (is_alone all) ps) (not_from_false _ neither.1)
           rest.1,
     )
   where
@@ -167,49 +156,14 @@ alone_reduced (p ∷ ps) up h =
 pub reduced_is : (ps : List (List ℕ)) → are_ascending ps ≡ true → list_all (is_alone ps) ps ≡ are_reduced ps
 reduced_is ps up = same_tests _ _ (alone_reduced ps up) (reduced_alone ps up)
 
--- ---- a path among paths in order
-
-adjacent : (ps : List (String Global)) → IsStrictlySortedBy bytes_cmp (map string_bytes ps) →
-    IsSorted (λ (x y : String Global). bytes_cmp (string_bytes x) (string_bytes y)) ps
-adjacent ps strict = λ k d low high.
-    let less : bytes_cmp (get_or (map string_bytes ps) k (string_bytes d))
-    (get_or (map string_bytes ps) (k + 1) (string_bytes d)) ≡ Less = Less-from_sorted bytes_cmp
-    (map string_bytes ps) k (k + 1) (string_bytes d) strict (omega arith)
-    (omega (arith, high, length-map ps (string_bytes {Z = Global}))) in
-    let rises : bytes_cmp (string_bytes (get_or ps k d)) (string_bytes (get_or ps (k + 1) d)) ≡ Less = sym
-    (ap (λ x. bytes_cmp x (get_or (map string_bytes ps) (k + 1) (string_bytes d)))
-    (get_or-map string_bytes ps k d)
-    ∙ ap (bytes_cmp (string_bytes (get_or ps k d))) (get_or-map string_bytes ps (k + 1) d)) ∙ less in
-    ap is_lt (nat_list_cmp_total.antisymm (string_bytes (get_or ps (k + 1) d)) (string_bytes (get_or ps k d))
-    ∙ ap ordering_reverse rises)
-
-pub listed : (ps : List (String Global)) (path : List ℕ) (r : Result ℕ ℕ) →
-    IsStrictlySortedBy bytes_cmp (map string_bytes ps) → IsSearchInRange r (length ps) →
-    IsBinarySearchResult (λ (y : String Global). slice_cmp nat_cmp (string_bytes y) path) ps r →
-    is_ok r ≡ list_any (λ other. same other path) (map string_bytes ps)
-listed [] path (Ok i) strict bound found = absurd (omega (arith, bound))
-listed (p ∷ ps) path (Ok i) strict bound found =
-    sym (list_any-map (λ other. same other path) string_bytes (p ∷ ps)
-    ∙ list_any_at (λ (text : String Global). same (string_bytes text) path) (p ∷ ps) i p bound
-    ((bytes_decides (string_bytes (get_or (p ∷ ps) i p)) path).1
-    (alike (string_bytes (get_or (p ∷ ps) i p)) path (found p))))
-listed ps path (Err i) strict bound found =
-    let parts = found (searchable_from_sorted nat_list_cmp_total (λ (text : String Global). string_bytes text) ps path
-    (adjacent ps strict)) in
-    sym (list_any-map (λ other. same other path) string_bytes ps
-    ∙ list_any_none (λ (text : String Global). same (string_bytes text) path) ps (λ k d within. elim (cases_lt k i) [
-      | inl before ↦ texts_ties (string_bytes (get_or ps k d)) path ∙ ap is_eq (parts.0 k d (omega arith) before)
-      | inr after ↦ texts_ties (string_bytes (get_or ps k d)) path ∙ ap is_eq (parts.1 k d after within)
-    ]))
-
 -- ---- the end of a loop
 
 pub last_up : (ps : List (String Global)) (at : ℕ) → 1 ≤ at → length ps ≤ at →
     true ≡ are_ascending (map string_bytes (drop (at - 1) ps))
-last_up ps at some past = by (drop (at - 1) ps) (few ps (at - 1) (omega (arith, some, past)))
+last_up ps at some past = by (drop (at - 1) ps) (one_left ps (at - 1) (omega (arith, some, past)))
   where
-    few : (qs : List (String Global)) (k : ℕ) → length qs ≤ k + 1 → length (drop k qs) ≤ 1
-    few qs k h = let left = length-drop k qs in omega (arith, h, left)
+    one_left : (qs : List (String Global)) (k : ℕ) → length qs ≤ k + 1 → length (drop k qs) ≤ 1
+    one_left qs k h = let left = length-drop k qs in omega (arith, h, left)
 
     by : (qs : List (String Global)) → length qs ≤ 1 → true ≡ are_ascending (map string_bytes qs)
     by [] h = refl

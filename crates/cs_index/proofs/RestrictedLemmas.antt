@@ -17,6 +17,7 @@ use Rattle.cs_index.specs.Restriction.{AnswersAs}
 use Rattle.cs_index.specs.Copies.{AreCopiedEntries, HasCopy}
 use Rattle.cs_index.proofs.CopiesLemmas.{copies_read}
 use Rattle.cs_index.proofs.OpenedLemmas.{list_index_spelled}
+use Rattle.cs_index.proofs.OnceLemmas.{small_trigram}
 use Rattle.cs_index.proofs.OpenLemmas.{entries_rise}
 use Rattle.cs_index.proofs.PartsLemmas.{entries_fit}
 use Rattle.cs_index.proofs.PlaceLemmas.{length-entries}
@@ -24,7 +25,7 @@ use Rattle.cs_index.proofs.RestrictionLemmas.{answers_as}
 
 small_trigrams : (postings : List ℕ) (es : List ListEntry) → AllByRecursion (IsEntry postings) es → AllByRecursion (λ g. g < 2 ^ 24) (map (λ (e : ListEntry). e.trigram) es)
 small_trigrams postings [] all = tt
-small_trigrams postings (e ∷ es) all = (all.0.trigram, small_trigrams postings es all.1)
+small_trigrams postings (e ∷ es) all = (small_trigram postings e all.0, small_trigrams postings es all.1)
 
 length-trigrams : (es : List ListEntry) → length (map (λ (e : ListEntry). e.trigram) es) ≡ length es
 length-trigrams [] = refl
@@ -39,15 +40,15 @@ few_entries postings (e ∷ es) all up =
 
 module _ (p n i l list_index postings : List ℕ) (start room : ℕ) (read : AreRead p n i l room) (are : AreCopiedEntries list_index postings) where
   entries_are : is_list_index (length postings) list_index ≡ true
-  entries_are = list_index_spelled postings list_index (entries_in list_index) are.entries.2 are.entries.0 are.entries.1
+  entries_are = list_index_spelled postings list_index (entries_in list_index) are.entries
 
   pub made_read : length i < 2 ^ 32 → IsRead (with_lists p n i list_index postings)
-  made_read few = record {
+  made_read bound = record {
     paths = read.each_path;
     names = read.each_name;
     name_index = read.offsets;
     list_index = entries_are;
-    few_names = few;
+    few_names = bound;
     few_lists = let a = ap length are.entries.2 in let b = length-entries (entries_in list_index) in let d = few_entries postings (entries_in list_index) are.entries.0 are.entries.1 in omega (arith, a, b, d);
   }
 

@@ -28,12 +28,12 @@ run_more g n ks within here all =
 -- ---- what keys in order give
 
 -- once each gave its id, none waits
-pub waiting_all : (names base : ℕ) (lists : List Posting) (ks : List ℕ) → Ascends ks →
-    AreWaiting names base lists ks → AreWaiting names base (with_keys base lists ks) []
-waiting_all names base lists [] up waits = waits
-waiting_all names base lists (k ∷ ks) up waits =
-    waiting_all names base (with_id lists (trigram_of k) (id_of base k)) ks (ascends_tail k ks up)
-    (waiting_after names base k lists ks up waits)
+pub waiting_all : (name_count base : ℕ) (lists : List Posting) (ks : List ℕ) → Ascends ks →
+    AreWaiting name_count base lists ks → AreWaiting name_count base (with_keys base lists ks) []
+waiting_all name_count base lists [] up waits = waits
+waiting_all name_count base lists (k ∷ ks) up waits =
+    waiting_all name_count base (with_id lists (trigram_of k) (id_of base k)) ks (ascends_tail k ks up)
+    (waiting_after name_count base k lists ks up waits)
 
 pub ascends_drop : (n : ℕ) (ks : List ℕ) → Ascends ks → Ascends (drop n ks)
 ascends_drop zero ks up = up

@@ -11,11 +11,11 @@ use Rattle.std.specs.Prelude.{Result, IfOk, flat_map}
 use Rattle.cs_index.specs.declared.fault.BuildFault.{BuildFault}
 use Rattle.cs_index.specs.Indexable.{IsIndexable}
 use Rattle.cs_index.specs.Image.{Posting, ListEntry, concat, four_bytes, image_of, layout, list_entries, posting_list, sections_of, three_bytes, varint, deltas_from}
-use Rattle.cs_index.specs.IdStream.{most_ids, stream_of, ids_in, IsStream}
-use Rattle.cs_index.specs.Rising.{next_after, RiseWithin, IsPosting, ids_onward}
+use Rattle.cs_index.specs.IdStream.{stream_of, ids_in, IsStream}
+use Rattle.cs_index.specs.Rising.{ids_onward, most_ids, next_after, IsPosting, RiseWithin}
 use Rattle.cs_index.specs.Gathering.{keys}
 use Rattle.cs_index.specs.Laid.{ids_of, with_id, Laid, IsLaid, entries_laid, last_ids, with_laid_id, with_last_id, with_last_ids, with_posting, AllBelow}
-use Rattle.cs_index.specs.Laying.{front_of, ids_at, lists_at, IsFresh, IsOpen, IsSections, hand_of, bytes_of, lists_of_fields, begun_of, laid_of}
+use Rattle.cs_index.specs.Laying.{front_of, ids_at, lists_at, IsFresh, IsOpen, IsSections, hand_of, bytes_of, lists_of_fields, last_trigram_of, laid_of}
 use Rattle.cs_index.proofs.StreamLemmas.{decoded-stream_of, stream_from, written_push, next_push, rise_push, rise_length, rise_append}
 use Rattle.cs_index.proofs.StretchLemmas.{onward_from, onward_last, onward_stream}
 use Rattle.cs_index.proofs.ListedLemmas.{lists_are}
@@ -92,21 +92,21 @@ read_open front bytes entries hand next closed ids is up rise = record { closed_
 
 -- ---- lists in their order
 
-pub rise_more : (names more next : ℕ) (ids : List ℕ) → names ≤ more → RiseWithin names next ids →
+pub rise_more : (name_count more next : ℕ) (ids : List ℕ) → name_count ≤ more → RiseWithin name_count next ids →
     RiseWithin more next ids
-rise_more names more next [] h up = tt
-rise_more names more next (id ∷ ids) h up = (up.0, omega (arith, h, up.1), rise_more names more (id + 1) ids h up.2)
+rise_more name_count more next [] h up = tt
+rise_more name_count more next (id ∷ ids) h up = (up.0, omega (arith, h, up.1), rise_more name_count more (id + 1) ids h up.2)
 
 -- ids are below a number that the next would not pass
-rise_within : (names most next : ℕ) (ids : List ℕ) → next_after next ids ≤ names → RiseWithin most next ids →
-    RiseWithin names next ids
-rise_within names most next [] last up = tt
-rise_within names most next (id ∷ ids) last up = let long = rise_length most (id + 1) ids up.2 in
-    (up.0, omega (arith, long, last), rise_within names most (id + 1) ids last up.2)
+rise_within : (name_count most next : ℕ) (ids : List ℕ) → next_after next ids ≤ name_count → RiseWithin most next ids →
+    RiseWithin name_count next ids
+rise_within name_count most next [] last up = tt
+rise_within name_count most next (id ∷ ids) last up = let long = rise_length most (id + 1) ids up.2 in
+    (up.0, omega (arith, long, last), rise_within name_count most (id + 1) ids last up.2)
 
-all_rise : (names : ℕ) (ps : List Posting) → names ≤ 2 ^ 31 → AllByRecursion (IsPosting names) ps → Rise ps
-all_rise names [] few all = tt
-all_rise names (p ∷ ps) few all = (rise_more names most_ids 0 p.1 few all.0.1, all_rise names ps few all.1)
+all_rise : (name_count : ℕ) (ps : List Posting) → name_count ≤ 2 ^ 31 → AllByRecursion (IsPosting name_count) ps → Rise ps
+all_rise name_count [] bound all = tt
+all_rise name_count (p ∷ ps) bound all = (rise_more name_count most_ids 0 p.1 bound all.0.1, all_rise name_count ps bound all.1)
 
 all_front : (P : Posting → Type 0) (ps : List Posting) (p : Posting) → AllByRecursion P (ps ++ p ∷ []) →
     AllByRecursion P ps × P p
@@ -207,24 +207,24 @@ after_id s out id = record {
 pub record AtHand (s : Inside) (id : ℕ) : Type 0 where
   pub some : s.count ≢ 0
   pub below : s.next ≤ id
-  pub few : s.count ≤ id
+  pub bound : s.count ≤ id
   pub small : id < 2 ^ 31
-  pub begun : begun_of s ≡ Some s.trigram
+  pub begun : last_trigram_of s ≡ Some s.trigram
   pub last : ids_of (lists_of_fields s) s.trigram ≡ ids_at_hand s
   pub more : with_id (lists_of_fields s) s.trigram id ≡ closed_of s ++ (s.trigram, ids_at_hand s ++ id ∷ []) ∷ []
   pub closed_rise : Rise (closed_of s)
   pub ids_rise : RiseWithin most_ids 0 (ids_at_hand s)
 
 pub at_hand : (s : Inside) (now : Laid) (id : ℕ) → laid_of s ≡ now → IsSections s → s.pending ≡ None →
-    now.begun ≢ None → next_after 0 (last_ids now) ≤ id → id < length now.names → AtHand s id
+    now.last_trigram ≢ None → next_after 0 (last_ids now) ≤ id → id < length now.names → AtHand s id
 at_hand s now id view is none begun above named =
     record {
       some = some;
       below = below;
-      few = (let long = rise_length most_ids 0 (ids_at_hand s) rise in omega
+      bound = (let long = rise_length most_ids 0 (ids_at_hand s) rise in omega
           (arith, long, below, held.counted, held.follows));
       small = (let at : length s.names ≡ length now.names = ap (λ (laid : Laid). length laid.names) view in omega
-          (arith, is.laid.few, named, at));
+          (arith, is.laid.bound, named, at));
       begun = has_begun;
       last = last;
       more = ap (λ ps. with_id ps s.trigram id) (some_lists s some)
@@ -234,11 +234,11 @@ at_hand s now id view is none begun above named =
     }
   where
     some : s.count ≢ 0
-    some zero = begun (ap (λ (laid : Laid). laid.begun) (sym view)
+    some zero = begun (ap (λ (laid : Laid). laid.last_trigram) (sym view)
         ∙ ap (λ o. option_map_or (λ trigram. Some trigram) o (cond (eqb s.count 0) None (Some s.trigram))) none
         ∙ ap (λ b. cond b None (Some s.trigram)) (eq-eqb s.count 0 zero))
 
-    has_begun : begun_of s ≡ Some s.trigram
+    has_begun : last_trigram_of s ≡ Some s.trigram
     has_begun = ap (λ o. option_map_or (λ trigram. Some trigram) o (cond (eqb s.count 0) None (Some s.trigram))) none
         ∙ ap (λ b. cond b None (Some s.trigram)) (ne_eqb s.count 0 some)
 
@@ -248,7 +248,7 @@ at_hand s now id view is none begun above named =
     parts : Rise (closed_of s) × RiseWithin most_ids 0 (ids_at_hand s)
     parts = all_front (λ (p : Posting). RiseWithin most_ids 0 p.1) (closed_of s) (s.trigram, ids_at_hand s)
         (subst Rise (some_lists s some)
-        (all_rise (length s.names) (lists_of_fields s) is.laid.few is.laid.postings.each))
+        (all_rise (length s.names) (lists_of_fields s) is.laid.bound is.laid.postings.each))
 
     rise : RiseWithin most_ids 0 (ids_at_hand s)
     rise = parts.1
@@ -271,7 +271,7 @@ pub record Given (s : Inside) (now : Laid) (out : Vec ℕ Global) (id : ℕ) : T
   pub is : laid_of (after_id s out id) ≡ with_last_id now id
 
 pub given : (s : Inside) (now : Laid) (out : Vec ℕ Global) (id : ℕ) → laid_of s ≡ now → IsSections s →
-    s.pending ≡ None → now.begun ≢ None → next_after 0 (last_ids now) ≤ id → id < length now.names →
+    s.pending ≡ None → now.last_trigram ≢ None → next_after 0 (last_ids now) ≤ id → id < length now.names →
     out.items ≡ s.out.items ++ varint (id + 1 - s.next) → Given s now out id
 given s now out id view is none begun above named written =
     record {
@@ -330,7 +330,7 @@ given s now out id view is none begun above named written =
       paths = s.paths;
       names = s.names;
       lists = (now_open.lists ∙ sym known.more) i;
-      begun = (ap (λ b. option_map_or (λ trigram. Some trigram) s.pending (cond b None (Some s.trigram)))
+      last_trigram = (ap (λ b. option_map_or (λ trigram. Some trigram) s.pending (cond b None (Some s.trigram)))
           (ne_eqb (s.count + 1) 0 (λ zero. absurd (omega (arith, zero))) ∙ sym (ne_eqb s.count 0 known.some))) i;
     }
 
@@ -362,7 +362,7 @@ no_list_below (p ∷ lists) trigram all =
 pub record AtLast (s : Inside) (now : Laid) : Type 0 where
   pub none : s.pending ≡ None
   pub some : s.count ≢ 0
-  pub begun : begun_of s ≡ Some s.trigram
+  pub begun : last_trigram_of s ≡ Some s.trigram
   pub apart : has (keys (closed_of s)) s.trigram ≡ false
   pub last : last_ids now ≡ ids_at_hand s
   pub held : IsOpenAs s (closed_of s) (ids_at_hand s)
@@ -401,14 +401,14 @@ at_last s now view is has_last =
         ∙ ap (λ o. option_map_or (ids_of (lists_of_fields s)) (option_map_or (λ g. Some g) o (cond (eqb s.count 0) None (Some s.trigram))) []) none
         ∙ ap (λ b. option_map_or (ids_of (lists_of_fields s)) (cond b None (Some s.trigram)) []) (eq-eqb s.count 0 zero))
 
-    has_begun : begun_of s ≡ Some s.trigram
+    has_begun : last_trigram_of s ≡ Some s.trigram
     has_begun = ap (λ o. option_map_or (λ trigram. Some trigram) o (cond (eqb s.count 0) None (Some s.trigram))) none
         ∙ ap (λ b. cond b None (Some s.trigram)) (ne_eqb s.count 0 some)
 
     parts : Rise (closed_of s) × RiseWithin most_ids 0 (ids_at_hand s)
     parts = all_front (λ (p : Posting). RiseWithin most_ids 0 p.1) (closed_of s) (s.trigram, ids_at_hand s)
         (subst Rise (some_lists s some)
-        (all_rise (length s.names) (lists_of_fields s) is.laid.few is.laid.postings.each))
+        (all_rise (length s.names) (lists_of_fields s) is.laid.bound is.laid.postings.each))
 
     apart : has (keys (closed_of s)) s.trigram ≡ false
     apart = last_apart (closed_of s) (s.trigram, ids_at_hand s)
@@ -422,31 +422,31 @@ count_all s now more view is has_last named rise =
     let known = at_last s now view is has_last in
     let at : length s.names ≡ length now.names = ap (λ (l : Laid). length l.names) view in
     let here : next_after 0 (last_ids now) ≡ next_after 0 (ids_at_hand s) = ap (next_after 0) known.last in
-    let few = rise_length most_ids 0 (ids_at_hand s) known.ids_rise in
+    let bound = rise_length most_ids 0 (ids_at_hand s) known.ids_rise in
     let long = rise_length most_ids 0 more rise in (
-      omega (arith, is.laid.few, named, at, here, few, long, known.held.counted),
-      omega (arith, is.laid.few, named, at, here, known.held.follows),
+      omega (arith, is.laid.bound, named, at, here, bound, long, known.held.counted),
+      omega (arith, is.laid.bound, named, at, here, known.held.follows),
     )
 
 -- the last list with all of some ids
-with_all : (laid : Laid) (closed : List Posting) (g : ℕ) (ids more : List ℕ) → laid.begun ≡ Some g →
+with_all : (laid : Laid) (closed : List Posting) (g : ℕ) (ids more : List ℕ) → laid.last_trigram ≡ Some g →
     laid.lists ≡ closed ++ (g, ids) ∷ [] → has (keys closed) g ≡ false → with_last_ids laid more ≡ record
-    { paths = laid.paths; names = laid.names; lists = closed ++ (g, ids ++ more) ∷ []; begun = laid.begun }
+    { paths = laid.paths; names = laid.names; lists = closed ++ (g, ids ++ more) ∷ []; last_trigram = laid.last_trigram }
 with_all laid closed g ids [] begun lists apart = λ i. record {
   paths = laid.paths;
   names = laid.names;
   lists = (lists ∙ ap (λ is. closed ++ (g, is) ∷ []) (sym (append-nil ids))) i;
-  begun = laid.begun;
+  last_trigram = laid.last_trigram;
 }
 with_all laid closed g ids (id ∷ more) begun lists apart =
     ap (λ (l : Laid). with_last_ids l more) (ap (λ o. option_map_or (λ trigram. with_laid_id laid trigram id) o laid) begun)
     ∙ with_all (with_laid_id laid g id) closed g (ids ++ id ∷ []) more begun
     (ap (λ ps. with_id ps g id) lists ∙ with_last closed g id ids apart) apart
     ∙ ap (λ is. let l : Laid = record
-    { paths = laid.paths; names = laid.names; lists = closed ++ (g, is) ∷ []; begun = laid.begun } in l)
+    { paths = laid.paths; names = laid.names; lists = closed ++ (g, is) ∷ []; last_trigram = laid.last_trigram } in l)
     (append_assoc ids (id ∷ []) more)
 
-laid_all : (laid : Laid) (closed : List Posting) (g : ℕ) (ids more : List ℕ) → IsLaid laid → laid.begun ≡ Some g →
+laid_all : (laid : Laid) (closed : List Posting) (g : ℕ) (ids more : List ℕ) → IsLaid laid → laid.last_trigram ≡ Some g →
     laid.lists ≡ closed ++ (g, ids) ∷ [] → has (keys closed) g ≡ false →
     RiseWithin (length laid.names) (next_after 0 ids) more → IsLaid (with_last_ids laid more)
 laid_all laid closed g ids [] is begun lists apart up = is
@@ -539,7 +539,7 @@ given_all s now out count next more view is has_last named rise written counted 
       starts = known.held.starts;
       follows = follows ∙ ap (λ n. n + next_after 0 more) known.held.follows ∙ sym (next_more 0 ids more);
     }) known.closed_rise
-        (rise_append most_ids 0 ids new known.ids_rise (rise_more (length s.names) most_ids (next_after 0 ids) new is.laid.few new_rise))
+        (rise_append most_ids 0 ids new known.ids_rise (rise_more (length s.names) most_ids (next_after 0 ids) new is.laid.bound new_rise))
 
     same : laid_of t ≡ with_last_ids (laid_of s) new
     same =
@@ -547,7 +547,7 @@ given_all s now out count next more view is has_last named rise written counted 
           paths = s.paths;
           names = s.names;
           lists = now_open.lists i;
-          begun = (ap (λ b. option_map_or (λ trigram. Some trigram) s.pending (cond b None (Some s.trigram)))
+          last_trigram = (ap (λ b. option_map_or (λ trigram. Some trigram) s.pending (cond b None (Some s.trigram)))
               (ne_eqb count 0 some ∙ sym (ne_eqb s.count 0 known.some))) i;
         })
         ∙ sym (with_all (laid_of s) (closed_of s) s.trigram ids new known.begun (some_lists s known.some) known.apart)
@@ -592,11 +592,11 @@ after_list s out entries trigram count start next = record {
 }
 
 -- ids that are laid as the first of a list
-pub record AreFirst (names trigram count next : ℕ) (bytes : List ℕ) : Type 0 where
+pub record AreFirst (name_count trigram count next : ℕ) (bytes : List ℕ) : Type 0 where
   pub below : trigram < 16777215
   pub stream : IsStream bytes count next
   pub some : count ≢ 0
-  pub named : next ≤ names
+  pub named : next ≤ name_count
 
 pub record Begun (s : Inside) (now : Laid) (p : Posting) : Type 0 where
   pub holds : IsSections s
@@ -641,7 +641,7 @@ begun s now out entries trigram count start next bytes closed view is above firs
 
     now_held : Stated t closed ids
     now_held = stated t closed ids first.some held
-        (subst Rise known (all_rise (length s.names) (lists_of_fields s) is.laid.few is.laid.postings.each))
+        (subst Rise known (all_rise (length s.names) (lists_of_fields s) is.laid.bound is.laid.postings.each))
         first.stream.rise
 
     same : laid_of t ≡ with_posting (laid_of s) (trigram, ids)
@@ -649,7 +649,7 @@ begun s now out entries trigram count start next bytes closed view is above firs
       paths = s.paths;
       names = s.names;
       lists = (now_held.lists ∙ ap (λ ps. ps ++ (trigram, ids) ∷ []) (sym known)) i;
-      begun = ap (λ b. cond b None (Some trigram)) (ne_eqb count 0 first.some) i;
+      last_trigram = ap (λ b. cond b None (Some trigram)) (ne_eqb count 0 first.some) i;
     }
 
     posting : IsPosting (length s.names) (trigram, ids)
@@ -779,9 +779,9 @@ ended_some s now bytes entries view is some written pushed =
 pub short : (result : Result (Vec ℕ Global) BuildFault) (s : Inside) (now : Laid) (most : ℕ) → laid_of s ≡ now →
     IsSections s → most < 2 ^ 32 → IfOk result (λ index. index.items ≡ image_of now.paths (entries_laid now)) →
     IfOk result (λ index. length index.items ≤ most) → IfOk result (λ _. IsIndexable now.paths (entries_laid now))
-short (Ok index) s now most view is few image within = laid_indexable now (subst IsLaid view is.laid)
-    (let long = ap length image in omega (arith, few, within, long))
-short (Err fault) s now most view is few image within = tt
+short (Ok index) s now most view is bound image within = laid_indexable now (subst IsLaid view is.laid)
+    (let long = ap length image in omega (arith, bound, within, long))
+short (Err fault) s now most view is bound image within = tt
 
 -- ---- the first id of a list
 
@@ -797,7 +797,7 @@ below_lacks [] trigram all = refl
 below_lacks (p ∷ lists) trigram all = ap (λ b. b || has (keys lists) trigram)
     (ne_eqb p.0 trigram (λ e. absurd (omega (arith, e, all.0)))) ∙ below_lacks lists trigram all.1
 
-pub one_posting : (now : Laid) (trigram id : ℕ) (bytes : List ℕ) → now.begun ≡ Some trigram →
+pub one_posting : (now : Laid) (trigram id : ℕ) (bytes : List ℕ) → now.last_trigram ≡ Some trigram →
     AllBelow now.lists trigram → id < 2 ^ 31 → bytes ≡ varint (id + 1) →
     with_posting now (trigram, ids_in bytes 1) ≡ with_last_id now id
 one_posting now trigram id bytes begun above small is =
@@ -808,24 +808,24 @@ one_posting now trigram id bytes begun above small is =
       names = now.names;
       lists = sym
           (gathered_new now.lists trigram id (below_lacks now.lists trigram above)) i;
-      begun = sym begun i;
+      last_trigram = sym begun i;
     })
     ∙ sym (ap (λ o. option_map_or (λ t. with_laid_id now t id) o now) begun)
 
 -- what is known where the first id of a list is given
 pub record AtFirst (s : Inside) (now : Laid) (trigram id : ℕ) : Type 0 where
-  pub begun : now.begun ≡ Some trigram
+  pub begun : now.last_trigram ≡ Some trigram
   pub above : AllBelow now.lists trigram
   pub small : id < 2 ^ 31
 
 pub at_first : (s : Inside) (now : Laid) (trigram id : ℕ) → laid_of s ≡ now → IsSections s →
     s.pending ≡ Some trigram → id < length now.names → AtFirst s now trigram id
 at_first s now trigram id view is pending named = record {
-  begun = ap (λ (l : Laid). l.begun) (sym view)
+  begun = ap (λ (l : Laid). l.last_trigram) (sym view)
       ∙ ap (λ o. option_map_or (λ t. Some t) o (cond (eqb s.count 0) None (Some s.trigram))) pending;
   above = subst (λ (l : Laid). AllBelow l.lists trigram) view (subst (IsFresh (lists_of_fields s)) pending is.fresh);
   small = (let at : length s.names ≡ length now.names = ap (λ (l : Laid). length l.names) view in omega
-      (arith, is.laid.few, named, at));
+      (arith, is.laid.bound, named, at));
 }
 
 -- ---- lists one after the other

@@ -5,6 +5,7 @@ use Rattle.std.specs.List.{AllByRecursion}
 use Rattle.std.specs.Prelude.{flat_map}
 use Rattle.cs_trigram.specs.Trigram.{Ascends}
 use Rattle.cs_trigram.proofs.SetLemmas.{all_above, ascends_tail}
+use Rattle.cs_tree.proofs.Gathering.{all-append}
 use Rattle.cs_index.specs.Image.{deltas_from, varint}
 use Rattle.cs_index.specs.Rising.{next_after, RiseWithin}
 use Rattle.cs_index.specs.Keys.{trigram_of, ids_of_keys, AreOfTrigram}
@@ -82,11 +83,6 @@ heads_append (h ∷ heads) gaps head more are long some one = (
       (heads_append heads (drop (h % 256) gaps) head more are.3 long some one),
 )
 
-all_append : (P : ℕ → Type 0) (xs ys : List ℕ) → AllByRecursion P xs → AllByRecursion P ys →
-    AllByRecursion P (xs ++ ys)
-all_append P [] ys all more = more
-all_append P (x ∷ xs) ys all more = (all.0, all_append P xs ys all.1 more)
-
 lower : (from : ℕ) (ns : List ℕ) → AllByRecursion (λ n. (from ≤ n) × (n < from + 128)) ns →
     AllByRecursion (λ n. from ≤ n) ns
 lower from [] all = tt
@@ -103,12 +99,12 @@ pub pushed : (heads gaps new_heads new_gaps run : List ℕ) (g head : ℕ) → A
     Ascends run → 0 < length run → length run < 256 → head ≡ g * 256 + length run →
     new_heads ≡ heads ++ head ∷ [] → new_gaps ≡ gaps ++ gaps_of (g * 256) run →
     ArePushed heads gaps new_heads new_gaps run
-pushed heads gaps new_heads new_gaps run g head are short one near up some few at more_heads more_gaps =
+pushed heads gaps new_heads new_gaps run g head are short one near up some bound at more_heads more_gaps =
     let close = near_run g run one near in
     let more : List ℕ = gaps_of (g * 256) run in
     let back : sums_from (g * 256) more ≡ run = sums_of_gaps (g * 256) run (lower (g * 256) run close) up in
-    let trigram : trigram_of head ≡ g = omega (arith, at, few) in
-    let count : head % 256 ≡ length run = omega (arith, at, few) in
+    let trigram : trigram_of head ≡ g = omega (arith, at, bound) in
+    let count : head % 256 ≡ length run = omega (arith, at, bound) in
     let long : length more ≡ head % 256 = length-gaps_of (g * 256) run ∙ sym count in
     let whole : run_in (trigram_of head) more ≡ run = ap (λ t. run_in t more) trigram ∙ back in
     record {
@@ -118,7 +114,7 @@ pushed heads gaps new_heads new_gaps run g head are short one near up some few a
           (heads_append heads gaps head more are long (omega (arith, count, some))
           (subst (AreOfTrigram (trigram_of head)) (sym whole) (subst (λ t. AreOfTrigram t run) (sym trigram) one))));
       short = subst (AllByRecursion (λ gap. gap < 128)) (sym more_gaps)
-          (all_append (λ gap. gap < 128) gaps more short (short_gaps (g * 256) (g * 256) run (omega arith) close));
+          (all-append (λ gap. gap < 128) gaps more short (short_gaps (g * 256) (g * 256) run (omega arith) close));
     }
 
 -- ---- the ids of a run
@@ -161,9 +157,9 @@ ids_written next from [] some short = absurd (omega (arith, some))
 ids_written next from (gap ∷ gaps) some short =
     ap (λ rest. varint (from + gap + 1 - next) ++ rest) (gaps_written (from + gap) gaps short.1)
 
-pub ids_below : (names next : ℕ) (ids : List ℕ) → RiseWithin names next ids → AllByRecursion (λ id. id < names) ids
-ids_below names next [] up = tt
-ids_below names next (id ∷ ids) up = (up.1, ids_below names (id + 1) ids up.2)
+pub ids_below : (name_count next : ℕ) (ids : List ℕ) → RiseWithin name_count next ids → AllByRecursion (λ id. id < name_count) ids
+ids_below name_count next [] up = tt
+ids_below name_count next (id ∷ ids) up = (up.1, ids_below name_count (id + 1) ids up.2)
 
 pub next_sum : (next from : ℕ) (gaps : List ℕ) → 0 < length gaps →
     next_after next (sums_from from gaps) ≡ next_after (from + 1) (sums_from from gaps)
@@ -171,10 +167,10 @@ next_sum next from [] some = absurd (omega (arith, some))
 next_sum next from (gap ∷ gaps) some = refl
 
 -- the first id is not below the next one that is free
-pub first_sum : (names next from : ℕ) (gaps : List ℕ) → 0 < length gaps → RiseWithin names next (sums_from from gaps) →
-    (next ≤ from + get_or gaps 0 0) × (from + get_or gaps 0 0 < names)
-first_sum names next from [] some up = absurd (omega (arith, some))
-first_sum names next from (gap ∷ gaps) some up = (up.0, up.1)
+pub first_sum : (name_count next from : ℕ) (gaps : List ℕ) → 0 < length gaps → RiseWithin name_count next (sums_from from gaps) →
+    (next ≤ from + get_or gaps 0 0) × (from + get_or gaps 0 0 < name_count)
+first_sum name_count next from [] some up = absurd (omega (arith, some))
+first_sum name_count next from (gap ∷ gaps) some up = (up.0, up.1)
 
 -- ---- the first head that is left
 

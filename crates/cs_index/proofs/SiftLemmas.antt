@@ -7,7 +7,7 @@ use Rattle.std.proofs.lemmas.Bool.{true≢false, and_parts, ltb-true, cases_Bool
 use Rattle.std.proofs.lemmas.List.{drop-drop, drop-set-lt, drop_all, get_or-drop, take_more_set}
 use Rattle.std.specs.Prelude.{filter}
 use Rattle.std.specs.List.{AllByRecursion, range_with_len}
-use Rattle.cs_trigram.proofs.SetLemmas.{Above, ascends_cons, ascends_tail, ascends_head, below_none}
+use Rattle.cs_trigram.proofs.SetLemmas.{Above, all_filter, ascends_cons, ascends_tail, ascends_head, below_none}
 
 -- ---- filters
 
@@ -53,41 +53,37 @@ length-range : (a n : ℕ) → AllByRecursion (λ id. id < a + n) (range_with_le
 length-range a zero = tt
 length-range a (suc n) = (omega arith, subst (λ m. AllByRecursion (λ id. id < m) (range_with_len (a + 1) n)) (let z : a + 1 + n ≡ a + suc n = omega arith in z) (length-range (a + 1) n))
 
-all_filter : (P : ℕ → Type 0) (p : ℕ → Bool) (xs : List ℕ) → AllByRecursion P xs → AllByRecursion P (filter p xs)
-all_filter P p [] all = tt
-all_filter P p (x ∷ xs) all = cond_both (p x) (x ∷ filter p xs) (filter p xs) (AllByRecursion P) (λ _. (all.0, all_filter P p xs all.1)) (λ _. all_filter P p xs all.1)
-
 pub below_range : (p : ℕ → Bool) (n : ℕ) → AllByRecursion (λ id. id < n) (filter p (range_with_len 0 n))
 below_range p n = all_filter (λ id. id < n) p (range_with_len 0 n) (subst (λ m. AllByRecursion (λ id. id < m) (range_with_len 0 n)) (let z : 0 + n ≡ n = omega arith in z) (length-range 0 n))
 
 -- ---- ids that rise
 
-pub rise_ascends : (names next : ℕ) (ids : List ℕ) → RiseWithin names next ids → Ascends ids
-rise_ascends names next [] up = tt
-rise_ascends names next (id ∷ ids) up = ascends_cons id ids (first names (id + 1) ids up.2 (omega arith)) (rise_ascends names (id + 1) ids up.2)
+pub rise_ascends : (name_count next : ℕ) (ids : List ℕ) → RiseWithin name_count next ids → Ascends ids
+rise_ascends name_count next [] up = tt
+rise_ascends name_count next (id ∷ ids) up = ascends_cons id ids (first name_count (id + 1) ids up.2 (omega arith)) (rise_ascends name_count (id + 1) ids up.2)
   where
     first : (m k : ℕ) (is : List ℕ) → RiseWithin m k is → id < k → Above id is
     first m k [] u h = tt
     first m k (i ∷ is) u h = omega (arith, u.0, h)
 
-pub rise_below : (names next : ℕ) (ids : List ℕ) → RiseWithin names next ids → AllByRecursion (λ id. id < names) ids
-rise_below names next [] up = tt
-rise_below names next (id ∷ ids) up = (up.1, rise_below names (id + 1) ids up.2)
+pub rise_below : (name_count next : ℕ) (ids : List ℕ) → RiseWithin name_count next ids → AllByRecursion (λ id. id < name_count) ids
+rise_below name_count next [] up = tt
+rise_below name_count next (id ∷ ids) up = (up.1, rise_below name_count (id + 1) ids up.2)
 
-pub read_rise : (names count next : ℕ) (bytes : List ℕ) → RiseWithin names next (read_ids names count next bytes).ids
-read_rise names zero next bytes = tt
-read_rise names (suc count) next bytes = rise_after (λ delta rest. read_rise names count (next + delta) rest) (read_varint bytes)
+pub read_rise : (name_count count next : ℕ) (bytes : List ℕ) → RiseWithin name_count next (read_ids name_count count next bytes).ids
+read_rise name_count zero next bytes = tt
+read_rise name_count (suc count) next bytes = rise_after (λ delta rest. read_rise name_count count (next + delta) rest) (read_varint bytes)
   where
-    rise_after : ((delta : ℕ) (rest : List ℕ) → RiseWithin names (next + delta) (read_ids names count (next + delta) rest).ids) → (found : Option (ℕ × List ℕ)) → RiseWithin names next (after_delta names next (read_ids names count) found).ids
+    rise_after : ((delta : ℕ) (rest : List ℕ) → RiseWithin name_count (next + delta) (read_ids name_count count (next + delta) rest).ids) → (found : Option (ℕ × List ℕ)) → RiseWithin name_count next (after_delta name_count next (read_ids name_count count) found).ids
     rise_after more None = tt
     rise_after more (Some (delta, rest)) =
-        cond_both (ltb 0 delta && ltb (next + delta) (names + 1)) (onto (next + delta - 1) (read_ids names count (next + delta) rest)) damage (λ (r : Ids). RiseWithin names next r.ids)
+        cond_both (ltb 0 delta && ltb (next + delta) (name_count + 1)) (onto (next + delta - 1) (read_ids name_count count (next + delta) rest)) damage (λ (r : Ids). RiseWithin name_count next r.ids)
         (λ t.
-        let both = and_parts (ltb 0 delta) (ltb (next + delta) (names + 1)) t in
+        let both = and_parts (ltb 0 delta) (ltb (next + delta) (name_count + 1)) t in
         let above = ltb-true 0 delta both.0 in
-        let below = ltb-true (next + delta) (names + 1) both.1 in
+        let below = ltb-true (next + delta) (name_count + 1) both.1 in
         let after : next + delta ≡ next + delta - 1 + 1 = omega (arith, above) in
-        (omega (arith, above), omega (arith, above, below), subst (λ k. RiseWithin names k (read_ids names count (next + delta) rest).ids) after (more delta rest)))
+        (omega (arith, above), omega (arith, above, below), subst (λ k. RiseWithin name_count k (read_ids name_count count (next + delta) rest).ids) after (more delta rest)))
         (λ _. tt)
 
 -- a member of ids below a number is below it

@@ -5,35 +5,33 @@ use Rattle.cs_trigram.specs.Trigram.{has, Ascends}
 use Rattle.std.proofs.lemmas.Bool.{cond_both}
 use Rattle.std.specs.Prelude.{flat_map}
 use Rattle.std.specs.List.{AllByRecursion}
-use Rattle.cs_index.specs.Image.{four_bytes, concat, with_nul, Entry, ids_from, Posting, posting_list, postings_of, trigrams_of, closing_list, ListEntry, list_entries, Sections, sections_of, layout, names_of, image_of, in_order, trailer}
+use Rattle.cs_index.specs.Image.{four_bytes, concat, with_nul, Entry, ids_from, Posting, posting_list, postings_of, trigrams_of, closing_list, ListEntry, list_entries, Sections, sections_of, names_of, image_of}
 use Rattle.cs_index.specs.Spelling.{IsEntry, Spells}
 use Rattle.cs_index.specs.Indexable.{IsIndexable}
 use Rattle.cs_trigram.proofs.SetLemmas.{ascends_set, all_set}
+use Rattle.cs_tree.proofs.Gathering.{all-append}
+use Rattle.cs_index.proofs.OnceLemmas.{lengths}
 
 -- ---- sets of trigrams
 
 module _ (P : ℕ → Type 0) where
-  all_append : (xs ys : List ℕ) → AllByRecursion P xs → AllByRecursion P ys → AllByRecursion P (xs ++ ys)
-  all_append [] ys a b = b
-  all_append (x ∷ xs) ys a b = (a.0, all_append xs ys a.1 b)
-
   pub all_sets : (entries : List Entry) → AllByRecursion (λ (entry : Entry). AllByRecursion P entry.1) entries → AllByRecursion P (flat_map (λ (entry : Entry). entry.1) entries)
   all_sets [] all = tt
-  all_sets (entry ∷ entries) all = all_append entry.1 _ all.0 (all_sets entries all.1)
+  all_sets (entry ∷ entries) all = all-append P entry.1 _ all.0 (all_sets entries all.1)
 
 -- ---- ids
 
-rise_sooner : (names next later : ℕ) (ids : List ℕ) → next ≤ later → RiseWithin names later ids → RiseWithin names next ids
-rise_sooner names next later [] h up = tt
-rise_sooner names next later (id ∷ ids) h up = (omega (arith, h, up.0), up.1, up.2)
+rise_sooner : (name_count next later : ℕ) (ids : List ℕ) → next ≤ later → RiseWithin name_count later ids → RiseWithin name_count next ids
+rise_sooner name_count next later [] h up = tt
+rise_sooner name_count next later (id ∷ ids) h up = (omega (arith, h, up.0), up.1, up.2)
 
-pub ids_rise : (names first g : ℕ) (entries : List Entry) → first + length entries ≤ names → RiseWithin names first (ids_from first g entries)
-ids_rise names first g [] h = tt
-ids_rise names first g (entry ∷ entries) h =
-    let rest : RiseWithin names (first + 1) (ids_from (first + 1) g entries) = ids_rise names (first + 1) g entries (omega (arith, h)) in
-    cond_both (has entry.1 g) (first ∷ ids_from (first + 1) g entries) (ids_from (first + 1) g entries) (RiseWithin names first)
+pub ids_rise : (name_count first g : ℕ) (entries : List Entry) → first + length entries ≤ name_count → RiseWithin name_count first (ids_from first g entries)
+ids_rise name_count first g [] h = tt
+ids_rise name_count first g (entry ∷ entries) h =
+    let rest : RiseWithin name_count (first + 1) (ids_from (first + 1) g entries) = ids_rise name_count (first + 1) g entries (omega (arith, h)) in
+    cond_both (has entry.1 g) (first ∷ ids_from (first + 1) g entries) (ids_from (first + 1) g entries) (RiseWithin name_count first)
     (λ _. (omega arith, omega (arith, h), rest))
-    (λ _. rise_sooner names first (first + 1) (ids_from (first + 1) g entries) (omega arith) rest)
+    (λ _. rise_sooner name_count first (first + 1) (ids_from (first + 1) g entries) (omega arith) rest)
 
 few_ids : (first g : ℕ) (entries : List Entry) → length (ids_from first g entries) ≤ length entries
 few_ids first g [] = omega arith
@@ -53,10 +51,9 @@ entries_fit section offset [] fit whole short = tt
 entries_fit section offset (p ∷ ps) fit whole short =
     let l : length (posting_list p ++ concat (map posting_list ps)) ≡ length (posting_list p) + length (concat (map posting_list ps)) = length-append (posting_list p) _ in (
       record {
-        trigram = omega (arith, fit.0.0);
+        trigram = inl fit.0.0;
         count = fit.0.1;
         offset = omega (arith, whole, short);
-        closing = λ e. absurd (omega (arith, e, fit.0.0));
         room = omega (arith, whole);
       },
       entries_fit section (offset + length (posting_list p)) ps fit.1 (omega (arith, whole, l)) short,
@@ -71,38 +68,26 @@ posting_trigrams entries [] = refl
 posting_trigrams entries (g ∷ gs) = ap (λ rest. g ∷ rest) (posting_trigrams entries gs)
 
 postings_fit : (entries : List Entry) (gs : List ℕ) → length entries < 2 ^ 31 → AllByRecursion (λ g. g < 16777215) gs → AllByRecursion Fit (map (λ g. (g, ids_from 0 g entries)) gs)
-postings_fit entries [] few all = tt
-postings_fit entries (g ∷ gs) few all = ((all.0, let n = few_ids 0 g entries in omega (arith, few, n)), postings_fit entries gs few all.1)
-
--- a section is no longer than the whole
-postings_short : (s : Sections) → length s.postings ≤ length (layout s)
-postings_short s =
-    let a : length (layout s) ≡ 16 + length (concat (in_order s) ++ trailer s) = omega arith in
-    let b : length (concat (in_order s) ++ trailer s) ≡ length (concat (in_order s)) + length (trailer s) = length-append (concat (in_order s)) (trailer s) in
-    let c : length (concat (in_order s)) ≡ length s.paths + length (s.names ++ (s.postings ++ (s.name_index ++ (s.list_index ++ [])))) = length-append s.paths _ in
-    let d : length (s.names ++ (s.postings ++ (s.name_index ++ (s.list_index ++ [])))) ≡ length s.names + length (s.postings ++ (s.name_index ++ (s.list_index ++ []))) = length-append s.names _ in
-    let e : length (s.postings ++ (s.name_index ++ (s.list_index ++ []))) ≡ length s.postings + length (s.name_index ++ (s.list_index ++ [])) = length-append s.postings _ in
-    omega (arith, a, b, c, d, e)
+postings_fit entries [] bound all = tt
+postings_fit entries (g ∷ gs) bound all = ((all.0, let n = few_ids 0 g entries in omega (arith, bound, n)), postings_fit entries gs bound all.1)
 
 pub image_spelled : (paths : List (List ℕ)) (entries : List Entry) → IsIndexable paths entries → Spells (image_of paths entries) paths (names_of entries) (list_entries 0 (postings_of entries))
 image_spelled paths entries h =
     let s : Sections = sections_of paths (names_of entries) (postings_of entries) in
-    let short : length s.postings < 2 ^ 32 = let p = postings_short s in omega (arith, p, h.short) in
+    let short : length s.postings < 2 ^ 32 = let l = lengths s in omega (arith, l.whole, l.laid, h.short) in
     let whole : 0 + length (concat (map posting_list (postings_of entries))) + 4 ≡ length s.postings = let l = length-append (concat (map posting_list (postings_of entries))) closing_list in omega (arith, l) in
     record {
       sections = s;
       laid = refl;
       short = h.short;
-      paths_are = refl;
-      each_path = h.each_path;
-      names_are = inl refl;
-      each_name = h.each_name;
-      last_offset = four_bytes (length (concat (map with_nul (names_of entries))));
-      last_is_four = refl;
-      name_index_is = refl;
-      list_index_is = refl;
-      each_entry = entries_fit s.postings 0 (postings_of entries) (postings_fit entries (trigrams_of entries) h.few (all_set (λ g. g < 16777215) _ (all_sets (λ g. g < 16777215) entries h.trigrams))) whole short;
-      ascending = subst Ascends (sym (entry_trigrams 0 (postings_of entries) ∙ posting_trigrams entries (trigrams_of entries))) (ascends_set (flat_map (λ (entry : Entry). entry.1) entries));
+      paths_are = (h.each_path, refl);
+      names_are = inl (h.each_name, refl);
+      name_index_is = (four_bytes (length (concat (map with_nul (names_of entries)))), refl, refl);
+      list_index_is = (
+        entries_fit s.postings 0 (postings_of entries) (postings_fit entries (trigrams_of entries) h.bound (all_set (λ g. g < 16777215) _ (all_sets (λ g. g < 16777215) entries h.trigrams))) whole short,
+        subst Ascends (sym (entry_trigrams 0 (postings_of entries) ∙ posting_trigrams entries (trigrams_of entries))) (ascends_set (flat_map (λ (entry : Entry). entry.1) entries)),
+        refl,
+      );
     }
 
 pub image_sections : (paths : List (List ℕ)) (entries : List Entry) (h : IsIndexable paths entries) → (image_spelled paths entries h).sections ≡ sections_of paths (names_of entries) (postings_of entries)

@@ -55,10 +55,10 @@ module _ (bytes head tail : List ℕ) (len : ℕ) (ends : AreEnds bytes head tai
         let h : 36 ≤ len = let e = leb-true 52 len enough in omega (arith, e) in
         let long : leb 36 (length tail) ≡ true = le-leb 36 (length tail) (let t = tail_long h in omega (arith, t)) in
         (λ i. leb 52 (ends.long i) && (ltb (ends.long i) 4294967296 && (sym long i && pointwise eqb trailer_magic (sym (tail_end h) i))))
-    | inr few ↦
+    | inr bound ↦
         (λ i. leb 52 (ends.long i) && (ltb (length bytes) 4294967296 && ends_with eqb bytes trailer_magic))
-        ∙ (λ i. few i && (ltb (length bytes) 4294967296 && ends_with eqb bytes trailer_magic))
-        ∙ sym (λ i. few i && (ltb len 4294967296 && (leb 36 (length tail) && ends_with eqb tail trailer_magic)))
+        ∙ (λ i. bound i && (ltb (length bytes) 4294967296 && ends_with eqb bytes trailer_magic))
+        ∙ sym (λ i. bound i && (ltb len 4294967296 && (leb 36 (length tail) && ends_with eqb tail trailer_magic)))
   ]
 
   pub wrong_trailer : starts_with nat_eq head magic ≡ true → is_tail tail len ≡ false → cut_of bytes ≡ Err BadTrailer

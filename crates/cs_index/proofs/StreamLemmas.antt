@@ -1,13 +1,13 @@
 -- One more id at the end of a stream.
 use Rattle.std.proofs.Common.{◌≡◌, ℕ, suc, ◌+◌, ◌-◌, ◌*◌, ◌/◌, ◌%◌, ◌^◌, ◌<◌, ◌≤◌, Bool, true, cond, List, [], ◌∷◌, ◌++◌, length, refl, sym, ap, subst, ◌∙◌, arith, append_assoc, length-append, take, set}
-use Rattle.cs_index.specs.Rising.{RiseWithin, next_after}
+use Rattle.cs_index.specs.Rising.{most_ids, next_after, RiseWithin}
 use Rattle.cs_index.specs.PostingLists.{Ids}
 use Rattle.std.proofs.lemmas.Bool.{lt-ltb, le-ltb}
 use Rattle.std.proofs.lemmas.List.{append-nil, take_more_set}
 use Rattle.std.proofs.Math.Nat.{mul-le-mul_right}
 use Rattle.std.specs.Prelude.{flat_map}
 use Rattle.cs_index.specs.Image.{varint, varint_within, deltas_from}
-use Rattle.cs_index.specs.IdStream.{most_ids, stream_of, ids_in, IsStream}
+use Rattle.cs_index.specs.IdStream.{stream_of, ids_in, IsStream}
 use Rattle.cs_index.proofs.VarintLemmas.{ids_read}
 
 pub written_push : (next : ℕ) (ids : List ℕ) (id : ℕ) → flat_map varint (deltas_from next (ids ++ id ∷ [])) ≡ flat_map varint (deltas_from next ids) ++ varint (id + 1 - next_after next ids)
@@ -15,8 +15,8 @@ written_push next [] id = append-nil (varint (id + 1 - next))
 written_push next (x ∷ ids) id = ap (λ rest. varint (x + 1 - next) ++ rest) (written_push (x + 1) ids id) ∙ sym (append_assoc (varint (x + 1 - next)) _ _)
 
 pub rise_push : (next : ℕ) (ids : List ℕ) (id : ℕ) → RiseWithin most_ids next ids → next_after next ids ≤ id → id < most_ids → RiseWithin most_ids next (ids ++ id ∷ [])
-rise_push next [] id up h few = (h, few, tt)
-rise_push next (x ∷ ids) id up h few = (up.0, up.1, rise_push (x + 1) ids id up.2 h few)
+rise_push next [] id up h bound = (h, bound, tt)
+rise_push next (x ∷ ids) id up h bound = (up.0, up.1, rise_push (x + 1) ids id up.2 h bound)
 
 pub next_push : (next : ℕ) (ids : List ℕ) (id : ℕ) → next_after next (ids ++ id ∷ []) ≡ id + 1
 next_push next [] id = refl
@@ -43,18 +43,18 @@ written_append : (next : ℕ) (xs ys : List ℕ) → flat_map varint (deltas_fro
 written_append next [] ys = refl
 written_append next (x ∷ xs) ys = ap (λ rest. varint (x + 1 - next) ++ rest) (written_append (x + 1) xs ys) ∙ sym (append_assoc (varint (x + 1 - next)) _ _)
 
-pub rise_append : (names next : ℕ) (xs ys : List ℕ) → RiseWithin names next xs → RiseWithin names (next_after next xs) ys → RiseWithin names next (xs ++ ys)
-rise_append names next [] ys up more = more
-rise_append names next (x ∷ xs) ys up more = (up.0, up.1, rise_append names (x + 1) xs ys up.2 more)
+pub rise_append : (name_count next : ℕ) (xs ys : List ℕ) → RiseWithin name_count next xs → RiseWithin name_count (next_after next xs) ys → RiseWithin name_count next (xs ++ ys)
+rise_append name_count next [] ys up more = more
+rise_append name_count next (x ∷ xs) ys up more = (up.0, up.1, rise_append name_count (x + 1) xs ys up.2 more)
 
 pub next_append : (next : ℕ) (xs ys : List ℕ) → next_after next (xs ++ ys) ≡ next_after (next_after next xs) ys
 next_append next [] ys = refl
 next_append next (x ∷ xs) ys = next_append (x + 1) xs ys
 
 -- there are no more ids than the next one could be
-pub rise_length : (names next : ℕ) (ids : List ℕ) → RiseWithin names next ids → next + length ids ≤ next_after next ids
-rise_length names next [] up = omega arith
-rise_length names next (id ∷ ids) up = let rest = rise_length names (id + 1) ids up.2 in omega (arith, rest, up.0)
+pub rise_length : (name_count next : ℕ) (ids : List ℕ) → RiseWithin name_count next ids → next + length ids ≤ next_after next ids
+rise_length name_count next [] up = omega arith
+rise_length name_count next (id ∷ ids) up = let rest = rise_length name_count (id + 1) ids up.2 in omega (arith, rest, up.0)
 
 next_within : (next : ℕ) (ids : List ℕ) → RiseWithin most_ids next ids → next ≤ most_ids → next_after next ids ≤ most_ids
 next_within next [] up h = h
@@ -63,7 +63,7 @@ next_within next (id ∷ ids) up h = next_within (id + 1) ids up.2 (omega (arith
 pub record Extended (stream : List ℕ) (count next : ℕ) (more bytes : List ℕ) : Type 0 where
   pub is : IsStream (stream ++ bytes) (count + length more) (next_after next more)
   pub ids : ids_in (stream ++ bytes) (count + length more) ≡ ids_in stream count ++ more
-  pub few : count + length more ≤ most_ids
+  pub bound : count + length more ≤ most_ids
 
 pub stream_more : (stream : List ℕ) (count next : ℕ) (more : List ℕ) → IsStream stream count next → RiseWithin most_ids next more → Extended stream count next more (flat_map varint (deltas_from next more))
 stream_more stream count next more h rise =
@@ -76,7 +76,7 @@ stream_more stream count next more h rise =
     record {
       is = subst (λ s. IsStream s (count + length more) (next_after next more)) (sym bytes) (subst (λ n. IsStream (stream_of all) n (next_after next more)) (sym many) (subst (IsStream (stream_of all) (length all)) at (stream_from all up)));
       ids = ap (λ s. ids_in s (count + length more)) bytes ∙ ap (ids_in (stream_of all)) many ∙ decoded-stream_of all up;
-      few = omega (arith, many, rise_length most_ids 0 all up, next_within 0 all up (omega arith));
+      bound = omega (arith, many, rise_length most_ids 0 all up, next_within 0 all up (omega arith));
     }
 
 -- ---- the bytes of a varint, one after the other
@@ -95,8 +95,8 @@ unfolding varint
 group_first n bytes = refl
 
 pub group_more : (n at rest : ℕ) (bytes : List ℕ) → at < 4 → at < length bytes → 128 ≤ rest → varint n ≡ take at bytes ++ varint_within (5 - at) rest → varint n ≡ take (at + 1) (set bytes at (rest % 128 + 128)) ++ varint_within (5 - (at + 1)) (rest / 128)
-group_more n at rest bytes few within large so_far =
-    let room : 5 - at ≡ suc (5 - (at + 1)) = omega (arith, few) in
+group_more n at rest bytes bound within large so_far =
+    let room : 5 - at ≡ suc (5 - (at + 1)) = omega (arith, bound) in
     so_far
     ∙ ap (λ k. take at bytes ++ varint_within k rest) room
     ∙ ap (λ groups. take at bytes ++ groups) (more_groups (5 - (at + 1)) rest large)
@@ -104,8 +104,8 @@ group_more n at rest bytes few within large so_far =
     ∙ ap (λ front. front ++ varint_within (5 - (at + 1)) (rest / 128)) (sym (take_more_set bytes at (rest % 128 + 128) within))
 
 pub group_end : (n at rest : ℕ) (bytes : List ℕ) → at ≤ 4 → at < length bytes → rest < 128 → varint n ≡ take at bytes ++ varint_within (5 - at) rest → varint n ≡ take (at + 1) (set bytes at rest)
-group_end n at rest bytes few within small so_far =
-    let room : 5 - at ≡ suc (5 - (at + 1)) = omega (arith, few) in
+group_end n at rest bytes bound within small so_far =
+    let room : 5 - at ≡ suc (5 - (at + 1)) = omega (arith, bound) in
     so_far
     ∙ ap (λ k. take at bytes ++ varint_within k rest) room
     ∙ ap (λ groups. take at bytes ++ groups) (last_group (5 - (at + 1)) rest small)
@@ -119,10 +119,10 @@ small_more n rest p h =
     omega (arith, less, turn, h)
 
 pub four_groups : (n len rest : ℕ) → n < 2 ^ 32 → len ≤ 4 → 4 ≤ len → rest * 128 ^ len ≤ n → rest < 128
-four_groups n len rest few at_most at_least h =
+four_groups n len rest bound at_most at_least h =
     let at : len ≡ 4 = omega (arith, at_most, at_least) in
     let h' : rest * 268435456 ≤ n = subst (λ l. rest * 128 ^ l ≤ n) at h in
-    omega (arith, h', few)
+    omega (arith, h', bound)
 
 pub extended : (ok : Bool) (new old bytes groups : List ℕ) → groups ≡ bytes → new ≡ cond ok (old ++ bytes) old → ok ≡ true → new ≡ old ++ groups
 extended ok new old bytes groups e h is = h ∙ ap (λ b. cond b (old ++ bytes) old) is ∙ ap (λ g. old ++ g) (sym e)

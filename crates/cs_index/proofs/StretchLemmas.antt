@@ -6,8 +6,8 @@ use Rattle.std.proofs.Math.Seq.{take-add}
 use Rattle.std.specs.List.{AllByRecursion}
 use Rattle.std.specs.Prelude.{flat_map, fold, sum}
 use Rattle.cs_index.specs.Image.{varint, varint_within, deltas_from}
-use Rattle.cs_index.specs.IdStream.{most_ids, ids_in, stream_of, IsStream}
-use Rattle.cs_index.specs.Rising.{next_after, RiseWithin, ids_onward}
+use Rattle.cs_index.specs.IdStream.{ids_in, stream_of, IsStream}
+use Rattle.cs_index.specs.Rising.{ids_onward, most_ids, next_after, RiseWithin}
 use Rattle.cs_index.specs.PostingLists.{Ids, read_ids, read_varint, after_delta, onto, damage}
 use Rattle.cs_index.specs.ListRest.{left_of}
 use Rattle.cs_index.proofs.StreamLemmas.{rise_length, short_varint, stream_from, stream_more}
@@ -21,15 +21,15 @@ onward_next from next (id ∷ ids) =
     let at : from + id + 1 ≡ from + (id + 1) = omega arith in
     ap (λ n. next_after n (ids_onward from ids)) at ∙ onward_next from (id + 1) ids
 
-pub onward_rise : (most names from next : ℕ) (ids : List ℕ) → RiseWithin most next ids →
-    from + next_after next ids ≤ names → RiseWithin names (from + next) (ids_onward from ids)
-onward_rise most names from next [] up h = tt
-onward_rise most names from next (id ∷ ids) up h =
+pub onward_rise : (most name_count from next : ℕ) (ids : List ℕ) → RiseWithin most next ids →
+    from + next_after next ids ≤ name_count → RiseWithin name_count (from + next) (ids_onward from ids)
+onward_rise most name_count from next [] up h = tt
+onward_rise most name_count from next (id ∷ ids) up h =
     let long = rise_length most (id + 1) ids up.2 in
     let at : from + (id + 1) ≡ from + id + 1 = omega arith in (
       omega (arith, up.0),
       omega (arith, long, h),
-      subst (λ n. RiseWithin names n (ids_onward from ids)) at (onward_rise most names from (id + 1) ids up.2 h),
+      subst (λ n. RiseWithin name_count n (ids_onward from ids)) at (onward_rise most name_count from (id + 1) ids up.2 h),
     )
 
 pub onward_deltas : (from next : ℕ) (ids : List ℕ) → deltas_from (from + next) (ids_onward from ids) ≡ deltas_from next ids
@@ -51,11 +51,11 @@ onward_last from ids =
     let at : from ≡ from + 0 = omega arith in
     ap (λ n. next_after n (ids_onward from ids)) at ∙ onward_next from 0 ids
 
-pub onward_from : (most names from : ℕ) (ids : List ℕ) → RiseWithin most 0 ids → from + next_after 0 ids ≤ names →
-    RiseWithin names from (ids_onward from ids)
-onward_from most names from ids up h =
+pub onward_from : (most name_count from : ℕ) (ids : List ℕ) → RiseWithin most 0 ids → from + next_after 0 ids ≤ name_count →
+    RiseWithin name_count from (ids_onward from ids)
+onward_from most name_count from ids up h =
     let at : from + 0 ≡ from = omega arith in
-    subst (λ n. RiseWithin names n (ids_onward from ids)) at (onward_rise most names from 0 ids up h)
+    subst (λ n. RiseWithin name_count n (ids_onward from ids)) at (onward_rise most name_count from 0 ids up h)
 
 -- ---- ids at the front of a list that is read
 
@@ -63,36 +63,36 @@ onward_from most names from ids up h =
 abbrev pub before : List ℕ → Ids → Ids
 before ids read = record { ids = ids ++ read.ids; whole = read.whole }
 
-read_front : (names next more : ℕ) (ids rest : List ℕ) → names < 2 ^ 32 → RiseWithin names next ids →
-    read_ids names (length ids + more) next (flat_map varint (deltas_from next ids) ++ rest)
-    ≡ before ids (read_ids names more (next_after next ids) rest)
-read_front names next more [] rest few up =
-    let none : 0 + more ≡ more = omega arith in ap (λ n. read_ids names n next rest) none
-read_front names next more (id ∷ ids) rest few up =
+read_front : (name_count next more : ℕ) (ids rest : List ℕ) → name_count < 2 ^ 32 → RiseWithin name_count next ids →
+    read_ids name_count (length ids + more) next (flat_map varint (deltas_from next ids) ++ rest)
+    ≡ before ids (read_ids name_count more (next_after next ids) rest)
+read_front name_count next more [] rest bound up =
+    let none : 0 + more ≡ more = omega arith in ap (λ n. read_ids name_count n next rest) none
+read_front name_count next more (id ∷ ids) rest bound up =
     let delta : ℕ = id + 1 - next in
-    let fits : delta < 2 ^ 32 = omega (arith, few, up.1) in
+    let fits : delta < 2 ^ 32 = omega (arith, bound, up.1) in
     let at : next + delta ≡ id + 1 = omega (arith, up.0) in
     let one : suc (length ids) + more ≡ suc (length ids + more) = omega arith in
-    ap (λ n. read_ids names n next (flat_map varint (deltas_from next (id ∷ ids)) ++ rest)) one
-    ∙ ap (after_delta names next (read_ids names (length ids + more)))
+    ap (λ n. read_ids name_count n next (flat_map varint (deltas_from next (id ∷ ids)) ++ rest)) one
+    ∙ ap (after_delta name_count next (read_ids name_count (length ids + more)))
     (ap read_varint (append_assoc (varint delta) (flat_map varint (deltas_from (id + 1) ids)) rest) ∙ varint_read delta _ fits)
-    ∙ ap (λ b. cond b (onto (next + delta - 1) (read_ids names (length ids + more) (next + delta) (flat_map varint (deltas_from (id + 1) ids) ++ rest))) damage)
-    (and_from (ltb 0 delta) (ltb (next + delta) (names + 1)) (lt-ltb 0 delta (omega (arith, up.0))) (lt-ltb (next + delta) (names + 1) (omega (arith, at, up.1))))
-    ∙ ap (λ m. onto (m - 1) (read_ids names (length ids + more) m (flat_map varint (deltas_from (id + 1) ids) ++ rest))) at
-    ∙ ap (onto (id + 1 - 1)) (read_front names (id + 1) more ids rest few up.2)
-    ∙ ap (λ m. onto m (before ids (read_ids names more (next_after (id + 1) ids) rest))) (let back : id + 1 - 1 ≡ id = omega arith in back)
+    ∙ ap (λ b. cond b (onto (next + delta - 1) (read_ids name_count (length ids + more) (next + delta) (flat_map varint (deltas_from (id + 1) ids) ++ rest))) damage)
+    (and_from (ltb 0 delta) (ltb (next + delta) (name_count + 1)) (lt-ltb 0 delta (omega (arith, up.0))) (lt-ltb (next + delta) (name_count + 1) (omega (arith, at, up.1))))
+    ∙ ap (λ m. onto (m - 1) (read_ids name_count (length ids + more) m (flat_map varint (deltas_from (id + 1) ids) ++ rest))) at
+    ∙ ap (onto (id + 1 - 1)) (read_front name_count (id + 1) more ids rest bound up.2)
+    ∙ ap (λ m. onto m (before ids (read_ids name_count more (next_after (id + 1) ids) rest))) (let back : id + 1 - 1 ≡ id = omega arith in back)
 
-pub left_front : (names next left : ℕ) (bytes rest ids : List ℕ) → names < 2 ^ 31 → RiseWithin most_ids 0 ids →
-    next + next_after 0 ids ≤ names → length ids ≤ left → bytes ≡ stream_of ids ++ rest →
-    read_ids names left next bytes
-    ≡ before (ids_onward next ids) (read_ids names (left - length ids) (next + next_after 0 ids) rest)
-left_front names next left bytes rest ids few up within count is =
+pub left_front : (name_count next left : ℕ) (bytes rest ids : List ℕ) → name_count < 2 ^ 31 → RiseWithin most_ids 0 ids →
+    next + next_after 0 ids ≤ name_count → length ids ≤ left → bytes ≡ stream_of ids ++ rest →
+    read_ids name_count left next bytes
+    ≡ before (ids_onward next ids) (read_ids name_count (left - length ids) (next + next_after 0 ids) rest)
+left_front name_count next left bytes rest ids bound up within count is =
     let long = length-map ids (λ id. next + id) in
     let all : left ≡ length (ids_onward next ids) + (left - length ids) = omega (arith, long, count) in
     let written : bytes ≡ flat_map varint (deltas_from next (ids_onward next ids)) ++ rest = is ∙ ap (λ s. s ++ rest) (sym (onward_stream next ids)) in
-    (λ i. read_ids names (all i) next (written i))
-    ∙ read_front names next (left - length ids) (ids_onward next ids) rest (omega (arith, few)) (onward_from most_ids names next ids up within)
-    ∙ ap (λ n. before (ids_onward next ids) (read_ids names (left - length ids) n rest)) (onward_last next ids)
+    (λ i. read_ids name_count (all i) next (written i))
+    ∙ read_front name_count next (left - length ids) (ids_onward next ids) rest (omega (arith, bound)) (onward_from most_ids name_count next ids up within)
+    ∙ ap (λ n. before (ids_onward next ids) (read_ids name_count (left - length ids) n rest)) (onward_last next ids)
 
 -- ids that rise no further than to a number are below it, also where they are counted from another
 pub all_below : (most from end next : ℕ) (ids : List ℕ) → RiseWithin most next ids → next_after next ids ≤ end - from →
@@ -124,9 +124,9 @@ joined bytes len count next size ids end is more fits =
 -- the stream of one id
 pub one_stream : (bytes : List ℕ) (size delta : ℕ) → 0 < delta → delta ≤ most_ids → take size bytes ≡ varint delta →
     IsStream (take size bytes) 1 delta
-one_stream bytes size delta some few written =
+one_stream bytes size delta some bound written =
     let back : delta - 1 + 1 ≡ delta = omega (arith, some) in
-    let is = stream_from ((delta - 1) ∷ []) (omega arith, omega (arith, some, few), tt) in
+    let is = stream_from ((delta - 1) ∷ []) (omega arith, omega (arith, some, bound), tt) in
     let same : delta - 1 + 1 - 0 ≡ delta = omega (arith, some) in
     let bytes_are : stream_of ((delta - 1) ∷ []) ≡ take size bytes = append-nil (varint (delta - 1 + 1 - 0))
     ∙ ap varint same ∙ sym written in
@@ -214,13 +214,13 @@ two_at (first ∷ second ∷ rest) two are large some small = two_bytes first se
 
 -- ---- ids that are passed
 
-pub passed : (ended : Bool) (names left next last len on : ℕ) (bytes rest ids : List ℕ) (now : Ids) →
-    left_of ended names left next bytes ≡ now → ended ≡ false → next ≡ last + 1 → names < 2 ^ 31 →
-    RiseWithin most_ids 0 ids → next + on ≤ names → len ≡ length ids → len ≤ left → on ≡ next_after 0 ids →
+pub passed : (ended : Bool) (name_count left next last len on : ℕ) (bytes rest ids : List ℕ) (now : Ids) →
+    left_of ended name_count left next bytes ≡ now → ended ≡ false → next ≡ last + 1 → name_count < 2 ^ 31 →
+    RiseWithin most_ids 0 ids → next + on ≤ name_count → len ≡ length ids → len ≤ left → on ≡ next_after 0 ids →
     bytes ≡ stream_of ids ++ rest →
-    now ≡ before (ids_onward (last + 1) ids) (left_of ended names (left - len) (next + on) rest)
-passed ended names left next last len on bytes rest ids now view off at few up within count fits go is =
+    now ≡ before (ids_onward (last + 1) ids) (left_of ended name_count (left - len) (next + on) rest)
+passed ended name_count left next last len on bytes rest ids now view off at bound up within count fits go is =
     sym view
-    ∙ ap (λ b. left_of b names left next bytes) off
-    ∙ left_front names next left bytes rest ids few up (omega (arith, within, go)) (omega (arith, fits, count)) is
-    ∙ (λ i. before (ids_onward (at i) ids) (left_of (sym off i) names (left - sym count i) (next + sym go i) rest))
+    ∙ ap (λ b. left_of b name_count left next bytes) off
+    ∙ left_front name_count next left bytes rest ids bound up (omega (arith, within, go)) (omega (arith, fits, count)) is
+    ∙ (λ i. before (ids_onward (at i) ids) (left_of (sym off i) name_count (left - sym count i) (next + sym go i) rest))

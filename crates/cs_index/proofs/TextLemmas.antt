@@ -11,6 +11,7 @@ use Rattle.std.specs.Str.{is_utf8}
 use Rattle.std.specs.Cmp.Lexicographic.{bytes_decides}
 use Rattle.cs_tree.specs.Cover.{same}
 use Rattle.cs_index.specs.Image.{concat, with_nul, starts_from, IsString}
+use Rattle.cs_index.specs.Spelling.{AreStrings}
 use Rattle.cs_index.specs.Strings.{texts_in}
 use Rattle.cs_index.specs.Opening.{before_empty, is_section, texts_of}
 use Rattle.cs_index.proofs.ReadingLemmas.{texts_step, formed}
@@ -37,19 +38,13 @@ front_strings ((b ∷ text) ∷ texts) all utf8 =
     let both = and_parts (is_utf8 (b ∷ text)) (list_all is_utf8 (before_empty texts)) utf8 in
     (((λ e. cc), all.0, IsUtf8-from_is_utf8 (b ∷ text) both.0), front_strings texts all.1 both.1)
 
--- Bytes that are strings, each with its NUL, and then some more.
-pub record AreRead (closing section : List ℕ) : Type 0 where
-  pub bytes : section ≡ concat (map with_nul (texts_of section)) ++ closing
-  pub each : AllByRecursion IsString (texts_of section)
-
-pub section_read : (closing section : List ℕ) → is_section closing section ≡ true → AreRead closing section
+pub section_read : (closing section : List ℕ) → is_section closing section ≡ true → AreStrings closing (texts_of section) section
 unfolding is_section texts_of
 section_read closing section h =
-    let both = and_parts (same section (concat (map with_nul (texts_of section)) ++ closing)) (list_all is_utf8 (texts_of section)) h in
-    record {
-      bytes = (bytes_decides section (concat (map with_nul (texts_of section)) ++ closing)).0 both.0;
-      each = front_strings (texts_in section) (each_above section) both.1;
-    }
+    let both = and_parts (same section (concat (map with_nul (texts_of section)) ++ closing)) (list_all is_utf8 (texts_of section)) h in (
+      front_strings (texts_in section) (each_above section) both.1,
+      (bytes_decides section (concat (map with_nul (texts_of section)) ++ closing)).0 both.0,
+    )
 
 -- ---- sections of strings
 

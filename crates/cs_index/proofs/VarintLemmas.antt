@@ -38,16 +38,16 @@ varint_read n rest h =
     ∙ ap (λ b. cond b (Some (n, rest)) None) (lt-ltb n 4294967296 h)
 
 -- a list that was written is read again, whole
-pub ids_read : (names next : ℕ) (ids rest : List ℕ) → names < 2 ^ 32 → RiseWithin names next ids → read_ids names (length ids) next (flat_map varint (deltas_from next ids) ++ 0 ∷ rest) ≡ record { ids = ids; whole = true }
-ids_read names next [] rest few up = refl
-ids_read names next (id ∷ ids) rest few up =
+pub ids_read : (name_count next : ℕ) (ids rest : List ℕ) → name_count < 2 ^ 32 → RiseWithin name_count next ids → read_ids name_count (length ids) next (flat_map varint (deltas_from next ids) ++ 0 ∷ rest) ≡ record { ids = ids; whole = true }
+ids_read name_count next [] rest bound up = refl
+ids_read name_count next (id ∷ ids) rest bound up =
     let delta : ℕ = id + 1 - next in
-    let fits : delta < 2 ^ 32 = omega (arith, few, up.1) in
+    let fits : delta < 2 ^ 32 = omega (arith, bound, up.1) in
     let at : next + delta ≡ id + 1 = omega (arith, up.0) in
-    ap (after_delta names next (read_ids names (length ids)))
+    ap (after_delta name_count next (read_ids name_count (length ids)))
     (ap read_varint (append_assoc (varint delta) (flat_map varint (deltas_from (id + 1) ids)) (0 ∷ rest)) ∙ varint_read delta _ fits)
-    ∙ ap (λ b. cond b (onto (next + delta - 1) (read_ids names (length ids) (next + delta) (flat_map varint (deltas_from (id + 1) ids) ++ 0 ∷ rest))) damage)
-    (and_from (ltb 0 delta) (ltb (next + delta) (names + 1)) (lt-ltb 0 delta (omega (arith, up.0))) (lt-ltb (next + delta) (names + 1) (omega (arith, at, up.1))))
-    ∙ ap (λ m. onto (m - 1) (read_ids names (length ids) m (flat_map varint (deltas_from (id + 1) ids) ++ 0 ∷ rest))) at
-    ∙ ap (onto (id + 1 - 1)) (ids_read names (id + 1) ids rest few up.2)
+    ∙ ap (λ b. cond b (onto (next + delta - 1) (read_ids name_count (length ids) (next + delta) (flat_map varint (deltas_from (id + 1) ids) ++ 0 ∷ rest))) damage)
+    (and_from (ltb 0 delta) (ltb (next + delta) (name_count + 1)) (lt-ltb 0 delta (omega (arith, up.0))) (lt-ltb (next + delta) (name_count + 1) (omega (arith, at, up.1))))
+    ∙ ap (λ m. onto (m - 1) (read_ids name_count (length ids) m (flat_map varint (deltas_from (id + 1) ids) ++ 0 ∷ rest))) at
+    ∙ ap (onto (id + 1 - 1)) (ids_read name_count (id + 1) ids rest bound up.2)
     ∙ ap (λ (m : ℕ). let ids' : Ids = record { ids = m ∷ ids; whole = true } in ids') (let back : id + 1 - 1 ≡ id = omega arith in back)

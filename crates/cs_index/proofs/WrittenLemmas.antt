@@ -21,16 +21,16 @@ image_opens paths entries h = opens_spelled (image_of paths entries) (parts_writ
 
 -- ---- lists
 
-pub lists_back : (section : List ℕ) (names offset : ℕ) (ps : List Posting) → AllZip (λ (e : ListEntry) (p : Posting). IsList section names e p.1) (list_entries offset ps) ps → map (λ (e : ListEntry). (e.trigram, whole_ids (read_list section names e))) (list_entries offset ps) ≡ ps
-lists_back section names offset [] all = refl
-lists_back section names offset (p ∷ ps) all =
-    let rest = lists_back section names (offset + length (posting_list p)) ps all.1 in
+pub lists_back : (section : List ℕ) (name_count offset : ℕ) (ps : List Posting) → AllZip (λ (e : ListEntry) (p : Posting). IsList section name_count e p.1) (list_entries offset ps) ps → map (λ (e : ListEntry). (e.trigram, whole_ids (read_list section name_count e))) (list_entries offset ps) ≡ ps
+lists_back section name_count offset [] all = refl
+lists_back section name_count offset (p ∷ ps) all =
+    let rest = lists_back section name_count (offset + length (posting_list p)) ps all.1 in
     λ i. (p.0, whole_ids (all.0 i)) ∷ rest i
 
-whole_back : (section : List ℕ) (names offset : ℕ) (ps : List Posting) → AllZip (λ (e : ListEntry) (p : Posting). IsList section names e p.1) (list_entries offset ps) ps → list_all (λ (e : ListEntry). (read_list section names e).whole) (list_entries offset ps) ≡ true
-whole_back section names offset [] all = refl
-whole_back section names offset (p ∷ ps) all =
-    let rest = whole_back section names (offset + length (posting_list p)) ps all.1 in
+whole_back : (section : List ℕ) (name_count offset : ℕ) (ps : List Posting) → AllZip (λ (e : ListEntry) (p : Posting). IsList section name_count e p.1) (list_entries offset ps) ps → list_all (λ (e : ListEntry). (read_list section name_count e).whole) (list_entries offset ps) ≡ true
+whole_back section name_count offset [] all = refl
+whole_back section name_count offset (p ∷ ps) all =
+    let rest = whole_back section name_count (offset + length (posting_list p)) ps all.1 in
     λ i. (all.0 i).whole && rest i
 
 -- ---- sets
@@ -58,11 +58,11 @@ image_has paths entries h =
     let parts : Parts = parts_written paths entries in
     let postings : List Posting = postings_of entries in
     let count : length (names_of entries) ≡ length entries = length-map entries (λ (entry : Entry). entry.0) in
-    let lists : lists_in parts ≡ postings = ap (λ n. map (λ (e : ListEntry). (e.trigram, whole_ids (read_list parts.postings n e))) (list_entries 0 postings)) count ∙ lists_back parts.postings (length entries) 0 postings (image_lists entries h.few) in
+    let lists : lists_in parts ≡ postings = ap (λ n. map (λ (e : ListEntry). (e.trigram, whole_ids (read_list parts.postings n e))) (list_entries 0 postings)) count ∙ lists_back parts.postings (length entries) 0 postings (image_lists entries h.bound) in
     record {
       has_paths = refl;
       has_names = refl;
       has_lists = lists;
-      whole = ap (λ n. list_all (λ (e : ListEntry). (read_list parts.postings n e).whole) (list_entries 0 postings)) count ∙ whole_back parts.postings (length entries) 0 postings (image_lists entries h.few);
+      whole = ap (λ n. list_all (λ (e : ListEntry). (read_list parts.postings n e).whole) (list_entries 0 postings)) count ∙ whole_back parts.postings (length entries) 0 postings (image_lists entries h.bound);
       has_files = λ sets. ap (entries_of 0 (names_of entries)) lists ∙ files_back 0 entries postings (λ k d l. ap (λ n. set_at n postings) (let z : 0 + k ≡ k = omega arith in z) ∙ set_back entries k d l (set_ascends entries k d l sets));
     }

@@ -69,4 +69,4 @@ pub record IsBuilt (built : Built) : Type 0 where
   -- names strictly ascend
   pub ascend : map'.is_sorted bytes_cmp built.entries ≡ true
   pub sets : AllByRecursion (λ (entry : Entry). IsTrigramSet entry.1) built.entries
-  pub few : length built.entries ≤ most_names
+  pub bound : length built.entries ≤ most_names

@@ -6,7 +6,7 @@ use Rattle.cs_tree.specs.Store.{part_of}
 use Rattle.cs_index.specs.Image.{ListEntry}
 use Rattle.cs_index.specs.Opening.{entries_in}
 use Rattle.cs_index.specs.Postings.{entry_of}
-use Rattle.cs_index.specs.Failing.{AreEntries}
+use Rattle.cs_index.specs.Spelling.{AreEntries}
 
 -- five bytes in which no number ends
 abbrev pub endless : List ℕ
@@ -46,6 +46,6 @@ AreBelow copies g = AllByRecursion (λ (e : ListEntry). e.trigram < g) copies
 pub record IsFound (bound : ℕ) (entries : List ListEntry) (g count offset : ℕ) : Type 0 where
   pub found : entry_of entries g ≡ Some (record { trigram = g; count = count; offset = offset })
   pub small : g < 2 ^ 24
-  pub few : count < 2 ^ 32
+  pub short : count < 2 ^ 32
   pub closing : g ≡ closing_trigram → count ≡ 0
   pub room : offset + 4 ≤ bound

@@ -1,10 +1,8 @@
 -- Why bytes do not open: the first thing of an index that they do not have.
 -- docs/FORMAT.md, "The index as it is read".
-use Rattle.std.specs.Prelude.{◌≡◌, ℕ, ◌<◌, ◌≤◌, ◌^◌, ◌⊎◌, List, ◌++◌, length, map, flat_map}
-use Rattle.std.specs.List.{AllByRecursion}
-use Rattle.cs_trigram.specs.Trigram.{Ascends}
-use Rattle.cs_index.specs.Image.{concat, with_nul, strings_section, Sections, magic, trailer_magic, layout, ListEntry, entry_bytes, name_offsets, IsString}
-use Rattle.cs_index.specs.Spelling.{IsEntry}
+use Rattle.std.specs.Prelude.{◌≡◌, ℕ, ◌<◌, ◌≤◌, ◌^◌, ◌⊎◌, List, [], ◌∷◌, ◌++◌, length}
+use Rattle.cs_index.specs.Image.{Sections, magic, trailer_magic, layout, ListEntry}
+use Rattle.cs_index.specs.Spelling.{AreEntries, AreOffsets, AreStrings}
 use Rattle.cs_index.specs.declared.fault.IndexFault.{IndexFault}
 use Rattle.cs_index.specs.declared.fault.IndexFault.TheVariants.{BadMagic, BadTrailer, BadOffsets, BadPaths, BadNames, BadNameIndex, BadListIndex, BadList, Memory}
 
@@ -23,27 +21,13 @@ pub record AreLaid (bytes : List ℕ) (s : Sections) : Type 0 where
   pub laid : bytes ≡ layout s
   pub short : length bytes < 2 ^ 32
 
--- strings, each with its NUL, and one NUL behind them
+-- strings, and one NUL behind them
 abbrev pub ArePaths : List (List ℕ) → List ℕ → Type 0
-ArePaths paths section = AllByRecursion IsString paths × (section ≡ strings_section paths)
+ArePaths paths section = AreStrings (0 ∷ []) paths section
 
 -- the NUL behind them may be missing
 abbrev pub AreNames : List (List ℕ) → List ℕ → Type 0
-AreNames names section =
-    AllByRecursion IsString names
-    × ((section ≡ strings_section names) ⊎ (section ≡ concat (map with_nul names)))
-
--- where each name begins, and any four bytes
-abbrev pub AreOffsets : List (List ℕ) → List ℕ → Type 0
-AreOffsets names section =
-    (last : List ℕ) × (length last ≡ 4) × (section ≡ name_offsets names ++ last)
-
--- entries of ascending trigrams, each with room for its list
-abbrev pub AreEntries : List ℕ → List ListEntry → List ℕ → Type 0
-AreEntries postings entries section =
-    AllByRecursion (IsEntry postings) entries
-    × Ascends (map (λ (e : ListEntry). e.trigram) entries)
-    × (section ≡ flat_map entry_bytes entries)
+AreNames names section = AreStrings (0 ∷ []) names section ⊎ AreStrings [] names section
 
 -- the sections of the bytes, where the first of them has paths
 pub record HavePaths (bytes : List ℕ) : Type 0 where

@@ -1,12 +1,8 @@
 -- The ids of a list as a stream of varints.
 use Rattle.std.specs.Prelude.{◌≡◌, ℕ, List, [], ◌∷◌, ◌++◌, length, flat_map}
-use Rattle.cs_index.specs.Rising.{RiseWithin, next_after}
+use Rattle.cs_index.specs.Rising.{RiseWithin, most_ids, next_after}
 use Rattle.cs_index.specs.PostingLists.{read_ids}
 use Rattle.cs_index.specs.Image.{varint, deltas_from}
-
--- each id is below this number: no index that fits has more names
-abbrev pub most_ids : ℕ
-most_ids = 2147483648
 
 abbrev pub stream_of : List ℕ → List ℕ
 stream_of ids = flat_map varint (deltas_from 0 ids)

@@ -4,11 +4,12 @@ use Rattle.std.specs.Prelude.{ℕ, ◌<◌, ◌^◌, List, length}
 use Rattle.cs_trigram.specs.Trigram.{closing_trigram}
 use Rattle.std.specs.List.{AllByRecursion}
 use Rattle.cs_index.specs.Image.{Entry, names_of, image_of, IsString}
+use Rattle.cs_index.specs.Rising.{most_ids}
 
 -- What an index can be written of.
 pub record IsIndexable (paths : List (List ℕ)) (entries : List Entry) : Type 0 where
   pub each_path : AllByRecursion IsString paths
   pub each_name : AllByRecursion IsString (names_of entries)
   pub trigrams : AllByRecursion (λ (entry : Entry). AllByRecursion (λ g. g < closing_trigram) entry.1) entries
-  pub few : length entries < 2 ^ 31
+  pub bound : length entries < most_ids
   pub short : length (image_of paths entries) < 2 ^ 32

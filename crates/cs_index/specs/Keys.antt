@@ -33,9 +33,9 @@ with_keys base lists [] = lists
 with_keys base lists (key ∷ keys) = with_keys base (with_id lists (trigram_of key) (id_of base key)) keys
 
 -- Lists of ids below a number of names, and keys that may give theirs.
-pub record AreWaiting (names base : ℕ) (lists : List Posting) (keys : List ℕ) : Type 0 where
-  pub each : AllByRecursion (IsPosting names) lists
+pub record AreWaiting (name_count base : ℕ) (lists : List Posting) (keys : List ℕ) : Type 0 where
+  pub each : AllByRecursion (IsPosting name_count) lists
   pub ready : AllByRecursion (λ key. next_after 0 (ids_of lists (trigram_of key)) ≤ id_of base key) keys
-  pub named : AllByRecursion (λ key. id_of base key < names) keys
+  pub named : AllByRecursion (λ key. id_of base key < name_count) keys
   pub distinct : AreDistinct keys
   pub below : AllByRecursion (λ key. trigram_of key < closing_trigram) keys

@@ -1,19 +1,19 @@
 -- What `Sections` lays out as an index: paths, names, and lists of ids.
 -- docs/FORMAT.md, "The index as it is written".
-use Rattle.std.specs.Prelude.{◌≡◌, ℕ, ◌<◌, ◌≤◌, ◌^◌, nat_eq, if◌then◌else◌, List, [], ◌∷◌, ◌++◌, length, Option, None, Some}
+use Rattle.std.specs.Prelude.{◌≡◌, ℕ, ◌<◌, ◌≤◌, nat_eq, if◌then◌else◌, List, [], ◌∷◌, ◌++◌, length, Option, None, Some}
 use Rattle.std.specs.List.{AllByRecursion}
 use Rattle.std.specs.Option.{option_map_or}
 use Rattle.cs_trigram.specs.Trigram.{closing_trigram}
 use Rattle.cs_index.specs.Image.{Entry, Posting, IsString}
 use Rattle.cs_index.specs.PostingLists.{entries_of}
-use Rattle.cs_index.specs.Rising.{ArePostings}
+use Rattle.cs_index.specs.Rising.{ArePostings, most_ids}
 
 -- The paths, the names, each list that was given an id, and the trigram of the list that was begun last.
 pub record Laid : Type 0 where
   pub paths : List (List ℕ)
   pub names : List (List ℕ)
   pub lists : List Posting
-  pub begun : Option ℕ
+  pub last_trigram : Option ℕ
 
 -- the ids of a trigram
 abbrev pub ids_of : List Posting → ℕ → List ℕ
@@ -31,25 +31,25 @@ entries_laid laid = entries_of 0 laid.names laid.lists
 
 -- the ids of the list that was begun last
 abbrev pub last_ids : Laid → List ℕ
-last_ids laid = option_map_or (ids_of laid.lists) laid.begun []
+last_ids laid = option_map_or (ids_of laid.lists) laid.last_trigram []
 
 -- with one more name
 abbrev pub with_laid_name : Laid → List ℕ → Laid
 with_laid_name laid name = record
-    { paths = laid.paths; names = laid.names ++ name ∷ []; lists = laid.lists; begun = laid.begun }
+    { paths = laid.paths; names = laid.names ++ name ∷ []; lists = laid.lists; last_trigram = laid.last_trigram }
 
 -- with a list begun
 abbrev pub with_list : Laid → ℕ → Laid
-with_list laid trigram = record { paths = laid.paths; names = laid.names; lists = laid.lists; begun = Some trigram }
+with_list laid trigram = record { paths = laid.paths; names = laid.names; lists = laid.lists; last_trigram = Some trigram }
 
 -- with one more id in the list of a trigram
 abbrev pub with_laid_id : Laid → ℕ → ℕ → Laid
 with_laid_id laid trigram id = record
-    { paths = laid.paths; names = laid.names; lists = with_id laid.lists trigram id; begun = laid.begun }
+    { paths = laid.paths; names = laid.names; lists = with_id laid.lists trigram id; last_trigram = laid.last_trigram }
 
 -- with one more id in the list that was begun last
 abbrev pub with_last_id : Laid → ℕ → Laid
-with_last_id laid id = option_map_or (λ trigram. with_laid_id laid trigram id) laid.begun laid
+with_last_id laid id = option_map_or (λ trigram. with_laid_id laid trigram id) laid.last_trigram laid
 
 -- with more ids in it
 abbrev pub with_last_ids : Laid → List ℕ → Laid
@@ -58,7 +58,7 @@ with_last_ids laid (id ∷ ids) = with_last_ids (with_last_id laid id) ids
 
 -- with one more list, begun and given its ids
 abbrev pub with_posting : Laid → Posting → Laid
-with_posting laid p = record { paths = laid.paths; names = laid.names; lists = laid.lists ++ p ∷ []; begun = Some p.0 }
+with_posting laid p = record { paths = laid.paths; names = laid.names; lists = laid.lists ++ p ∷ []; last_trigram = Some p.0 }
 
 abbrev pub with_postings : Laid → List Posting → Laid
 with_postings laid [] = laid
@@ -77,6 +77,6 @@ IsLastList lists (Some trigram) = (trigram < closing_trigram) × AllByRecursion 
 pub record IsLaid (laid : Laid) : Type 0 where
   pub each_path : AllByRecursion IsString laid.paths
   pub each_name : AllByRecursion IsString laid.names
-  pub few : length laid.names ≤ 2 ^ 31
+  pub bound : length laid.names ≤ most_ids
   pub postings : ArePostings (length laid.names) laid.lists
-  pub last : IsLastList laid.lists laid.begun
+  pub last : IsLastList laid.lists laid.last_trigram

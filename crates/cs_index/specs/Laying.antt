@@ -3,8 +3,8 @@ use Rattle.std.specs.Prelude.{◌≡◌, ◌≢◌, ℕ, ◌+◌, ◌-◌, nat_e
 use Rattle.std.specs.Option.{option_map_or}
 use Rattle.cs_index.specs.declared.writing.sections.Sections.TheInside.{Inside}
 use Rattle.cs_index.specs.Image.{Posting, ListEntry, concat, list_entries, magic, posting_list, strings_section, three_bytes}
-use Rattle.cs_index.specs.IdStream.{most_ids, stream_of}
-use Rattle.cs_index.specs.Rising.{next_after}
+use Rattle.cs_index.specs.IdStream.{stream_of}
+use Rattle.cs_index.specs.Rising.{most_ids, next_after}
 use Rattle.cs_index.specs.PostingLists.{read_list}
 use Rattle.cs_index.specs.OpenedParts.{whole_ids}
 use Rattle.cs_index.specs.Laid.{Laid, IsLaid, AllBelow}
@@ -49,11 +49,11 @@ lists_of_fields s =
     else lists_at (bytes_of s) s.entries.items ++ (s.trigram, ids_at (bytes_of s) (hand_of s)) ∷ []
 
 -- the list that was begun last has no id yet, or is the list at hand
-abbrev pub begun_of : Inside → Option ℕ
-begun_of s = option_map_or (λ trigram. Some trigram) s.pending (if nat_eq s.count 0 then None else Some s.trigram)
+abbrev pub last_trigram_of : Inside → Option ℕ
+last_trigram_of s = option_map_or (λ trigram. Some trigram) s.pending (if nat_eq s.count 0 then None else Some s.trigram)
 
 abbrev pub laid_of : Inside → Laid
-laid_of s = record { paths = s.paths; names = s.names; lists = lists_of_fields s; begun = begun_of s }
+laid_of s = record { paths = s.paths; names = s.names; lists = lists_of_fields s; last_trigram = last_trigram_of s }
 
 -- a list without ids comes after all others
 abbrev pub IsFresh : List Posting → Option ℕ → Type 0

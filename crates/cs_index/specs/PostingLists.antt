@@ -35,18 +35,18 @@ is_zero (Some found) = nat_eq found.0 0
 
 -- no delta, a delta of zero, or an id that no name has, is damage
 abbrev pub after_delta : ℕ → ℕ → (ℕ → List ℕ → Ids) → Option (ℕ × List ℕ) → Ids
-after_delta names next more None = damage
-after_delta names next more (Some found) =
-    if nat_lt 0 found.0 && nat_lt (next + found.0) (names + 1) then onto (next + found.0 - 1) (more (next + found.0) found.1) else damage
+after_delta name_count next more None = damage
+after_delta name_count next more (Some found) =
+    if nat_lt 0 found.0 && nat_lt (next + found.0) (name_count + 1) then onto (next + found.0 - 1) (more (next + found.0) found.1) else damage
 
 abbrev pub read_ids : ℕ → ℕ → ℕ → List ℕ → Ids
-read_ids names zero next bytes = record { ids = []; whole = is_zero (read_varint bytes) }
-read_ids names (suc count) next bytes = after_delta names next (read_ids names count) (read_varint bytes)
+read_ids name_count zero next bytes = record { ids = []; whole = is_zero (read_varint bytes) }
+read_ids name_count (suc count) next bytes = after_delta name_count next (read_ids name_count count) (read_varint bytes)
 
 -- the list at an entry: its trigram, and then the ids
 abbrev pub read_list : List ℕ → ℕ → ListEntry → Ids
-read_list postings names e =
-    if same (take 3 (drop e.offset postings)) (three_bytes e.trigram) then read_ids names e.count 0 (drop (e.offset + 3) postings) else damage
+read_list postings name_count e =
+    if same (take 3 (drop e.offset postings)) (three_bytes e.trigram) then read_ids name_count e.count 0 (drop (e.offset + 3) postings) else damage
 
 -- the trigrams whose list has the id
 abbrev pub set_at : ℕ → List Posting → List ℕ

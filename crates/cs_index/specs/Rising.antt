@@ -4,10 +4,14 @@ use Rattle.cs_trigram.specs.Trigram.{Ascends}
 use Rattle.std.specs.List.{AllByRecursion}
 use Rattle.cs_index.specs.Image.{Posting}
 
+-- each id is below this number: no index that fits has more names
+abbrev pub most_ids : ℕ
+most_ids = 2147483648
+
 -- ids that rise from `next` on and stay below a number
 abbrev pub RiseWithin : ℕ → ℕ → List ℕ → Type 0
-RiseWithin names next [] = Unit {0}
-RiseWithin names next (id ∷ ids) = (next ≤ id) × (id < names) × RiseWithin names (id + 1) ids
+RiseWithin name_count next [] = Unit {0}
+RiseWithin name_count next (id ∷ ids) = (next ≤ id) × (id < name_count) × RiseWithin name_count (id + 1) ids
 
 -- one more than the last id, or the number given
 abbrev pub next_after : ℕ → List ℕ → ℕ
@@ -20,9 +24,9 @@ ids_onward from ids = map (λ id. from + id) ids
 
 -- a list that some name has, of ids in order
 abbrev pub IsPosting : ℕ → Posting → Type 0
-IsPosting names p = (p.1 ≢ []) × RiseWithin names 0 p.1
+IsPosting name_count p = (p.1 ≢ []) × RiseWithin name_count 0 p.1
 
 -- lists as an index has them
-pub record ArePostings (names : ℕ) (postings : List Posting) : Type 0 where
+pub record ArePostings (name_count : ℕ) (postings : List Posting) : Type 0 where
   pub ascend : Ascends (map (λ (p : Posting). p.0) postings)
-  pub each : AllByRecursion (IsPosting names) postings
+  pub each : AllByRecursion (IsPosting name_count) postings

@@ -6,4 +6,4 @@ use Rattle.cs_index.specs.PostingLists.{read_list}
 
 -- The bytes at the entry are a list of these ids.
 abbrev pub IsList : List ℕ → ℕ → ListEntry → List ℕ → Type 0
-IsList postings names e ids = read_list postings names e ≡ record { ids = ids; whole = true }
+IsList postings name_count e ids = read_list postings name_count e ≡ record { ids = ids; whole = true }

@@ -2,8 +2,8 @@
 ghost use Rattle.std.specs.Prelude.{◌≡◌, ◌<◌, ◌≤◌, ◌+◌, ◌++◌, [], length, sum, take};
 ghost use Rattle.std.specs.List.{AllByRecursion};
 ghost use Rattle.cs_index.specs.Image.{varint};
-ghost use Rattle.cs_index.specs.Rising.{RiseWithin, next_after};
-ghost use Rattle.cs_index.specs.IdStream.{most_ids, stream_of, IsStream};
+ghost use Rattle.cs_index.specs.Rising.{most_ids, next_after, RiseWithin};
+ghost use Rattle.cs_index.specs.IdStream.{stream_of, IsStream};
 
 use std::marker::Model;
 
@@ -43,10 +43,10 @@ impl<'a> Stretch<'a> {
     pub(crate) fn front(bytes: &'a [u8], most: u32, room: u32) -> (Self, &'a [u8])
         requires { room ≤ most_ids }
         ensures bytes { bytes.now ≡ stream_of result.0 ++ result.1.now }
-        ensures few { length result.0 ≤ most }
+        ensures bound { length result.0 ≤ most }
         ensures below { next_after 0 result.0 ≤ room }
     {
-        let (len, count, next) = measured(bytes, most, room);
+        let (len, count, next) = extent(bytes, most, room);
         let (front, rest) = bytes.split_at(len);
         let ids = Stretch {
             bytes: front,
@@ -80,11 +80,11 @@ impl<'a> Stretch<'a> {
 
 /// How many bytes at the front are those of ids below a number, at most so many of them; how many ids they
 /// are, and one more than the last.
-fn measured(bytes: &[u8], most: u32, room: u32) -> (usize, u32, u32)
+fn extent(bytes: &[u8], most: u32, room: u32) -> (usize, u32, u32)
     requires { room ≤ most_ids }
     ensures stream { IsStream (take result.0 bytes.now) result.1 result.2 }
     ensures within { result.0 ≤ length bytes.now }
-    ensures few { result.1 ≤ most }
+    ensures bound { result.1 ≤ most }
     ensures below { result.2 ≤ room }
 {
     let mut len = 0;
@@ -108,7 +108,7 @@ fn part(bytes: &[u8], most: u32, room: u32) -> (usize, u32, u32)
     requires { room ≤ most_ids }
     ensures stream { IsStream (take result.0 bytes.now) result.1 result.2 }
     ensures within { result.0 ≤ length bytes.now }
-    ensures few { result.1 ≤ most }
+    ensures bound { result.1 ≤ most }
     ensures below { result.2 ≤ room }
 {
     if bytes.len() >= 8 && most >= 8 {

@@ -4,11 +4,11 @@ use Rattle.std.proofs.lemmas.List.{take_more, take-take, take_rest, append-nil}
 use Rattle.std.proofs.lemmas.List.Elements.{All-nil, All-cons, All-head, All-tail, All-append, All-take, All-drop, All-from_get_or}
 use Rattle.std.proofs.lemmas.Nat.{le_or_l, or_of_16}
 use Rattle.std.proofs.lemmas.Bool.{eqb-true, cases_lt}
-use Rattle.std.specs.Prelude.{IsTrue, ◌↔◌}
 use Rattle.cs_tree.specs.ByteList.{AreBytes}
 use Rattle.cs_match.specs.Lines.{newline, ended_lines}
 use Rattle.cs_match.specs.LineParts.{IsPart}
-use Rattle.cs_match.specs.Skipping.{AreWhole, NoneFound, ArePassed}
+use Rattle.cs_match.specs.Passed.{ArePassed}
+use Rattle.cs_match.specs.Skipping.{AreWhole, NoneFound}
 use Rattle.cs_match.specs.Chains.{row_after, first_noisy, IsQuiet, Absorbs, ShowsLines}
 use Rattle.cs_match.proofs.LinesLemmas.{ended_lines-part, ended_lines-line, IsPart-append}
 use Rattle.cs_match.proofs.WholeLemmas.{whole_between, none_between, whole_line, ended_line}
@@ -140,11 +140,6 @@ module _ (finds : List ℕ → Bool) (cells : List ℕ) (fits : (at : ℕ) → F
   pub none_in_quiet : (text : List ℕ) → AreBytes text → IsQuiet cells text → NoneFound finds (ended_lines text)
   unfolding row_after
   none_in_quiet text bytes quiet = none_behind text [] tt (All-nil IsByte) bytes quiet
-
--- where one test is false, so is another that tells the same
-pub not_found : {P : Type 0} (a b : Bool) → IsTrue a ↔ P → IsTrue b ↔ P → a ≡ false → b ≡ false
-not_found a true p q missed = sym (p.1 (q.0 refl)) ∙ missed
-not_found a false p q missed = refl
 
 -- what is passed in nothing, and in two steps
 module _ (IsKind : (List ℕ → Bool) → Type 0) (block : List ℕ) where

@@ -4,7 +4,6 @@ use Rattle.std.proofs.lemmas.List.{take_more, take_rest, append-nil}
 use Rattle.std.proofs.lemmas.List.Sums.{sum_by-cons, sum_by-append}
 use Rattle.std.proofs.lemmas.List.Elements.{All-nil, All-cons, All-head, All-tail, All-append, All-take, All-drop, All-from_get_or, recursion_from_All}
 use Rattle.std.specs.List.{AllByRecursion}
-use Rattle.std.specs.Prelude.{IsTrue, ◌↔◌}
 use mir.Val.{bool_byte}
 use Rattle.std.proofs.lemmas.Nat.{le_or_l, or_of_16}
 use Rattle.std.proofs.lemmas.Bool.{eqb-true, ne_eqb}
@@ -12,7 +11,8 @@ use Rattle.cs_tree.specs.ByteList.{AreBytes}
 use Rattle.cs_match.specs.declared.counting.Count.{Count}
 use Rattle.cs_match.specs.Lines.{newline, ended_lines}
 use Rattle.cs_match.specs.LineParts.{IsPart}
-use Rattle.cs_match.specs.Skipping.{AreWhole, ArePassed}
+use Rattle.cs_match.specs.Passed.{ArePassed}
+use Rattle.cs_match.specs.Skipping.{AreWhole}
 use Rattle.cs_match.specs.Chains.{row_after, found_row, unknown_row, first_noisy}
 use Rattle.cs_match.specs.Counting.{nothing_counted, count_in_row, count_onward, count_after, CountsLines, AreCounted}
 use Rattle.cs_match.proofs.ChainLemmas.{IsByte, after_append, small_row}
@@ -175,7 +175,7 @@ module _ (IsKind : (List ℕ → Bool) → Type 0) (block : List ℕ) where
     low = p.low;
     high = p.high;
     whole = p.whole;
-    few = omega arith;
+    bound = omega arith;
     count = λ finds is. sym (none_counted finds (ended_lines (take (to - from) (drop from block))) (recursion_from_All (λ line. finds line ≡ false) (ended_lines (take (to - from) (drop from block))) (p.none finds is)));
   }
 
@@ -187,7 +187,7 @@ module _ (IsKind : (List ℕ → Bool) → Type 0) (block : List ℕ) where
         low = omega (arith, p.low, q.low);
         high = q.high;
         whole = whole_between block from middle to p.low q.low p.whole q.whole;
-        few = omega (arith, p.low, p.few, q.low, q.few);
+        bound = omega (arith, p.low, p.bound, q.low, q.bound);
         count = λ finds is.
             let all : count_by finds (ended_lines (take (to - from) (drop from block))) ≡ count_by finds (ended_lines a) + count_by finds (ended_lines b) = ap (λ text. count_by finds (ended_lines text)) (between_by block from middle to p.low q.low) ∙ ap (count_by finds) (ended_lines-whole b a p.whole) ∙ sum_by-append (λ l. cond (finds l) 1 0) (ended_lines a) (ended_lines b) in
             omega (arith, all, p.count finds is, q.count finds is);
@@ -199,7 +199,7 @@ module _ (IsKind : (List ℕ → Bool) → Type 0) (block : List ℕ) where
     low = omega arith;
     high = omega arith;
     whole = whole_line block at end low here;
-    few = small found;
+    bound = small found;
     count = λ finds is.
         sym (ap (count_by finds) (ended_line block at end low part here)
         ∙ count_cons finds (take (end - at) (drop at block)) [] found (tells finds is) ∙ omega arith);
@@ -219,16 +219,9 @@ module _ (cells block : List ℕ) (fits : (at : ℕ) → Fits w16 (get_or cells 
         low = low;
         high = high;
         whole = whole;
-        few = omega (arith, ap (λ (c : Count). c.hits) is, count_few cells nothing_counted part, length-take (to - from) (drop from block));
+        bound = omega (arith, ap (λ (c : Count). c.hits) is, count_few cells nothing_counted part, length-take (to - from) (drop from block));
         count = λ finds tells. ap (λ (c : Count). c.hits) is ∙ counts finds cells fits tells part bytes_in (subst (λ (c : Count). c.row < first_noisy) is ends);
       }
-
--- tests that tell the same answer alike
-pub alike : {P : Type 0} (a b : Bool) → IsTrue a ↔ P → IsTrue b ↔ P → b ≡ a
-alike true true p q = refl
-alike false false p q = refl
-alike true false p q = q.1 (p.0 refl)
-alike false true p q = sym (p.1 (q.0 refl))
 
 pub number_of : (b : Bool) → bool_byte b ≡ cond b 1 0
 number_of true = refl

@@ -6,7 +6,7 @@ use Rattle.std.proofs.lemmas.List.Recursion.{is_count_by}
 use Rattle.cs_tree.specs.Pieces.{onto_first}
 use Rattle.cs_match.specs.Lines.{newline, lines, ended_lines, with_byte_in_line}
 use Rattle.cs_match.specs.LineParts.{IsPart}
-use Rattle.cs_match.specs.Unended.{unended, unless_ended, last_line}
+use Rattle.cs_match.specs.LastPart.{last_part, unless_ended, last_line}
 
 module _ (x : ℕ) (b : List ℕ) where
   ended-step : (t : Bool) → nat_eq x newline ≡ t → (ls : List (List ℕ)) (rest : List ℕ) (whole : List (List ℕ)) → whole ≡ ls ++ ended_lines (rest ++ b) → cond t ([] ∷ whole) (with_byte_in_line x whole) ≡ cond t ([] ∷ ls) (with_byte_in_line x ls) ++ ended_lines (cond t rest (unless_ended x ls rest) ++ b)
@@ -15,25 +15,25 @@ module _ (x : ℕ) (b : List ℕ) where
   ended-step false e [] rest whole h = rw (e, h) refl
   ended-step false e (l ∷ ls) rest whole h = rw h refl
 
-  unended-step : (t : Bool) → nat_eq x newline ≡ t → (ls : List (List ℕ)) (rest : List ℕ) (whole : List (List ℕ)) (left : List ℕ) → whole ≡ ls ++ ended_lines (rest ++ b) → left ≡ unended (rest ++ b) → cond t left (unless_ended x whole left) ≡ unended (cond t rest (unless_ended x ls rest) ++ b)
-  unfolding unended
-  unended-step true e ls rest whole left h k = k
-  unended-step false e [] rest whole left h k = rw (e, h, k) refl
-  unended-step false e (l ∷ ls) rest whole left h k = rw h k
+  last_part-step : (t : Bool) → nat_eq x newline ≡ t → (ls : List (List ℕ)) (rest : List ℕ) (whole : List (List ℕ)) (left : List ℕ) → whole ≡ ls ++ ended_lines (rest ++ b) → left ≡ last_part (rest ++ b) → cond t left (unless_ended x whole left) ≡ last_part (cond t rest (unless_ended x ls rest) ++ b)
+  unfolding last_part
+  last_part-step true e ls rest whole left h k = k
+  last_part-step false e [] rest whole left h k = rw (e, h, k) refl
+  last_part-step false e (l ∷ ls) rest whole left h k = rw h k
 
 -- the lines of a text and more, from its lines and its rest
-pub ended_lines-append : (a b : List ℕ) → ended_lines (a ++ b) ≡ ended_lines a ++ ended_lines (unended a ++ b)
-unfolding ended_lines unended
+pub ended_lines-append : (a b : List ℕ) → ended_lines (a ++ b) ≡ ended_lines a ++ ended_lines (last_part a ++ b)
+unfolding ended_lines last_part
 ended_lines-append [] b = refl
-ended_lines-append (x ∷ a) b = ended-step x b (nat_eq x newline) refl (ended_lines a) (unended a) (ended_lines (a ++ b)) (ended_lines-append a b)
+ended_lines-append (x ∷ a) b = ended-step x b (nat_eq x newline) refl (ended_lines a) (last_part a) (ended_lines (a ++ b)) (ended_lines-append a b)
 
-pub unended-append : (a b : List ℕ) → unended (a ++ b) ≡ unended (unended a ++ b)
-unfolding ended_lines unended
-unended-append [] b = refl
-unended-append (x ∷ a) b = unended-step x b (nat_eq x newline) refl (ended_lines a) (unended a) (ended_lines (a ++ b)) (unended (a ++ b)) (ended_lines-append a b) (unended-append a b)
+pub last_part-append : (a b : List ℕ) → last_part (a ++ b) ≡ last_part (last_part a ++ b)
+unfolding ended_lines last_part
+last_part-append [] b = refl
+last_part-append (x ∷ a) b = last_part-step x b (nat_eq x newline) refl (ended_lines a) (last_part a) (ended_lines (a ++ b)) (last_part (a ++ b)) (ended_lines-append a b) (last_part-append a b)
 
 -- a text that ends in a newline, or is empty, has its lines before those of what follows it
-pub ended_lines-cut : (a b : List ℕ) → unended a ≡ [] → ended_lines (a ++ b) ≡ ended_lines a ++ ended_lines b
+pub ended_lines-cut : (a b : List ℕ) → last_part a ≡ [] → ended_lines (a ++ b) ≡ ended_lines a ++ ended_lines b
 ended_lines-cut a b e = ended_lines-append a b ∙ ap (λ rest. ended_lines a ++ ended_lines (rest ++ b)) e
 
 -- a part without a newline has no line that has ended
@@ -42,10 +42,10 @@ unfolding ended_lines
 ended_lines-part [] p = refl
 ended_lines-part (x ∷ part) p = rw (p.0, ended_lines-part part p.1) refl
 
-pub unended-part : (part : List ℕ) → IsPart part → unended part ≡ part
-unfolding unended
-unended-part [] p = refl
-unended-part (x ∷ part) p = rw (p.0, ended_lines-part part p.1, unended-part part p.1) refl
+pub last_part-part : (part : List ℕ) → IsPart part → last_part part ≡ part
+unfolding last_part
+last_part-part [] p = refl
+last_part-part (x ∷ part) p = rw (p.0, ended_lines-part part p.1, last_part-part part p.1) refl
 
 -- a part, a newline, and more
 pub ended_lines-line : (part more : List ℕ) → IsPart part → ended_lines (part ++ newline ∷ more) ≡ part ∷ ended_lines more
@@ -53,10 +53,10 @@ unfolding ended_lines
 ended_lines-line [] more p = refl
 ended_lines-line (x ∷ part) more p = rw (p.0, ended_lines-line part more p.1) refl
 
-pub unended-line : (part more : List ℕ) → IsPart part → unended (part ++ newline ∷ more) ≡ unended more
-unfolding unended
-unended-line [] more p = refl
-unended-line (x ∷ part) more p = rw (p.0, ended_lines-line part more p.1, unended-line part more p.1) refl
+pub last_part-line : (part more : List ℕ) → IsPart part → last_part (part ++ newline ∷ more) ≡ last_part more
+unfolding last_part
+last_part-line [] more p = refl
+last_part-line (x ∷ part) more p = rw (p.0, ended_lines-line part more p.1, last_part-line part more p.1) refl
 
 lines-step : (x : ℕ) (ls : List (List ℕ)) (rest : List ℕ) → onto_first x (ls ++ last_line rest) ≡ with_byte_in_line x ls ++ last_line (unless_ended x ls rest)
 lines-step x [] [] = refl
@@ -68,10 +68,10 @@ lines-both x true ls all rest h = ap (λ (w : List (List ℕ)). [] ∷ w) h
 lines-both x false ls all rest h = rw h (lines-step x ls rest)
 
 -- all lines are those that have ended, and the rest
-pub lines-split : (a : List ℕ) → lines a ≡ ended_lines a ++ last_line (unended a)
-unfolding lines ended_lines unended
+pub lines-split : (a : List ℕ) → lines a ≡ ended_lines a ++ last_line (last_part a)
+unfolding lines ended_lines last_part
 lines-split [] = refl
-lines-split (x ∷ a) = lines-both x (nat_eq x newline) (ended_lines a) (lines a) (unended a) (lines-split a)
+lines-split (x ∷ a) = lines-both x (nat_eq x newline) (ended_lines a) (lines a) (last_part a) (lines-split a)
 
 -- what follows a newline has no newline
 part-step : (x : ℕ) (t : Bool) → nat_eq x newline ≡ t → (ls : List (List ℕ)) (rest : List ℕ) → IsPart rest → IsPart (cond t rest (unless_ended x ls rest))
@@ -79,10 +79,10 @@ part-step x true e ls rest p = p
 part-step x false e [] rest p = (e, p)
 part-step x false e (l ∷ ls) rest p = p
 
-pub IsPart-unended : (a : List ℕ) → IsPart (unended a)
-unfolding unended
-IsPart-unended [] = tt
-IsPart-unended (x ∷ a) = part-step x (nat_eq x newline) refl (ended_lines a) (unended a) (IsPart-unended a)
+pub IsPart-last_part : (a : List ℕ) → IsPart (last_part a)
+unfolding last_part
+IsPart-last_part [] = tt
+IsPart-last_part (x ∷ a) = part-step x (nat_eq x newline) refl (ended_lines a) (last_part a) (IsPart-last_part a)
 
 -- each line that has ended took a byte at least
 count-step : (x : ℕ) (t : Bool) (ls : List (List ℕ)) (rest : List ℕ) (n : ℕ) → length ls + length rest ≤ n → length (cond t ([] ∷ ls) (with_byte_in_line x ls)) + length (cond t rest (unless_ended x ls rest)) ≤ n + 1
@@ -90,10 +90,10 @@ count-step x true ls rest n h = omega arith
 count-step x false [] rest n h = omega arith
 count-step x false (l ∷ ls) rest n h = omega arith
 
-pub lines_within : (a : List ℕ) → length (ended_lines a) + length (unended a) ≤ length a
-unfolding ended_lines unended
+pub lines_within : (a : List ℕ) → length (ended_lines a) + length (last_part a) ≤ length a
+unfolding ended_lines last_part
 lines_within [] = omega arith
-lines_within (x ∷ a) = let h = count-step x (nat_eq x newline) (ended_lines a) (unended a) (length a) (lines_within a) in omega arith
+lines_within (x ∷ a) = let h = count-step x (nat_eq x newline) (ended_lines a) (last_part a) (length a) (lines_within a) in omega arith
 
 -- as many lines have ended as there are newlines
 abbrev pub is_newline : ℕ → Bool
@@ -128,15 +128,15 @@ IsPart-append (x ∷ a) b p q = (p.0, IsPart-append a b p.1 q)
 pub lines-line : (part more : List ℕ) → IsPart part → lines (part ++ newline ∷ more) ≡ part ∷ lines more
 lines-line part more p =
     lines-split (part ++ newline ∷ more)
-    ∙ ap (λ ls. ls ++ last_line (unended (part ++ newline ∷ more))) (ended_lines-line part more p)
-    ∙ ap (λ rest. part ∷ (ended_lines more ++ last_line rest)) (unended-line part more p)
+    ∙ ap (λ ls. ls ++ last_line (last_part (part ++ newline ∷ more))) (ended_lines-line part more p)
+    ∙ ap (λ rest. part ∷ (ended_lines more ++ last_line rest)) (last_part-line part more p)
     ∙ ap (λ (ls : List (List ℕ)). part ∷ ls) (sym (lines-split more))
 
 pub lines-last : (b : ℕ) (part : List ℕ) → IsPart (b ∷ part) → lines (b ∷ part) ≡ (b ∷ part) ∷ []
 lines-last b part p =
     lines-split (b ∷ part)
-    ∙ ap (λ ls. ls ++ last_line (unended (b ∷ part))) (ended_lines-part (b ∷ part) p)
-    ∙ ap last_line (unended-part (b ∷ part) p)
+    ∙ ap (λ ls. ls ++ last_line (last_part (b ∷ part))) (ended_lines-part (b ∷ part) p)
+    ∙ ap last_line (last_part-part (b ∷ part) p)
 
 pub lines-none : lines [] ≡ []
 unfolding lines

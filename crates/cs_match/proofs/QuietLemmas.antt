@@ -1,7 +1,7 @@
 -- Where a run over a line by the cells of a table is quiet, nothing is found in the line.
 use Rattle.std.proofs.Common.{◌≡◌, ℕ, zero, suc, ◌+◌, ◌-◌, ◌*◌, ◌/◌, ◌%◌, ◌<◌, ◌≤◌, ◌⊎◌, Bool, true, false, List, [], ◌∷◌, ◌++◌, take, length, get_or, refl, sym, ap, subst, ◌∙◌, arith, inl, inr}
-use Rattle.std.specs.Prelude.{IsTrue, ◌↔◌, bit_or, slice_index, ◌≢◌}
-use Rattle.std.proofs.lemmas.Bool.{both_ways, cases_lt, eqb-false}
+use Rattle.std.specs.Prelude.{bit_or, slice_index, ◌≢◌}
+use Rattle.std.proofs.lemmas.Bool.{both_ways, cases_lt, eqb-false, false_from_ne_true}
 use Rattle.std.proofs.lemmas.List.Elements.{All-nil, All-cons, All-head, All-tail, All-append}
 use Rattle.cs_syntax.specs.Matching.{Tree, Found}
 use Rattle.cs_tree.specs.ByteList.{AreBytes}
@@ -50,10 +50,6 @@ never_found t line looped part never found_it =
           both_ways (exit_at line t (λ _. true) (length line)) (sym (left_at_end t line) ∙ never_ends t (start (places t)) line never) (ap (exit_at line t (λ _. true)) e ∙ w.2)
     ]
 
-is_false : {P : Type 0} (b : Bool) → IsTrue b ↔ P → (P → ⊥) → b ≡ false
-is_false true h never = absurd (never (h.0 refl))
-is_false false h never = refl
-
 -- the tree can be left before the byte at this place of a line and its newline
 abbrev LeftAt : Tree → Standing → List ℕ → ℕ → Type 0
 LeftAt t n line i = is_left_before t (standing_through t n (take i line)) (slice_index (line ++ newline ∷ []) i) ≡ true
@@ -80,7 +76,7 @@ left_found t line looped part i high left =
               ap (exit_at line t (λ _. true)) e ∙ sym (left_at_end t line) ∙ left_last t (start (places t)) line (subst (LeftAt t (start (places t)) line) e left)
         ]
 
-module _ (t : Tree) (rows : List Standing) (used : ℕ) (cells : List ℕ) (few : used ≤ 254) (given : AreCells t rows used cells) where
+module _ (t : Tree) (rows : List Standing) (used : ℕ) (cells : List ℕ) (bound : used ≤ 254) (given : AreCells t rows used cells) where
   -- the two numbers that no row has lead back to themselves
   from_found : (text : List ℕ) → AreBytes text → row_after cells found_row text ≡ found_row
   unfolding row_after
@@ -118,7 +114,7 @@ module _ (t : Tree) (rows : List Standing) (used : ℕ) (cells : List ℕ) (few 
   kind_of : (row b cell : ℕ) → IsCell t rows used row b cell → (cell < first_noisy) ⊎ (cell ≡ found_row) ⊎ (cell ≡ unknown_row)
   kind_of row b cell (unknown is) = inr (inr is)
   kind_of row b cell (known low (found is h)) = inr (inl is)
-  kind_of row b cell (known low (next h there line)) = inl (row_stays t rows used cell (standing_beyond t (get_or rows row (start (places t))) b) few there)
+  kind_of row b cell (known low (next h there line)) = inl (row_stays t rows used cell (standing_beyond t (get_or rows row (start (places t))) b) bound there)
 
   kinds : (at : ℕ) → at < 65536 → (get_or cells at 0 < first_noisy) ⊎ (get_or cells at 0 ≡ found_row) ⊎ (get_or cells at 0 ≡ unknown_row)
   kinds at low =
@@ -187,7 +183,7 @@ module _ (t : Tree) (rows : List Standing) (used : ℕ) (cells : List ℕ) (few 
   left_somewhere n number [] bytes part row end =
       elim (found_step n number newline [] (omega arith) (All-nil IsByte) row end) [
         | inl h ↦ (0, omega arith, h)
-        | inr there ↦ absurd (omega (arith, row_stays t rows used (get_or cells (bit_or number newline) 0) (standing_beyond t n newline) few there, end))
+        | inr there ↦ absurd (omega (arith, row_stays t rows used (get_or cells (bit_or number newline) 0) (standing_beyond t n newline) bound there, end))
       ]
   left_somewhere n number (b ∷ line) bytes part row end =
       elim (found_step n number b (line ++ newline ∷ []) (All-head IsByte b (line ++ newline ∷ []) bytes) (All-tail IsByte b (line ++ newline ∷ []) bytes) row end) [
@@ -208,7 +204,7 @@ module _ (t : Tree) (rows : List Standing) (used : ℕ) (cells : List ℕ) (few 
         absorbs = absorbs;
         back = λ line bytes part quiet. (quiet_line (start (places t)) 0 line (ended line bytes) part first quiet).0;
         none = λ line bytes part quiet.
-            is_false (finds line) (decides line) (never_found t line looped part (quiet_line (start (places t)) 0 line (ended line bytes) part first quiet).1);
+            false_from_ne_true (finds line) (λ e. never_found t line looped part (quiet_line (start (places t)) 0 line (ended line bytes) part first quiet).1 ((decides line).0 e));
       }
 
   -- and where it finds something

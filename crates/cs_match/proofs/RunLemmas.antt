@@ -24,7 +24,7 @@ module _ (t u : Tree) (rows : List Standing) (used number : ℕ) (n : Standing) 
         ∙ left_in_line t s i lt (λ e. other (byte ∙ e))
 
     pub run_found : i < length s → b ≡ slice_index s i → b ≢ 10 → used ≤ 254 → number ≡ found_row → exit_at s t (λ _. true) i ≡ true
-    run_found lt byte other few e = sym (left_here lt byte other) ∙ leads_to_found u rows used b number n few leads e
+    run_found lt byte other bound e = sym (left_here lt byte other) ∙ leads_to_found u rows used b number n bound leads e
 
     pub run_stays : i < length s → b ≡ slice_index s i → b ≢ 10 → number ≢ found_row → exit_at s t (λ _. true) i ≡ false
     run_stays lt byte other e = sym (left_here lt byte other) ∙ (leads_on u rows used b number n leads e).0
@@ -36,9 +36,9 @@ module _ (t u : Tree) (rows : List Standing) (used number : ℕ) (n : Standing) 
         (leads_on u rows used b number n leads e).1
 
     pub run_ends : length s ≤ i → b ≡ 10 → used ≤ 254 → eqb number found_row ≡ exit_at s t (λ _. true) (length s)
-    run_ends le byte few =
+    run_ends le byte bound =
         let all = left_is (standing t s) b (is ∙ ap (standing t) (take_all i s le)) ∙ ap (is_left_before t (standing t s)) byte ∙ left_at_end t s in
         elim (cases_eq number found_row) [
-          | inl e ↦ eq-eqb number found_row e ∙ sym (leads_to_found u rows used b number n few leads e) ∙ all
+          | inl e ↦ eq-eqb number found_row e ∙ sym (leads_to_found u rows used b number n bound leads e) ∙ all
           | inr e ↦ ne_eqb number found_row e ∙ sym (leads_on u rows used b number n leads e).0 ∙ all
         ]

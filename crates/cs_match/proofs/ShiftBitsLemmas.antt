@@ -1,5 +1,6 @@
 -- Marks kept as the bits of words, shifted by a place, or met with others.
 use Rattle.std.proofs.Common.{◌≡◌, ℕ, zero, suc, ◌+◌, ◌*◌, ◌/◌, ◌%◌, ◌^◌, ◌<◌, Bool, true, false, ◌&&◌, ◌||◌, eqb, List, [], ◌∷◌, length, get_or, bit_and, bit_or, min, max, refl, sym, ◌∙◌, ap, inl, inr, arith, ext_get_or, eq-eqb, w64}
+use Rattle.std.proofs.Math.Bool.{or-false, or-true}
 use Rattle.std.proofs.lemmas.List.{get_or_past}
 use Rattle.std.proofs.lemmas.List.Elements.{All-from_get_or}
 use Rattle.std.proofs.lemmas.Bool.{cases_lt, and_right, and_parts, true≢false}
@@ -34,10 +35,6 @@ meet_at (mark ∷ marks) [] k a b = (cc)
 meet_at (mark ∷ marks) (other ∷ others) zero a b = rw (a, b) refl
 meet_at (mark ∷ marks) (other ∷ others) (suc k) a b =
     ap (λ rest. (mark && other) || rest) (meet_at marks others k a b) ∙ or-true (mark && other)
-  where
-    or-true : (x : Bool) → x || true ≡ true
-    or-true true = refl
-    or-true false = refl
 
 pub meet_nowhere : (marks others : List Bool) → ((k : ℕ) → get_or marks k false && get_or others k false ≡ false) → meet marks others ≡ false
 meet_nowhere [] others h = refl
@@ -121,10 +118,6 @@ module _ (word carried first taker : ℕ) (low : carried < 2) where
       (bit-or _ first (suc i) ∙ ap (λ x. x || eqb (bit_at first (suc i)) 1)
       (bit-or _ carried (suc i) ∙ ap (λ x. eqb (bit_at (word * 2 % 18446744073709551616) (suc i)) 1 || eqb x 1) (bit_at_above carried 1 (suc i) low (omega arith))
       ∙ or-false (eqb (bit_at (word * 2 % 18446744073709551616) (suc i)) 1) ∙ ap (λ x. eqb x 1) (shl-others word i h)))
-    where
-      or-false : (x : Bool) → x || false ≡ x
-      or-false true = refl
-      or-false false = refl
 
 -- a bit of the words, by its word
 has_bit-at : (words : List ℕ) (q r : ℕ) → r < 64 → has_bit words (q * 64 + r) ≡ eqb (bit_at (get_or words q 0) r) 1

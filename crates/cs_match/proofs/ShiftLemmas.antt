@@ -1,6 +1,6 @@
 -- The marks of a choice of phrases move by its shifts, and tell by them whether it can be left.
 use Rattle.std.proofs.Common.{◌≡◌, ℕ, zero, suc, ◌+◌, ◌-◌, ◌<◌, ◌≤◌, Bool, true, false, ◌&&◌, ◌||◌, List, [], ◌∷◌, ◌++◌, take, drop, length, replicate, refl, sym, ◌∙◌, ap, subst, arith, length-append, length-drop, append_assoc}
-use Rattle.std.proofs.Math.Bool.{or-false}
+use Rattle.std.proofs.Math.Bool.{and-false, and-true, or-false, or-true, or_assoc}
 use Rattle.std.proofs.lemmas.Bool.{and_parts}
 use Rattle.std.proofs.lemmas.List.{take-append-drop, take_all, append-nil, length-take, length-map, length-replicate, replicate-append-replicate, map-append}
 use Rattle.cs_syntax.specs.Matching.{Tree, Trees, empty, one_of, one_char, cat, alt, rep, line_start, line_end, word_edge, not_word_edge, none, more, member}
@@ -39,11 +39,7 @@ meet-append : (xs ys us vs : List Bool) → length xs ≡ length us → meet (xs
 meet-append [] ys [] vs e = refl
 meet-append [] ys (u ∷ us) vs e = absurd (omega arith)
 meet-append (x ∷ xs) ys [] vs e = absurd (omega arith)
-meet-append (x ∷ xs) ys (u ∷ us) vs e = rw (meet-append xs ys us vs (omega arith)) (or_assoc' (x && u) (meet xs us) (meet ys vs))
-  where
-    or_assoc' : (a b c : Bool) → (a || (b || c)) ≡ ((a || b) || c)
-    or_assoc' true b c = refl
-    or_assoc' false b c = refl
+meet-append (x ∷ xs) ys (u ∷ us) vs e = rw (meet-append xs ys us vs (omega arith)) (sym (or_assoc (x && u) (meet xs us) (meet ys vs)))
 
 -- the first marks and the others
 length-first : (ms : List Bool) (n k : ℕ) → length ms ≡ n + k → length (take n ms) ≡ n
@@ -51,10 +47,6 @@ length-first ms n k e = omega (arith, length-take n ms)
 
 length-others : (ms : List Bool) (n k : ℕ) → length ms ≡ n + k → length (drop n ms) ≡ k
 length-others ms n k e = omega (arith, length-drop n ms)
-
-or-true : (b : Bool) → (b || true) ≡ true
-or-true true = refl
-or-true false = refl
 
 -- a phrase has a set for each place
 mutual
@@ -191,20 +183,12 @@ meet_last : (ms : List Bool) (n : ℕ) (before : Bool) → length ms ≡ n → 0
 meet_last [] n before e h = absurd (omega arith)
 meet_last (m ∷ []) n before e h =
     let f : n - 1 ≡ 0 = omega arith in
-    ap (λ i. meet (m ∷ []) (replicate i false ++ true ∷ [])) f ∙ with_true m
-  where
-    with_true : (m : Bool) → ((m && true) || false) ≡ m
-    with_true true = refl
-    with_true false = refl
+    ap (λ i. meet (m ∷ []) (replicate i false ++ true ∷ [])) f ∙ or-false (m && true) ∙ and-true m
 meet_last (m ∷ k ∷ ms) n before e h =
     let f : n - 1 ≡ suc (n - 2) = omega arith in
     let g : n - 2 ≡ n - 1 - 1 = omega arith in
-    ap (λ i. meet (m ∷ k ∷ ms) (replicate i false ++ true ∷ [])) f ∙ with_false m (meet (k ∷ ms) (replicate (n - 2) false ++ true ∷ []))
+    ap (λ i. meet (m ∷ k ∷ ms) (replicate i false ++ true ∷ [])) f ∙ ap (λ t. t || meet (k ∷ ms) (replicate (n - 2) false ++ true ∷ [])) (and-false m)
     ∙ ap (λ i. meet (k ∷ ms) (replicate i false ++ true ∷ [])) g ∙ meet_last (k ∷ ms) (n - 1) m (omega arith) (omega arith)
-  where
-    with_false : (m x : Bool) → ((m && false) || x) ≡ x
-    with_false true x = refl
-    with_false false x = refl
 
 choice_moves : (ts : Trees) → ArePhrases ts → (before : Bool) (ms : List Bool) (a : Around) (b : ℕ) → length ms ≡ places_of ts →
     step_each ts true ms a b ≡ shift_and before (firsts_of ts) (takers_by (place_sets_of ts) b) ms

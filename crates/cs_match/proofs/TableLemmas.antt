@@ -20,12 +20,12 @@ cell_place from b whole lt =
 
 -- no row in use has the number of what is left
 pub row_stays : (t : Tree) (rows : List Standing) (used number : ℕ) (n : Standing) → used ≤ 254 → IsRow t rows used number n → number < found_row
-row_stays t rows used number n few row = omega (arith, row.whole, row.in_use)
+row_stays t rows used number n bound row = omega (arith, row.whole, row.in_use)
 
 module _ (t : Tree) (rows : List Standing) (used : ℕ) (cells : List ℕ) (given : AreCells t rows used cells) where
   put_right : (row b number : ℕ) → row < used → used ≤ 254 → b < 256 → Leads t rows used (get_or rows row (start (places t))) b number →
       (r c : ℕ) → r < 254 → c < 256 → IsCell t rows used r c (get_or (set cells (256 * row + b) number) (256 * r + c) 0)
-  put_right row b number lt few byte leads r c rl cl =
+  put_right row b number lt bound byte leads r c rl cl =
       elim (cases_eq (256 * r + c) (256 * row + b)) [
         | inl same ↦
             let one : row ≡ r = omega arith in
@@ -42,9 +42,9 @@ module _ (t : Tree) (rows : List Standing) (used : ℕ) (cells : List ℕ) (give
   -- a cell is written
   pub put_cell : (row b number : ℕ) → row < used → used ≤ 254 → b < 256 →
       Leads t rows used (get_or rows row (start (places t))) b number → AreCells t rows used (set cells (256 * row + b) number)
-  put_cell row b number lt few byte leads = record {
+  put_cell row b number lt bound byte leads = record {
     all = length-set cells (256 * row + b) number ∙ given.all;
-    right = λ r c rl cl. put_right row b number lt few byte leads r c rl cl;
+    right = λ r c rl cl. put_right row b number lt bound byte leads r c rl cl;
     found = λ c cl. get_or-set_other cells (256 * row + b) (found_row + c) number 0 (λ e. omega arith) ∙ given.found c cl;
     unknown = λ c cl. get_or-set_other cells (256 * row + b) (unknown_row + c) number 0 (λ e. omega arith) ∙ given.unknown c cl;
   }
@@ -77,8 +77,8 @@ known_leads t rows used row b cell (known lt leads) other = leads
 -- a number says whether the tree can be left
 pub leads_to_found : (t : Tree) (rows : List Standing) (used b number : ℕ) (n : Standing) → used ≤ 254 → Leads t rows used n b number → number ≡ found_row →
     is_left_before t n b ≡ true
-leads_to_found t rows used b number n few (found is h) e = h
-leads_to_found t rows used b number n few (next h row line) e = absurd (omega (arith, row_stays t rows used number (standing_beyond t n b) few row))
+leads_to_found t rows used b number n bound (found is h) e = h
+leads_to_found t rows used b number n bound (next h row line) e = absurd (omega (arith, row_stays t rows used number (standing_beyond t n b) bound row))
 
 pub leads_on : (t : Tree) (rows : List Standing) (used b number : ℕ) (n : Standing) → Leads t rows used n b number → (number ≡ found_row → ⊥) →
     (is_left_before t n b ≡ false) × IsRow t rows used number (standing_beyond t n b)
@@ -91,7 +91,7 @@ new_rows t rows is =
     let one : (k : ℕ) → get_or rows k (start (places t)) ≡ start (places t) = λ k. ap (λ xs. get_or xs k (start (places t))) is ∙ same_everywhere 254 k (start (places t)) in
     record {
       some = omega arith;
-      few = omega arith;
+      bound = omega arith;
       all = ap length is ∙ length-replicate 254 (start (places t));
       first = one 0;
       marks = λ k. ap (λ n. length n.marks) (one k) ∙ length-replicate (places t) false;

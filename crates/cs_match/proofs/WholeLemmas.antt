@@ -8,7 +8,7 @@ use Rattle.cs_match.proofs.LinesLemmas.{ended_lines-line}
 use Rattle.cs_match.specs.Lines.{newline, ended_lines, with_byte_in_line}
 use Rattle.cs_match.specs.LineParts.{IsPart}
 use Rattle.cs_match.specs.Skipping.{AreWhole, NoneFound}
-use Rattle.cs_match.specs.Unended.{unended, unless_ended}
+use Rattle.cs_match.specs.LastPart.{last_part, unless_ended}
 
 -- what ends in a newline is whole
 pub whole_ended : (part : List ℕ) → AreWhole (part ++ newline ∷ [])
@@ -74,26 +74,26 @@ ends_it : (b : ℕ) (t : Bool) → nat_eq b newline ≡ t → cond t [] (b ∷ [
 ends_it b true is e = eqb-true b newline is
 ends_it b false is e = cc
 
-unended_whole : (text : List ℕ) → AreWhole text → unended text ≡ []
-unfolding unended ended_lines AreWhole
-unended_whole [] w = refl
-unended_whole (b ∷ []) w = rw w refl
-unended_whole (b ∷ c ∷ text) w =
+no_part_of_whole : (text : List ℕ) → AreWhole text → last_part text ≡ []
+unfolding last_part ended_lines AreWhole
+no_part_of_whole [] w = refl
+no_part_of_whole (b ∷ []) w = rw w refl
+no_part_of_whole (b ∷ c ∷ text) w =
     let h = first_line [] c text w in
-    let rest : unended (c ∷ text) ≡ [] = unended_whole (c ∷ text) w in
-    elim (nat_eq b newline) as (λ t. cond t (unended (c ∷ text)) (unless_ended b (ended_lines (c ∷ text)) (unended (c ∷ text))) ≡ []) [
+    let rest : last_part (c ∷ text) ≡ [] = no_part_of_whole (c ∷ text) w in
+    elim (nat_eq b newline) as (λ t. cond t (last_part (c ∷ text)) (unless_ended b (ended_lines (c ∷ text)) (last_part (c ∷ text))) ≡ []) [
       | true ↦ rest
-      | false ↦ ap (λ ls. unless_ended b ls (unended (c ∷ text))) h.2 ∙ rest
+      | false ↦ ap (λ ls. unless_ended b ls (last_part (c ∷ text))) h.2 ∙ rest
     ]
 
-whole_unended : (text : List ℕ) → unended text ≡ [] → AreWhole text
-unfolding unended ended_lines AreWhole
-whole_unended [] e = tt
-whole_unended (b ∷ []) e = ends_it b (nat_eq b newline) refl e
-whole_unended (b ∷ c ∷ text) e = whole_unended (c ∷ text) (ended_by b (nat_eq b newline) (ended_lines (c ∷ text)) (unended (c ∷ text)) e)
+whole_has_no_part : (text : List ℕ) → last_part text ≡ [] → AreWhole text
+unfolding last_part ended_lines AreWhole
+whole_has_no_part [] e = tt
+whole_has_no_part (b ∷ []) e = ends_it b (nat_eq b newline) refl e
+whole_has_no_part (b ∷ c ∷ text) e = whole_has_no_part (c ∷ text) (ended_by b (nat_eq b newline) (ended_lines (c ∷ text)) (last_part (c ∷ text)) e)
 
-pub whole_is_ended : (text : List ℕ) → AreWhole text ↔ unended text ≡ []
-whole_is_ended text = (unended_whole text, whole_unended text)
+pub whole_is_ended : (text : List ℕ) → AreWhole text ↔ last_part text ≡ []
+whole_is_ended text = (no_part_of_whole text, whole_has_no_part text)
 
 -- from one place to another, by way of a third
 pub between_by : (block : List ℕ) (from middle to : ℕ) → from ≤ middle → middle ≤ to → take (to - from) (drop from block) ≡ take (middle - from) (drop from block) ++ take (to - middle) (drop middle block)

@@ -7,7 +7,7 @@ use Rattle.memchr.specs.Find.{OccursAt}
 use Rattle.cs_match.specs.Lines.{newline, ended_lines, with_byte_in_line}
 use Rattle.std.specs.Prelude.{All, Any}
 use Rattle.cs_sieve.specs.declared.window.Window.{Window}
-use Rattle.cs_sieve.specs.Standing.{Stands}
+use Rattle.cs_sieve.specs.Stands.{Stands}
 use Rattle.cs_syntax.specs.Matching.{Tree, Found, member}
 use Rattle.cs_match.specs.Finding.{Decides}
 use Rattle.cs_match.specs.Skipping.{AreWhole, NoneFound}

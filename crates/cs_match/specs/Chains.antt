@@ -1,6 +1,6 @@
--- Runs over a table of cells. A row is 256 cells, one for each byte, and goes by the place of its first cell. A run
--- stands in a row, and the cell of the next byte is the row that it goes on in. At the start of a line it stands in
--- row 0.
+-- Runs over a table of cells. A row is 256 cells, one for each byte, and goes by the place of its first cell.
+-- A run stands in a row, and the cell of the next byte is the row that it goes on in. At the start of a line
+-- it stands in row 0.
 use Rattle.std.specs.Prelude.{ℕ, ◌≡◌, ◌<◌, ◌≤◌, Bool, false, List, [], ◌∷◌, ◌++◌, slice_index, bit_or}
 use Rattle.cs_tree.specs.ByteList.{AreBytes}
 use Rattle.cs_match.specs.Lines.{newline}
@@ -31,7 +31,8 @@ IsQuiet cells text = row_after cells 0 text < first_noisy
 abbrev pub Absorbs : List ℕ → Type 0
 Absorbs cells = (at : ℕ) → first_noisy ≤ at → at < 65536 → first_noisy ≤ slice_index cells at
 
--- Where the run over a line and its newline is quiet, nothing is found in the line, and the next line may begin.
+-- Where the run over a line and its newline is quiet, nothing is found in the line, and the next line may
+-- begin.
 pub record ShowsLines (finds : List ℕ → Bool) (cells : List ℕ) : Type 0 where
   pub absorbs : Absorbs cells
   pub back : (line : List ℕ) → AreBytes line → IsPart line → IsQuiet cells (line ++ newline ∷ []) →

@@ -1,5 +1,5 @@
--- The expansion of a tree: its counted repeats are written out, and each repeat that is left is a loop of at least 0
--- or at least 1 rounds; and its sets of characters are lowered to sets of bytes.
+-- The expansion of a tree: its counted repeats are written out, and each repeat that is left is a loop of at
+-- least 0 or at least 1 rounds; and its sets of characters are lowered to sets of bytes.
 -- docs/PATTERNS.md, "Matching".
 use Rattle.std.specs.Prelude.{ℕ, zero, suc, ◌-◌, Option, Some, None, nat_le, if◌then◌else◌}
 use Rattle.cs_syntax.specs.Matching.{Tree, Trees, empty, one_of, one_char, cat, alt, rep, line_start, line_end, word_edge, not_word_edge, none, more}
@@ -28,7 +28,8 @@ never = alt none
 abbrev pub repeat_expansion : Tree → ℕ → Option ℕ → Tree
 repeat_expansion t zero None = rep t 0 None
 repeat_expansion t (suc n) None = cat (copies n t (more (rep t 1 None) none))
-repeat_expansion t n (Some m) = if nat_le n m then cat (copies n t (copies (m - n) (optional t) none)) else never
+repeat_expansion t n (Some m) =
+    if nat_le n m then cat (copies n t (copies (m - n) (optional t) none)) else never
 
 -- the same in all parts
 abbrev mutual

@@ -13,7 +13,8 @@ pub record AreMarks (words : List ℕ) (count : ℕ) : Type 0 where
   pub fit : All (λ word. word < 2 ^ 64) words
   pub no_other : (at : ℕ) → count ≤ at → has_bit words at ≡ false
 
--- each mark goes on to the next place, or one of the first places is marked there; it stays where the place is a taker
+-- each mark goes on to the next place, or one of the first places is marked there; it stays where the place
+-- is a taker
 abbrev pub shift_and : Bool → List Bool → List Bool → List Bool → List Bool
 shift_and before [] takers marks = []
 shift_and before (first ∷ firsts) [] marks = []

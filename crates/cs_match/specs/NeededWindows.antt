@@ -3,7 +3,7 @@
 use Rattle.std.specs.Prelude.{ℕ, ◌≡◌, ◌+◌, ◌≤◌, ◌<◌, Bool, true, List, length, slice_index, slice_index_or, All, Any, Option, IfSome}
 use Rattle.cs_syntax.specs.Matching.{Tree, Found, member}
 use Rattle.cs_sieve.specs.declared.window.Window.{Window}
-use Rattle.cs_sieve.specs.Standing.{Stands}
+use Rattle.cs_sieve.specs.Stands.{Stands}
 use Rattle.cs_match.specs.declared.choice.Choice.{Choice}
 
 -- one of the windows stands somewhere in the line

@@ -1,9 +1,9 @@
--- The places of a tree are its sets, from left to right: Glushkov's positions. A list of marks has one mark for each
--- place, as a set of states of Glushkov's automaton. A place is marked after a front of the line where a part that
--- ends there was taken with that place last. Nothing of the automaton is laid out: what follows what is found anew
--- from the tree, at each byte.
--- Every repeat is a loop here, of at least 0 or at least 1 rounds, and every set is one of bytes (`IsLooped`), since counted
--- repeats are written out, and sets of characters lowered.
+-- The places of a tree are its sets, from left to right: Glushkov's positions. A list of marks has one mark
+-- for each place, as a set of states of Glushkov's automaton. A place is marked after a front of the line
+-- where a part that ends there was taken with that place last. Nothing of the automaton is laid out: what
+-- follows what is found anew from the tree, at each byte. Every repeat is a loop here, of at least 0 or at
+-- least 1 rounds, and every set is one of bytes (`IsLooped`), since counted repeats are written out, and sets
+-- of characters lowered.
 use Rattle.std.specs.Prelude.{ℕ, zero, suc, ◌≡◌, ◌+◌, Bool, true, false, ◌&&◌, ◌||◌, not, List, [], ◌∷◌, ◌++◌, take, drop, length, replicate, nat_eq, ◌≤◌, slice_index, slice_index_or, None}
 use Rattle.cs_syntax.specs.Matching.{Tree, Trees, empty, one_of, one_char, cat, alt, rep, line_start, line_end, word_edge, not_word_edge, none, more, member, at_word_edge}
 use Rattle.cs_match.specs.declared.around.Around.{Around}
@@ -69,8 +69,8 @@ abbrev mutual
   nullable_some none a = false
   nullable_some (more t ts) a = nullable t a || nullable_some ts a
 
--- some last position of the tree is marked: the tree can be left here, from a place of its own; where what follows is
--- nullable here, the last positions before it are last ones too
+-- some last position of the tree is marked: the tree can be left here, from a place of its own; where what
+-- follows is nullable here, the last positions before it are last ones too
 abbrev mutual
   pub leaves : Tree → List Bool → Around → Bool
   leaves empty ms a = false
@@ -97,8 +97,8 @@ abbrev mutual
 abbrev pub exits : Tree → Bool → List Bool → Around → Bool
 exits t enter ms a = leaves t ms a || (enter && nullable t a)
 
--- for each repeat of the tree, an outer one before those inside it: what is repeated can be left here, from a place of
--- its own. The marks of the tree come first in `ms`
+-- for each repeat of the tree, an outer one before those inside it: what is repeated can be left here, from a
+-- place of its own. The marks of the tree come first in `ms`
 abbrev mutual
   pub round_ends : Tree → List Bool → Around → List Bool
   round_ends empty ms a = []
@@ -133,7 +133,8 @@ abbrev mutual
   pub step_all : Trees → Bool → List Bool → Around → ℕ → List Bool
   step_all none enter ms a b = []
   step_all (more t ts) enter ms a b =
-      step t enter (take (places t) ms) a b ++ step_all ts (exits t enter (take (places t) ms) a) (drop (places t) ms) a b
+      step t enter (take (places t) ms) a b
+      ++ step_all ts (exits t enter (take (places t) ms) a) (drop (places t) ms) a b
 
   pub step_each : Trees → Bool → List Bool → Around → ℕ → List Bool
   step_each none enter ms a b = []
@@ -167,6 +168,7 @@ abbrev mutual
   AreLooped none = Unit {0}
   AreLooped (more t ts) = IsLooped t × AreLooped ts
 
--- a tree whose repeats are loops and whose sets are of bytes, with the numbers of its places and of its repeats
+-- a tree whose repeats are loops and whose sets are of bytes, with the numbers of its places and of its
+-- repeats
 abbrev pub IsProgram : Tree → ℕ → ℕ → Type 0
 IsProgram t n m = (n ≡ places t) × (m ≡ repeats t) × IsLooped t

@@ -14,7 +14,8 @@ use Rattle.cs_match.specs.Needle.{IsNeeded}
 abbrev pub tree_in : Table → Tree
 tree_in table = tree_of table.root.now
 
--- the repeats of the tree are loops, its shifts, the rows and the cells are right, and there is room for a run
+-- the repeats of the tree are loops, its shifts, the rows and the cells are right, and there is room for a
+-- run
 pub record IsRight (t : Table) : Type 0 where
   pub looped : IsLooped (tree_in t)
   pub shifts : IfSome t.shifts (λ shifts. AreShifts (tree_in t) shifts.now)

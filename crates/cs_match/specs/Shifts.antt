@@ -1,5 +1,6 @@
--- Choices of phrases, over which all marks go on at once, each to the next place of its phrase. The field's name for it
--- is Shift-And. A phrase is a set, or phrases one after another, so that a mark goes nowhere else.
+-- Choices of phrases, over which all marks go on at once, each to the next place of its phrase. The field's
+-- name for it is Shift-And. A phrase is a set, or phrases one after another, so that a mark goes nowhere
+-- else.
 use Rattle.std.specs.Prelude.{ℕ, ◌≡◌, ◌-◌, ◌<◌, Bool, true, false, ◌&&◌, List, [], ◌∷◌, ◌++◌, drop, length, map, replicate, slice_index_or}
 use Rattle.cs_syntax.specs.Matching.{Tree, Trees, empty, one_of, one_char, cat, alt, rep, line_start, line_end, word_edge, not_word_edge, none, more, member}
 use Rattle.cs_match.specs.declared.around.Around.{Around}
@@ -89,4 +90,5 @@ pub record AreShifts (t : Tree) (shifts : Shifts) : Type 0 where
   pub takers : (b : ℕ) → b < 256 → length (takers_of shifts b) ≡ places t
   pub moves : (marks : List Bool) (a : Around) (b : ℕ) → length marks ≡ places t → b < 256 →
       step t true marks a b ≡ shift_and false shifts.firsts (takers_of shifts b) marks
-  pub left : (marks : List Bool) (a : Around) → length marks ≡ places t → exits t true marks a ≡ meet marks shifts.lasts
+  pub left : (marks : List Bool) (a : Around) → length marks ≡ places t →
+      exits t true marks a ≡ meet marks shifts.lasts

@@ -1,5 +1,5 @@
--- Standings: what a run over a line has come to at a place of it. Where two runs have come to the same, they find the
--- same in what follows.
+-- Standings: what a run over a line has come to at a place of it. Where two runs have come to the same, they
+-- find the same in what follows.
 use Rattle.std.specs.Prelude.{ℕ, Bool, true, false, List, [], ◌∷◌, replicate, nat_eq, if◌then◌else◌}
 use Rattle.cs_syntax.specs.Matching.{Tree, is_word, differ}
 use Rattle.cs_match.specs.declared.around.Around.{Around}
@@ -21,7 +21,8 @@ at_end standing = record { first = standing.first; last = true; edge = standing.
 
 -- the standing after the byte b of the line
 abbrev pub next_standing : Tree → Standing → ℕ → Standing
-next_standing t standing b = record { marks = step t true standing.marks (ahead standing b) b; first = false; word = is_word b }
+next_standing t standing b =
+    record { marks = step t true standing.marks (ahead standing b) b; first = false; word = is_word b }
 
 -- the standing after the bytes, from another on
 abbrev pub standing_through : Tree → Standing → List ℕ → Standing

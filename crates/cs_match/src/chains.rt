@@ -3,7 +3,8 @@
 ghost use Rattle.std.specs.Prelude.{◌≡◌, ◌≤◌, ◌<◌, ◌+◌, ◌-◌, ◌∷◌, ℕ, Bool, List, [], map, true, length, slice_index, take, drop};
 ghost use Rattle.cs_match.specs.Lines.{newline, ended_lines};
 ghost use Rattle.cs_match.specs.LineParts.{IsPart};
-ghost use Rattle.cs_match.specs.Skipping.{AreWhole, NoneFound, ArePassed};
+ghost use Rattle.cs_match.specs.Passed.{ArePassed};
+ghost use Rattle.cs_match.specs.Skipping.{AreWhole, NoneFound};
 ghost use Rattle.cs_match.specs.Chains.{row_after, first_noisy, IsQuiet, ShowsLines};
 
 use crate::finding::whole_lines;

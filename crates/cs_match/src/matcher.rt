@@ -3,7 +3,8 @@ ghost use Rattle.std.specs.Prelude.{◌≡◌, ◌≤◌, ◌<◌, ◌-◌, ◌�
 ghost use Rattle.cs_syntax.specs.Matching.{Found};
 ghost use Rattle.cs_match.specs.Finding.{Decides};
 ghost use Rattle.cs_match.specs.Lines.{ended_lines};
-ghost use Rattle.cs_match.specs.Skipping.{AreWhole, NoneFound, ArePassed};
+ghost use Rattle.cs_match.specs.Passed.{ArePassed};
+ghost use Rattle.cs_match.specs.Skipping.{AreWhole, NoneFound};
 ghost use Rattle.cs_match.specs.Counting.{AreCounted};
 
 use crate::chains::{GROUP, cut, line_end, pass_quiet, pass_run};
@@ -110,7 +111,7 @@ impl<'a> Matcher<'a> {
     /// How many sets of places are remembered. One is that of a line's start.
     pub fn state_sets(&self) -> usize
         ensures some { 1 ≤ result }
-        ensures few { result ≤ 254 }
+        ensures bound { result ≤ 254 }
     {
         self.table.used
     }
@@ -165,7 +166,7 @@ impl<'a> Matcher<'a> {
         requires whole { AreWhole block.now }
         ensures found { (finds : List ℕ → Bool) → Decides finds self.old →
             result ≡ count_by finds (ended_lines block.now) }
-        ensures few { result ≤ length (ended_lines block.now) }
+        ensures bound { result ≤ length (ended_lines block.now) }
         ensures same { self.new ≡ self.old }
     {
         let mut at = 0;

@@ -1,7 +1,8 @@
 // The needle of a tree: a word that stands in each line in which the tree finds something.
 ghost use Rattle.std.specs.Prelude.{ℕ, List, IfOk, OnOk};
 ghost use Rattle.cs_syntax.specs.Matching.{Takes, TakesAll};
-ghost use Rattle.cs_syntax.specs.Node.{tree_of, trees_of};
+ghost use Rattle.cs_syntax.specs.Node.{tree_of};
+ghost use Rattle.cs_syntax.specs.NodeList.{trees_of};
 ghost use Rattle.cs_match.specs.Needle.{IsNeeded};
 ghost use Rattle.cs_match.specs.Runs.{Follow};
 

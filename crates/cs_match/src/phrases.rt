@@ -1,7 +1,8 @@
 // The phrases that a tree is a choice of.
 ghost use Rattle.std.specs.Prelude.{◌≡◌, ◌<◌, IfOk, length, true, []};
 ghost use Rattle.cs_syntax.specs.Matching.{none, more};
-ghost use Rattle.cs_syntax.specs.Node.{tree_of, trees_of};
+ghost use Rattle.cs_syntax.specs.Node.{tree_of};
+ghost use Rattle.cs_syntax.specs.NodeList.{trees_of};
 ghost use Rattle.cs_match.specs.Shifts.{lasts_by, takers_by};
 ghost use Rattle.cs_match.specs.Phrases.{IsSpelled, AreSpelled, AreAdded, HasPhrases, AreTakers, AreShiftsOf};
 

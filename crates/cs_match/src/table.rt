@@ -83,7 +83,7 @@ fn find(
     print: u32,
     now: &Standing,
 ) -> Option<usize>
-    requires few { used ≤ 254 }
+    requires bound { used ≤ 254 }
     requires all { length rows.now ≡ 254 }
     ensures { MatchOption result (Unit {0})
         (λ row. (row < used) × (slice_index_or rows.now row now.now ≡ now.now)) }

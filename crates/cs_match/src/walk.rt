@@ -3,7 +3,8 @@
 // over a byte. Cursors count the places and the repeats that were passed.
 ghost use Rattle.std.specs.Prelude.{◌≡◌, ℕ, ◌+◌, ◌<◌, ◌≤◌, ◌^◌, ◌&&◌, ◌||◌, length, take, drop, min, Bool, true, false, nat_eq, ◌++◌, ◌∷◌, slice_index_or, slice_set};
 ghost use Rattle.std.proofs.Math.Seq.{sets};
-ghost use Rattle.cs_syntax.specs.Node.{tree_of, trees_of};
+ghost use Rattle.cs_syntax.specs.Node.{tree_of};
+ghost use Rattle.cs_syntax.specs.NodeList.{trees_of};
 ghost use Rattle.cs_syntax.specs.Matching.{cat, alt};
 ghost use Rattle.cs_match.specs.Places.{places, places_of, repeats, repeats_of, nullable, nullable_all, nullable_some, leaves, leaves_all, leaves_some, exits, round_ends, round_ends_of, step, step_all, step_each};
 

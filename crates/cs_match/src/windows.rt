@@ -1,7 +1,8 @@
 // The windows of a tree: in each line in which the tree finds something one of them stands.
 ghost use Rattle.std.specs.Prelude.{ℕ, ◌≤◌, List, IfOk, IfSome, OnOk, length};
 ghost use Rattle.cs_syntax.specs.Matching.{Takes, TakesAll, TakesSome};
-ghost use Rattle.cs_syntax.specs.Node.{tree_of, trees_of};
+ghost use Rattle.cs_syntax.specs.Node.{tree_of};
+ghost use Rattle.cs_syntax.specs.NodeList.{trees_of};
 ghost use Rattle.cs_match.specs.NeededWindows.{AreNeeded, HasChosen};
 ghost use Rattle.cs_match.specs.Trails.{TrailsFollow};
 

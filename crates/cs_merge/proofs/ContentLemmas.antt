@@ -8,7 +8,7 @@ use Rattle.cs_trigram.specs.Trigram.{Ascends}
 use Rattle.cs_trigram.specs.TrigramSets.{IsTrigramSet}
 use Rattle.std.proofs.lemmas.Bool.{cases_Bool}
 use Rattle.std.proofs.lemmas.List.{length-map}
-use Rattle.std.specs.Prelude.{T, flat_map, slice_index_or, is_some}
+use Rattle.std.specs.Prelude.{T, slice_index_or, is_some}
 use Rattle.std.specs.List.{AllByRecursion, AllZip, list_any}
 use Rattle.std.specs.Ordering.{eq_by_cmp, is_lt, is_eq}
 use Rattle.std.specs.declared.cmp.Ordering.{Ordering}
@@ -17,7 +17,7 @@ use Rattle.std.specs.FinMap.Entries.{below_all, is_sorted, find}
 use Rattle.std.specs.FinMap as map'
 use Rattle.cs_tree.specs.PathSet as set
 use Rattle.cs_tree.proofs.Sets.{tied_is, tied_same, same_set}
-use Rattle.cs_index.specs.Image.{Files, Entry, image, image_of, names_of, Posting, posting_list, postings_of, ListEntry, list_entries, concat, with_nul, closing_list, Sections, sections_of, layout, in_order, trailer, name_offsets, four_bytes, starts_from, IsString}
+use Rattle.cs_index.specs.Image.{Files, Entry, image, image_of, names_of, Posting, posting_list, postings_of, ListEntry, list_entries, concat, closing_list, Sections, sections_of, IsString}
 use Rattle.cs_index.specs.Spelling.{Spells}
 use Rattle.cs_index.specs.Indexable.{IsIndexable}
 use Rattle.cs_index.proofs.SpellingLemmas.{image_spelled}
@@ -27,6 +27,7 @@ use Rattle.cs_index.proofs.TransposeLemmas.{set_back}
 use Rattle.cs_merge.specs.Join.{join_files, join_paths}
 use Rattle.cs_merge.specs.Content.{EachFile, IsContent, LieUnder}
 use Rattle.cs_merge.proofs.JoinLemmas.{joined_from, path_from, covered_left, covered_right}
+use Rattle.cs_index.proofs.LaidLemmas.{names_within}
 
 -- ---- joining
 
@@ -105,32 +106,11 @@ all_paths paths h = all_keys IsString (map'.entries paths) (each_of_map (λ path
 
 -- ---- what 32 bits can count has few names
 
-long_offsets : (start : ℕ) (pieces : List (List ℕ)) → length (flat_map four_bytes (starts_from start pieces)) ≡ 4 * length pieces
-long_offsets start [] = refl
-long_offsets start (piece ∷ pieces) =
-    let rest = long_offsets (start + length piece) pieces in
-    let l : length (four_bytes start ++ flat_map four_bytes (starts_from (start + length piece) pieces)) ≡ 4 + length (flat_map four_bytes (starts_from (start + length piece) pieces)) = length-append (four_bytes start) _ in
-    omega (arith, l, rest)
-
--- a section is no longer than the whole
-index_short : (s : Sections) → length s.name_index ≤ length (layout s)
-index_short s =
-    let a : length (layout s) ≡ 16 + length (concat (in_order s) ++ trailer s) = omega arith in
-    let b : length (concat (in_order s) ++ trailer s) ≡ length (concat (in_order s)) + length (trailer s) = length-append (concat (in_order s)) (trailer s) in
-    let c : length (concat (in_order s)) ≡ length s.paths + length (s.names ++ (s.postings ++ (s.name_index ++ (s.list_index ++ [])))) = length-append s.paths _ in
-    let d : length (s.names ++ (s.postings ++ (s.name_index ++ (s.list_index ++ [])))) ≡ length s.names + length (s.postings ++ (s.name_index ++ (s.list_index ++ []))) = length-append s.names _ in
-    let e : length (s.postings ++ (s.name_index ++ (s.list_index ++ []))) ≡ length s.postings + length (s.name_index ++ (s.list_index ++ [])) = length-append s.postings _ in
-    let f : length (s.name_index ++ (s.list_index ++ [])) ≡ length s.name_index + length (s.list_index ++ []) = length-append s.name_index _ in
-    omega (arith, a, b, c, d, e, f)
-
 pub many_names : (paths : List (List ℕ)) (entries : List Entry) → 4 * length entries + 4 ≤ length (image_of paths entries)
 many_names paths entries =
-    let s : Sections = sections_of paths (names_of entries) (postings_of entries) in
-    let whole = index_short s in
-    let own : length s.name_index ≡ length (name_offsets (names_of entries)) + 4 = length-append (name_offsets (names_of entries)) (four_bytes (length (concat (map with_nul (names_of entries))))) in
-    let offsets = long_offsets 0 (map with_nul (names_of entries)) in
-    let count : length (map with_nul (names_of entries)) ≡ length entries = length-map (names_of entries) with_nul ∙ length-map entries (λ (entry : Entry). entry.0) in
-    omega (arith, whole, own, offsets, count)
+    let within = names_within paths (names_of entries) (postings_of entries) in
+    let count : length (names_of entries) ≡ length entries = length-map entries (λ (entry : Entry). entry.0) in
+    omega (arith, within, count)
 
 few_names : (paths : List (List ℕ)) (entries : List Entry) → length (image_of paths entries) < 2 ^ 32 → length entries < 2 ^ 31
 few_names paths entries short = let many = many_names paths entries in omega (arith, many, short)
@@ -142,7 +122,7 @@ indexable paths entries a b c short = record {
   each_path = a;
   each_name = all_keys IsString entries b;
   trigrams = all_seconds (λ (e : Entry). Ascends e.1) (λ (e : Entry). AllByRecursion (λ g. g < 16777215) e.1) entries c;
-  few = few_names paths entries short;
+  bound = few_names paths entries short;
   short = short;
 }
 
@@ -161,13 +141,13 @@ content_spelled paths files h short = image_spelled (set.items paths) (map'.entr
 -- ---- one content for one image
 
 -- lists that are read at the same entries of one section are the same
-pub lists_once : (section : List ℕ) (names at : ℕ) (es : List ListEntry) (ps qs : List Posting) → es ≡ list_entries at ps → es ≡ list_entries at qs → AllZip (λ (e : ListEntry) (p : Posting). IsList section names e p.1) es ps → AllZip (λ (e : ListEntry) (p : Posting). IsList section names e p.1) es qs → ps ≡ qs
-lists_once section names at [] [] [] e f a b = refl
-lists_once section names at [] [] (q ∷ qs) e f a b = absurd b
-lists_once section names at [] (p ∷ ps) qs e f a b = absurd a
-lists_once section names at (x ∷ es) [] qs e f a b = absurd a
-lists_once section names at (x ∷ es) (p ∷ ps) [] e f a b = absurd b
-lists_once section names at (x ∷ es) (p ∷ ps) (q ∷ qs) e f a b =
+pub lists_once : (section : List ℕ) (name_count at : ℕ) (es : List ListEntry) (ps qs : List Posting) → es ≡ list_entries at ps → es ≡ list_entries at qs → AllZip (λ (e : ListEntry) (p : Posting). IsList section name_count e p.1) es ps → AllZip (λ (e : ListEntry) (p : Posting). IsList section name_count e p.1) es qs → ps ≡ qs
+lists_once section name_count at [] [] [] e f a b = refl
+lists_once section name_count at [] [] (q ∷ qs) e f a b = absurd b
+lists_once section name_count at [] (p ∷ ps) qs e f a b = absurd a
+lists_once section name_count at (x ∷ es) [] qs e f a b = absurd a
+lists_once section name_count at (x ∷ es) (p ∷ ps) [] e f a b = absurd b
+lists_once section name_count at (x ∷ es) (p ∷ ps) (q ∷ qs) e f a b =
     let ids : p.1 ≡ q.1 = ap (λ r. r.ids) (sym a.0 ∙ b.0) in
     let xp : x ≡ record { trigram = p.0; count = length p.1; offset = at } = cc in
     let xq : x ≡ record { trigram = q.0; count = length q.1; offset = at } = cc in
@@ -175,7 +155,7 @@ lists_once section names at (x ∷ es) (p ∷ ps) (q ∷ qs) e f a b =
     let head : p ≡ q = λ i. (trigram i, ids i) in
     let te : es ≡ list_entries (at + length (posting_list p)) ps = cc in
     let tf : es ≡ list_entries (at + length (posting_list q)) qs = cc in
-    let rest : ps ≡ qs = lists_once section names (at + length (posting_list p)) es ps qs te (tf ∙ ap (λ r. list_entries (at + length (posting_list r)) qs) (sym head)) a.1 b.1 in
+    let rest : ps ≡ qs = lists_once section name_count (at + length (posting_list p)) es ps qs te (tf ∙ ap (λ r. list_entries (at + length (posting_list r)) qs) (sym head)) a.1 b.1 in
     λ i. head i ∷ rest i
 
 -- ---- sets are read back from the lists
@@ -208,8 +188,8 @@ entries_once p q d e g h a b same =
     let sections = sections_once s t g.short h.short same in
     let lists : concat (map posting_list (postings_of d)) ++ closing_list ≡ concat (map posting_list (postings_of e)) ++ closing_list = ap (λ (u : Sections). u.postings) sections in
     let count : length d ≡ length e = sym (length-map d (λ (x : Entry). x.0)) ∙ ap length once.1 ∙ length-map e (λ (x : Entry). x.0) in
-    let moved = subst (λ section. AllZip (λ (x : ListEntry) (r : Posting). IsList section (length d) x r.1) (list_entries 0 (postings_of e)) (postings_of e)) (sym lists) (subst (λ n. AllZip (λ (x : ListEntry) (r : Posting). IsList (concat (map posting_list (postings_of e)) ++ closing_list) n x r.1) (list_entries 0 (postings_of e)) (postings_of e)) (sym count) (image_lists e h.few)) in
-    let postings : postings_of d ≡ postings_of e = lists_once (concat (map posting_list (postings_of d)) ++ closing_list) (length d) 0 (list_entries 0 (postings_of d)) (postings_of d) (postings_of e) refl once.2 (image_lists d g.few) (subst (λ xs. AllZip (λ (x : ListEntry) (r : Posting). IsList (concat (map posting_list (postings_of d)) ++ closing_list) (length d) x r.1) xs (postings_of e)) (sym once.2) moved) in
+    let moved = subst (λ section. AllZip (λ (x : ListEntry) (r : Posting). IsList section (length d) x r.1) (list_entries 0 (postings_of e)) (postings_of e)) (sym lists) (subst (λ n. AllZip (λ (x : ListEntry) (r : Posting). IsList (concat (map posting_list (postings_of e)) ++ closing_list) n x r.1) (list_entries 0 (postings_of e)) (postings_of e)) (sym count) (image_lists e h.bound)) in
+    let postings : postings_of d ≡ postings_of e = lists_once (concat (map posting_list (postings_of d)) ++ closing_list) (length d) 0 (list_entries 0 (postings_of d)) (postings_of d) (postings_of e) refl once.2 (image_lists d g.bound) (subst (λ xs. AllZip (λ (x : ListEntry) (r : Posting). IsList (concat (map posting_list (postings_of d)) ++ closing_list) (length d) x r.1) xs (postings_of e)) (sym once.2) moved) in
     (once.0, sym (read_back [] d a) ∙ ap (λ names. entries_of 0 names (postings_of d)) once.1 ∙ ap (entries_of 0 (names_of e)) postings ∙ read_back [] e b)
 
 pub same_paths : (p q : Paths) → set.items p ≡ set.items q → p ≡ q

@@ -1,29 +1,21 @@
 -- Which names are covered by the paths of an index.
-use Rattle.std.proofs.Common.{◌≡◌, ℕ, Bool, true, false, ◌&&◌, ◌||◌, List, [], ◌∷◌, ◌++◌, refl, sym, ap, ◌∙◌, inl, inr}
+use Rattle.std.proofs.Common.{◌≡◌, ℕ, Bool, true, false, ◌&&◌, ◌||◌, List, [], ◌∷◌, ◌++◌, sym, ap, ◌∙◌, inl, inr}
 use Rattle.cs_tree.specs.PathSet.{Paths}
 use Rattle.cs_tree.specs.NameOrder.{bytes_cmp}
 use Rattle.std.proofs.lemmas.Bool.{true≢false, or_cases, or_left, or_right}
 use Rattle.std.proofs.lemmas.List.Folds.{list_any-append}
-use Rattle.std.specs.Prelude.{is_some}
 use Rattle.std.specs.Cmp.{both_ways as same_tests}
-use Rattle.std.specs.Cmp.Lexicographic.{nat_list_cmp_total}
-use Rattle.std.specs.FinMap as map'
 use Rattle.std.specs.List.{AllByRecursion, list_all, list_any}
 use Rattle.std.specs.Ordering.{eq_by_cmp}
 use Rattle.cs_tree.specs.PathSet as set
-use Rattle.std.specs.List.Sorted.{IsStrictlySortedBy}
-use Rattle.cs_tree.specs.Cover.{begins, covers, is_among, is_covered, least, same, slash}
-use Rattle.cs_tree.specs.Reducing.{lies_below}
-use Rattle.cs_tree.proofs.ReduceLemmas.{items-from_list}
+use Rattle.cs_tree.specs.Cover.{covers, is_covered, least}
+use Rattle.cs_tree.proofs.ReduceLemmas.{contains-from_list}
 use Rattle.cs_tree.proofs.Sets.{some_member, member_passes, tied_same, same_set, contains-union}
 use Rattle.cs_index.specs.OpenedParts.{Parts, paths_in}
 use Rattle.cs_merge.specs.Join.{join_paths}
-use Rattle.cs_merge.proofs.HoldingLemmas.{from_list_all, marked_items}
+use Rattle.cs_merge.proofs.HoldingLemmas.{from_list_all}
 
 -- ---- sets that are made of lists
-
-contains_listed : (ps : List (List ℕ)) (q : List ℕ) → set.contains (set.from_list ps) q ≡ list_any (eq_by_cmp bytes_cmp q) ps
-contains_listed ps q = ap is_some (map'.get-from_entries nat_list_cmp_total (set.with_units ps) q) ∙ marked_items q ps
 
 -- an item that passes makes the test of the list pass
 each_counts : (test : List ℕ → Bool) (ps qs : List (List ℕ)) → (list_any test qs ≡ true → list_any test ps ≡ true) → AllByRecursion (λ q. test q ≡ true → list_any test ps ≡ true) qs
@@ -48,7 +40,7 @@ covered_list ps name = same_tests _ _ down up
         from_list_all (λ q. covers q name ≡ true → list_any (λ path. covers path name) ps ≡ true) ps (each_counts (λ path. covers path name) ps ps (λ t. t)) found.path found.member found.passes
 
     up : list_any (λ path. covers path name) ps ≡ true → is_covered (set.from_list ps) name ≡ true
-    up h = passes_on (set.from_list ps) (λ path. covers path name) ps (λ q m. contains_listed ps q ∙ m) h
+    up h = passes_on (set.from_list ps) (λ path. covers path name) ps (λ q m. contains-from_list ps q ∙ m) h
 
 pub covered_in : (parts : Parts) (name : List ℕ) → is_covered (paths_in parts) name ≡ list_any (λ path. covers path name) parts.paths
 covered_in parts name = covered_list parts.paths name
@@ -61,37 +53,13 @@ any_first test rest later text e t = ap (list_any test) e ∙ or_left (test text
 pub all_first : (test : List ℕ → Bool) (rest later : List (List ℕ)) (text : List ℕ) → rest ≡ text ∷ later → test text ≡ false → list_all test rest ≡ false
 all_first test rest later text e t = ap (list_all test) e ∙ ap (λ b. b && list_all test later) t
 
--- ---- the fronts of a name
-
-regroup : (a b c g x y z : Bool) → ((a || (b || (c && g))) || (x || (y || (g && z)))) ≡ ((a || x) || ((b || y) || (g && (c || z))))
-regroup true b c g x y z = refl
-regroup false true c g true y z = refl
-regroup false true c g false y z = refl
-regroup false false true true true y z = refl
-regroup false false true true false true z = refl
-regroup false false true true false false z = refl
-regroup false false true false true y z = refl
-regroup false false true false false true z = refl
-regroup false false true false false false z = refl
-regroup false false false g x y z = refl
-
--- a path that covers the name is the name, a front of it, or the root
-fronts_cover : (name : List ℕ) (ps : List (List ℕ)) → list_any (λ path. covers path name) ps ≡ (is_among ps name || (list_any (lies_below name) ps || (begins (slash ∷ []) name && is_among ps (slash ∷ []))))
-fronts_cover name [] = elim (begins (slash ∷ []) name) as (λ b. false ≡ (b && false)) [ true ↦ refl | false ↦ refl ]
-fronts_cover name (path ∷ ps) =
-    ap (λ b. covers path name || b) (fronts_cover name ps)
-    ∙ regroup (same path name) (lies_below name path) (same path (slash ∷ [])) (begins (slash ∷ []) name) (is_among ps name) (list_any (lies_below name) ps) (is_among ps (slash ∷ []))
-
-pub searched : (name : List ℕ) (ps : List (List ℕ)) → IsStrictlySortedBy bytes_cmp ps → is_covered (set.from_list ps) name ≡ (is_among ps name || (list_any (lies_below name) ps || (begins (slash ∷ []) name && is_among ps (slash ∷ []))))
-searched name ps up = ap (list_any (λ path. covers path name)) (items-from_list ps up) ∙ fronts_cover name ps
-
 -- ---- the paths of both
 
 listed_union : (ps qs : List (List ℕ)) → set.from_list (ps ++ qs) ≡ set.union (set.from_list ps) (set.from_list qs)
 listed_union ps qs = same_set (set.from_list (ps ++ qs)) (set.union (set.from_list ps) (set.from_list qs)) (λ q.
-    contains_listed (ps ++ qs) q
+    contains-from_list (ps ++ qs) q
     ∙ list_any-append (eq_by_cmp bytes_cmp q) ps qs
-    ∙ (λ i. sym (contains_listed ps q) i || sym (contains_listed qs q) i)
+    ∙ (λ i. sym (contains-from_list ps q) i || sym (contains-from_list qs q) i)
     ∙ sym (contains-union (set.from_list ps) (set.from_list qs) q))
 
 pub paths_joined : (old newer : Parts) → least (set.from_list (old.paths ++ newer.paths)) ≡ join_paths (paths_in old) (paths_in newer)

@@ -1,14 +1,14 @@
 -- What bytes hold.
-use Rattle.std.proofs.Common.{◌≡◌, ℕ, zero, suc, ◌+◌, ◌<◌, ◌^◌, Bool, true, false, cond, ◌||◌, List, [], ◌∷◌, ◌++◌, length, map, take, drop, get_or, refl, sym, ap, subst, ◌∙◌, inl, inr, ◌⊎◌, Some, arith}
+use Rattle.std.proofs.Common.{◌≡◌, ℕ, zero, suc, ◌+◌, ◌<◌, ◌^◌, Bool, true, false, cond, List, [], ◌∷◌, ◌++◌, length, map, take, drop, get_or, refl, sym, ap, subst, ◌∙◌, inl, inr, ◌⊎◌, Some, arith}
 use Rattle.cs_tree.specs.PathSet.{Paths}
 use Rattle.cs_tree.specs.NameOrder.{bytes_cmp}
 use Rattle.cs_index.specs.PostingLists.{damage, read_ids, set_at, entries_of}
 use Rattle.cs_index.specs.WholeLists.{IsList}
 use Rattle.cs_trigram.specs.Trigram.{has, Ascends}
 use Rattle.cs_trigram.specs.TrigramSets.{IsTrigramSet}
-use Rattle.std.proofs.lemmas.Bool.{true≢false, cases_Bool, cases_eq}
+use Rattle.std.proofs.lemmas.Bool.{true≢false, cases_Bool}
 use Rattle.std.specs.Prelude.{T, is_some, filter}
-use Rattle.std.specs.List.{AllByRecursion, AllZip, list_any}
+use Rattle.std.specs.List.{AllByRecursion, AllZip}
 use Rattle.std.specs.Cmp.Lexicographic.{nat_list_cmp_total}
 use Rattle.std.specs.Ordering.{eq_by_cmp}
 use Rattle.std.specs.FinMap as map'
@@ -18,12 +18,13 @@ use Rattle.cs_tree.specs.Cover.{same}
 use Rattle.cs_tree.proofs.Sets.{tied_is, same_set, entries_in_order}
 use Rattle.cs_index.specs.Image.{Files, Entry, image, names_of, Posting, posting_list, postings_of, ListEntry, list_entries, concat, closing_list, Sections, sections_of, layout, three_bytes, IsString}
 use Rattle.cs_index.specs.Spelling.{IsEntry}
-use Rattle.cs_index.proofs.OnceLemmas.{sections_once, spelled_once}
+use Rattle.cs_index.proofs.OnceLemmas.{names_tail, sections_once, spelled_once}
 use Rattle.cs_index.proofs.ListedLemmas.{image_lists}
 use Rattle.cs_merge.specs.Content.{IsContent, IsListOf, Holds}
 use Rattle.cs_merge.proofs.ContentLemmas.{each_of_map, content_indexable, content_spelled, read_back, ascending_sets}
 use Rattle.cs_trigram.proofs.SetLemmas.{all_above, ascends_tail}
 use Rattle.cs_index.proofs.BuildingLemmas.{names_entries}
+use Rattle.cs_tree.proofs.ReduceLemmas.{contains-from_list}
 
 -- ---- maps and sets made of lists
 
@@ -52,25 +53,20 @@ from_list_all P paths all path member = among paths all (ap is_some (sym (map'.g
           | inr apart ↦ among ps all.1 (sym (ap (λ t. is_some (cond t (Some tt) (find bytes_cmp path (set.with_units ps)))) apart) ∙ h)
         ]
 
-pub marked_items : (q : List ℕ) (ps : List (List ℕ)) → is_some (find bytes_cmp q (set.with_units ps)) ≡ list_any (eq_by_cmp bytes_cmp q) ps
-marked_items q [] = refl
-marked_items q (p ∷ ps) = elim (eq_by_cmp bytes_cmp q p) as (λ t. is_some (cond t (Some tt) (find bytes_cmp q (set.with_units ps))) ≡ (t || list_any (eq_by_cmp bytes_cmp q) ps)) [ true ↦ refl | false ↦ marked_items q ps ]
-
 -- a set is made of its items, and a map of its entries
 pub set_of_items : (paths : Paths) → paths ≡ set.from_list (set.items paths)
 set_of_items paths = same_set paths (set.from_list (set.items paths)) (λ q.
     map'.contains_key-keys paths q
-    ∙ sym (marked_items q (set.items paths))
-    ∙ ap is_some (sym (map'.get-from_entries nat_list_cmp_total (set.with_units (set.items paths)) q)))
+    ∙ sym (contains-from_list (set.items paths) q))
 
-map_of_entries : (files : Files) → files ≡ map'.from_entries (map'.entries files)
+pub map_of_entries : (files : Files) → files ≡ map'.from_entries (map'.entries files)
 map_of_entries files = map'.same_entries_map files (map'.from_entries (map'.entries files)) (sym (entries_in_order (map'.entries files) (map'.entries_sorted files)))
 
 -- ---- the image of what can be held
 
-lists_of : (section : List ℕ) (names at : ℕ) (ps : List Posting) → AllZip (λ (e : ListEntry) (p : Posting). IsList section names e p.1) (list_entries at ps) ps → AllZip (IsListOf section names) (list_entries at ps) ps
-lists_of section names at [] all = tt
-lists_of section names at (p ∷ ps) all = ((refl, all.0), lists_of section names (at + length (posting_list p)) ps all.1)
+lists_of : (section : List ℕ) (name_count at : ℕ) (ps : List Posting) → AllZip (λ (e : ListEntry) (p : Posting). IsList section name_count e p.1) (list_entries at ps) ps → AllZip (IsListOf section name_count) (list_entries at ps) ps
+lists_of section name_count at [] all = tt
+lists_of section name_count at (p ∷ ps) all = ((refl, all.0), lists_of section name_count (at + length (posting_list p)) ps all.1)
 
 pub is_true : (b : Bool) → T b → b ≡ true
 is_true true h = refl
@@ -88,7 +84,7 @@ content_held paths files content short =
     let back : entries_of 0 (names_of es) (postings_of es) ≡ es = read_back [] es (ascending_sets files content.sets_are) in
     let laid : layout (sections_of (set.items paths) (names_of es) (postings_of es)) ≡ layout spells.sections = spells.laid in
     let sections = sections_once (sections_of (set.items paths) (names_of es) (postings_of es)) spells.sections short (subst (λ b. length b < 2 ^ 32) laid short) laid in
-    let lists = lists_of (concat (map posting_list (postings_of es)) ++ closing_list) (length es) 0 (postings_of es) (image_lists es (content_indexable paths files content short).few) in
+    let lists = lists_of (concat (map posting_list (postings_of es)) ++ closing_list) (length es) 0 (postings_of es) (image_lists es (content_indexable paths files content short).bound) in
     record {
       path_list = set.items paths;
       names = map'.keys files;
@@ -103,16 +99,16 @@ content_held paths files content short =
 
 -- ---- one content
 
-lists_same : (section : List ℕ) (names : ℕ) (es : List ListEntry) (ps qs : List Posting) → AllZip (IsListOf section names) es ps → AllZip (IsListOf section names) es qs → ps ≡ qs
-lists_same section names [] [] [] a b = refl
-lists_same section names [] [] (q ∷ qs) a b = absurd b
-lists_same section names [] (p ∷ ps) qs a b = absurd a
-lists_same section names (e ∷ es) [] qs a b = absurd a
-lists_same section names (e ∷ es) (p ∷ ps) [] a b = absurd b
-lists_same section names (e ∷ es) (p ∷ ps) (q ∷ qs) a b =
+lists_same : (section : List ℕ) (name_count : ℕ) (es : List ListEntry) (ps qs : List Posting) → AllZip (IsListOf section name_count) es ps → AllZip (IsListOf section name_count) es qs → ps ≡ qs
+lists_same section name_count [] [] [] a b = refl
+lists_same section name_count [] [] (q ∷ qs) a b = absurd b
+lists_same section name_count [] (p ∷ ps) qs a b = absurd a
+lists_same section name_count (e ∷ es) [] qs a b = absurd a
+lists_same section name_count (e ∷ es) (p ∷ ps) [] a b = absurd b
+lists_same section name_count (e ∷ es) (p ∷ ps) (q ∷ qs) a b =
     let trigram : p.0 ≡ q.0 = sym a.0.0 ∙ b.0.0 in
     let ids : p.1 ≡ q.1 = ap (λ r. r.ids) (sym a.0.1 ∙ b.0.1) in
-    let rest : ps ≡ qs = lists_same section names es ps qs a.1 b.1 in
+    let rest : ps ≡ qs = lists_same section name_count es ps qs a.1 b.1 in
     λ i. (trigram i, ids i) ∷ rest i
 
 pub held_once : (bytes : List ℕ) (p q : Paths) (f g : Files) → Holds bytes p f → Holds bytes q g → (p ≡ q) × (f ≡ g)
@@ -134,35 +130,32 @@ held_once bytes p q f g a b =
 abbrev pub Fits : Posting → Type 0
 Fits p = (p.0 < 16777215) ⊎ (p.1 ≡ [])
 
-no_ids : (section ids : List ℕ) (names : ℕ) (e : ListEntry) → e.count ≡ 0 → IsList section names e ids → ids ≡ []
-no_ids section ids names e none h = by_count e.count none (ap (λ r. r.ids) h)
+no_ids : (section ids : List ℕ) (name_count : ℕ) (e : ListEntry) → e.count ≡ 0 → IsList section name_count e ids → ids ≡ []
+no_ids section ids name_count e none h = by_count e.count none (ap (λ r. r.ids) h)
   where
-    by_count : (count : ℕ) → count ≡ 0 → (cond (same (take 3 (drop e.offset section)) (three_bytes e.trigram)) (read_ids names count 0 (drop (e.offset + 3) section)) damage).ids ≡ ids → ids ≡ []
-    by_count zero z h = sym h ∙ elim (same (take 3 (drop e.offset section)) (three_bytes e.trigram)) as (λ t. (cond t (read_ids names 0 0 (drop (e.offset + 3) section)) damage).ids ≡ []) [ true ↦ refl | false ↦ refl ]
+    by_count : (count : ℕ) → count ≡ 0 → (cond (same (take 3 (drop e.offset section)) (three_bytes e.trigram)) (read_ids name_count count 0 (drop (e.offset + 3) section)) damage).ids ≡ ids → ids ≡ []
+    by_count zero z h = sym h ∙ elim (same (take 3 (drop e.offset section)) (three_bytes e.trigram)) as (λ t. (cond t (read_ids name_count 0 0 (drop (e.offset + 3) section)) damage).ids ≡ []) [ true ↦ refl | false ↦ refl ]
     by_count (suc count) z h = absurd (omega (arith, z))
 
-all_fit : (section : List ℕ) (names : ℕ) (es : List ListEntry) (ps : List Posting) → AllByRecursion (IsEntry section) es → AllZip (IsListOf section names) es ps → AllByRecursion Fits ps
-all_fit section names [] [] is all = tt
-all_fit section names [] (p ∷ ps) is all = absurd all
-all_fit section names (e ∷ es) [] is all = absurd all
-all_fit section names (e ∷ es) (p ∷ ps) is all = (
-  elim (cases_eq e.trigram 16777215) [
-    | inl closing ↦ inr (no_ids section p.1 names e (is.0.closing closing) all.0.1)
-    | inr other ↦ inl (let t : e.trigram ≡ p.0 = all.0.0 in let below = is.0.trigram in under e.trigram p.0 t below other)
+all_fit : (section : List ℕ) (name_count : ℕ) (es : List ListEntry) (ps : List Posting) → AllByRecursion (IsEntry section) es → AllZip (IsListOf section name_count) es ps → AllByRecursion Fits ps
+all_fit section name_count [] [] is all = tt
+all_fit section name_count [] (p ∷ ps) is all = absurd all
+all_fit section name_count (e ∷ es) [] is all = absurd all
+all_fit section name_count (e ∷ es) (p ∷ ps) is all = (
+  elim is.0.trigram [
+    | inl below ↦ inl (let t : e.trigram ≡ p.0 = all.0.0 in omega (arith, t, below))
+    | inr closing ↦ inr (no_ids section p.1 name_count e closing.1 all.0.1)
   ],
-  all_fit section names es ps is.1 all.1,
+  all_fit section name_count es ps is.1 all.1,
 )
-  where
-    under : (t g : ℕ) → t ≡ g → t < 2 ^ 24 → (t ≡ 16777215 → ⊥) → g < 16777215
-    under t g e below apart = omega (arith, e, below, apart)
 
-same_trigrams : (section : List ℕ) (names : ℕ) (es : List ListEntry) (ps : List Posting) → AllZip (IsListOf section names) es ps → map (λ (e : ListEntry). e.trigram) es ≡ map (λ (p : Posting). p.0) ps
-same_trigrams section names [] [] all = refl
-same_trigrams section names [] (p ∷ ps) all = absurd all
-same_trigrams section names (e ∷ es) [] all = absurd all
-same_trigrams section names (e ∷ es) (p ∷ ps) all =
+same_trigrams : (section : List ℕ) (name_count : ℕ) (es : List ListEntry) (ps : List Posting) → AllZip (IsListOf section name_count) es ps → map (λ (e : ListEntry). e.trigram) es ≡ map (λ (p : Posting). p.0) ps
+same_trigrams section name_count [] [] all = refl
+same_trigrams section name_count [] (p ∷ ps) all = absurd all
+same_trigrams section name_count (e ∷ es) [] all = absurd all
+same_trigrams section name_count (e ∷ es) (p ∷ ps) all =
     let head : e.trigram ≡ p.0 = all.0.0 in
-    let rest = same_trigrams section names es ps all.1 in
+    let rest = same_trigrams section name_count es ps all.1 in
     λ i. head i ∷ rest i
 
 pub set_fits : (id : ℕ) (ps : List Posting) → AllByRecursion Fits ps → AllByRecursion (λ g. g < 16777215) (set_at id ps)
@@ -204,13 +197,13 @@ all_files P Q first (name ∷ names) ps all sets = ((all.0, sets first), all_fil
 
 pub held_content : (bytes : List ℕ) (paths : Paths) (files : Files) → Holds bytes paths files → IsContent paths files
 held_content bytes paths files h =
-    let fit = all_fit h.spells.sections.postings (length h.names) h.entries h.lists h.spells.each_entry h.each_list in
-    let up : Ascends (map (λ (p : Posting). p.0) h.lists) = subst Ascends (same_trigrams h.spells.sections.postings (length h.names) h.entries h.lists h.each_list) h.spells.ascending in
-    let all = all_files IsString IsTrigramSet 0 h.names h.lists h.spells.each_name (λ id. (set_ascends id h.lists up, set_fits id h.lists fit)) in
+    let fit = all_fit h.spells.sections.postings (length h.names) h.entries h.lists h.spells.list_index_is.0 h.each_list in
+    let up : Ascends (map (λ (p : Posting). p.0) h.lists) = subst Ascends (same_trigrams h.spells.sections.postings (length h.names) h.entries h.lists h.each_list) h.spells.list_index_is.1 in
+    let all = all_files IsString IsTrigramSet 0 h.names h.lists (names_tail h.spells.sections.names h.names h.spells.names_are).1.0 (λ id. (set_ascends id h.lists up, set_fits id h.lists fit)) in
     let each : (name trigrams : List ℕ) → map'.get files name ≡ Some trigrams → IsString name × IsTrigramSet trigrams =
     λ name trigrams there. find_all (λ (n : List ℕ) (t : List ℕ). IsString n × IsTrigramSet t) (entries_of 0 h.names h.lists) name trigrams all (sym (map'.get-from_entries nat_list_cmp_total (entries_of 0 h.names h.lists) name) ∙ ap (λ m. map'.get m name) (sym h.files_are) ∙ there) in
     record {
-      paths_are = λ path member. from_list_all IsString h.path_list h.spells.each_path path (ap (λ s. set.contains s path) (sym h.paths_are) ∙ member);
+      paths_are = λ path member. from_list_all IsString h.path_list h.spells.paths_are.0 path (ap (λ s. set.contains s path) (sym h.paths_are) ∙ member);
       names_are = λ name trigrams there. (each name trigrams there).0;
       sets_are = λ name trigrams there. (each name trigrams there).1;
     }

@@ -15,6 +15,7 @@ use Rattle.cs_merge.specs.SideBySide.{lower_of, without_number, IsStretchOfOne, 
 use Rattle.cs_merge.proofs.CarryingLemmas.{with_one_more, ids_of_more}
 use Rattle.cs_index.proofs.StreamLemmas.{next_append}
 use Rattle.cs_index.proofs.GivenLemmas.{rise_behind}
+use Rattle.std.proofs.Math.Bool.{or-true}
 
 -- ---- the lower one of two first ids
 
@@ -107,8 +108,8 @@ each_more : (given some others : List ℕ) (id n : ℕ) → IsLowest id some oth
 each_more given some others id n least =
     elim (cases_Bool (eqb id n)) [
       | inl is ↦
-          ap (λ b. b || (has (without_number id some) n || has (without_number id others) n)) (has_push given id n ∙ ap (λ b. has given n || b) is ∙ or_true (has given n))
-          ∙ sym (ap (λ b. has given n || b) (found least.among is) ∙ or_true (has given n))
+          ap (λ b. b || (has (without_number id some) n || has (without_number id others) n)) (has_push given id n ∙ ap (λ b. has given n || b) is ∙ or-true (has given n))
+          ∙ sym (ap (λ b. has given n || b) (found least.among is) ∙ or-true (has given n))
       | inr differs ↦ λ i. (has_push given id n ∙ ap (λ b. has given n || b) differs ∙ or_none (has given n)) i || (has_without id n some differs i || has_without id n others differs i)
     ]
   where
@@ -116,13 +117,9 @@ each_more given some others id n least =
     or_none true = refl
     or_none false = refl
 
-    or_true : (b : Bool) → (b || true) ≡ true
-    or_true true = refl
-    or_true false = refl
-
     found : (slice_get some 0 ≡ Some id) ⊎ (slice_get others 0 ≡ Some id) → eqb id n ≡ true → (has some n || has others n) ≡ true
     found (inl there) is = ap (λ b. b || has others n) (has_first some id n there is)
-    found (inr there) is = ap (λ b. has some n || b) (has_first others id n there is) ∙ or_true (has some n)
+    found (inr there) is = ap (λ b. has some n || b) (has_first others id n there is) ∙ or-true (has some n)
 
 first_rises : (count next id : ℕ) (ids : List ℕ) → RiseWithin count next ids → slice_get ids 0 ≡ Some id → (next ≤ id) × (id < count)
 first_rises count next id [] up there = cc
@@ -134,7 +131,7 @@ first_rises count next id (one ∷ ids) up there =
 
 -- ---- one id more is given
 
-module _ (trigram : ℕ) (before now : Laid) (older newer older_left newer_left : List ℕ) (state : IsGiven trigram before now older newer older_left newer_left) (below : AllBelow before.lists trigram) (begun : now.begun ≡ Some trigram) (id : ℕ) (next : lower_of (slice_get older_left 0) (slice_get newer_left 0) ≡ Some id) where
+module _ (trigram : ℕ) (before now : Laid) (older newer older_left newer_left : List ℕ) (state : IsGiven trigram before now older newer older_left newer_left) (below : AllBelow before.lists trigram) (begun : now.last_trigram ≡ Some trigram) (id : ℕ) (next : lower_of (slice_get older_left 0) (slice_get newer_left 0) ≡ Some id) where
   bounds : (next_after 0 state.given ≤ id) × (id < length before.names)
   bounds = by_side (lowest older_left newer_left id next).among
     where
@@ -142,7 +139,7 @@ module _ (trigram : ℕ) (before now : Laid) (older newer older_left newer_left 
       by_side (inl there) = first_rises (length before.names) (next_after 0 state.given) id older_left state.older_rise there
       by_side (inr there) = first_rises (length before.names) (next_after 0 state.given) id newer_left state.newer_rise there
 
-  pub is_begun : now.begun ≢ None
+  pub is_begun : now.last_trigram ≢ None
   is_begun = λ e. none (sym begun ∙ e)
     where
       none : Some trigram ≡ None → ⊥
@@ -171,8 +168,8 @@ module _ (trigram : ℕ) (before now : Laid) (older newer older_left newer_left 
         newer_rise = subst (λ m. RiseWithin (length before.names) m (without_number id newer_left)) last (rise_without (length before.names) (next_after 0 state.given) id newer_left state.newer_rise least.others_from);
       }
 
-  pub still_begun : (after : Laid) → after ≡ with_last_id now id → after.begun ≡ Some trigram
-  still_begun after e = ap (λ (l : Laid). l.begun) (e ∙ ap (λ o. option_map_or (λ g. with_laid_id now g id) o now) begun) ∙ begun
+  pub still_begun : (after : Laid) → after ≡ with_last_id now id → after.last_trigram ≡ Some trigram
+  still_begun after e = ap (λ (l : Laid). l.last_trigram) (e ∙ ap (λ o. option_map_or (λ g. with_laid_id now g id) o now) begun) ∙ begun
 
 -- ---- ids of a run
 
@@ -219,24 +216,24 @@ given_newer false true true newer = refl
 given_newer false true false newer = refl
 given_newer false false older newer = refl
 
-with_more : (trigram : ℕ) (now : Laid) (lists : List Posting) (given more : List ℕ) → now.begun ≡ Some trigram → now.lists ≡ lists ++ list_of trigram given → AllBelow lists trigram → with_last_ids now more ≡ record { paths = now.paths; names = now.names; lists = lists ++ list_of trigram (given ++ more); begun = now.begun }
+with_more : (trigram : ℕ) (now : Laid) (lists : List Posting) (given more : List ℕ) → now.last_trigram ≡ Some trigram → now.lists ≡ lists ++ list_of trigram given → AllBelow lists trigram → with_last_ids now more ≡ record { paths = now.paths; names = now.names; lists = lists ++ list_of trigram (given ++ more); last_trigram = now.last_trigram }
 with_more trigram now lists given [] begun is below = λ i. record {
   paths = now.paths;
   names = now.names;
   lists = (is ∙ ap (λ ids. lists ++ list_of trigram ids) (sym (append-nil given))) i;
-  begun = now.begun;
+  last_trigram = now.last_trigram;
 }
 with_more trigram now lists given (id ∷ more) begun is below =
     ap (λ (l : Laid). with_last_ids l more) (ap (λ o. option_map_or (λ g. with_laid_id now g id) o now) begun)
     ∙ with_more trigram (with_laid_id now trigram id) lists (given ++ id ∷ []) more begun (ap (λ ps. with_id ps trigram id) is ∙ with_one_more trigram id lists given below) below
-    ∙ ap (λ ids. let l : Laid = record { paths = now.paths; names = now.names; lists = lists ++ list_of trigram ids; begun = now.begun } in l) (append_assoc given (id ∷ []) more)
+    ∙ ap (λ ids. let l : Laid = record { paths = now.paths; names = now.names; lists = lists ++ list_of trigram ids; last_trigram = now.last_trigram } in l) (append_assoc given (id ∷ []) more)
 
 -- the ids of a run are given behind an id that is the lowest of both
-module _ (trigram : ℕ) (before now laid : Laid) (older newer older_left newer_left : List ℕ) (state : IsGiven trigram before now older newer older_left newer_left) (below : AllBelow before.lists trigram) (begun : now.begun ≡ Some trigram) (id : ℕ) (next : lower_of (slice_get older_left 0) (slice_get newer_left 0) ≡ Some id) (is : laid ≡ with_last_id now id) (run older_rest newer_rest : List ℕ) (are : IsStretchOfOne id run older_left newer_left older_rest newer_rest) where
+module _ (trigram : ℕ) (before now laid : Laid) (older newer older_left newer_left : List ℕ) (state : IsGiven trigram before now older newer older_left newer_left) (below : AllBelow before.lists trigram) (begun : now.last_trigram ≡ Some trigram) (id : ℕ) (next : lower_of (slice_get older_left 0) (slice_get newer_left 0) ≡ Some id) (is : laid ≡ with_last_id now id) (run older_rest newer_rest : List ℕ) (are : IsStretchOfOne id run older_left newer_left older_rest newer_rest) where
   one : IsGiven trigram before laid older newer (without_number id older_left) (without_number id newer_left)
   one = given_more trigram before now older newer older_left newer_left state below begun id next laid is
 
-  begun_one : laid.begun ≡ Some trigram
+  begun_one : laid.last_trigram ≡ Some trigram
   begun_one = still_begun trigram before now older newer older_left newer_left state below begun id next laid is
 
   ids_one : last_ids laid ≡ one.given
@@ -298,7 +295,7 @@ module _ (trigram : ℕ) (before now laid : Laid) (older newer older_left newer_
       ids : List ℕ
       ids = ids_onward (id + 1) run
 
-      all : after ≡ record { paths = laid.paths; names = laid.names; lists = before.lists ++ list_of trigram (one.given ++ ids); begun = laid.begun }
+      all : after ≡ record { paths = laid.paths; names = laid.names; lists = before.lists ++ list_of trigram (one.given ++ ids); last_trigram = laid.last_trigram }
       all = e ∙ ap (λ n. with_last_ids laid (ids_onward n run)) last_one ∙ with_more trigram laid before.lists one.given ids begun_one one.lists below
 
       ends : next_after 0 (one.given ++ ids) ≡ next_after (id + 1) ids
@@ -347,7 +344,7 @@ module _ (trigram : ℕ) (before now laid : Laid) (older newer older_left newer_
       by_side (inr there) (of_older r same) = let a = shorter newer_left there in let b = behind older_left older_rest r.ids_are in let d = no_longer older_left in let e = ap (λ ids. length (without_number id ids)) same in omega (arith, a, b, d, e)
       by_side (inr there) (of_newer r same) = let a = shorter newer_left there in let b = behind newer_left newer_rest r.ids_are in let d = no_longer older_left in let e = ap (λ ids. length (without_number id ids)) same in omega (arith, a, b, d, e)
 
-  pub run_begun : (after : Laid) → after ≡ with_last_ids laid (ids_onward (next_after 0 (last_ids laid)) run) → after.begun ≡ Some trigram
+  pub run_begun : (after : Laid) → after ≡ with_last_ids laid (ids_onward (next_after 0 (last_ids laid)) run) → after.last_trigram ≡ Some trigram
   run_begun after e =
-      ap (λ (l : Laid). l.begun) (e ∙ ap (λ n. with_last_ids laid (ids_onward n run)) last_one ∙ with_more trigram laid before.lists one.given (ids_onward (id + 1) run) begun_one one.lists below)
+      ap (λ (l : Laid). l.last_trigram) (e ∙ ap (λ n. with_last_ids laid (ids_onward n run)) last_one ∙ with_more trigram laid before.lists one.given (ids_onward (id + 1) run) begun_one one.lists below)
       ∙ begun_one

@@ -48,7 +48,7 @@ module _ (is_dropped : List ℕ → Bool) (older newer : List (List ℕ)) where
   named_none = record {
     older_within = omega arith;
     newer_within = omega arith;
-    few = omega arith;
+    bound = omega arith;
     ascend = refl;
     older_placed = λ id name found there is. cc;
     newer_placed = λ id name found there is. cc;
@@ -62,11 +62,11 @@ module _ (is_dropped : List ℕ → Bool) (older newer : List (List ℕ)) where
     named_dropped name here drops =
         let l : length (older_ids ++ None ∷ []) ≡ length older_ids + 1 = length-push older_ids None in
         let within = slice_get_within older (length older_ids) name here in
-        let few = so_far.few in
+        let bound = so_far.bound in
         record {
           older_within = omega (arith, l, within);
           newer_within = so_far.newer_within;
-          few = omega (arith, l, few);
+          bound = omega (arith, l, bound);
           ascend = so_far.ascend;
           older_placed = placed_push is_dropped older names older_ids name None here so_far.older_placed drops;
           newer_placed = so_far.newer_placed;
@@ -85,11 +85,11 @@ module _ (is_dropped : List ℕ → Bool) (older newer : List (List ℕ)) where
         let l : length (older_ids ++ Some (length names) ∷ []) ≡ length older_ids + 1 = length-push older_ids (Some (length names)) in
         let m : length (names ++ name ∷ []) ≡ length names + 1 = length-push names name in
         let within = slice_get_within older (length older_ids) name here in
-        let few = so_far.few in
+        let bound = so_far.bound in
         record {
           older_within = omega (arith, l, within);
           newer_within = so_far.newer_within;
-          few = omega (arith, l, m, few);
+          bound = omega (arith, l, m, bound);
           ascend = ascends_push names name so_far.ascend (so_far.older_left (length older_ids) name (omega arith) here stays);
           older_placed = placed_push is_dropped older (names ++ name ∷ []) older_ids name (Some (length names)) here (are_placed_more is_dropped older names (name ∷ []) older_ids so_far.older_placed) (stays, get_behind names name);
           newer_placed = are_placed_more (λ other. false) newer names (name ∷ []) newer_ids so_far.newer_placed;
@@ -111,11 +111,11 @@ module _ (is_dropped : List ℕ → Bool) (older newer : List (List ℕ)) where
         let l : length (newer_ids ++ Some (length names) ∷ []) ≡ length newer_ids + 1 = length-push newer_ids (Some (length names)) in
         let m : length (names ++ name ∷ []) ≡ length names + 1 = length-push names name in
         let within = slice_get_within newer (length newer_ids) name here in
-        let few = so_far.few in
+        let bound = so_far.bound in
         record {
           older_within = so_far.older_within;
           newer_within = omega (arith, l, within);
-          few = omega (arith, l, m, few);
+          bound = omega (arith, l, m, bound);
           ascend = ascends_push names name so_far.ascend (so_far.newer_left (length newer_ids) name (omega arith) here);
           older_placed = are_placed_more is_dropped older names (name ∷ []) older_ids so_far.older_placed;
           newer_placed = placed_push (λ other. false) newer (names ++ name ∷ []) newer_ids name (Some (length names)) here (are_placed_more (λ other. false) newer names (name ∷ []) newer_ids so_far.newer_placed) (refl, get_behind names name);

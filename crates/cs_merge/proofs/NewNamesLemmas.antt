@@ -2,7 +2,7 @@
 use Rattle.std.proofs.Common.{◌≡◌, ℕ, zero, suc, ◌+◌, Bool, true, false, not, cond, List, [], ◌∷◌, get_or, refl, sym, ap, subst, ◌∙◌, ◌⊎◌, inl, inr, Option, Some, None, arith, slice_get}
 use Rattle.std.proofs.lemmas.Bool.{true≢false, and_parts, cases_Bool}
 use Rattle.std.proofs.lemmas.Option.{slice_get_within, slice_get-get_or, same_Some}
-use Rattle.std.specs.Prelude.{T, option_and_then}
+use Rattle.std.specs.Prelude.{option_and_then}
 use Rattle.std.specs.FinMap as map'
 use Rattle.std.specs.FinMap.Entries.{find, is_sorted}
 use Rattle.std.specs.Cmp.Lexicographic.{nat_list_cmp_total}
@@ -24,6 +24,7 @@ use Rattle.cs_merge.specs.Renumbering.{NewIds, AreCarried, IsOfOne, new, kept, A
 use Rattle.cs_merge.proofs.OrderLemmas.{sorted_up, up_named}
 use Rattle.cs_merge.proofs.JoinLemmas.{get-join_files}
 use Rattle.cs_merge.proofs.RankedLemmas.{AreOnce, ascending_once, distinct_once, once_rest}
+use Rattle.cs_index.proofs.ImageLemmas.{true_T}
 
 -- ---- what stands at a name
 
@@ -171,10 +172,6 @@ module _ (older newer : Parts) (names : List (List ℕ)) (older_ids newer_ids : 
       ∙ found name
       ∙ (λ i. option_or (sym (map'.get-from_entries nat_list_cmp_total (files_read newer) name) i) (cond (not (is_covered (paths_in newer) name)) (sym (map'.get-from_entries nat_list_cmp_total (files_read older) name) i) None))
       ∙ sym (get-join_files (paths_in newer) (map'.from_entries (files_read older)) (map'.from_entries (files_read newer)) name))
-
-  true_T : (b : Bool) → b ≡ true → T b
-  true_T true h = tt
-  true_T false h = absurd (true≢false (sym h))
 
   pub laid_joined : image_of (set.items (join_paths (paths_in older) (paths_in newer))) (entries_of 0 names given) ≡ joined_index older newer
   unfolding image

@@ -17,10 +17,9 @@ use Rattle.cs_merge.specs.SideBySide.{lower_of, part_ids, parts_ids, without_num
 use Rattle.cs_merge.proofs.ListingLemmas.{has_both, next_below}
 use Rattle.cs_merge.proofs.SortedLemmas.{has_many, many, once_few, one}
 use Rattle.cs_index.proofs.StreamLemmas.{rise_append}
-
-or_true : (b : Bool) → (b || true) ≡ true
-or_true true = refl
-or_true false = refl
+use Rattle.cs_index.proofs.BuildingLemmas.{all_push}
+use Rattle.cs_tree.proofs.Gathering.{all-append}
+use Rattle.std.proofs.Math.Bool.{or-true}
 
 here : (n : ℕ) (ns : List ℕ) → has (n ∷ ns) n ≡ true
 here n ns = ap (λ b. b || has ns n) (eq-eqb n n refl)
@@ -42,10 +41,6 @@ parts_more [] part = none (part_ids part)
 parts_more (one ∷ parts) part =
     ap (λ ids. part_ids one ++ ids) (parts_more parts part) ∙ sym (append_assoc (part_ids one) (parts_ids parts) (part_ids part))
 
-all_more : {X : Type 0} (P : X → Type 0) (xs : List X) (x : X) → AllByRecursion P xs → P x → AllByRecursion P (xs ++ x ∷ [])
-all_more P [] x all one = (one, tt)
-all_more P (y ∷ xs) x all one = (all.0, all_more P xs x all.1 one)
-
 module _ (id end : ℕ) (run left rest : List ℕ) (there : slice_get left 0 ≡ Some id) (is : IsStretchOf id (Some end) run left rest) where
   left_part : left ≡ part_ids (id, run) ++ without_number id rest
   left_part = left_first id left there ∙ ap (λ ids. id ∷ ids) is.ids_are
@@ -65,7 +60,7 @@ module _ (id end : ℕ) (run left rest : List ℕ) (there : slice_get left 0 ≡
         ∙ ap (λ ids. parts_ids so_far.more ++ ids) left_part
         ∙ sym (append_assoc (parts_ids so_far.more) (part_ids (id, run)) (without_number id rest))
         ∙ ap (λ ids. ids ++ without_number id rest) (sym (parts_more so_far.more (id, run)));
-    each = all_more (IsMove new_ids) so_far.more (id, run) so_far.each record { end = end; moved = moves; below = is.below end refl };
+    each = all_push (IsMove new_ids) so_far.more (id, run) so_far.each record { end = end; moved = moves; below = is.below end refl };
   }
 
 pub all_gathered : (new_ids : NewIds) (before now : List Part) (ids left : List ℕ) → ((id : ℕ) → slice_get left 0 ≡ Some id → ⊥) → AreGathered new_ids before now ids left → AreGathered new_ids before now ids []
@@ -83,9 +78,9 @@ is_new_id (Some n) new h =
     ]
 
 pub moved_from : (new_ids : NewIds) (id new end most : ℕ) → new_id new_ids id ≡ Some new → MoveTogether new_ids id end → most ≤ new + (end - id) → AreMoved new_ids new most
-moved_from new_ids id new end most is together few = record {
+moved_from new_ids id new end most is together bound = record {
   from = id;
-  each = λ other from to. together (id + (other - new)) (omega arith) (omega (arith, from, to, few)) ∙ ap (option_map (λ n. n + (id + (other - new) - id))) is ∙ ap Some (let z : new + (id + (other - new) - id) ≡ other = omega (arith, from) in z);
+  each = λ other from to. together (id + (other - new)) (omega arith) (omega (arith, from, to, bound)) ∙ ap (option_map (λ n. n + (id + (other - new) - id))) is ∙ ap Some (let z : new + (id + (other - new) - id) ≡ other = omega (arith, from) in z);
 }
 
 -- ---- new ids in the order of the ids that they come of
@@ -125,7 +120,7 @@ module _ (new_ids : NewIds) where
   in_turn next a b (m ∷ ns) more up h k =
       elim (cases_Bool (eqb m a)) [
         | inl is ↦
-            let later = has_under (up.0 + 1) b (ns ++ more) up.3 (has_both ns more b ∙ ap (λ t. has ns b || t) k ∙ or_true (has ns b)) in
+            let later = has_under (up.0 + 1) b (ns ++ more) up.3 (has_both ns more b ∙ ap (λ t. has ns b || t) k ∙ or-true (has ns b)) in
             (up.0, later.0, let above : up.0 + 1 ≤ later.0 = later.1 in omega (arith, above), up.2 ∙ ap Some (eqb-true m a is), later.2)
         | inr differs ↦ in_turn (up.0 + 1) a b ns more up.3 (sym (ap (λ t. t || has ns a) differs) ∙ h) k
       ]
@@ -141,7 +136,7 @@ last_of : (next id : ℕ) (ids : List ℕ) → (last : ℕ) × (next_after next 
 last_of next id [] = (id, refl, here id [])
 last_of next id (other ∷ ids) =
     let rest = last_of (id + 1) other ids in
-    (rest.0, rest.1, ap (λ b. eqb id rest.0 || b) rest.2 ∙ or_true (eqb id rest.0))
+    (rest.0, rest.1, ap (λ b. eqb id rest.0 || b) rest.2 ∙ or-true (eqb id rest.0))
 
 module _ (new_ids : NewIds) (once : IsOneToOne new_ids) (part : Part) (move : IsMove new_ids part) where
   -- a part is its first id alone, or ends where ids move together
@@ -193,14 +188,14 @@ module _ (new_ids : NewIds) (once : IsOneToOne new_ids) (part : Part) (move : Is
         omega (arith, of, above, from),
         below (part.0 + 1 + other) (here (part.0 + 1 + other) (ids_onward (part.0 + 1) run)),
         run_rises count (part.0 + 1 + other + 1) run (omega arith) (under_from new_ids (move.moved.from + (part.0 + 1 + other + 1 - part.0)) (up.0 + 1) (ids_onward (part.0 + 1) run) (omega (arith, of)) up.3) all.1
-            (λ n h. below n (ap (λ b. eqb (part.0 + 1 + other) n || b) h ∙ or_true (eqb (part.0 + 1 + other) n))),
+            (λ n h. below n (ap (λ b. eqb (part.0 + 1 + other) n || b) h ∙ or-true (eqb (part.0 + 1 + other) n))),
       )
 
   part_rises : (count : ℕ) → RiseUnder new_ids 0 (part_ids part) → ((n : ℕ) → has (part_ids part) n ≡ true → n < count) → RiseWithin count part.0 (part_ids part)
   part_rises count up below = (
     omega arith,
     below part.0 (here part.0 (ids_onward (part.0 + 1) part.1)),
-    by_run part.1 move.below up.3 (λ n h. below n (ap (λ b. eqb part.0 n || b) h ∙ or_true (eqb part.0 n))),
+    by_run part.1 move.below up.3 (λ n h. below n (ap (λ b. eqb part.0 n || b) h ∙ or-true (eqb part.0 n))),
   )
     where
       by_run : (run : List ℕ) → AllByRecursion (λ other. part.0 + 1 + other < move.end) run → RiseUnder new_ids (up.0 + 1) (ids_onward (part.0 + 1) run) → ((n : ℕ) → has (ids_onward (part.0 + 1) run) n ≡ true → n < count) → RiseWithin count (part.0 + 1) (ids_onward (part.0 + 1) run)
@@ -233,7 +228,7 @@ module _ (new_ids others : NewIds) (once : IsOneToOne new_ids) (apart : (id othe
           ap (λ ns. has ns n) is
           ∙ has_both before (part_ids part ++ after) n
           ∙ ap (λ b. has before n || b) (has_both (part_ids part) after n ∙ ap (λ b. b || has after n) h)
-          ∙ or_true (has before n)
+          ∙ or-true (has before n)
 
       not_other : (n : ℕ) → part.0 ≤ n → n < next_after part.0 (part_ids part) → (id : ℕ) × (0 ≤ id) × (new_id others id ≡ Some n) → ⊥
       not_other n from to there =
@@ -248,10 +243,6 @@ module _ (new_ids others : NewIds) (once : IsOneToOne new_ids) (apart : (id othe
     closed_one before (parts_ids parts) part is moves.0,
     closed_each (before ++ part_ids part) parts (is ∙ sym (append_assoc before (part_ids part) (parts_ids parts))) moves.1,
   )
-
-all_both : {X : Type 0} (P : X → Type 0) (xs ys : List X) → AllByRecursion P xs → AllByRecursion P ys → AllByRecursion P (xs ++ ys)
-all_both P [] ys all more = more
-all_both P (x ∷ xs) ys all more = (all.0, all_both P xs ys all.1 more)
 
 parts_both : (parts more : List Part) → parts_ids (parts ++ more) ≡ parts_ids parts ++ parts_ids more
 parts_both [] more = refl
@@ -272,15 +263,15 @@ has_some ns n h = ltb-true 0 (many n ns) (sym (has_many ns n) ∙ h)
 
 parts_rise : (count next : ℕ) (all : List ℕ) (parts : List Part) → IsNonDecreasingBy (λ (part : Part). part.0) parts → AllByRecursion (IsClosed count all) parts →
     ((n : ℕ) → many n (parts_ids parts) ≤ 1) → ((n : ℕ) → has (parts_ids parts) n ≡ true → has all n ≡ true) → ((n : ℕ) (m : List Part) (run : List ℕ) → parts ≡ (n, run) ∷ m → next ≤ n) → RiseWithin count next (parts_ids parts)
-parts_rise count next all [] up closed few among from = tt
-parts_rise count next all (part ∷ parts) up closed few among from =
+parts_rise count next all [] up closed bound among from = tt
+parts_rise count next all (part ∷ parts) up closed bound among from =
     rise_append count next (part_ids part) (parts_ids parts) own
     (parts_rise count (next_after next (part_ids part)) all parts
     (λ i j d h k. up (suc i) (suc j) d (omega (arith, h)) (omega (arith, k)))
     closed.1
-    (λ n. let f = few n in let s = sum_by-append (one n) (part_ids part) (parts_ids parts) in omega (arith, f, s))
-    (λ n h. among n (has_both (part_ids part) (parts_ids parts) n ∙ ap (λ b. has (part_ids part) n || b) h ∙ or_true (has (part_ids part) n)))
-    (λ n m run is. behind n m run parts is up few among))
+    (λ n. let f = bound n in let s = sum_by-append (one n) (part_ids part) (parts_ids parts) in omega (arith, f, s))
+    (λ n h. among n (has_both (part_ids part) (parts_ids parts) n ∙ ap (λ b. has (part_ids part) n || b) h ∙ or-true (has (part_ids part) n)))
+    (λ n m run is. behind n m run parts is up bound among))
   where
     first : RiseWithin count part.0 (part_ids part)
     first = closed.0.rises
@@ -290,17 +281,17 @@ parts_rise count next all (part ∷ parts) up closed few among from =
 
     behind : (n : ℕ) (m : List Part) (run : List ℕ) (rest : List Part) → rest ≡ (n, run) ∷ m → IsNonDecreasingBy (λ (p : Part). p.0) (part ∷ rest) → ((k : ℕ) → many k (part_ids part ++ parts_ids rest) ≤ 1) →
         ((k : ℕ) → has (part_ids part ++ parts_ids rest) k ≡ true → has all k ≡ true) → next_after next (part_ids part) ≤ n
-    behind n m run [] is up few among = cc
-    behind n m run ((k, ns) ∷ rest) is up few among =
+    behind n m run [] is up bound among = cc
+    behind n m run ((k, ns) ∷ rest) is up bound among =
         let same : k ≡ n = ap first_of is in
         let over : part.0 ≤ k = up 0 1 part (omega arith) (omega arith) in
         let there : has (parts_ids ((k, ns) ∷ rest)) k ≡ true = here k (ids_onward (k + 1) ns ++ parts_ids rest) in
         elim (cases_lt k (next_after part.0 (part_ids part))) [
           | inl within ↦
-              let inside = closed.0.alone k (among k (has_both (part_ids part) (parts_ids ((k, ns) ∷ rest)) k ∙ ap (λ b. has (part_ids part) k || b) there ∙ or_true (has (part_ids part) k))) over within in
+              let inside = closed.0.alone k (among k (has_both (part_ids part) (parts_ids ((k, ns) ∷ rest)) k ∙ ap (λ b. has (part_ids part) k || b) there ∙ or-true (has (part_ids part) k))) over within in
               let a = has_some (part_ids part) k inside in
               let b = has_some (parts_ids ((k, ns) ∷ rest)) k there in
-              let f = few k in
+              let f = bound k in
               let s = sum_by-append (one k) (part_ids part) (parts_ids ((k, ns) ∷ rest)) in
               absurd (omega (arith, a, b, f, s))
           | inr beyond ↦ omega (arith, same, beyond)
@@ -331,12 +322,12 @@ module _ (older_ids newer_ids : NewIds) (once : AreOnce older_ids newer_ids) (co
   each_closed : AllByRecursion (IsClosed count (older ++ newer)) all
   each_closed =
       subst (AllByRecursion (IsClosed count (older ++ newer))) (sym all_are)
-      (all_both (IsClosed count (older ++ newer)) first.more then.more
+      (all-append (IsClosed count (older ++ newer)) first.more then.more
       (closed_each older_ids newer_ids once.older_once once.apart count older newer (older ++ newer) older_up newer_up (has_both older newer) are.below [] first.more older_are first.each)
       (closed_each newer_ids older_ids once.newer_once (λ id other new h e. once.apart other id new e h) count newer older (older ++ newer) newer_up older_up (λ n. has_both older newer n ∙ swap (has older n) (has newer n)) are.below [] then.more newer_are then.each))
     where
       swap : (a b : Bool) → (a || b) ≡ (b || a)
-      swap true b = sym (or_true b)
+      swap true b = sym (or-true b)
       swap false true = refl
       swap false false = refl
 
@@ -349,7 +340,7 @@ module _ (older_ids newer_ids : NewIds) (once : AreOnce older_ids newer_ids) (co
   pub sorted_parts_rise : IsNonDecreasingBy (λ (part : Part). part.0) sorted → RiseWithin count 0 (parts_ids sorted)
   sorted_parts_rise up =
       parts_rise count 0 (older ++ newer) sorted up (all_moved (IsClosed count (older ++ newer)) all sorted moved_to each_closed)
-      (λ n. let few = once_few (older ++ newer) n are.once in let same = as_many n in omega (arith, few, same))
+      (λ n. let bound = once_few (older ++ newer) n are.once in let same = as_many n in omega (arith, bound, same))
       (λ n h. sym (has_parts n) ∙ h)
       (λ n m run is. omega arith)
 

@@ -16,6 +16,7 @@ use Rattle.cs_index.specs.Parts.{AreParts}
 use Rattle.cs_merge.specs.Ranked.{Ranked, id_at, id_at_place, names_by, names_in, IsRanked}
 use Rattle.cs_merge.specs.Renumbering.{NewIds, AreByRank, AreNamed, AreRenumbered, ArePut, IsOfOne, new, kept, IsOrdering, IsPlaced}
 use Rattle.cs_merge.proofs.RenumberingLemmas.{ascends_at, never_below}
+use Rattle.std.proofs.Math.Bool.{or-true}
 
 -- ---- items of lists
 
@@ -40,11 +41,7 @@ place_among : (names : List (List ℕ)) (place : ℕ) (name : List ℕ) → slic
 place_among [] place name there = cc
 place_among (one ∷ names) zero name there =
     ap (λ b. b || is_among names name) ((bytes_decides one name).1 (same_Some one name there))
-place_among (one ∷ names) (suc place) name there = ap (λ b. same one name || b) (place_among names place name there) ∙ or_true (same one name)
-  where
-    or_true : (b : Bool) → (b || true) ≡ true
-    or_true true = refl
-    or_true false = refl
+place_among (one ∷ names) (suc place) name there = ap (λ b. same one name || b) (place_among names place name there) ∙ or-true (same one name)
 
 -- each name stands at one place
 abbrev pub AreOnce : List (List ℕ) → Type 0
@@ -242,7 +239,7 @@ same_by_rank parts ranks = record { long = refl; at = λ place id e h. ap (slice
 
 module _ (is_dropped : List ℕ → Bool) (older newer : Ranked) (older_is : IsRanked older) (newer_is : IsRanked newer) (names : List (List ℕ)) (ranks newer_ranks older_ids newer_ids : NewIds) (named : AreNamed is_dropped (names_by older) (names_by newer) names ranks newer_ranks) where
   long_of : (ranked : Ranked) (some new_ids : NewIds) → IsRanked ranked → length some ≤ length (names_by ranked) → length (names_by ranked) ≤ length some → length new_ids ≡ length some → length new_ids ≡ length ranked.parts.names
-  long_of ranked some new_ids r few all long = let l = r.long in omega (arith, few, all, long, l)
+  long_of ranked some new_ids r bound all long = let l = r.long in omega (arith, bound, all, long, l)
 
   placed_of : (drops : List ℕ → Bool) (ranked : Ranked) (some new_ids : NewIds) → IsRanked ranked → length (names_by ranked) ≤ length some → AreByRank ranked some new_ids →
       ((place : ℕ) (name : List ℕ) (new : Option ℕ) → slice_get (names_by ranked) place ≡ Some name → slice_get some place ≡ Some new → IsPlaced drops names name new) →

@@ -34,7 +34,7 @@ none_read parts e h =
 
 -- ---- names
 
-all_above : (text : List ℕ) → AllByRecursion (λ b. 0 < b) text → list_all (λ b. ltb 0 b) text ≡ true
+pub all_above : (text : List ℕ) → AllByRecursion (λ b. 0 < b) text → list_all (λ b. ltb 0 b) text ≡ true
 all_above [] all = refl
 all_above (b ∷ text) all = and_from (ltb 0 b) (list_all (λ c. ltb 0 c) text) (lt-ltb 0 b all.0) (all_above text all.1)
 
@@ -64,7 +64,7 @@ before_each paths path (e ∷ es) below member all =
     ] in
     and_from (is_before path e.0) (list_all (is_before path) (map (λ (d : List ℕ × Unit {0}). d.0) es)) (and_from (is_lt (bytes_cmp path e.0)) (not (covers path e.0)) both.0 apart) (before_each paths path es both.1 member all.1)
 
-reduced_from : (paths : Paths) (es : List (List ℕ × Unit {0})) → is_sorted bytes_cmp es ≡ true → AllByRecursion (λ (e : List ℕ × Unit {0}). IsLeast paths e.0) es → are_reduced (map (λ (e : List ℕ × Unit {0}). e.0) es) ≡ true
+pub reduced_from : (paths : Paths) (es : List (List ℕ × Unit {0})) → is_sorted bytes_cmp es ≡ true → AllByRecursion (λ (e : List ℕ × Unit {0}). IsLeast paths e.0) es → are_reduced (map (λ (e : List ℕ × Unit {0}). e.0) es) ≡ true
 reduced_from paths [] up all = refl
 reduced_from paths (e ∷ es) up all =
     let both = and_parts (below_all bytes_cmp e.0 es) (is_sorted bytes_cmp es) up in

@@ -68,10 +68,10 @@ new_there new_ids id new h = by_item (slice_get new_ids id) refl h
     by_item (Some (Some n)) e g = cc
 
 pub kept_at : (is_dropped : List ℕ → Bool) (own names : List (List ℕ)) (new_ids : NewIds) (id new : ℕ) → length new_ids ≤ length own → ArePlaced is_dropped own names new_ids → new_id new_ids id ≡ Some new → Kept is_dropped own names id new
-kept_at is_dropped own names new_ids id new few placed h =
+kept_at is_dropped own names new_ids id new bound placed h =
     let is : slice_get new_ids id ≡ Some (Some new) = new_there new_ids id new h in
     let within : id < length new_ids = slice_get_within new_ids id (Some new) is in
-    by_item (slice_get own id) refl is (omega (arith, within, few))
+    by_item (slice_get own id) refl is (omega (arith, within, bound))
   where
     by_item : (o : Option (List ℕ)) → slice_get own id ≡ o → slice_get new_ids id ≡ Some (Some new) → id < length own → Kept is_dropped own names id new
     by_item None e is within = absurd (none (slice_get-get_or own id [] within))
@@ -111,15 +111,15 @@ never_below name h = apart (bytes_cmp name name) h (tied_same name)
 
 -- where each own name stands once, no new id comes of two ids
 pub one_to_one : (is_dropped : List ℕ → Bool) (own names : List (List ℕ)) (new_ids : NewIds) → ((place other : ℕ) (name : List ℕ) → slice_get own place ≡ Some name → slice_get own other ≡ Some name → place ≡ other) → length new_ids ≤ length own → ArePlaced is_dropped own names new_ids → IsOneToOne new_ids
-one_to_one is_dropped own names new_ids once few placed id other new left right =
-    let first = kept_at is_dropped own names new_ids id new few placed left in
-    let second = kept_at is_dropped own names new_ids other new few placed right in
+one_to_one is_dropped own names new_ids once bound placed id other new left right =
+    let first = kept_at is_dropped own names new_ids id new bound placed left in
+    let second = kept_at is_dropped own names new_ids other new bound placed right in
     let same : second.name ≡ first.name = same_Some second.name first.name (sym second.there ∙ first.there) in
     once id other first.name first.own_is (second.own_is ∙ ap Some same)
 
 pub stay_below : (is_dropped : List ℕ → Bool) (own names : List (List ℕ)) (new_ids : NewIds) → length new_ids ≤ length own → ArePlaced is_dropped own names new_ids → StayBelow (length names) new_ids
-stay_below is_dropped own names new_ids few placed id new h =
-    let one = kept_at is_dropped own names new_ids id new few placed h in
+stay_below is_dropped own names new_ids bound placed id new h =
+    let one = kept_at is_dropped own names new_ids id new bound placed h in
     slice_get_within names new one.name one.there
 
 -- ---- renumbered ids
@@ -172,10 +172,10 @@ module _ (new_ids : NewIds) where
             | inr differs ↦ rest (sym (ap (λ b. b || has (new_ids_of new_ids ids) new) differs) ∙ g)
           ]
 
-  pub rise_renumbered : (count names next least : ℕ) (ids : List ℕ) → KeepsOrder new_ids → StayBelow count new_ids → RiseWithin names next ids → ((id new : ℕ) → next ≤ id → new_id new_ids id ≡ Some new → least ≤ new) → RiseWithin count least (new_ids_of new_ids ids)
-  rise_renumbered count names next least [] order below up low = tt
-  rise_renumbered count names next least (id ∷ ids) order below up low =
-      by_new (new_id new_ids id) refl (λ most more. rise_renumbered count names (id + 1) most ids order below up.2 more)
+  pub rise_renumbered : (count name_count next least : ℕ) (ids : List ℕ) → KeepsOrder new_ids → StayBelow count new_ids → RiseWithin name_count next ids → ((id new : ℕ) → next ≤ id → new_id new_ids id ≡ Some new → least ≤ new) → RiseWithin count least (new_ids_of new_ids ids)
+  rise_renumbered count name_count next least [] order below up low = tt
+  rise_renumbered count name_count next least (id ∷ ids) order below up low =
+      by_new (new_id new_ids id) refl (λ most more. rise_renumbered count name_count (id + 1) most ids order below up.2 more)
     where
       from : next ≤ id
       from = up.0

@@ -8,6 +8,7 @@ use Rattle.cs_index.specs.Rising.{ids_onward}
 use Rattle.cs_merge.specs.Renumbering.{NewIds, new_id, new_ids_of, AreEndsOfMoves, MoveTogether}
 use Rattle.cs_merge.specs.SideBySide.{without_number, IsCarried, IsStretchOf}
 use Rattle.cs_merge.proofs.RenumberingLemmas.{get_push}
+use Rattle.cs_trigram.proofs.SetLemmas.{all_weaker}
 
 -- ---- new ids that are further on
 
@@ -79,10 +80,6 @@ module _ (new_ids : NewIds) where
       ∙ renumbered_none last end run rest is together all.1
 
 -- ---- a run behind the first id
-
-all_weaker : (P Q : ℕ → Type 0) → ((n : ℕ) → P n → Q n) → (ns : List ℕ) → AllByRecursion P ns → AllByRecursion Q ns
-all_weaker P Q h [] all = tt
-all_weaker P Q h (n ∷ ns) all = (h n all.0, all_weaker P Q h ns all.1)
 
 module _ (new_ids : NewIds) (first : Option ℕ) (last id : ℕ) (rest : Ids) (is : IsCarried new_ids first last rest) (there : slice_get (cons_option first (new_ids_of new_ids rest.ids)) 0 ≡ Some id) where
   pub has_first : first ≡ Some id

@@ -12,6 +12,7 @@ use Rattle.cs_merge.specs.SideBySide.{AreIds, IsGiven}
 use Rattle.cs_index.specs.Gathering.{AreDistinct}
 use Rattle.cs_merge.proofs.ListingLemmas.{has_both}
 use Rattle.cs_merge.proofs.RenumberingLemmas.{has_no_renumbered, has_renumbered, renumbered_from}
+use Rattle.std.proofs.Math.Bool.{or-true}
 
 -- ---- how often a number stands
 
@@ -83,12 +84,8 @@ once_both : (ns more : List ℕ) → AreDistinct ns → AreDistinct more → ((n
 once_both [] more once again apart = again
 once_both (m ∷ ns) more once again apart = (
   has_both ns more m ∙ ap (λ b. b || has more m) once.0 ∙ apart m (ap (λ b. b || has ns m) (eq-eqb m m refl)),
-  once_both ns more once.1 again (λ n h. apart n (ap (λ b. eqb m n || b) h ∙ or_true (eqb m n))),
+  once_both ns more once.1 again (λ n h. apart n (ap (λ b. eqb m n || b) h ∙ or-true (eqb m n))),
 )
-  where
-    or_true : (b : Bool) → (b || true) ≡ true
-    or_true true = refl
-    or_true false = refl
 
 pub new_ids_of_both : (count some others : ℕ) (older newer : NewIds) (ids more : List ℕ) → IsOneToOne older → IsOneToOne newer → AreApart older newer → StayBelow count older → StayBelow count newer → RiseWithin some 0 ids → RiseWithin others 0 more → AreIds count (new_ids_of older ids ++ new_ids_of newer more)
 new_ids_of_both count some others older newer ids more once newer_once apart below newer_below up newer_up = record {

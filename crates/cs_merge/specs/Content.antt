@@ -36,7 +36,7 @@ LieUnder paths files = EachFile (λ name trigrams. is_covered paths name ≡ tru
 
 -- at an entry of the list index stands this list, whole
 abbrev pub IsListOf : List ℕ → ℕ → ListEntry → Posting → Type 0
-IsListOf postings names entry list = (entry.trigram ≡ list.0) × IsList postings names entry list.1
+IsListOf postings name_count entry list = (entry.trigram ≡ list.0) × IsList postings name_count entry list.1
 
 -- The bytes hold these paths and files: they spell the paths, and names that strictly ascend, and each
 -- entry has its list. The set of a name is that of the trigrams whose list has its id.

@@ -113,7 +113,7 @@ pub record AreNamed (is_dropped : List ℕ →
     Bool) (older newer names : List (List ℕ)) (older_ids newer_ids : NewIds) : Type 0 where
   pub older_within : length older_ids ≤ length older
   pub newer_within : length newer_ids ≤ length newer
-  pub few : length names ≤ length older_ids + length newer_ids
+  pub bound : length names ≤ length older_ids + length newer_ids
   pub ascend : are_ascending names ≡ true
   pub older_placed : ArePlaced is_dropped older names older_ids
   pub newer_placed : ArePlaced (λ name. false) newer names newer_ids

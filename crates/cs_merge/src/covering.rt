@@ -1,22 +1,18 @@
 // Which names the paths of an index cover.
 ghost use Rattle.std.specs.Prelude.{◌≡◌, ◌∷◌, [], is_some, IfOk, IfSome};
 ghost use Rattle.std.specs.List.{list_any};
-ghost use Rattle.std.specs.List.Sorted.{IsStrictlySortedBy};
-ghost use Rattle.cs_tree.specs.Cover.{covers as covers', is_among, is_covered as is_covered'};
-ghost use Rattle.cs_tree.specs.NameOrder.{bytes_cmp};
-ghost use Rattle.cs_tree.specs.PathParts.{texts};
+ghost use Rattle.cs_tree.specs.Cover.{covers as covers', is_covered as is_covered'};
 ghost use Rattle.cs_tree.specs.PathSet as set;
-ghost use Rattle.cs_tree.specs.Reducing.{lies_below};
 ghost use Rattle.cs_index.specs.OpenedParts.{paths_in};
 ghost use Rattle.cs_merge.specs.SomePaths.{AreAmong};
 ghost use Rattle.cs_merge.specs.Joinable.{are_covered};
 
 use cs_index::{Index, Texts};
-use cs_tree::{covers, is_absolute};
+use cs_tree::{covers, is_covered};
 use std::alloc::{AllocError, Global};
 use std::marker::Model;
 
-/// The paths of an index in order. What covers a name is searched among the fronts of the name.
+/// The paths of an index in order.
 #[derive(Drop)]
 pub(crate) struct Cover<'a> {
     paths: Vec<&'a str>,
@@ -53,37 +49,8 @@ impl<'a> Cover<'a> {
     pub(crate) fn covers(&self, name: &str) -> bool
         ensures { result ≡ is_covered' (set.from_list self.now) name.now }
     {
-        if is_listed(&self.paths, name) {
-            return true;
-        }
-        if is_below_one(&self.paths, name) {
-            return true;
-        }
-        is_absolute(name) && is_listed(&self.paths, "/")
+        is_covered(&self.paths, name)
     }
-}
-
-/// Whether the name goes on by a slash after one of the paths.
-fn is_below_one(paths: &[&str], name: &str) -> bool
-    requires { IsStrictlySortedBy bytes_cmp (texts paths.now) }
-    ensures { result ≡ list_any (lies_below name.now) (texts paths.now) }
-{
-    let mut rest = name;
-    'fronts: while let Some((front, _name)) = rest.rsplit_once('/') {
-        if is_listed(paths, front) {
-            return true;
-        }
-        rest = front;
-    }
-    false
-}
-
-/// Whether the path is one of the paths.
-fn is_listed(paths: &[&str], path: &str) -> bool
-    requires { IsStrictlySortedBy bytes_cmp (texts paths.now) }
-    ensures { result ≡ is_among (texts paths.now) path.now }
-{
-    paths.binary_search(&path).is_ok()
 }
 
 /// Whether each name of the index lies under some path of it. Takes no memory.

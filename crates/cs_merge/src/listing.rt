@@ -28,8 +28,8 @@ pub(crate) fn lay_lists(
     requires old_parts { AreParts old.now }
     requires newer_parts { AreParts newer.now }
     requires ids { AreRenumberings (length sections.old.names) ids.now.older ids.now.newer }
-    requires older_few { length ids.now.older < 2 ^ 32 }
-    requires newer_few { length ids.now.newer < 2 ^ 32 }
+    requires older_bound { length ids.now.older < 2 ^ 32 }
+    requires newer_bound { length ids.now.newer < 2 ^ 32 }
     requires unlisted { sections.old.lists ≡ [] }
     ensures paths { OnOk result (sections.new.paths ≡ sections.old.paths) }
     ensures names { OnOk result (sections.new.names ≡ sections.old.names) }

@@ -11,6 +11,7 @@ ghost use Rattle.cs_index.specs.OpenedParts.{paths_in};
 ghost use Rattle.cs_merge.specs.Joinable.{AreTested};
 ghost use Rattle.cs_merge.specs.Ranked.{names_by, IsRanked};
 ghost use Rattle.cs_merge.specs.Renumbering.{AreRenumbered, IsNaming};
+ghost use Rattle.cs_index.specs.Rising.{most_ids};
 
 use crate::covering::Cover;
 use crate::ranked::Ranked;
@@ -109,7 +110,7 @@ fn lay_name(
     requires unlisted { sections.old.lists ≡ [] }
     requires storable { is_storable name.now ≡ true }
     requires above { is_above sections.old.names name.now ≡ true }
-    requires few { length sections.old.names < 2 ^ 31 }
+    requires bound { length sections.old.names < most_ids }
     ensures sections { OnOk result (sections.new ≡ with_laid_name sections.old name.now) }
     ensures ids { OnOk result (new_ids.new ≡ new_ids.old ++ Some (length sections.old.names) ∷ []) }
 {

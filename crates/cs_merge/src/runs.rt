@@ -84,7 +84,7 @@ impl<'a> Runs<'a> {
 
 /// Up to where the ids from this one on move together.
 fn end_from(new_ids: &Renumbering, id: u32) -> u32
-    requires few { length new_ids.now < 2 ^ 32 }
+    requires bound { length new_ids.now < 2 ^ 32 }
     requires known { id < length new_ids.now }
     ensures { MoveTogether new_ids.now id result }
 {

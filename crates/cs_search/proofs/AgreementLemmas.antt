@@ -31,7 +31,7 @@ use Rattle.cs_search.specs.Csearch.{ReadAsIndexed}
 use Rattle.cs_match.specs.Lines.{newline, lines}
 use Rattle.cs_search.specs.Report.{Hit, hits_from, some_hit, name_line, count_line, hits_output, report}
 use Rattle.cs_search.specs.InputReport.{told_report}
-use Rattle.cs_search.specs.Printed.{Printed, printed_of, input_printed, opened_printed, file_printed, all_printed, sequel, nothing}
+use Rattle.cs_search.specs.Printed.{Printed, printed_of, input_printed, opened_printed, file_printed, all_printed, both_printed, nothing}
 
 -- ---- the lines of a text are parts of it
 
@@ -274,11 +274,11 @@ module _ (style : Style) (finds keeps : List ℕ → Bool) (tree : Snapshot) (qu
           ≡ all_printed (file_printed MOST_SEARCHED b style finds tree) (filter keeps (e.0 ∷ map (λ (e : Entry). e.0) es))
       by_test true chosen is rest =
           elim (keeps e.0) as (λ t. all_printed (file_printed MOST_SEARCHED a style finds tree) (cond t (e.0 ∷ filter keeps (met es)) (filter keeps (met es))) ≡ all_printed (file_printed MOST_SEARCHED b style finds tree) (cond t (e.0 ∷ filter keeps (map (λ (e : Entry). e.0) es)) (filter keeps (map (λ (e : Entry). e.0) es)))) [
-            | true ↦ ap (λ (one : Printed). sequel one (all_printed (file_printed MOST_SEARCHED a style finds tree) (filter keeps (met es)))) (file_alike style finds tree e.0 e.1 (item_at tree e.0) refl all.0 a b) ∙ ap (λ (more : Printed). sequel (file_printed MOST_SEARCHED b style finds tree e.0) more) rest
+            | true ↦ ap (λ (one : Printed). both_printed one (all_printed (file_printed MOST_SEARCHED a style finds tree) (filter keeps (met es)))) (file_alike style finds tree e.0 e.1 (item_at tree e.0) refl all.0 a b) ∙ ap (λ (more : Printed). both_printed (file_printed MOST_SEARCHED b style finds tree e.0) more) rest
             | false ↦ rest
           ]
       by_test false chosen is rest =
           elim (keeps e.0) as (λ t. all_printed (file_printed MOST_SEARCHED a style finds tree) (filter keeps (met es)) ≡ all_printed (file_printed MOST_SEARCHED b style finds tree) (cond t (e.0 ∷ filter keeps (map (λ (e : Entry). e.0) es)) (filter keeps (map (λ (e : Entry). e.0) es)))) [
-            | true ↦ rest ∙ sym (ap (λ (one : Printed). sequel one (all_printed (file_printed MOST_SEARCHED b style finds tree) (filter keeps (map (λ (e : Entry). e.0) es)))) (file_empty style finds tree e.0 e.1 query pattern loses decides (item_at tree e.0) refl all.0 is b))
+            | true ↦ rest ∙ sym (ap (λ (one : Printed). both_printed one (all_printed (file_printed MOST_SEARCHED b style finds tree) (filter keeps (map (λ (e : Entry). e.0) es)))) (file_empty style finds tree e.0 e.1 query pattern loses decides (item_at tree e.0) refl all.0 is b))
             | false ↦ rest
           ]

@@ -7,8 +7,8 @@ use Rattle.cs_tree.proofs.Growing.{take_on}
 use Rattle.cs_match.specs.Lines.{ended_lines}
 use Rattle.cs_match.specs.LineParts.{IsPart}
 use Rattle.cs_match.specs.Skipping.{AreWhole}
-use Rattle.cs_match.specs.Unended.{unended}
-use Rattle.cs_match.proofs.LinesLemmas.{lines_within, unended-append, ended_lines-part, unended-part, IsPart-append, IsPart-searched}
+use Rattle.cs_match.specs.LastPart.{last_part}
+use Rattle.cs_match.proofs.LinesLemmas.{lines_within, last_part-append, ended_lines-part, last_part-part, IsPart-append, IsPart-searched}
 use Rattle.cs_match.proofs.NewlineLemmas.{next_none}
 use Rattle.cs_match.proofs.WholeLemmas.{whole_ended, whole_append, whole_is_ended, ended_lines-whole}
 
@@ -47,11 +47,11 @@ module _ (block : List ℕ) (stop : ℕ) (whole : AreWhole (take stop block)) wh
       ended_front ∙ ap (λ ls. ended_lines (take stop block) ++ ls) (ended_lines-part (drop stop block) part)
       ∙ append-nil (ended_lines (take stop block))
 
-  pub unended_rest : IsPart (drop stop block) → drop stop block ≡ unended block
-  unended_rest part =
-      sym (ap unended (sym (take-append-drop stop block)) ∙ unended-append (take stop block) (drop stop block)
-      ∙ ap (λ u. unended (u ++ drop stop block)) ((whole_is_ended (take stop block)).0 whole)
-      ∙ unended-part (drop stop block) part)
+  pub rest_is_last : IsPart (drop stop block) → drop stop block ≡ last_part block
+  rest_is_last part =
+      sym (ap last_part (sym (take-append-drop stop block)) ∙ last_part-append (take stop block) (drop stop block)
+      ∙ ap (λ u. last_part (u ++ drop stop block)) ((whole_is_ended (take stop block)).0 whole)
+      ∙ last_part-part (drop stop block) part)
 
 -- whole lines up to one place, and on to another
 module _ (block : List ℕ) (from to : ℕ) (rising : from ≤ to) (before : AreWhole (take from block)) where

@@ -1,5 +1,5 @@
 -- Parts of a list, before and after a write behind them.
-use Rattle.std.proofs.Common.{◌≡◌, ℕ, ◌+◌, ◌-◌, ◌<◌, ◌≤◌, List, [], ◌++◌, length, take, drop, refl, sym, ap, subst, ◌∙◌, arith, length-take, length-drop, length-append, Result, Ok, Err, OnErr, IfOk, Option}
+use Rattle.std.proofs.Common.{◌≡◌, ℕ, ◌+◌, ◌-◌, ◌<◌, ◌≤◌, List, [], ◌++◌, length, take, drop, refl, sym, ap, subst, ◌∙◌, arith, length-take, length-drop, length-append, Result, Ok, Err, IfOk, Option}
 use Rattle.cs_tree.specs.Transfers.{Loses, ReadGives}
 use Rattle.std.proofs.lemmas.List.{take_at, drop_at, take-append-drop, drop-drop, drop-take, take-append-le, drop-append-le}
 use Rattle.cs_tree.specs.declared.fault.IoFault.{IoFault}
@@ -79,10 +79,6 @@ pending_size buffer =
     let within : buffer.end ≤ length buffer.bytes.items = omega (arith, buffer.within, buffer.bytes.ok.0) in
     let rising : buffer.start ≤ buffer.end = buffer.ordered in
     omega (arith, slice_size buffer.bytes.items [] buffer.start buffer.end rising within)
-
-pub on_err_of : {A E P : Type 0} (answer : Result A E) → P → OnErr answer P
-on_err_of (Ok x) p = tt
-on_err_of (Err e) p = p
 
 -- a read into the front of some bytes
 pub Reads_front : (told later : Option Told) (answer : Result ℕ IoFault) (buf rest : List ℕ) → IfOk answer (λ n. n ≤ length buf) → 0 < length buf → ReadGives told later answer buf → ReadGives told later answer (buf ++ rest)

@@ -41,10 +41,11 @@ use Rattle.cs_search.specs.Csearch.{IsQueryOf, Asks, file_text, Keeps, csearch_p
 use Rattle.cs_search.specs.Plans.{IsPlan, RefusesPlan}
 use Rattle.cs_search.specs.declared.plan.Plan.{Plan}
 use Rattle.cs_search.specs.declared.status.Status.{Status}
+use Rattle.cs_words.proofs.DivisionLemmas.{slice_get-front}
 use Rattle.cs_search.proofs.CgrepLemmas.{read_once, decides_program}
 use Rattle.cs_search.specs.IndexSearch.{FileRefused, OpenRefused, file_fault_at, file_pattern_fault, names_at, IsCompiled, DecidesNames}
-use Rattle.cs_search.specs.Printed.{Printed, NamedFault, AreFaultsOf, file_printed, all_printed, sequel, nothing}
-use Rattle.cs_search.proofs.PrintedLemmas.{all_append, sequel_nothing}
+use Rattle.cs_search.specs.Printed.{Printed, NamedFault, AreFaultsOf, file_printed, all_printed, both_printed, nothing}
+use Rattle.cs_search.proofs.PrintedLemmas.{all_append, both_printed-nothing}
 
 -- ---- the pattern of `-f` that is refused
 
@@ -77,7 +78,7 @@ module _ (names : List (List ℕ)) where
 module _ (printed : List ℕ → Printed) (keeps : List ℕ → Bool) (names : List (List ℕ)) where
   pub chosen_more : (ids : List ℕ) (at : ℕ) → at < length ids →
       all_printed printed (filter keeps (names_at names (take (at + 1) ids)))
-      ≡ sequel (all_printed printed (filter keeps (names_at names (take at ids)))) (all_printed printed (filter keeps (names_at names (get_or ids at 0 ∷ []))))
+      ≡ both_printed (all_printed printed (filter keeps (names_at names (take at ids)))) (all_printed printed (filter keeps (names_at names (get_or ids at 0 ∷ []))))
   chosen_more ids at low =
       ap (λ (l : List (List ℕ)). all_printed printed (filter keeps l)) (names_at_more names ids at low)
       ∙ ap (all_printed printed) (filter-append keeps (names_at names (take at ids)) (names_at names (get_or ids at 0 ∷ [])))
@@ -86,15 +87,15 @@ module _ (printed : List ℕ → Printed) (keeps : List ℕ → Bool) (names : L
   -- and the ids that follow
   pub chosen_rest : (ids : List ℕ) (at : ℕ) → at < length ids →
       all_printed printed (filter keeps (names_at names ids))
-      ≡ sequel (sequel (all_printed printed (filter keeps (names_at names (take at ids)))) (all_printed printed (filter keeps (names_at names (get_or ids at 0 ∷ []))))) (all_printed printed (filter keeps (names_at names (drop (at + 1) ids))))
+      ≡ both_printed (both_printed (all_printed printed (filter keeps (names_at names (take at ids)))) (all_printed printed (filter keeps (names_at names (get_or ids at 0 ∷ []))))) (all_printed printed (filter keeps (names_at names (drop (at + 1) ids))))
   chosen_rest ids at low =
       let first = names_at names (take at ids) ++ names_at names (get_or ids at 0 ∷ []) in
       let rest = names_at names (drop (at + 1) ids) in
-      let chosen_first : all_printed printed (filter keeps first) ≡ sequel (all_printed printed (filter keeps (names_at names (take at ids)))) (all_printed printed (filter keeps (names_at names (get_or ids at 0 ∷ [])))) = ap (λ l. all_printed printed (filter keeps l)) (sym (names_at_more names ids at low)) ∙ chosen_more ids at low in
+      let chosen_first : all_printed printed (filter keeps first) ≡ both_printed (all_printed printed (filter keeps (names_at names (take at ids)))) (all_printed printed (filter keeps (names_at names (get_or ids at 0 ∷ [])))) = ap (λ l. all_printed printed (filter keeps l)) (sym (names_at_more names ids at low)) ∙ chosen_more ids at low in
       ap (λ (l : List (List ℕ)). all_printed printed (filter keeps l)) (names_at_rest names ids at low)
       ∙ ap (all_printed printed) (filter-append keeps first rest)
       ∙ all_append printed (filter keeps first) (filter keeps rest)
-      ∙ ap (λ (p : Printed). sequel p (all_printed printed (filter keeps rest))) chosen_first
+      ∙ ap (λ (p : Printed). both_printed p (all_printed printed (filter keeps rest))) chosen_first
 
   pub none_at : (id : ℕ) → slice_get names id ≡ None → all_printed printed (filter keeps (names_at names (id ∷ []))) ≡ nothing
   unfolding names_at all_printed
@@ -111,13 +112,9 @@ module _ (printed : List ℕ → Printed) (keeps : List ℕ → Bool) (names : L
 
     pub kept_at : keeps name ≡ true → all_printed printed (filter keeps (names_at names (id ∷ []))) ≡ printed name
     unfolding all_printed
-    kept_at e = one_at ∙ ap (λ t. all_printed printed (cond t (name ∷ []) [])) e ∙ sequel_nothing (printed name)
+    kept_at e = one_at ∙ ap (λ t. all_printed printed (cond t (name ∷ []) [])) e ∙ both_printed-nothing (printed name)
 
 -- ---- the names of the candidates
-
-slice_get_at : (before : List (List ℕ)) (name : List ℕ) (after : List (List ℕ)) → slice_get (before ++ name ∷ after) (length before) ≡ Some name
-slice_get_at [] name after = refl
-slice_get_at (b ∷ before) name after = slice_get_at before name after
 
 module _ (query : Query) (lists : List Posting) where
   -- the names from an id on
@@ -135,7 +132,7 @@ module _ (query : Query) (lists : List Posting) where
       elim (holds query (has (set_at (length before) lists))) as (λ t.
       filter_map (slice_get (before ++ name ∷ names)) (cond t (length before ∷ filter (λ id. holds query (λ g. has (set_at id lists) g)) (range_with_len (length before + 1) (length names))) (filter (λ id. holds query (λ g. has (set_at id lists) g)) (range_with_len (length before + 1) (length names))))
       ≡ map (λ (e : Entry). e.0) (cond t ((name, set_at (length before) lists) ∷ filter (λ (e : Entry). holds query (has e.1)) (entries_of (length before + 1) names lists)) (filter (λ (e : Entry). holds query (has e.1)) (entries_of (length before + 1) names lists)))) [
-        | true ↦ ap (λ (o : Option (List ℕ)). cons_option o (later (before ++ name ∷ names) (length before + 1))) (slice_get_at before name names) ∙ ap (λ (l : List (List ℕ)). name ∷ l) more
+        | true ↦ ap (λ (o : Option (List ℕ)). cons_option o (later (before ++ name ∷ names) (length before + 1))) (slice_get-front before name names) ∙ ap (λ (l : List (List ℕ)). name ∷ l) more
         | false ↦ more
       ]
 

@@ -1,6 +1,5 @@
 -- What a refused search has printed is a front of what it prints.
-use Rattle.std.proofs.Common.{◌≡◌, ℕ, ◌+◌, ◌≤◌, Bool, true, false, cond, List, [], ◌∷◌, ◌++◌, length, take, drop, sym, ap, subst, ◌∙◌, arith, append-nil, Option, Some, None, ⊎_elim, is_none, Result, Ok, Err}
-use Rattle.std.specs.Prelude.{OnErr}
+use Rattle.std.proofs.Common.{◌≡◌, ℕ, ◌+◌, ◌≤◌, Bool, true, false, cond, List, [], ◌∷◌, ◌++◌, length, take, drop, sym, ap, subst, ◌∙◌, arith, append-nil, Option, Some, None, ⊎_elim, is_none}
 use Rattle.std.specs.List.{flat_map}
 use Rattle.std.proofs.lemmas.List.{nil_from_length, take-append-drop, take-take}
 use Rattle.std.proofs.lemmas.List.Concat.{flat_map-append}
@@ -12,7 +11,7 @@ use Rattle.cs_search.specs.declared.tally.Tally.{Tally}
 use Rattle.cs_search.specs.declared.grep_fault.ReadFault.{ReadFault}
 use Rattle.cs_search.specs.declared.stop.Stop.TheVariants.{End}
 use Rattle.cs_match.specs.Lines.{newline, lines, ended_lines}
-use Rattle.cs_match.specs.Unended.{unended, last_line}
+use Rattle.cs_match.specs.LastPart.{last_part, last_line}
 use Rattle.cs_match.proofs.LinesLemmas.{lines-split, ended_lines-append}
 use Rattle.cs_search.specs.Report.{Hit, hits_from, some_hit, hit_line, hits_output, tested_lines, report}
 use Rattle.cs_tree.specs.Taken.{TakesFront}
@@ -25,11 +24,6 @@ use Rattle.cs_search.proofs.ReportLemmas.{hits_from-append, hits_from-one}
 use Rattle.cs_search.proofs.HitLemmas.{hit_output_listed, hit_output_counted, hit_output_plain, hits_output_listed, hits_output_counted, hits_output_plain, printed_left, printed_end, few_last}
 use Rattle.cs_search.proofs.TestedLemmas.{Tests-more}
 use Rattle.cs_search.proofs.ProgressLemmas.{front_more}
-
--- what holds anyway holds where a call is refused
-pub any_err : {A E : Type 0} {P : Type 0} (r : Result A E) → P → OnErr r P
-any_err (Ok x) p = tt
-any_err (Err e) p = p
 
 -- ---- hits
 
@@ -97,7 +91,7 @@ module _ (style : Style) (name : List ℕ) (finds : List ℕ → Bool) where
 
 module _ (style : Style) (name : List ℕ) (finds : List ℕ → Bool) (before mid : Tally) (taken now : Option Taken) (most : ℕ) where
   -- the lines of the bytes that are searched begin with those of a front
-  lines_searched : (told : Told) (n : ℕ) → n ≤ most → ended_lines (take most told.bytes) ≡ ended_lines (take n told.bytes) ++ ended_lines (unended (take n told.bytes) ++ drop n (take most told.bytes))
+  lines_searched : (told : Told) (n : ℕ) → n ≤ most → ended_lines (take most told.bytes) ≡ ended_lines (take n told.bytes) ++ ended_lines (last_part (take n told.bytes) ++ drop n (take most told.bytes))
   lines_searched told n within =
       ap ended_lines (sym (take-append-drop n (take most told.bytes)) ∙ ap (λ f. f ++ drop n (take most told.bytes)) (take-take n most told.bytes within))
       ∙ ended_lines-append (take n told.bytes) (drop n (take most told.bytes))
@@ -129,7 +123,7 @@ module _ (style : Style) (name : List ℕ) (finds : List ℕ → Bool) (text : L
   lines_tested : (whole : Bool) → TestsFront style name finds (ended_lines text) 1 taken out → TakesFront (hits_output style name whole (hits_from 1 finds (tested_lines whole text))) taken out
   lines_tested true front =
       subst (λ ls. TakesFront (hits_output style name true (hits_from 1 finds ls)) taken out) (sym (lines-split text))
-      (subst (λ (hits : List Hit). TakesFront (hits_output style name true hits) taken out) (sym (hits_from-append finds 1 (ended_lines text) (last_line (unended text))))
+      (subst (λ (hits : List Hit). TakesFront (hits_output style name true hits) taken out) (sym (hits_from-append finds 1 (ended_lines text) (last_line (last_part text))))
       (front_printed style name true _ _ taken out front))
   lines_tested false front = front
 
@@ -172,7 +166,7 @@ module _ (style : Style) (name : List ℕ) (finds : List ℕ → Bool) (before :
       let whole = subst (λ ls. Tests style name finds ls before after taken later) all (Tests-more style name finds (ended_lines text) (last_line rest) before mid after taken now later (omega (arith, stops.2, no_lines)) tests last) in
       let hits = hits_from 1 finds (lines text) in
       let count : after.hits ≡ length hits = omega (arith, whole.hits, no_hits, ap (λ (hs : List Hit). length hs) (from_one (lines text))) in
-      let few = λ (e : style.list ≡ true). (let h = none e in let k : length hits ≤ 1 = omega (arith, h, last.hits, few_last style name finds (mid.lines + 1) rest, count) in k) in
+      let bound = λ (e : style.list ≡ true). (let h = none e in let k : length hits ≤ 1 = omega (arith, h, last.hits, few_last style name finds (mid.lines + 1) rest, count) in k) in
       subst (λ (fault : Option ReadFault). TakesFront (report style name finds text fault).output taken out) (sym stops.0)
-      (subst (λ bytes. TakesFront bytes taken out) (ap (λ n. flat_map (hit_output style name) hits ++ total style name n) count ∙ printed_end style name hits few)
+      (subst (λ bytes. TakesFront bytes taken out) (ap (λ n. flat_map (hit_output style name) hits ++ total style name n) count ∙ printed_end style name hits bound)
       (front_right _ _ taken later out (subst (λ (hs : List Hit). Grows taken later (flat_map (hit_output style name) hs)) (from_one (lines text)) whole.written) front))

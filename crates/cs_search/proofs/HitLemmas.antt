@@ -10,7 +10,7 @@ use Rattle.cs_words.specs.declared.jobs.Style.{Style}
 use Rattle.cs_search.specs.declared.tally.Tally.{Tally}
 use Rattle.cs_search.specs.declared.grep_fault.ReadFault.{ReadFault}
 use Rattle.cs_match.specs.Lines.{newline, lines, ended_lines}
-use Rattle.cs_match.specs.Unended.{unended, last_line}
+use Rattle.cs_match.specs.LastPart.{last_part, last_line}
 use Rattle.cs_search.specs.Report.{Hit, hits_from, some_hit, hit_line, name_line, count_line, hits_output, tested_lines, report}
 use Rattle.cs_search.specs.GrepReports.{IsReported}
 use Rattle.cs_search.specs.TestedLines.{hit_output, total, Tests, IsListed}
@@ -69,14 +69,14 @@ module _ (style : Style) (name : List ℕ) where
 
   -- with `-l`, where there is a hit at most
   listed_once : style.list ≡ true → (hits : List Hit) → length hits ≤ 1 → flat_map (hit_output style name) hits ≡ cond (some_hit hits) (name ++ newline ∷ []) []
-  listed_once e [] few = refl
-  listed_once e (hit ∷ []) few = append-nil (hit_output style name hit) ∙ hit_output_listed e hit
-  listed_once e (hit ∷ other ∷ hits) few = absurd (omega arith)
+  listed_once e [] bound = refl
+  listed_once e (hit ∷ []) bound = append-nil (hit_output style name hit) ∙ hit_output_listed e hit
+  listed_once e (hit ∷ other ∷ hits) bound = absurd (omega arith)
 
   -- at the end
   pub printed_end : (hits : List Hit) → (style.list ≡ true → length hits ≤ 1) → flat_map (hit_output style name) hits ++ total style name (length hits) ≡ hits_output style name true hits
-  printed_end hits few =
-      ⊎_elim (λ e. ap (λ l. flat_map (hit_output style name) hits ++ l) (total_listed e (length hits)) ∙ append-nil (flat_map (hit_output style name) hits) ∙ listed_once e hits (few e) ∙ sym (hits_output_listed e true hits))
+  printed_end hits bound =
+      ⊎_elim (λ e. ap (λ l. flat_map (hit_output style name) hits ++ l) (total_listed e (length hits)) ∙ append-nil (flat_map (hit_output style name) hits) ∙ listed_once e hits (bound e) ∙ sym (hits_output_listed e true hits))
       (λ e. ⊎_elim (λ h. ap (λ l. l ++ total style name (length hits)) (flat_none (hit_output style name) (hit_output_counted e h) hits) ∙ total_counted e h (length hits) ∙ ap (λ b. cond b (name ++ (codes ": " ++ (decimal (length hits) ++ newline ∷ []))) []) (some_counted hits) ∙ sym (hits_output_counted e h true hits))
       (λ h. ap (λ l. flat_map (hit_output style name) hits ++ l) (total_plain e h (length hits)) ∙ append-nil (flat_map (hit_output style name) hits) ∙ flat_same (hit_output style name) (hit_line style name) (hit_output_plain e h) hits ∙ sym (hits_output_plain e h true hits))
       (cases_Bool style.count)) (cases_Bool style.list)
@@ -127,7 +127,7 @@ module _ (style : Style) (name : List ℕ) (finds : List ℕ → Bool) (text : L
 
     some : (fault : Option ReadFault) → some_hit (hits_from 1 finds (tested_lines (is_none fault) text)) ≡ true
     some (Some fault) = first
-    some None = ap (λ ls. some_hit (hits_from 1 finds ls)) (lines-split text) ∙ ap some_hit (hits_from-append finds 1 (ended_lines text) (last_line (unended text))) ∙ some_hit-append _ _ first
+    some None = ap (λ ls. some_hit (hits_from 1 finds ls)) (lines-split text) ∙ ap some_hit (hits_from-append finds 1 (ended_lines text) (last_line (last_part text))) ∙ some_hit-append _ _ first
 
     pub reported_listed : (fault : Option ReadFault) → IsReported (report style name finds text fault) taken out (record { matched = true; fault = None })
     unfolding report
@@ -144,15 +144,15 @@ module _ (style : Style) (name : List ℕ) (finds : List ℕ → Bool) (text : L
   kept_fault false = refl
 
   -- at its end
-  pub reported_end : (mid : Tally) (now : Option Taken) (rest : List ℕ) (later : Option Taken) → rest ≡ unended text → mid.lines ≡ length (ended_lines text) → (style.list ≡ true → mid.hits ≡ 0) → Tests style name finds (ended_lines text) before mid taken now → Tests style name finds (last_line rest) mid after now out → Grows out later (total style name after.hits) → IsReported (report style name finds text None) taken later (record { matched = nat_lt 0 after.hits; fault = None })
+  pub reported_end : (mid : Tally) (now : Option Taken) (rest : List ℕ) (later : Option Taken) → rest ≡ last_part text → mid.lines ≡ length (ended_lines text) → (style.list ≡ true → mid.hits ≡ 0) → Tests style name finds (ended_lines text) before mid taken now → Tests style name finds (last_line rest) mid after now out → Grows out later (total style name after.hits) → IsReported (report style name finds text None) taken later (record { matched = nat_lt 0 after.hits; fault = None })
   unfolding report
   reported_end mid now rest later is counted unlisted front last written =
       let all : ended_lines text ++ last_line rest ≡ lines text = ap (λ r. ended_lines text ++ last_line r) is ∙ sym (lines-split text) in
       let tests = subst (λ ls. Tests style name finds ls before after taken out) all (Tests-more style name finds (ended_lines text) (last_line rest) before mid after taken now out (omega arith) front last) in
       let hits = hits_from 1 finds (lines text) in
       let count = hits_counted (lines text) tests in
-      let few = λ (e : style.list ≡ true). (let none = unlisted e in let h : length hits ≤ 1 = omega (arith, none, last.hits, few_last style name finds (mid.lines + 1) rest, count) in h) in (
-        subst (Grows taken later) (ap (λ n. flat_map (hit_output style name) hits ++ total style name n) count ∙ printed_end style name hits few) (Grows-chain taken out later _ _ (hits_written (lines text) tests) written),
+      let bound = λ (e : style.list ≡ true). (let none = unlisted e in let h : length hits ≤ 1 = omega (arith, none, last.hits, few_last style name finds (mid.lines + 1) rest, count) in h) in (
+        subst (Grows taken later) (ap (λ n. flat_map (hit_output style name) hits ++ total style name n) count ∙ printed_end style name hits bound) (Grows-chain taken out later _ _ (hits_written (lines text) tests) written),
         ap (λ n. nat_lt 0 n) count ∙ some_counted hits,
         sym (kept_fault (style.list && some_hit hits)),
       )

@@ -25,7 +25,7 @@ use Rattle.cs_search.specs.InputReport.{told_report}
 use Rattle.cs_tree.specs.Taken.{TakesFront, EndsAfter, MayEnd}
 use Rattle.cs_tree.specs.TakenAll.{TakesAll}
 use Rattle.cs_search.specs.GrepFaults.{is_failed_read}
-use Rattle.cs_search.specs.Printed.{left_fault, Printed, sequel, nothing, all_printed, input_printed, opened_printed, file_printed, NamedFault, fault_lines, failures_of, AreFaultsOf, PrintsSome, PrintsFaults}
+use Rattle.cs_search.specs.Printed.{left_fault, Printed, both_printed, nothing, all_printed, input_printed, opened_printed, file_printed, NamedFault, fault_lines, failures_of, AreFaultsOf, PrintsSome, PrintsFaults}
 use Rattle.cs_search.specs.Searcher.{Prints, IsPrinted, PrintsAllFaults, PrintsFront}
 use Rattle.cs_tree.proofs.Growing.{Grows-chain, Grows-same}
 use Rattle.cs_tree.proofs.Fronts.{front_none, front_all, front_left, front_right, front_after, ends_quiet, ends_after, may_end_after}
@@ -121,29 +121,29 @@ PrintsSome-all (Some printed) out now later err err-now err-later matched p ends
 same_printed : (output output' errors errors' : List ℕ) (matched matched' : Bool) → output ≡ output' → errors ≡ errors' → matched ≡ matched' → ◌≡◌ {A = Printed} (record { output = output; errors = errors; matched = matched }) (record { output = output'; errors = errors'; matched = matched' })
 same_printed output output' errors errors' matched matched' o e m = rw (o, e, m) refl
 
-pub sequel_nothing : (printed : Printed) → sequel printed nothing ≡ printed
-sequel_nothing printed = same_printed _ _ _ _ _ _ (append-nil printed.output) (append-nil printed.errors) (or-false printed.matched)
+pub both_printed-nothing : (printed : Printed) → both_printed printed nothing ≡ printed
+both_printed-nothing printed = same_printed _ _ _ _ _ _ (append-nil printed.output) (append-nil printed.errors) (or-false printed.matched)
 
-pub sequel_sequel : (a b c : Printed) → sequel a (sequel b c) ≡ sequel (sequel a b) c
-sequel_sequel a b c = same_printed _ _ _ _ _ _ (sym (append_assoc a.output b.output c.output)) (sym (append_assoc a.errors b.errors c.errors)) (sym (or_assoc a.matched b.matched c.matched))
+pub both_printed-assoc : (a b c : Printed) → both_printed a (both_printed b c) ≡ both_printed (both_printed a b) c
+both_printed-assoc a b c = same_printed _ _ _ _ _ _ (sym (append_assoc a.output b.output c.output)) (sym (append_assoc a.errors b.errors c.errors)) (sym (or_assoc a.matched b.matched c.matched))
 
-pub all_more : (printed : List ℕ → Printed) (names : List (List ℕ)) (name : List ℕ) → all_printed printed (names ++ name ∷ []) ≡ sequel (all_printed printed names) (printed name)
+pub all_more : (printed : List ℕ → Printed) (names : List (List ℕ)) (name : List ℕ) → all_printed printed (names ++ name ∷ []) ≡ both_printed (all_printed printed names) (printed name)
 unfolding all_printed
 all_more printed [] name = same_printed _ _ _ _ _ _ (append-nil _) (append-nil _) (or-false _)
 all_more printed (first ∷ names) name =
-    ap (λ (rest : Printed). sequel (printed first) rest) (all_more printed names name)
+    ap (λ (rest : Printed). both_printed (printed first) rest) (all_more printed names name)
     ∙ same_printed _ _ _ _ _ _ (sym (append_assoc (printed first).output _ _)) (sym (append_assoc (printed first).errors _ _)) (sym (or_assoc (printed first).matched _ _))
 
-pub Prints-sequel : (tree : Option Snapshot) (first next both : Snapshot → Printed) (out now later err err-now err-later : Option Taken) (matched last : Bool) → ((s : Snapshot) → both s ≡ sequel (first s) (next s)) → Prints (option_map first tree) out now err err-now matched → Prints (option_map next tree) now later err-now err-later last → Prints (option_map both tree) out later err err-later (matched || last)
-Prints-sequel None first next both out now later err err-now err-later matched last is p q = tt
-Prints-sequel (Some s) first next both out now later err err-now err-later matched last is p q =
+pub Prints-both : (tree : Option Snapshot) (first next both : Snapshot → Printed) (out now later err err-now err-later : Option Taken) (matched last : Bool) → ((s : Snapshot) → both s ≡ both_printed (first s) (next s)) → Prints (option_map first tree) out now err err-now matched → Prints (option_map next tree) now later err-now err-later last → Prints (option_map both tree) out later err err-later (matched || last)
+Prints-both None first next both out now later err err-now err-later matched last is p q = tt
+Prints-both (Some s) first next both out now later err err-now err-later matched last is p q =
     subst (λ (printed : Printed). IsPrinted printed out later err err-later (matched || last)) (sym (is s))
     (Grows-chain out now later _ _ p.0 q.0, Grows-chain err err-now err-later _ _ p.1 q.1, ap (λ b. b || last) p.2 ∙ ap (λ b. (first s).matched || b) q.2)
 
 -- of the first all, of the next a front, and of what follows nothing
-pub PrintsFront-sequel : (tree : Option Snapshot) (first next more both : Snapshot → Printed) (out now later err err-now err-later : Option Taken) (matched : Bool) → ((s : Snapshot) → both s ≡ sequel (sequel (first s) (next s)) (more s)) → Prints (option_map first tree) out now err err-now matched → PrintsFront (option_map next tree) now later err-now err-later → PrintsFront (option_map both tree) out later err err-later
-PrintsFront-sequel None first next more both out now later err err-now err-later matched is p q = tt
-PrintsFront-sequel (Some s) first next more both out now later err err-now err-later matched is p q =
+pub PrintsFront-both : (tree : Option Snapshot) (first next more both : Snapshot → Printed) (out now later err err-now err-later : Option Taken) (matched : Bool) → ((s : Snapshot) → both s ≡ both_printed (both_printed (first s) (next s)) (more s)) → Prints (option_map first tree) out now err err-now matched → PrintsFront (option_map next tree) now later err-now err-later → PrintsFront (option_map both tree) out later err err-later
+PrintsFront-both None first next more both out now later err err-now err-later matched is p q = tt
+PrintsFront-both (Some s) first next more both out now later err err-now err-later matched is p q =
     subst (λ (printed : Printed). PrintsFront (Some printed) out later err err-later) (sym (is s))
     (front_left _ _ out later (front_right _ _ out now later p.0 q.0), front_left _ _ err err-later (front_right _ _ err err-now err-later p.1 q.1))
 
@@ -155,23 +155,23 @@ Prints-none (Some s) printed out err = (Grows-same out, Grows-same err, refl)
 pub mapped_more : {X : Type 0} (f : X → List ℕ) (xs : List X) (i : ℕ) (x : X) → i < length xs → x ≡ get_or xs i x → map f (take (i + 1) xs) ≡ map f (take i xs) ++ f x ∷ []
 mapped_more f xs i x low is = ap (map f) (take_more xs i x low ∙ ap (λ y. take i xs ++ y ∷ []) (sym is)) ∙ map-append f (take i xs) (x ∷ [])
 
-pub all_append : (printed : List ℕ → Printed) (xs ys : List (List ℕ)) → all_printed printed (xs ++ ys) ≡ sequel (all_printed printed xs) (all_printed printed ys)
+pub all_append : (printed : List ℕ → Printed) (xs ys : List (List ℕ)) → all_printed printed (xs ++ ys) ≡ both_printed (all_printed printed xs) (all_printed printed ys)
 unfolding all_printed
 all_append printed [] ys = refl
 all_append printed (name ∷ xs) ys =
-    ap (λ (rest : Printed). sequel (printed name) rest) (all_append printed xs ys)
-    ∙ sequel_sequel (printed name) (all_printed printed xs) (all_printed printed ys)
+    ap (λ (rest : Printed). both_printed (printed name) rest) (all_append printed xs ys)
+    ∙ both_printed-assoc (printed name) (all_printed printed xs) (all_printed printed ys)
 
 pub mapped_rest : {X : Type 0} (f : X → List ℕ) (xs : List X) (i : ℕ) (x : X) → i < length xs → x ≡ get_or xs i x → map f xs ≡ (map f (take i xs) ++ f x ∷ []) ++ map f (drop (i + 1) xs)
 mapped_rest f xs i x low is =
     ap (map f) (sym (take-append-drop (i + 1) xs)) ∙ map-append f (take (i + 1) xs) (drop (i + 1) xs)
     ∙ ap (λ l. l ++ map f (drop (i + 1) xs)) (mapped_more f xs i x low is)
 
-pub all_mapped : {X : Type 0} (printed : List ℕ → Printed) (f : X → List ℕ) (xs : List X) (i : ℕ) (x : X) → i < length xs → x ≡ get_or xs i x → all_printed printed (map f xs) ≡ sequel (sequel (all_printed printed (map f (take i xs))) (printed (f x))) (all_printed printed (map f (drop (i + 1) xs)))
+pub all_mapped : {X : Type 0} (printed : List ℕ → Printed) (f : X → List ℕ) (xs : List X) (i : ℕ) (x : X) → i < length xs → x ≡ get_or xs i x → all_printed printed (map f xs) ≡ both_printed (both_printed (all_printed printed (map f (take i xs))) (printed (f x))) (all_printed printed (map f (drop (i + 1) xs)))
 all_mapped printed f xs i x low is =
     ap (all_printed printed) (mapped_rest f xs i x low is)
     ∙ all_append printed (map f (take i xs) ++ f x ∷ []) (map f (drop (i + 1) xs))
-    ∙ ap (λ (first : Printed). sequel first (all_printed printed (map f (drop (i + 1) xs)))) (all_more printed (map f (take i xs)) (f x))
+    ∙ ap (λ (first : Printed). both_printed first (all_printed printed (map f (drop (i + 1) xs)))) (all_more printed (map f (take i xs)) (f x))
 
 -- ---- faults
 

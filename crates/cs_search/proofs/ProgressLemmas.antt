@@ -13,20 +13,20 @@ use Rattle.cs_search.specs.declared.grep_fault.ReadFault.TheVariants.{Read, TooL
 use Rattle.cs_search.specs.declared.stop.Stop.{Stop}
 use Rattle.cs_search.specs.declared.stop.Stop.TheVariants.{Listed, End, Left}
 use Rattle.cs_match.specs.Lines.{ended_lines}
-use Rattle.cs_match.specs.Unended.{unended}
+use Rattle.cs_match.specs.LastPart.{last_part}
 use Rattle.cs_search.specs.InputReport.{fault_within, fault_at}
 use Rattle.cs_search.specs.TestedLines.{Tests, IsListed}
 use Rattle.cs_search.specs.Progress.{HasRead, HasTested, StopsHere, Stops, FindsBy, stop_fault}
-use Rattle.cs_match.proofs.LinesLemmas.{ended_lines-append, unended-append}
+use Rattle.cs_match.proofs.LinesLemmas.{ended_lines-append, last_part-append}
 use Rattle.cs_search.proofs.TestedLemmas.{IsListed-after, IsListed-more}
 
 -- ---- before anything is read
 
 pub HasRead-none : (told : Option Told) (n : ℕ) (rest : List ℕ) (lines : ℕ) → n ≡ 0 → rest ≡ [] → lines ≡ 0 → HasRead told told n rest lines
-unfolding unended ended_lines
+unfolding last_part ended_lines
 HasRead-none None n rest lines none empty first = tt
 HasRead-none (Some told) n rest lines none empty first =
-    subst (λ k. (k ≤ length told.bytes) × (told.bytes ≡ take k told.bytes ++ told.bytes) × (told.ending ≡ told.ending) × (rest ≡ unended (take k told.bytes)) × (lines ≡ length (ended_lines (take k told.bytes)))) (sym none) (omega arith, refl, refl, empty, first)
+    subst (λ k. (k ≤ length told.bytes) × (told.bytes ≡ take k told.bytes ++ told.bytes) × (told.ending ≡ told.ending) × (rest ≡ last_part (take k told.bytes)) × (lines ≡ length (ended_lines (take k told.bytes)))) (sym none) (omega arith, refl, refl, empty, first)
 
 pub HasTested-none : (told : Option Told) (n : ℕ) (Tested : List (List ℕ) → Type 0) → n ≡ 0 → Tested [] → HasTested told n Tested
 unfolding ended_lines
@@ -43,7 +43,7 @@ front_more told left later n piece within split next =
     ∙ ap (λ r. take n told.bytes ++ r) (take_at piece later.bytes (length piece) refl)
 
 module _ (n : ℕ) (rest piece : List ℕ) (lines : ℕ) where
-  pub HasRead-more : (told left later : Option Told) (now : List ℕ) (counted : ℕ) → HasRead told left n rest lines → Loses left later piece → now ≡ unended (rest ++ piece) → counted ≡ lines + length (ended_lines (rest ++ piece)) → HasRead told later (n + length piece) now counted
+  pub HasRead-more : (told left later : Option Told) (now : List ℕ) (counted : ℕ) → HasRead told left n rest lines → Loses left later piece → now ≡ last_part (rest ++ piece) → counted ≡ lines + length (ended_lines (rest ++ piece)) → HasRead told later (n + length piece) now counted
   HasRead-more None left later now counted r l u e = tt
   HasRead-more (Some told) None later now counted r l u e = absurd r
   HasRead-more (Some told) (Some left) None now counted r l u e = absurd l
@@ -54,7 +54,7 @@ module _ (n : ℕ) (rest piece : List ℕ) (lines : ℕ) where
         omega (arith, ap (λ (b : List ℕ). length b) whole, length-append (take n told.bytes ++ piece) later.bytes, length-append (take n told.bytes) piece, length-take n told.bytes, r.0),
         whole ∙ ap (λ b. b ++ later.bytes) (sym front),
         r.2 ∙ l.1,
-        u ∙ ap (λ b. unended (b ++ piece)) r.3 ∙ sym (unended-append (take n told.bytes) piece) ∙ ap unended (sym front),
+        u ∙ ap (λ b. last_part (b ++ piece)) r.3 ∙ sym (last_part-append (take n told.bytes) piece) ∙ ap last_part (sym front),
         e ∙ omega (arith, r.4, ap (λ (ls : List (List ℕ)). length ls) ended, length-append (ended_lines (take n told.bytes)) (ended_lines (rest ++ piece))),
       )
 
@@ -136,8 +136,8 @@ pub Stops-past : (stop : Stop) (told left : Option Told) (n most : ℕ) (rest : 
 Stops-past stop None left n most rest lines full r h = tt
 Stops-past stop (Some told) None n most rest lines full r h = absurd r
 Stops-past Listed (Some told) (Some left) n most rest lines full r h = absurd h
-Stops-past End (Some told) (Some left) n most rest lines full r h = (fault_here told left n most full r.0 r.1 r.2 End h, r.3 ∙ ap (λ k. unended (take k told.bytes)) full, r.4 ∙ ap (λ k. length (ended_lines (take k told.bytes))) full)
-Stops-past (Left fault) (Some told) (Some left) n most rest lines full r h = (fault_here told left n most full r.0 r.1 r.2 (Left fault) h, r.3 ∙ ap (λ k. unended (take k told.bytes)) full, r.4 ∙ ap (λ k. length (ended_lines (take k told.bytes))) full)
+Stops-past End (Some told) (Some left) n most rest lines full r h = (fault_here told left n most full r.0 r.1 r.2 End h, r.3 ∙ ap (λ k. last_part (take k told.bytes)) full, r.4 ∙ ap (λ k. length (ended_lines (take k told.bytes))) full)
+Stops-past (Left fault) (Some told) (Some left) n most rest lines full r h = (fault_here told left n most full r.0 r.1 r.2 (Left fault) h, r.3 ∙ ap (λ k. last_part (take k told.bytes)) full, r.4 ∙ ap (λ k. length (ended_lines (take k told.bytes))) full)
 
 -- ---- how much is lost
 

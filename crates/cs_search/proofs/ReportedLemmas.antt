@@ -5,7 +5,7 @@ use Rattle.cs_words.specs.declared.jobs.Style.{Style}
 use Rattle.cs_search.specs.declared.tally.Tally.{Tally}
 use Rattle.cs_search.specs.declared.grep_fault.ReadFault.{ReadFault}
 use Rattle.cs_search.specs.declared.stop.Stop.TheVariants.{Listed, End, Left}
-use Rattle.cs_match.specs.Unended.{last_line}
+use Rattle.cs_match.specs.LastPart.{last_line}
 use Rattle.cs_search.specs.Report.{report}
 use Rattle.cs_search.specs.GrepReports.{IsReported, Reports}
 use Rattle.cs_search.specs.InputReport.{told_report, fault_within}

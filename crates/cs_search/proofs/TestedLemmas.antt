@@ -110,8 +110,8 @@ module _ (style : Style) (name : List ℕ) (finds : List ℕ → Bool) where
       let whole = Tests-more a (line ∷ []) before mid after taken now later lines first next in
       let at : mid.lines + 1 ≡ before.lines + 1 + length a = omega arith in
       let hits : hits_from (before.lines + 1) finds (a ++ line ∷ []) ≡ hits_from (mid.lines + 1) finds (line ∷ []) = hits_from-append finds (before.lines + 1) a (line ∷ []) ∙ ap (λ hs. hs ++ hits_from (before.lines + 1 + length a) finds (line ∷ [])) none_before ∙ ap (λ n. hits_from n finds (line ∷ [])) (sym at) in
-      let few = few_hits (mid.lines + 1) line in
-      let one = one_hit (hits_from (before.lines + 1) finds (a ++ line ∷ [])) taken later list (omega (arith, next.hits, ap (λ (hs : List Hit). length hs) hits)) (omega (arith, few, ap (λ (hs : List Hit). length hs) hits)) whole.written in
+      let bound = few_hits (mid.lines + 1) line in
+      let one = one_hit (hits_from (before.lines + 1) finds (a ++ line ∷ [])) taken later list (omega (arith, next.hits, ap (λ (hs : List Hit). length hs) hits)) (omega (arith, bound, ap (λ (hs : List Hit). length hs) hits)) whole.written in
       record { listed = list; found = one.0; hits = some; written = one.1 }
 
   -- and more lines change nothing

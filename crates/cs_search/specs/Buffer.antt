@@ -16,4 +16,5 @@ pub record Gains (old new : List ℕ) (n : ℕ) : Type 0 where
 -- A read gives these bytes, and none only at the end. A refused one gives none.
 abbrev pub Fills : Option Told → Option Told → Result ℕ IoFault → List ℕ → Type 0
 Fills told later answer bytes =
-    MatchResult answer (λ n. Loses told later bytes × (n ≡ 0 → IsAt ends later)) (λ fault. Loses told later [] × RefusedBy fault later)
+    MatchResult answer (λ n. Loses told later bytes × (n ≡ 0 → IsAt ends later))
+    (λ fault. Loses told later [] × RefusedBy fault later)

@@ -32,6 +32,7 @@ pub mod Refusals
 pub mod Cgrep
 pub mod CgrepFaults
 pub mod Csearch
+pub mod Searched
 pub mod StoredSearch
 pub mod Buffer
 pub mod SameSearch
@@ -42,4 +43,3 @@ pub mod Searcher
 pub mod Programs
 pub mod IndexSearch
 pub mod Plans
-pub mod Searched

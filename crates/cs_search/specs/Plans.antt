@@ -16,7 +16,8 @@ use Rattle.cs_search.specs.Programs.{IsProgramOf}
 
 -- It has a query for the pattern, and programs that find what both patterns do.
 pub record IsPlan (job : SearchJob) (plan : Plan) : Type 0 where
-  pub query : (pattern : Tree) → Reads (string_bytes job.pattern) job.fold pattern → IsQueryOf job.brute pattern plan.query
+  pub query : (pattern : Tree) → Reads (string_bytes job.pattern) job.fold pattern →
+      IsQueryOf job.brute pattern plan.query
   pub program : IsProgramOf (string_bytes job.pattern) job.fold plan.program
   pub file : IsCompiled (file_text job) plan.file
 

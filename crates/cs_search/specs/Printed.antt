@@ -55,8 +55,8 @@ module _ (most : ℕ) (tool : Tool) (style : Style) (finds : List ℕ → Bool) 
   file_printed tree name = opened_printed name (opening_of (item_at tree name))
 
 -- one after the other
-abbrev pub sequel : Printed → Printed → Printed
-sequel first next = record {
+abbrev pub both_printed : Printed → Printed → Printed
+both_printed first next = record {
   output = first.output ++ next.output;
   errors = first.errors ++ next.errors;
   matched = first.matched || next.matched;
@@ -68,7 +68,7 @@ nothing = record { output = []; errors = []; matched = false }
 -- of inputs with these names, in their order
 unfoldable pub all_printed : (List ℕ → Printed) → List (List ℕ) → Printed
 all_printed printed [] = nothing
-all_printed printed (name ∷ names) = sequel (printed name) (all_printed printed names)
+all_printed printed (name ∷ names) = both_printed (printed name) (all_printed printed names)
 
 -- by cgrep, of files with these names, in this order
 unfoldable pub searched_by_cgrep : ℕ → Style → (List ℕ → Bool) → Snapshot → List (List ℕ) → Printed

@@ -9,7 +9,7 @@ use Rattle.cs_search.specs.declared.grep_fault.GrepFault.{GrepFault}
 use Rattle.cs_search.specs.declared.stop.Stop.{Stop}
 use Rattle.cs_search.specs.declared.stop.Stop.TheVariants.{Listed, End, Left}
 use Rattle.cs_match.specs.Lines.{ended_lines}
-use Rattle.cs_match.specs.Unended.{unended}
+use Rattle.cs_match.specs.LastPart.{last_part}
 use Rattle.cs_search.specs.InputReport.{fault_within}
 use Rattle.cs_search.specs.GrepFaults.{is_failed_read}
 use Rattle.cs_search.specs.TestedLines.{Tests, TestsFront, IsListed}
@@ -19,7 +19,8 @@ abbrev pub HasRead : Option Told → Option Told → ℕ → List ℕ → ℕ �
 HasRead None later n rest lines = Unit {0}
 HasRead (Some told) None n rest lines = ⊥
 HasRead (Some told) (Some left) n rest lines =
-    (n ≤ length told.bytes) × (told.bytes ≡ take n told.bytes ++ left.bytes) × (told.ending ≡ left.ending) × (rest ≡ unended (take n told.bytes)) × (lines ≡ length (ended_lines (take n told.bytes)))
+    (n ≤ length told.bytes) × (told.bytes ≡ take n told.bytes ++ left.bytes) × (told.ending ≡ left.ending)
+    × (rest ≡ last_part (take n told.bytes)) × (lines ≡ length (ended_lines (take n told.bytes)))
 
 -- The lines that ended in the first n bytes were tested.
 abbrev pub HasTested : Option Told → ℕ → (List (List ℕ) → Type 0) → Type 0
@@ -43,17 +44,21 @@ StopsHere (Left TooLong) (Some told) = 0 < length told.bytes
 abbrev pub StopsAt : ℕ → Stop → Told → List ℕ → ℕ → Type 0
 StopsAt most Listed told rest lines = Unit {0}
 StopsAt most stop told rest lines =
-    (fault_within most told ≡ stop_fault stop) × (rest ≡ unended (take most told.bytes)) × (lines ≡ length (ended_lines (take most told.bytes)))
+    (fault_within most told ≡ stop_fault stop) × (rest ≡ last_part (take most told.bytes))
+    × (lines ≡ length (ended_lines (take most told.bytes)))
 
 abbrev pub Stops : ℕ → Stop → Option Told → List ℕ → ℕ → Type 0
 Stops most stop None rest lines = Unit {0}
 Stops most stop (Some told) rest lines = StopsAt most stop told rest lines
 
-module _ (style : Style) (name : List ℕ) (finds : List ℕ → Bool) (before after : Tally) (taken later : Option Taken) where
+module _ (style : Style) (name : List ℕ) (finds : List ℕ → Bool) (before after : Tally)
+    (taken later : Option Taken) where
   -- and what was found and printed there
   abbrev pub FindsAt : ℕ → Stop → Told → Type 0
-  FindsAt most Listed told = IsListed style name finds (ended_lines (take most told.bytes)) (before.lines + 1) after taken later
-  FindsAt most stop told = Tests style name finds (ended_lines (take most told.bytes)) before after taken later
+  FindsAt most Listed told =
+      IsListed style name finds (ended_lines (take most told.bytes)) (before.lines + 1) after taken later
+  FindsAt most stop told =
+      Tests style name finds (ended_lines (take most told.bytes)) before after taken later
 
   abbrev pub FindsBy : ℕ → Stop → Option Told → Type 0
   FindsBy most stop None = Unit {0}

@@ -23,7 +23,8 @@ pub record IsSearch (job : SearchJob) (index : Option (List ℕ)) (tree : Option
   pub promised : IfOk answer (λ status. PrintsAsPromised MOST_SEARCHED job index tree
       (λ printed. PrintsStatus printed out out' err err' status))
   pub front : OnErr answer (PrintsNothing out out' err err'
-      ⊎ (AreAccepted job × PrintsAsked MOST_SEARCHED job index tree (λ printed. PrintsSome printed out out' err err')))
+      ⊎ (AreAccepted job × PrintsAsked MOST_SEARCHED job index tree
+      (λ printed. PrintsSome printed out out' err err')))
   pub front_agrees : OnErr answer (PrintsLikeCgrep MOST_SEARCHED job index tree
       (λ printed. PrintsSome printed out out' err err'))
   pub refused : RefusedInOrder job index answer

@@ -31,10 +31,12 @@ Prints (Some printed) out out' err err' matched = IsPrinted printed out out' err
 -- Of this each output has taken a front, where what was searched tells its bytes. Nothing was flushed.
 abbrev pub PrintsFront : Option Printed → Option Taken → Option Taken → Option Taken → Option Taken → Type 0
 PrintsFront None out out' err err' = Unit {0}
-PrintsFront (Some printed) out out' err err' = TakesFront printed.output out out' × TakesFront printed.errors err err'
+PrintsFront (Some printed) out out' err err' =
+    TakesFront printed.output out out' × TakesFront printed.errors err err'
 
 -- The lines of some faults of the names were printed, and where the call was refused a front of them.
-abbrev pub PrintsAllFaults : {A E : Type 0} → Tool → List (List ℕ) → ℕ → ℕ → Option Taken → Option Taken → Result A E → Type 0
+abbrev pub PrintsAllFaults : {A E : Type 0} → Tool → List (List ℕ) → ℕ → ℕ → Option Taken → Option Taken →
+    Result A E → Type 0
 PrintsAllFaults tool names failed failed' err err' result =
     PrintsFaults tool names failed failed' (λ lines. TakesAll lines err err' result)
 

@@ -11,7 +11,8 @@ abbrev pub IsOpened : Option (List ℕ) → Result StoredParts IndexFault → Ty
 IsOpened told opened = IfSome told (λ bytes. OpensAs bytes opened)
 
 -- What holds of the index and of the answer, where a store could be read and tells the bytes of the index.
-abbrev pub IfRead : {A : Type 0} → Option (List ℕ) → Result A IoFault → (Option (List ℕ) → A → Type 0) → Type 0
+abbrev pub IfRead : {A : Type 0} → Option (List ℕ) → Result A IoFault → (Option (List ℕ) → A → Type 0) →
+    Type 0
 IfRead told (Ok answer) Holds = IfSome told (λ bytes. Holds (Some bytes) answer)
 IfRead told (Err fault) Holds = Unit {0}
 

@@ -10,13 +10,16 @@ use Rattle.cs_search.specs.Report.{Hit, hits_from, hit_line, some_hit, hits_outp
 
 -- what is printed at a hit
 unfoldable pub hit_output : Style → List ℕ → Hit → List ℕ
-hit_output style name hit = if style.list then name ++ newline ∷ [] else (if style.count then [] else hit_line style name hit)
+hit_output style name hit =
+    if style.list then name ++ newline ∷ [] else (if style.count then [] else hit_line style name hit)
 
 -- These lines were tested after those that the first tally counts: they and their hits are counted, and what is
 -- printed at the hits was written.
-pub record Tests (style : Style) (name : List ℕ) (finds : List ℕ → Bool) (lines : List (List ℕ)) (before after : Tally) (taken later : Option Taken) : Type 0 where
+pub record Tests (style : Style) (name : List ℕ) (finds : List ℕ → Bool) (lines : List (List ℕ))
+    (before after : Tally) (taken later : Option Taken) : Type 0 where
   pub hits : after.hits ≡ before.hits + length (hits_from (before.lines + 1) finds lines)
-  pub written : Grows taken later (flat_map (hit_output style name) (hits_from (before.lines + 1) finds lines))
+  pub written : Grows taken later (flat_map (hit_output style name)
+      (hits_from (before.lines + 1) finds lines))
 
 -- A refused test of these lines, of which the first has this number, has written a front of what is printed at their
 -- hits.
@@ -26,7 +29,8 @@ TestsFront style name finds lines first taken later =
     TakesFront (hits_output style name false (hits_from first finds lines)) taken later
 
 -- With `-l` something was found in one of these lines, and the name was written.
-pub record IsListed (style : Style) (name : List ℕ) (finds : List ℕ → Bool) (lines : List (List ℕ)) (first : ℕ) (after : Tally) (taken later : Option Taken) : Type 0 where
+pub record IsListed (style : Style) (name : List ℕ) (finds : List ℕ → Bool) (lines : List (List ℕ))
+    (first : ℕ) (after : Tally) (taken later : Option Taken) : Type 0 where
   pub listed : style.list ≡ true
   pub found : some_hit (hits_from first finds lines) ≡ true
   pub hits : 0 < after.hits
@@ -36,4 +40,6 @@ pub record IsListed (style : Style) (name : List ℕ) (finds : List ℕ → Bool
 unfoldable pub total : Style → List ℕ → ℕ → List ℕ
 total style name count =
     if style.list then []
-    else (if style.count then (if nat_lt 0 count then name ++ (codes ": " ++ (decimal count ++ newline ∷ [])) else []) else [])
+    else (if style.count
+    then (if nat_lt 0 count then name ++ (codes ": " ++ (decimal count ++ newline ∷ [])) else [])
+    else [])

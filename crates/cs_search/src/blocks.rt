@@ -6,7 +6,7 @@ ghost use Rattle.cs_match.specs.Finding.{Decides};
 ghost use Rattle.cs_match.specs.Lines.{newline, ended_lines};
 ghost use Rattle.cs_match.specs.LineParts.{IsPart};
 ghost use Rattle.cs_match.specs.Skipping.{AreWhole, NoneFound};
-ghost use Rattle.cs_match.specs.Unended.{unended};
+ghost use Rattle.cs_match.specs.LastPart.{last_part};
 ghost use Rattle.cs_search.specs.TestedLines.{Tests, TestsFront, IsListed};
 
 use crate::form::Form;
@@ -163,7 +163,7 @@ pub(crate) fn search_block<O: Sink>(
     requires room { tally.old.lines + length block.now < 2 ^ 64 }
     requires unlisted { form.now.style.list ≡ true → tally.old.hits ≡ 0 }
     ensures rest { IfOk result (λ answer. IfSome answer
-        (λ start. (start ≤ length block.now) × (drop start block.now ≡ unended block.now))) }
+        (λ start. (start ≤ length block.now) × (drop start block.now ≡ last_part block.now))) }
     ensures lines { IfOk result (λ answer. IfSome answer
         (λ start. tally.new.lines ≡ tally.old.lines + length (ended_lines block.now))) }
     ensures tests { IfOk result (λ answer. (finds : List ℕ → Bool) → Decides finds matcher.old →

@@ -21,7 +21,7 @@ pub struct LineBuffer {
 }
 
 impl LineBuffer {
-    ghost use Rattle.std.specs.Prelude.{ℕ, ◌^◌, [], OnOk, OnErr};
+    ghost use Rattle.std.specs.Prelude.{◌^◌, [], OnOk, OnErr};
     ghost use Rattle.cs_search.specs.Buffer.{pending, Gains, Fills};
 
     /// A buffer with nothing in it.
@@ -109,7 +109,7 @@ impl LineBuffer {
     #[tactic(auto, unfolding(crate::specs::Buffer::pending))]
     pub(crate) fn fill<R: Source>(&mut self, input: &mut R, most: usize) -> Result<usize, IoFault>
         requires some { 0 < most }
-        requires few { length (pending self.old) < 2 ^ 32 }
+        requires bound { length (pending self.old) < 2 ^ 32 }
         ensures within { IfOk result (λ n. n ≤ most) }
         ensures gains { IfOk result (λ n. Gains (pending self.old) (pending self.new) n) }
         ensures told { Fills (R.told input.old) (R.told input.new) result

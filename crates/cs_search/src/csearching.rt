@@ -5,7 +5,6 @@ ghost use Rattle.cs_tree.specs.Taken.{EndsAfter};
 ghost use Rattle.cs_tree.specs.Told.{HasFlushed};
 ghost use Rattle.cs_match.specs.Finding.{Decides};
 ghost use Rattle.cs_index.specs.OpenedParts.{Parts};
-ghost use Rattle.cs_tree.specs.Snapshot.{Snapshot};
 ghost use Rattle.cs_words.specs.declared.jobs.Tool.TheVariants.{Csearch};
 ghost use Rattle.cs_search.specs.Searcher.{IsSearchFault, IsKept, Prints, PrintsFront, PrintsAllFaults};
 ghost use Rattle.cs_search.specs.Refusals.{has_write_failed, QuietAtRefusal};

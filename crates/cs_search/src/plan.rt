@@ -1,7 +1,6 @@
 // What a job of csearch is to search for, before anything of an index or of a file is looked at.
 ghost use Rattle.std.specs.Prelude.{◌≡◌, ℕ, Bool, List, Option, IfOk, IfErr, OnErr, option_map, filter};
 ghost use Rattle.cs_tree.specs.Failures.{CountsOne};
-ghost use Rattle.cs_tree.specs.Snapshot.{Snapshot};
 ghost use Rattle.cs_match.specs.Finding.{Decides};
 ghost use Rattle.cs_words.specs.declared.jobs.Tool.TheVariants.{Csearch};
 ghost use Rattle.cs_search.specs.Csearch.{IsQueryOf};

@@ -28,11 +28,11 @@ pub(crate) fn search_input<R: Source, O: Sink>(
     matcher: &mut Matcher<'_>,
     out: &mut O,
 ) -> Result<Stop, GrepFault>
-    requires few { most < 2 ^ 32 }
+    requires bound { most < 2 ^ 32 }
     requires lines { tally.old.lines ≡ 0 }
     requires hits { tally.old.hits ≡ 0 }
     requires empty { pending buffer.old ≡ [] }
-    ensures few { IfOk result (λ stop. UnlessListed stop
+    ensures bound { IfOk result (λ stop. UnlessListed stop
         (tally.new.lines + length (pending buffer.new) ≤ most)) }
     ensures stops { IfOk result (λ stop. Stops most stop
         (R.told input.old) (pending buffer.new) tally.new.lines) }

@@ -4,7 +4,7 @@ ghost use Rattle.cs_tree.specs.Loss.{LosesAtMost};
 ghost use Rattle.cs_tree.specs.Failures.{count_if};
 ghost use Rattle.cs_tree.specs.FailureCount.{count_after};
 ghost use Rattle.cs_match.specs.Finding.{Decides};
-ghost use Rattle.cs_match.specs.Unended.{last_line};
+ghost use Rattle.cs_match.specs.LastPart.{last_line};
 ghost use Rattle.cs_search.specs.GrepReports.{Reports, ReportsFront};
 ghost use Rattle.cs_search.specs.InputReport.{told_report};
 ghost use Rattle.cs_search.specs.GrepFaults.{is_grep_failure, has_read_failed};

@@ -1,21 +1,18 @@
 // The tool that searches by an index that lies in a store.
-ghost use Rattle.std.specs.Prelude.{◌≡◌, ◌⊎◌, ℕ, List, Option, IfOk, IfErr, OnOk, OnErr, false};
+ghost use Rattle.std.specs.Prelude.{◌≡◌, IfOk, IfErr, OnOk, false};
 ghost use Rattle.cs_tree.specs.Failures.{CountsOne};
 ghost use Rattle.cs_tree.specs.FailureCount.{count_after};
-ghost use Rattle.cs_tree.specs.Taken.{EndsAfter};
 ghost use Rattle.cs_tree.specs.Told.{HasFlushed};
 ghost use Rattle.cs_tree.specs.Transfers.{is_io_failure};
-ghost use Rattle.cs_index.specs.OpenedParts.{Parts};
-ghost use Rattle.cs_words.specs.declared.jobs.Tool.TheVariants.{Csearch};
 ghost use Rattle.cs_search.specs.Refusals.{has_write_failed, QuietAtRefusal};
-ghost use Rattle.cs_search.specs.Csearch.{OpensWith, PrintsAsked, PrintsLikeCgrep, PrintsAsPromised, AreAccepted, RefusedInOrder};
+ghost use Rattle.cs_search.specs.Csearch.{AreAccepted};
 ghost use Rattle.cs_search.specs.Plans.{IsPlan, IsLent, RefusesPlan};
-ghost use Rattle.cs_search.specs.Printed.{PrintsStatus, PrintsNothing, PrintsSome, PrintsFaults};
+ghost use Rattle.cs_search.specs.Printed.{PrintsNothing};
+ghost use Rattle.cs_search.specs.Searched.{IsSearch};
 ghost use Rattle.cs_search.specs.StoredSearch.{IsOpened, IfRead, has_output_failed};
 
 use crate::csearching::search_by;
 use crate::plan::Plan;
-use crate::report::MOST_SEARCHED;
 use crate::status::Status;
 use cs_index::{IndexFault, Restriction, StoredIndex};
 use cs_tree::{IoFault, Sink, Store, Tree};
@@ -35,34 +32,11 @@ pub fn csearch_stored<S: Store, T: Tree, O: Sink, E: Sink>(
     err: &mut E,
 ) -> Result<Result<Status, ToolFault>, IoFault>
     requires { IsOpened (S.told store.old) opened }
-    ensures prints { IfRead (S.told store.old) result (λ index answer.
-        IfOk answer (λ status. PrintsAsked MOST_SEARCHED job.now index (T.snapshot tree.old)
-        (λ printed. PrintsStatus printed
-        (O.taken out.old) (O.taken out.new) (E.taken err.old) (E.taken err.new) status))) }
-    ensures agrees { IfRead (S.told store.old) result (λ index answer.
-        IfOk answer (λ status. PrintsLikeCgrep MOST_SEARCHED job.now index (T.snapshot tree.old)
-        (λ printed. PrintsStatus printed
-        (O.taken out.old) (O.taken out.new) (E.taken err.old) (E.taken err.new) status))) }
-    ensures promised { IfRead (S.told store.old) result (λ index answer.
-        IfOk answer (λ status. PrintsAsPromised MOST_SEARCHED job.now index (T.snapshot tree.old)
-        (λ printed. PrintsStatus printed
-        (O.taken out.old) (O.taken out.new) (E.taken err.old) (E.taken err.new) status))) }
-    ensures front { IfRead (S.told store.old) result (λ index answer. OnErr answer
-        (PrintsNothing (O.taken out.old) (O.taken out.new) (E.taken err.old) (E.taken err.new)
-        ⊎ (AreAccepted job.now × PrintsAsked MOST_SEARCHED job.now index (T.snapshot tree.old)
-        (λ printed. PrintsSome printed
-        (O.taken out.old) (O.taken out.new) (E.taken err.old) (E.taken err.new))))) }
-    ensures front_agrees { IfRead (S.told store.old) result (λ index answer.
-        OnErr answer (PrintsLikeCgrep MOST_SEARCHED job.now index (T.snapshot tree.old)
-        (λ printed. PrintsSome printed
-        (O.taken out.old) (O.taken out.new) (E.taken err.old) (E.taken err.new)))) }
-    ensures refused { IfRead (S.told store.old) result (RefusedInOrder job.now) }
+    ensures searches { IfRead (S.told store.old) result (λ index answer.
+        IsSearch job.now index (T.snapshot tree.old) (T.failed tree.old) (T.failed tree.new)
+        (O.taken out.old) (O.taken out.new) (E.taken err.old) (E.taken err.new) answer) }
     ensures quiet { IfOk result (λ answer. QuietAtRefusal answer
         (PrintsNothing (O.taken out.old) (O.taken out.new) (E.taken err.old) (E.taken err.new))) }
-    ensures faults { IfRead (S.told store.old) result (λ index answer. (parts : Parts) →
-        OpensWith index parts → PrintsFaults Csearch parts.names
-        (T.failed tree.old) (T.failed tree.new)
-        (λ lines. EndsAfter lines (E.taken err.old) (E.taken err.new) answer)) }
     ensures unread { IfErr result (λ _. AreAccepted job.now
         × (T.failed tree.new ≡ T.failed tree.old)
         × PrintsNothing (O.taken out.old) (O.taken out.new) (E.taken err.old) (E.taken err.new)) }

@@ -7,7 +7,7 @@ ghost use Rattle.cs_match.specs.Lines.{ended_lines};
 pub(crate) struct Tally {
     pub(crate) lines: u64,
     pub(crate) hits: u64,
-    ghost few: { hits ≤ lines },
+    ghost bound: { hits ≤ lines },
 }
 
 impl Tally {

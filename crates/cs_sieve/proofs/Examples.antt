@@ -4,7 +4,7 @@ use Rattle.cs_sieve.specs.declared.window.Window.{Window}
 use Rattle.cs_sieve.specs.declared.tables.Halves.{Halves}
 use Rattle.cs_sieve.specs.declared.tables.Tables.{Tables}
 use Rattle.cs_sieve.specs.Codes.{groups, code}
-use Rattle.cs_sieve.specs.Standing.{Stands}
+use Rattle.cs_sieve.specs.Stands.{Stands}
 
 -- one cell of sixteen, and the others 0
 cell : ℕ → ℕ → List ℕ

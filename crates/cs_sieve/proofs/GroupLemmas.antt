@@ -6,7 +6,7 @@ use Rattle.std.proofs.lemmas.Nat.Bits.{bit_at-zero, bit_at_and, bit_at_or, bit_a
 use Rattle.std.proofs.lemmas.List.{get_or-set_same, get_or-set_other}
 use Rattle.cs_sieve.specs.declared.tables.Tables.{Tables}
 use Rattle.cs_sieve.specs.declared.window.Window.{Window}
-use Rattle.cs_sieve.specs.Standing.{Stands}
+use Rattle.cs_sieve.specs.Stands.{Stands}
 use Rattle.cs_sieve.specs.Codes.{groups, IsIn, HasGroupsOf, code, code_at, HasCodesOf, HasGroup}
 
 -- a bit that both have

@@ -1,6 +1,6 @@
 // A sieve for windows of three neighbouring bytes.
 ghost use Rattle.std.specs.Prelude.{◌≡◌, ◌≤◌, ◌<◌, ◌+◌, ◌↔◌, length, Any, IsTrue};
-ghost use Rattle.cs_sieve.specs.Standing.{NoneStands, Stands};
+ghost use Rattle.cs_sieve.specs.Stands.{NoneStands, Stands};
 
 use crate::tables::Tables;
 use crate::window::Window;

@@ -1,6 +1,6 @@
 // Windows of three neighbouring bytes.
 ghost use Rattle.std.specs.Prelude.{◌<◌, ◌+◌, ◌↔◌, length, IsTrue};
-ghost use Rattle.cs_sieve.specs.Standing.{Stands};
+ghost use Rattle.cs_sieve.specs.Stands.{Stands};
 
 use cs_syntax::ByteSet;
 

@@ -2,6 +2,7 @@
 use Rattle.std.proofs.Common.{cond, ◌≡◌, ℕ, zero, suc, ◌+◌, ◌-◌, ◌<◌, ◌≤◌, ◌⊎◌, inl, inr, Bool, true, false, ◌&&◌, ◌||◌, not, List, [], ◌∷◌, ◌++◌, length, take, drop, get_or, min, max, refl, sym, ap, ap₂, subst, true≢false, ◌∙◌, arith}
 use Rattle.std.specs.Prelude.{nat_le, nat_lt, All, Some, slice_get, if◌then◌else◌}
 use Rattle.std.specs.Char.{scalar_index}
+use Rattle.std.proofs.Math.Bool.{and-or_distrib_left, or-false, or_assoc}
 use Rattle.std.specs.List.{count_by, range_with_len}
 use Rattle.std.proofs.lemmas.List.Sums.{sum_by-cons}
 use Rattle.std.proofs.lemmas.List.Elements.{All-push}
@@ -28,24 +29,12 @@ is_in r c = nat_le r.0 c && nat_le c r.1
 pub is_in_tells : (low high c : ℕ) → ((is_in (low, high) c ≡ true) × (low ≤ c) × (c ≤ high)) ⊎ ((is_in (low, high) c ≡ false) × ((c < low) ⊎ (high < c)))
 is_in_tells low high c = grind (arith, nat_tests)
 
-or_assoc : (x y z : Bool) → (x || (y || z)) ≡ ((x || y) || z)
-or_assoc true y z = refl
-or_assoc false y z = refl
-
-or-false : (x : Bool) → (x || false) ≡ x
-or-false true = refl
-or-false false = refl
-
-pub and_or : (a x y : Bool) → (a && (x || y)) ≡ ((a && x) || (a && y))
-and_or true x y = refl
-and_or false x y = refl
-
 pub has_char-cons : (r : ℕ × ℕ) (rs : List (ℕ × ℕ)) (c : ℕ) → has_char (r ∷ rs) c ≡ ((is_scalar c && is_in r c) || has_char rs c)
-has_char-cons r rs c = and_or (is_scalar c) (is_in r c) (is_in_ranges rs c)
+has_char-cons r rs c = and-or_distrib_left (is_scalar c) (is_in r c) (is_in_ranges rs c)
 
 pub has_char-append : (xs ys : List (ℕ × ℕ)) (c : ℕ) → has_char (xs ++ ys) c ≡ (has_char xs c || has_char ys c)
 has_char-append xs ys c =
-    ap (λ b. is_scalar c && b) (list_any-append (λ r. nat_le r.0 c && nat_le c r.1) xs ys) ∙ and_or (is_scalar c) (is_in_ranges xs c) (is_in_ranges ys c)
+    ap (λ b. is_scalar c && b) (list_any-append (λ r. nat_le r.0 c && nat_le c r.1) xs ys) ∙ and-or_distrib_left (is_scalar c) (is_in_ranges xs c) (is_in_ranges ys c)
 
 pub has_char-push : (xs : List (ℕ × ℕ)) (r : ℕ × ℕ) (c : ℕ) → has_char (xs ++ r ∷ []) c ≡ (has_char xs c || (is_scalar c && is_in r c))
 has_char-push xs r c =
@@ -164,7 +153,7 @@ joined_have last (run ∷ runs) c is rise =
           ∙ joined_have (last.0, max last.1 run.1) runs c (larger_run last run is rise.1 rise.0) (RiseFrom-lower last.0 run.0 runs rise.0 rise.2)
           ∙ has_char-cons (last.0, max last.1 run.1) runs c
           ∙ ap (λ b. b || has_char runs c) (meeting last run c is rise.1 rise.0 near)
-          ∙ sym (or_assoc (is_scalar c && is_in last c) (is_scalar c && is_in run c) (has_char runs c))
+          ∙ or_assoc (is_scalar c && is_in last c) (is_scalar c && is_in run c) (has_char runs c)
           ∙ ap (λ b. (is_scalar c && is_in last c) || b) (sym (has_char-cons run runs c))
           ∙ sym (has_char-cons last (run ∷ runs) c)
     ]

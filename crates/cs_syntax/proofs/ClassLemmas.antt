@@ -1,6 +1,6 @@
 -- Classes, byte by byte and item by item.
 use Rattle.std.proofs.Common.{◌≡◌, ℕ, zero, suc, ◌+◌, ◌-◌, ◌*◌, ◌<◌, ◌≤◌, Bool, true, false, ◌&&◌, ◌||◌, not, List, [], ◌∷◌, ◌++◌, drop, get_or, length, refl, sym, ◌∙◌, ap, ap₂, arith}
-use Rattle.std.proofs.Math.Bool.{or_assoc, or-false}
+use Rattle.std.proofs.Math.Bool.{and-or_distrib_left, or_assoc, or-false}
 use Rattle.std.specs.Prelude.{Option, Some, None, codes, nat_eq, slice_index, if◌then◌else◌}
 use Rattle.std.specs.Str.{chars, chars_after, continuation_len, lead_bits}
 use Rattle.std.proofs.lemmas.Bool.Decides.{nat_tests}
@@ -12,8 +12,7 @@ use Rattle.cs_syntax.specs.CharTrees.{runs_tree, chars_tree}
 use Rattle.cs_syntax.specs.Fronts.{item, fault, unit, is_front}
 use Rattle.cs_syntax.specs.ClassSets.{is_in_item, is_in_items, class_tree}
 use Rattle.cs_syntax.specs.Classes.{name_length, ClassRest, closed, failed, with_item, items_from, class_front, piece, misread, class, class_of}
-use Rattle.cs_syntax.specs.ClassState.{with_items, HaveItems}
-use Rattle.cs_syntax.proofs.CharSetLemmas.{and_or}
+use Rattle.cs_syntax.specs.ClassState.{HaveItems}
 use Rattle.cs_syntax.specs.declared.class_item.ClassItem.{ClassItem}
 use Rattle.cs_syntax.specs.declared.fault.PatternFault.{PatternFault}
 
@@ -23,6 +22,11 @@ name_length-next text rest b s other = let e : starts_with nat_eq (b ∷ rest) (
 pub further : (at : ℕ) (o : Option ℕ) → option_map (λ n. at + n) (option_map suc o) ≡ option_map (λ n. (at + 1) + n) o
 further at None = refl
 further at (Some n) = let e : at + suc n ≡ (at + 1) + n = omega arith in ap Some e
+
+-- the items so far, before what the rest of the class reads as
+abbrev pub with_items : List ClassItem → ClassRest → ClassRest
+with_items [] rest = rest
+with_items (i ∷ is) rest = with_item i (with_items is rest)
 
 pub with_items-last : (is : List ClassItem) (i : ClassItem) (r : ClassRest) → with_items (is ++ i ∷ []) r ≡ with_items is (with_item i r)
 with_items-last [] i r = refl
@@ -65,7 +69,7 @@ any-last fold (j ∷ is) i b = or_assoc (is_in_item fold j b) (is_in_items fold 
 pub have-last : (fold : Bool) (is : List ClassItem) (i : ClassItem) (old new : List (ℕ × ℕ)) → HaveItems fold is old →
     ((c : ℕ) → has_char new c ≡ (has_char old c || (is_scalar c && is_in_item fold i c))) → HaveItems fold (is ++ i ∷ []) new
 have-last fold is i old new have more c =
-    more c ∙ ap (λ b. b || (is_scalar c && is_in_item fold i c)) (have c) ∙ sym (and_or (is_scalar c) (is_in_items fold is c) (is_in_item fold i c))
+    more c ∙ ap (λ b. b || (is_scalar c && is_in_item fold i c)) (have c) ∙ sym (and-or_distrib_left (is_scalar c) (is_in_items fold is c) (is_in_item fold i c))
     ∙ ap (λ b. is_scalar c && b) (any-last fold is i c)
 
 pub have-read : (fold : Bool) (is : List ClassItem) (ranges read : List (ℕ × ℕ)) → read ≡ ranges → HaveItems fold is ranges → HaveItems fold is read
@@ -145,13 +149,13 @@ module _ (first : ℕ) (past : 128 ≤ first) where
       let is = is_four high in sym (number_of first 3 (first - 240) (a ∷ b ∷ c ∷ others) is.0 is.1 ∙ first_char _ others)
 
   none_of : (n bits : ℕ) (others : List ℕ) → (continuation_len first ≡ n) × (lead_bits first ≡ bits) → length others < n → 0 ≡ slice_index (chars (first ∷ others)) 0
-  none_of n bits others is few = sym (number_of first n bits others is.0 is.1 ∙ ap (λ cs. slice_index cs 0) (too_few n bits others few))
+  none_of n bits others is bound = sym (number_of first n bits others is.0 is.1 ∙ ap (λ cs. slice_index cs 0) (too_few n bits others bound))
 
   pub not_two : (others : List ℕ) → first < 224 → length others < 1 → 0 ≡ slice_index (chars (first ∷ others)) 0
-  not_two others low few = none_of 1 (first - 192) others (is_two low) few
+  not_two others low bound = none_of 1 (first - 192) others (is_two low) bound
 
   pub not_three : (others : List ℕ) → 224 ≤ first → first < 240 → length others < 2 → 0 ≡ slice_index (chars (first ∷ others)) 0
-  not_three others high low few = none_of 2 (first - 224) others (is_three high low) few
+  not_three others high low bound = none_of 2 (first - 224) others (is_three high low) bound
 
   pub not_four : (others : List ℕ) → 240 ≤ first → length others < 3 → 0 ≡ slice_index (chars (first ∷ others)) 0
-  not_four others high few = none_of 3 (first - 240) others (is_four high) few
+  not_four others high bound = none_of 3 (first - 240) others (is_four high) bound

@@ -13,13 +13,14 @@ use Rattle.cs_syntax.specs.Characters.{is_scalar, StandsFrom, TakesChar}
 use Rattle.cs_syntax.specs.Lowering.{byte_range, part, parts, with_last_byte, forms, forms_within, wide_forms, all_wide_forms, ascii_forms, utf8_tree}
 use Rattle.cs_syntax.specs.Matching.{Tree, Trees, one_of, cat, none, more, member, Takes, TakesSome}
 use Rattle.cs_syntax.specs.Widths.{Fits}
-use Rattle.cs_syntax.specs.Node.{tree_of, trees_of}
+use Rattle.cs_syntax.specs.Node.{tree_of}
+use Rattle.cs_syntax.specs.NodeList.{trees_of}
 use Rattle.cs_syntax.specs.declared.node.Node.{Node}
 use Rattle.cs_syntax.specs.declared.node.Node.TheVariants.{Set, Cat}
 use Rattle.cs_syntax.proofs.NodeLemmas.{tree_of-Set, tree_of-Cat}
 use Rattle.cs_syntax.proofs.TreeLemmas.{pushed_tree, chosen_trees}
 use Rattle.cs_syntax.specs.TreeList.{append}
-use Rattle.cs_syntax.proofs.SetLemmas.{length-answers, set_of_at}
+use Rattle.cs_syntax.proofs.SetLemmas.{length-set_of, set_of_at}
 use Rattle.cs_syntax.proofs.TreeListLemmas.{takes_any, takes_append, append_assoc_trees, append_none}
 use Rattle.cs_syntax.proofs.CharSetLemmas.{scalar_tells}
 
@@ -67,15 +68,11 @@ byte_stands s i inside = stands s (get_or s i 0 ∷ []) i (suc i) (omega arith) 
 
 -- ---- a set of bytes
 
-set_len : (f : ℕ → Bool) → length (set_of f) ≡ 256
-unfolding set_of
-set_len f = length-answers f 0 256
-
 set_has : (f : ℕ → Bool) (b : ℕ) → member (set_of f) b ≡ true → (b < 256) × (f b ≡ true)
 set_has f b h =
     elim (cases_lt b 256) [
       | inl lt ↦ (lt, sym (set_of_at f b lt) ∙ h)
-      | inr past ↦ absurd (true≢false (sym h ∙ get_or_past (set_of f) b false (omega (arith, set_len f))))
+      | inr past ↦ absurd (true≢false (sym h ∙ get_or_past (set_of f) b false (omega (arith, length-set_of f))))
     ]
 
 set_takes : (s : List ℕ) (f : ℕ → Bool) (b i j : ℕ) → b < 256 → f b ≡ true → StandsFrom s (b ∷ []) i j → Takes s (one_of (set_of f)) i j

@@ -1,7 +1,8 @@
 -- The equations of `tree_of`, one for each variant.
 use Rattle.std.proofs.Common.{◌≡◌, ℕ, Bool, List, Option, Vec, Box, Global, sym, ap, ◌∙◌}
 use Rattle.cs_syntax.specs.Matching.{Tree, empty, one_of, one_char, cat, alt, rep, line_start, line_end, word_edge, not_word_edge}
-use Rattle.cs_syntax.specs.Node.{tree_of, tree_step, trees_of}
+use Rattle.cs_syntax.specs.Node.{tree_of, tree_step}
+use Rattle.cs_syntax.specs.NodeList.{trees_of}
 use Rattle.cs_syntax.specs.declared.node.Node.{Node, Node-F, fold-roll-Node}
 use Rattle.cs_syntax.specs.declared.node.Node.TheVariants.{Empty, Set, Chars, Cat, Alt, Rep, LineStart, LineEnd, WordEdge, NotWordEdge, rolls-Empty, rolls-Set, rolls-Chars, rolls-Cat, rolls-Alt, rolls-Rep, rolls-LineStart, rolls-LineEnd, rolls-WordEdge, rolls-NotWordEdge}
 

@@ -3,7 +3,7 @@ use Rattle.std.proofs.Common.{cond, ◌≡◌, ℕ, zero, suc, ◌+◌, ◌-◌,
 use Rattle.std.specs.Prelude.{nat_eq, nat_le, nat_lt, if◌then◌else◌, Result, Ok, Err, IfOk}
 use Rattle.std.specs.Char.{scalar_index}
 use Rattle.std.specs.List.{filter, range_with_len}
-use Rattle.std.proofs.Math.Bool.{and-false, and-true, or-false, or_assoc}
+use Rattle.std.proofs.Math.Bool.{and-false, and-true, and-or_distrib_left, or-false, or_assoc}
 use Rattle.std.proofs.lemmas.Bool.Decides.{nat_tests}
 use Rattle.std.proofs.lemmas.Bool.{cases_Bool, eqb-true}
 use Rattle.std.proofs.lemmas.List.Folds.{list_any-append}
@@ -15,7 +15,7 @@ use Rattle.cs_syntax.specs.ClassState.{is_other_case}
 use Rattle.cs_syntax.specs.Characters.{is_scalar, has_char, with_char, runs_through, runs_of}
 use Rattle.cs_syntax.specs.CharRuns.{IsRun, AreRunsFrom, AreRuns}
 use Rattle.cs_syntax.specs.CharTrees.{runs_tree, chars_tree}
-use Rattle.cs_syntax.proofs.CharSetLemmas.{scalar_tells, is_in, has_char-cons, has_char-append, and_or, same_runs}
+use Rattle.cs_syntax.proofs.CharSetLemmas.{scalar_tells, is_in, has_char-cons, has_char-append, same_runs}
 
 -- ---- one more character before some runs
 
@@ -231,7 +231,7 @@ abbrev pub AddsChars : List (ℕ × ℕ) → (ℕ → Bool) → List (ℕ × ℕ
 AddsChars old test new = (c : ℕ) → has_char new c ≡ (has_char old c || (is_scalar c && test c))
 
 pub chars_added : (old new : List (ℕ × ℕ)) (test : ℕ → Bool) → Adds old test new → AddsChars old test new
-chars_added old new test adds c = ap (λ b. is_scalar c && b) (adds c) ∙ and_or (is_scalar c) (is_in_ranges old c) (test c)
+chars_added old new test adds c = ap (λ b. is_scalar c && b) (adds c) ∙ and-or_distrib_left (is_scalar c) (is_in_ranges old c) (test c)
 
 pub only_added : (old new read : List (ℕ × ℕ)) (test : ℕ → Bool) → old ≡ [] → read ≡ new → AddsChars old test new → (c : ℕ) → has_char read c ≡ (is_scalar c && test c)
 only_added old new read test none same adds c =

@@ -2,7 +2,8 @@
 use Rattle.std.proofs.Common.{Bool, true, false, true≢false, ◌≡◌, ℕ, suc, ◌+◌, ◌<◌, ◌≤◌, List, [], ◌∷◌, ◌++◌, drop, length, get_or, refl, sym, ◌∙◌, ap, arith, drop-cons}
 use Rattle.cs_syntax.specs.Matching.{Trees, cat, alt, more, none}
 use Rattle.cs_syntax.specs.Fronts.{sequence}
-use Rattle.cs_syntax.specs.Node.{tree_of, trees_of}
+use Rattle.cs_syntax.specs.Node.{tree_of}
+use Rattle.cs_syntax.specs.NodeList.{trees_of}
 use Rattle.cs_syntax.specs.PartialGroups.{choice_after, with_last}
 use Rattle.cs_syntax.specs.TreeList.{append}
 use Rattle.cs_syntax.specs.Lowering.{any_of}

@@ -133,10 +133,10 @@ module _ (n m : ℕ) (n_small : n < 2 ^ 64) (m_small : m < 2 ^ 64) where
   whole = let a = length-append (decimal n) (44 ∷ second) in let b = length-append (decimal m) (125 ∷ []) in omega (arith, a, b)
 
   brace_repeats : n ≤ m → m ≤ 1000 → brace tail ≡ item (repeat n (Some m)) (length tail)
-  brace_repeats ordered few =
+  brace_repeats ordered bound =
       let good : is_bad both ≡ false =
-      let x = le-ltb 1000 n (omega (arith, ordered, few)) in
-      let y = le-ltb 1000 m few in
+      let x = le-ltb 1000 n (omega (arith, ordered, bound)) in
+      let y = le-ltb 1000 m bound in
       let z = le-ltb m n ordered in
       (λ i. x i || (y i || z i)) in
       brace_by ∙ left (is_bad both) (fault BadRepeat 0) (lazy n (Some m) both.len tail) good
@@ -188,9 +188,9 @@ module _ (b n m : ℕ) (fold : Bool) (plain : sign_of b ≡ Plain) (n_small : n 
   behind_it = unit_read 0 [] start b (counted_repeat n m) Start one 0 (plain_front start b (counted_repeat n m) plain)
 
   pub repeat_as_written : n ≤ m → m ≤ 1000 → Reads (b ∷ counted_repeat n m) fold (rep one n (Some m))
-  repeat_as_written ordered few =
+  repeat_as_written ordered bound =
       ap answer (behind_it
-      ∙ ap (inside (with_unit one)) (repeat_read 1 [] start 123 (tail n m n_small m_small) n (Some m) (length (tail n m n_small m_small)) (brace_front start (tail n m n_small m_small) ∙ brace_repeats n m n_small m_small ordered few)
+      ∙ ap (inside (with_unit one)) (repeat_read 1 [] start 123 (tail n m n_small m_small) n (Some m) (length (tail n m n_small m_small)) (brace_front start (tail n m n_small m_small) ∙ brace_repeats n m n_small m_small ordered bound)
       ∙ ap (inside (with_repeat n (Some m))) (all_skipped (tail n m n_small m_small) 2 Counted [] start)))
 
   pub repeat_out_of_order : (n ≤ m → m ≤ 1000 → ⊥) → Breaks (b ∷ counted_repeat n m) fold BadRepeat 1

@@ -9,11 +9,13 @@ use Rattle.cs_syntax.specs.Characters.{is_scalar, has_char}
 abbrev pub IsRun : ℕ × ℕ → Type 0
 IsRun run = (run.0 ≤ run.1) × (is_scalar run.0 ≡ true) × (is_scalar run.1 ≡ true)
 
--- The runs ascend, and between each and the next one some character is left out. Characters are counted by their
--- places among all characters, so that d7ff and e000 are neighbours; the first run begins at the place `least` or later.
+-- The runs ascend, and between each and the next one some character is left out. Characters are counted by
+-- their places among all characters, so that d7ff and e000 are neighbours; the first run begins at the place
+-- `least` or later.
 abbrev pub AreRunsFrom : ℕ → List (ℕ × ℕ) → Type 0
 AreRunsFrom least [] = Unit {0}
-AreRunsFrom least (run ∷ runs) = (least ≤ scalar_index run.0) × IsRun run × AreRunsFrom (scalar_index run.1 + 2) runs
+AreRunsFrom least (run ∷ runs) =
+    (least ≤ scalar_index run.0) × IsRun run × AreRunsFrom (scalar_index run.1 + 2) runs
 
 -- the runs are maximal, and ascend
 abbrev pub AreRuns : List (ℕ × ℕ) → Type 0

@@ -1,6 +1,6 @@
 -- Sets of characters, as runs of numbers, and where a character stands in a line.
--- A run is a pair of characters, and has each character from the one to the other. The Unicode standard, "Unicode
--- scalar value" and table 3-6.
+-- A run is a pair of characters, and has each character from the one to the other. The Unicode standard,
+-- "Unicode scalar value" and table 3-6.
 use Rattle.std.specs.Prelude.{ℕ, ◌≡◌, ◌+◌, Bool, true, ◌||◌, ◌&&◌, nat_eq, nat_lt, nat_le, List, [], ◌∷◌, length, slice_range, encode_utf8, if◌then◌else◌}
 use Rattle.std.specs.Char.{scalar_index}
 use Rattle.std.specs.List.{filter, range_with_len}
@@ -14,8 +14,8 @@ is_scalar c = nat_lt c 55296 || (nat_le 57344 c && nat_le c 1114111)
 abbrev pub has_char : List (ℕ × ℕ) → ℕ → Bool
 has_char runs c = is_scalar c && is_in_ranges runs c
 
--- The runs with one more character, which stands before all of theirs: it joins the first run where that begins right
--- behind it.
+-- The runs with one more character, which stands before all of theirs: it joins the first run where that begins
+-- right behind it.
 abbrev pub with_char : ℕ → List (ℕ × ℕ) → List (ℕ × ℕ)
 with_char c [] = (c, c) ∷ []
 with_char c (run ∷ runs) =

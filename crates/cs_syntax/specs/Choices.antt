@@ -8,8 +8,8 @@ use Rattle.cs_syntax.specs.Classes.{name_length}
 use Rattle.cs_syntax.specs.Reading.{flags_at_start}
 use Rattle.cs_syntax.specs.declared.flags.Flags.{Flags}
 
--- The flags that hold behind the text, whose first `skip` bytes belong to the item before it. Those before each open
--- group are given, the innermost first.
+-- The flags that hold behind the text, whose first `skip` bytes belong to the item before it. Those before each
+-- open group are given, the innermost first.
 abbrev pub flags_behind : ℕ → List Flags → Flags → List ℕ → Flags
 flags_behind skip outer flags [] = flags
 flags_behind (suc skip) outer flags (b ∷ text) = flags_behind skip outer flags text
@@ -28,7 +28,8 @@ flags_behind zero outer flags (b ∷ text) =
 -- behind each `[:` of the text there is a `:]`
 abbrev pub names_end : List ℕ → Bool
 names_end [] = true
-names_end (b ∷ text) = (not (nat_eq b 91 && is_front 58 text) || is_some (name_length (drop 1 text))) && names_end text
+names_end (b ∷ text) =
+    (not (nat_eq b 91 && is_front 58 text) || is_some (name_length (drop 1 text))) && names_end text
 
 -- Behind the text the flags are those at its start, and no `[:` of it looks for its `:]` there.
 pub record StandsApart (fold : Bool) (text : List ℕ) : Type 0 where

@@ -4,15 +4,10 @@ use Rattle.std.specs.Global.{Global}
 use Rattle.cs_syntax.specs.Ranges.{is_in_ranges}
 use Rattle.cs_syntax.specs.Characters.{is_scalar, has_char}
 use Rattle.cs_syntax.specs.ClassSets.{is_in_items}
-use Rattle.cs_syntax.specs.Classes.{ClassRest, closed, failed, with_item}
+use Rattle.cs_syntax.specs.Classes.{ClassRest, closed, failed}
 use Rattle.cs_syntax.specs.declared.class_item.ClassItem.{ClassItem}
 use Rattle.cs_syntax.specs.declared.fault.PatternFault.TheVariants.{Memory}
 use Rattle.cs_syntax.specs.declared.item.Misread.{Misread}
-
--- the items so far, before what the rest of the class reads as
-abbrev pub with_items : List ClassItem → ClassRest → ClassRest
-with_items [] rest = rest
-with_items (i ∷ is) rest = with_item i (with_items is rest)
 
 -- the letter is in the case that begins at `to`, and in the other one, from `first` on, it is in the range
 abbrev pub is_other_case : ℕ × ℕ → ℕ → ℕ → ℕ → Bool

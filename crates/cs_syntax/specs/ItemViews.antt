@@ -59,7 +59,7 @@ abbrev pub class_char_view : Result (ℕ × ℕ) PatternFault → ClassChar
 class_char_view (Ok r) = one r.0 r.1
 class_char_view (Err k) = wrong k
 
--- what a reader has found has at most `most` bytes behind its first, and a fault lies at most `far` bytes behind the
--- front
+-- what a reader has found has at most `most` bytes behind its first, and a fault lies at most `far` bytes behind
+-- the front
 abbrev pub IsWithin : {A : Type 0} → ℕ → ℕ → Result (A × ℕ) Misread → Type 0
 IsWithin most far r = MatchResult r (λ x. x.1 ≤ most) (λ m. m.behind ≤ far)

@@ -33,6 +33,7 @@ pub mod SetWords
 pub mod CharPlaces
 pub mod Widths
 pub mod TreeCode
+pub mod NodeList
 pub mod ItemViews
 pub mod ClassState
 pub mod U32Numbers

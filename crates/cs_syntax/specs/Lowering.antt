@@ -1,6 +1,7 @@
 -- The lowering of a set of characters: a tree of sets of bytes that takes the UTF-8 forms of its members.
--- Characters are cut by the number of their bytes, and before and behind d800 to dfff. Of a form, the bytes behind the
--- first are told apart from the last on, so that forms which differ in no byte but the first ones share the rest.
+-- Characters are cut by the number of their bytes, and before and behind d800 to dfff. Of a form, the bytes
+-- behind the first are told apart from the last on, so that forms which differ in no byte but the first ones
+-- share the rest.
 use Rattle.std.specs.Prelude.{ℕ, zero, suc, ◌+◌, ◌-◌, ◌*◌, ◌/◌, ◌%◌, min, max, List, [], ◌∷◌, ◌++◌, nat_le, nat_lt, if◌then◌else◌}
 use Rattle.std.specs.List.{list_any}
 use Rattle.cs_syntax.specs.Ranges.{is_in_ranges}
@@ -23,12 +24,14 @@ byte_range low high = one_of (set_of (is_in_ranges ((low, high) ∷ [])))
 abbrev pub part : ℕ → ℕ → List (ℕ × ℕ)
 part low end = if nat_lt low end then (low, end - 1) ∷ [] else []
 
--- The numbers from the one to the other, in parts: whole blocks of 64 numbers, and what stands before and behind them.
+-- The numbers from the one to the other, in parts: whole blocks of 64 numbers, and what stands before and behind
+-- them.
 abbrev pub parts : ℕ → ℕ → List (ℕ × ℕ)
 parts low high =
     let first = (low + 63) / 64 * 64 in
     let end = (high + 1) / 64 * 64 in
-    if nat_le first end then part low first ++ (part first end ++ part end (high + 1)) else part low (high + 1)
+    if nat_le first end then part low first ++ (part first end ++ part end (high + 1))
+    else part low (high + 1)
 
 -- for each part the forms of its blocks, and then a last byte
 abbrev pub with_last_byte : (ℕ → ℕ → Tree) → List (ℕ × ℕ) → Trees
@@ -37,8 +40,8 @@ with_last_byte front (p ∷ ps) =
     more (cat (more (front (p.0 / 64) (p.1 / 64)) (more (byte_range (128 + p.0 % 64) (128 + p.1 % 64)) none)))
     (with_last_byte front ps)
 
--- The forms of the numbers from the one to the other, of a first byte that begins at `lead`, and k more bytes, which
--- have six bits each.
+-- The forms of the numbers from the one to the other, of a first byte that begins at `lead`, and k more bytes,
+-- which have six bits each.
 abbrev pub forms : ℕ → ℕ → ℕ → ℕ → Tree
 forms lead zero low high = byte_range (lead + low) (lead + high)
 forms lead (suc k) low high = any_of (with_last_byte (forms lead k) (parts low high))

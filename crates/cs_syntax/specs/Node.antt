@@ -1,5 +1,5 @@
 -- The tree that a node stands for: a `Vec` is the list of its items.
-use Rattle.std.specs.Prelude.{List, [], ◌∷◌, map}
+use Rattle.std.specs.Prelude.{List, [], ◌∷◌}
 use Rattle.cs_syntax.specs.Matching.{Tree, Trees, empty, one_of, one_char, cat, alt, rep, line_start, line_end, word_edge, not_word_edge, none, more}
 use Rattle.cs_syntax.specs.declared.node.Node.{Node}
 use Rattle.cs_syntax.specs.declared.node.Node.TheOpen.{Node-F}
@@ -26,7 +26,3 @@ tree_step Node-F.NotWordEdge = not_word_edge
 -- the tree of a node
 abbrev pub tree_of : Node → Tree
 tree_of = fold-Node Tree tree_step
-
--- the trees of some nodes
-abbrev pub trees_of : List Node → Trees
-trees_of ns = trees (map tree_of ns)

@@ -1,7 +1,7 @@
 -- What a parser has read up to some place, and what an item does to that.
 use Rattle.std.specs.Prelude.{ℕ, ◌≡◌, ◌⊎◌, Bool, true, false, List, [], ◌∷◌, Option, map, reverse, drop, length, nat_eq}
 use Rattle.cs_syntax.specs.Matching.{Trees, none, more}
-use Rattle.cs_syntax.specs.Node.{trees_of}
+use Rattle.cs_syntax.specs.NodeList.{trees_of}
 use Rattle.cs_syntax.specs.Fronts.{Item, unit, repeat, bar, group_start, group_end, flags_from_here}
 use Rattle.cs_syntax.specs.Reading.{Reading, refused, Group, flags_at_start, most_open, at_end, rest}
 use Rattle.cs_syntax.specs.PartialGroups.{PartialGroup, whole_reading, with_last_unit, with_last_unit_repeated, with_last_branch, tree_so_far, empty_group}

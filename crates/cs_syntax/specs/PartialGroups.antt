@@ -37,7 +37,8 @@ abbrev pub whole_reading : List PartialGroup → PartialGroup → Rest → Readi
 whole_reading hs h (broken k at) = refused k at
 whole_reading [] h (levels l ls) = tree (group_with_rest h l)
 whole_reading (outer ∷ hs) h (levels l []) = refused OpenGroup 0
-whole_reading (outer ∷ hs) h (levels l (next ∷ ls)) = whole_reading hs outer (levels (with_unit (group_with_rest h l) next) ls)
+whole_reading (outer ∷ hs) h (levels l (next ∷ ls)) =
+    whole_reading hs outer (levels (with_unit (group_with_rest h l) next) ls)
 
 -- one unit more
 abbrev pub with_last_unit : PartialGroup → Tree → PartialGroup

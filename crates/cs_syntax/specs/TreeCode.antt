@@ -71,7 +71,8 @@ first_tree [] = empty
 first_tree (none ∷ lists) = empty
 first_tree (more t ts ∷ lists) = t
 
-pub put-repeat : (t : Tree) (n : ℕ) (m : Option ℕ) (lists : List Trees) → repeat_first n m (put t lists) ≡ put (rep t n m) lists
+pub put-repeat : (t : Tree) (n : ℕ) (m : Option ℕ) (lists : List Trees)
+    → repeat_first n m (put t lists) ≡ put (rep t n m) lists
 put-repeat t n m [] = refl
 put-repeat t n m (ts ∷ lists) = refl
 
@@ -80,27 +81,36 @@ pub put_all-first : (ts : Trees) (lists : List Trees) → put_all ts (none ∷ l
 put_all-first none lists = refl
 put_all-first (more t ts) lists = ap (put t) (put_all-first ts lists)
 
-pub gather-all : (f : Trees → Tree) (ts : Trees) (lists : List Trees) → gather f (put_all ts (none ∷ lists)) ≡ put (f ts) lists
+pub gather-all : (f : Trees → Tree) (ts : Trees) (lists : List Trees)
+    → gather f (put_all ts (none ∷ lists)) ≡ put (f ts) lists
 gather-all f ts lists = ap (gather f) (put_all-first ts lists)
 
 mutual
-  pub tree_lists-symbols : (t : Tree) (after : List Symbol) → tree_lists (symbols t after) ≡ put t (tree_lists after)
+  pub tree_lists-symbols : (t : Tree) (after : List Symbol)
+      → tree_lists (symbols t after) ≡ put t (tree_lists after)
   tree_lists-symbols empty after = refl
   tree_lists-symbols (one_of set) after = refl
   tree_lists-symbols (one_char runs) after = refl
-  tree_lists-symbols (cat ts) after = ap (gather cat) (tree_lists-all_symbols ts (symbol 0 ∷ after)) ∙ gather-all cat ts (tree_lists after)
-  tree_lists-symbols (alt ts) after = ap (gather alt) (tree_lists-all_symbols ts (symbol 0 ∷ after)) ∙ gather-all alt ts (tree_lists after)
-  tree_lists-symbols (rep x n m) after = ap (repeat_first n m) (tree_lists-symbols x after) ∙ put-repeat x n m (tree_lists after)
+  tree_lists-symbols (cat ts) after =
+      ap (gather cat) (tree_lists-all_symbols ts (symbol 0 ∷ after)) ∙ gather-all cat ts (tree_lists after)
+  tree_lists-symbols (alt ts) after =
+      ap (gather alt) (tree_lists-all_symbols ts (symbol 0 ∷ after)) ∙ gather-all alt ts (tree_lists after)
+  tree_lists-symbols (rep x n m) after =
+      ap (repeat_first n m) (tree_lists-symbols x after) ∙ put-repeat x n m (tree_lists after)
   tree_lists-symbols line_start after = refl
   tree_lists-symbols line_end after = refl
   tree_lists-symbols word_edge after = refl
   tree_lists-symbols not_word_edge after = refl
 
-  pub tree_lists-all_symbols : (ts : Trees) (after : List Symbol) → tree_lists (all_symbols ts after) ≡ put_all ts (tree_lists after)
+  pub tree_lists-all_symbols : (ts : Trees) (after : List Symbol)
+      → tree_lists (all_symbols ts after) ≡ put_all ts (tree_lists after)
   tree_lists-all_symbols none after = refl
-  tree_lists-all_symbols (more t ts) after = tree_lists-symbols t (all_symbols ts after) ∙ ap (put t) (tree_lists-all_symbols ts after)
+  tree_lists-all_symbols (more t ts) after =
+      tree_lists-symbols t (all_symbols ts after) ∙ ap (put t) (tree_lists-all_symbols ts after)
 
 abbrev pub tree_code : Coded Tree
 tree_code =
-    code_by (List Symbol) (coded_list (coded⊎ (coded_list coded_bool) (coded⊎ (coded_list (coded× coded_ℕ coded_ℕ)) (coded⊎ (coded× coded_ℕ (coded_option coded_ℕ)) coded_ℕ))))
+    code_by (List Symbol)
+    (coded_list (coded⊎ (coded_list coded_bool) (coded⊎ (coded_list (coded× coded_ℕ coded_ℕ))
+    (coded⊎ (coded× coded_ℕ (coded_option coded_ℕ)) coded_ℕ))))
     (λ t. symbols t []) (λ ms. first_tree (tree_lists ms)) (λ t. ap first_tree (tree_lists-symbols t []))

@@ -43,9 +43,9 @@ impl CharSet {
             (λ set. (c : ℕ) → has_char set c ≡ has_char ranges.now c) }
         ensures maximal { IfOk result AreRuns }
     {
-        let mut runs = cut(alloc, ranges)?;
+        let mut runs = char_runs(alloc, ranges)?;
         runs.sort_unstable_by_key(|run| run.0);
-        let runs = joined(alloc, &runs)?;
+        let runs = maximal_runs(alloc, &runs)?;
         Ok(CharSet { runs })
     }
 
@@ -163,7 +163,7 @@ fn char_to(n: u32) -> u32
 }
 
 /// The ranges, each cut to its characters.
-fn cut(alloc: Global, ranges: &[(u32, u32)]) -> Result<Vec<(u32, u32)>, AllocError>
+fn char_runs(alloc: Global, ranges: &[(u32, u32)]) -> Result<Vec<(u32, u32)>, AllocError>
     ensures runs { IfOk result (λ runs. All IsRun runs.items) }
     ensures members { IfOk result
         (λ runs. (c : ℕ) → has_char runs.items c ≡ has_char ranges.now c) }
@@ -179,7 +179,7 @@ fn cut(alloc: Global, ranges: &[(u32, u32)]) -> Result<Vec<(u32, u32)>, AllocErr
 }
 
 /// The maximal runs of ascending ones, which may meet.
-fn joined(alloc: Global, runs: &[(u32, u32)]) -> Result<Vec<(u32, u32)>, AllocError>
+fn maximal_runs(alloc: Global, runs: &[(u32, u32)]) -> Result<Vec<(u32, u32)>, AllocError>
     requires runs { All IsRun runs.now }
     requires ascending { IsNonDecreasingBy (λ (run : ℕ × ℕ). run.0) runs.now }
     ensures runs { IfOk result (λ maximal. AreRuns maximal.items) }

@@ -1,7 +1,8 @@
 // A group that is read in part.
 ghost use Rattle.std.specs.Prelude.{◌≡◌, ◌<◌, ℕ, OnOk, IfOk, length, Option};
 ghost use Rattle.cs_syntax.specs.Fronts.{sequence};
-ghost use Rattle.cs_syntax.specs.Node.{tree_of, trees_of};
+ghost use Rattle.cs_syntax.specs.Node.{tree_of};
+ghost use Rattle.cs_syntax.specs.NodeList.{trees_of};
 ghost use Rattle.cs_syntax.specs.PartialGroups.{with_last_unit, with_last_unit_repeated, with_last_branch, tree_so_far, empty_group};
 
 use crate::node::Node;

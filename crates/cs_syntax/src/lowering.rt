@@ -2,7 +2,8 @@
 ghost use Rattle.std.specs.Prelude.{ℕ, nat_lt, ◌≡◌, ◌+◌, ◌<◌, ◌≤◌, ◌^◌, ◌-◌, IfOk, OnOk};
 ghost use Rattle.std.specs.List.{list_any};
 ghost use Rattle.cs_syntax.specs.Lowering.{part, with_last_byte, forms, forms_within, wide_forms, ascii_forms, utf8_tree, any_of};
-ghost use Rattle.cs_syntax.specs.Node.{tree_of, trees_of};
+ghost use Rattle.cs_syntax.specs.Node.{tree_of};
+ghost use Rattle.cs_syntax.specs.NodeList.{trees_of};
 ghost use Rattle.cs_syntax.specs.TreeList.{append};
 ghost use Rattle.cs_syntax.specs.Widths.{Fits};
 

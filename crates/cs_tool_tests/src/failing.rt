@@ -1,6 +1,4 @@
 // A tree of which one call fails, reads that fail, and inputs that have no end.
-ghost use Rattle.std.specs.Prelude.{◌≡◌, ◌≤◌, ℕ, IfOk, length};
-
 use crate::fixtures::{PLAIN, Placed, tree_of};
 use crate::indexing::job_of;
 use crate::searching::reports::{answer_within, program_of};

@@ -13,7 +13,7 @@ use Rattle.cs_tree.specs.Cover.{slash, same, covers}
 use Rattle.cs_tree.specs.Clean.{elements, longest_path}
 use Rattle.cs_tree.specs.Snapshot.{Snapshot, Item, item_at, folder, file, cut, other, bad}
 use Rattle.cs_tree.specs.Reached.{elements_under, is_left_out, leads}
-use Rattle.cs_tree.specs.Visits.{comes, comes_by, children, is_walked, names_listed}
+use Rattle.cs_tree.specs.Visits.{comes, children, is_walked, names_listed}
 use Rattle.cs_tree.proofs.Covering.{covers_says, covers_from, covers_chain, covers_itself, covers_longer}
 use Rattle.cs_tree.proofs.NameLemmas.{folder_covers_child, name_parts}
 use Rattle.cs_tree.proofs.Splitting.{NoSlash, elements-some, elements-append, elements-one, stem-other}
@@ -275,6 +275,10 @@ listed_same (bad fault) m = refl
 
 name_walked : (m : List ℕ) → is_element m ≡ true → is_left_out m ≡ false → is_walked m ≡ true
 name_walked m good kept = and_from _ _ (and_parts (not (same m [])) _ good).0 (ap not kept)
+
+-- whether a walk that has come to the paths comes to the name
+abbrev pub comes_by : Snapshot → List (List ℕ) → List ℕ → Bool
+comes_by tree paths name = list_any (λ path. comes tree path name) paths
 
 pub comes_unfolds : (tree : Snapshot) (p q : List ℕ) → IsTree tree → comes tree p q ≡ (same p q || comes_by tree (children p (onward tree p)) q)
 comes_unfolds tree p q told = same_tests _ _ down up

@@ -16,10 +16,10 @@ drop-put_mid i k xs ys within = drop_at (take i xs) (ys ++ post_of i k xs) i (le
 pub part_on : (bytes : List ℕ) (at i n k : ℕ) (xs ys : List ℕ) → i ≤ length xs → n ≤ length ys
     → take i xs ≡ part_of bytes at i → take n ys ≡ part_of bytes (at + i) n
     → take (i + n) (put_mid i k xs ys) ≡ part_of bytes at (i + n)
-part_on bytes at i n k xs ys within few before gives =
+part_on bytes at i n k xs ys within bound before gives =
     let all = put_mid i k xs ys in
     let there : take n (drop i all) ≡ part_of bytes (at + i) n =
-    ap (take n) (drop-put_mid i k xs ys within) ∙ take-append-le n ys (post_of i k xs) few ∙ gives in
+    ap (take n) (drop-put_mid i k xs ys within) ∙ take-append-le n ys (post_of i k xs) bound ∙ gives in
     take_on i n all
     ∙ ap (λ front. front ++ take n (drop i all)) (take-put_mid_below i k xs ys i (omega arith) within ∙ before)
     ∙ ap (λ rest. part_of bytes at i ++ rest) (there ∙ ap (take n) (sym (drop-drop i at bytes)))
@@ -33,10 +33,10 @@ IsFront told at n buf = IfSome told (λ bytes. take n buf ≡ part_of bytes at n
 pub filled_on : (told here : Option (List ℕ)) (at i n k : ℕ) (xs ys : List ℕ) → here ≡ told
     → i ≤ length xs → n ≤ length ys → IsFront told at i xs → ReadShows here (at + i) (Ok n) ys
     → IsFront told at (i + n) (put_mid i k xs ys)
-filled_on told here at i n k xs ys same within few before gives =
+filled_on told here at i n k xs ys same within bound before gives =
     on told before (subst (λ told. ReadShows told (at + i) (Ok n) ys) same gives)
   where
     on : (told : Option (List ℕ)) → IsFront told at i xs → ReadShows told (at + i) (Ok n) ys
         → IsFront told at (i + n) (put_mid i k xs ys)
     on None before gives = before
-    on (Some bytes) before gives = part_on bytes at i n k xs ys within few before gives.0
+    on (Some bytes) before gives = part_on bytes at i n k xs ys within bound before gives.0

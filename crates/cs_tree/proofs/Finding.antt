@@ -1,16 +1,12 @@
 -- What a walk has gathered from all of its paths, put in order, is what it finds.
 use Rattle.std.proofs.Common.{◌≡◌, ℕ, ◌+◌, ◌<◌, length, take, slice_index_or, Bool, true, false, ◌&&◌, ◌||◌, cond, List, [], ◌∷◌, ◌++◌, map, refl, sym, ap, subst, ◌∙◌, inl, inr, arith, Option, Some, None}
-use Rattle.cs_tree.specs.NameOrder.{bytes_cmp}
 use Rattle.cs_tree.specs.NamesAscending.{are_ascending}
 use Rattle.std.proofs.lemmas.Bool.{true≢false, cases_Bool, or_left, or_right}
 use Rattle.std.proofs.lemmas.List.{take_more, map-append}
 use Rattle.std.specs.Prelude.{is_some, Contains, String, string_bytes}
 use Rattle.std.specs.Cmp.{both_ways as same_tests}
-use Rattle.std.specs.Cmp.Lexicographic.{bytes_decides, nat_list_cmp_total}
-use Rattle.std.specs.FinMap as map'
-use Rattle.std.specs.FinMap.{find}
-use Rattle.std.specs.List.{list_any, AllByRecursion}
-use Rattle.std.specs.Ordering.{eq_by_cmp}
+use Rattle.std.specs.Cmp.Lexicographic.{bytes_decides}
+use Rattle.std.specs.List.{AllByRecursion}
 use Rattle.std.specs.declared.alloc.Global.{Global}
 use Rattle.cs_tree.specs.PathSet as set
 use Rattle.cs_tree.specs.Cover.{same, covers, is_covered}
@@ -21,16 +17,10 @@ use Rattle.cs_tree.specs.Visits.{KeepsTo, covered_by, reaches_by, is_taken, is_l
 use Rattle.cs_tree.specs.declared.walking.Walked.{Walked}
 use Rattle.cs_tree.specs.declared.walking.WalkFault.{WalkFault}
 use Rattle.cs_tree.proofs.InOrder.{all_kept}
+use Rattle.cs_tree.proofs.ReduceLemmas.{contains-from_list}
 use Rattle.cs_tree.proofs.Sets.{some_item, item_passes, some_member, member_passes}
 
 -- ---- the set of the paths
-
-contains-from_list : (ps : List (List ℕ)) (q : List ℕ) → set.contains (set.from_list ps) q ≡ list_any (eq_by_cmp bytes_cmp q) ps
-contains-from_list ps q = ap is_some (map'.get-from_entries nat_list_cmp_total (set.with_units ps) q) ∙ marked ps
-  where
-    marked : (qs : List (List ℕ)) → is_some (find bytes_cmp q (set.with_units qs)) ≡ list_any (eq_by_cmp bytes_cmp q) qs
-    marked [] = refl
-    marked (p ∷ qs) = elim (eq_by_cmp bytes_cmp q p) as (λ b. is_some (cond b (Some tt) (find bytes_cmp q (set.with_units qs))) ≡ (b || list_any (eq_by_cmp bytes_cmp q) qs)) [ true ↦ refl | false ↦ marked qs ]
 
 pub reached_by : (tree : Snapshot) (ps : List (List ℕ)) (q : List ℕ) → reaches_by tree ps q ≡ is_reached tree (set.from_list ps) q
 reached_by tree ps q = same_tests _ _

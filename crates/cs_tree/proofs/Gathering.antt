@@ -12,13 +12,13 @@ use Rattle.cs_tree.specs.Clean.{longest_path}
 use Rattle.cs_tree.specs.Snapshot.{Snapshot, item_at}
 use Rattle.cs_tree.specs.Reached.{is_left_out, reaches, leads, elements_under}
 use Rattle.cs_tree.specs.Walks.{Left, trouble_at, is_among, left_paths, names_walked, faults_walked, CountsFault, CountsFaults}
-use Rattle.cs_tree.specs.Visits.{comes, comes_by, is_taken, is_left, Gains, AreRight, Gathers, GathersIn, KeepsCounts, is_file_seen, fault_seen, names_seen, Shows, ShowsIn, IsEntered, CountsSight, children, is_walked, named_if, left_if, AreDeeper}
+use Rattle.cs_tree.specs.Visits.{comes, is_taken, is_left, Gains, AreRight, Gathers, GathersIn, KeepsCounts, is_file_seen, fault_seen, names_seen, Shows, ShowsIn, IsEntered, CountsSight, children, is_walked, named_if, left_if}
 use Rattle.cs_tree.specs.declared.walking.Walked.{Walked}
 use Rattle.cs_tree.specs.declared.walking.WalkFault.{WalkFault}
 use Rattle.cs_tree.specs.declared.walking.WalkFault.TheVariants as fault
 use Rattle.cs_tree.specs.declared.walking.Sight.{Sight}
 use Rattle.cs_tree.specs.declared.walking.Sight.TheVariants as sight
-use Rattle.cs_tree.proofs.Coming.{comes_unfolds, child_longer}
+use Rattle.cs_tree.proofs.Coming.{comes_by, comes_unfolds, child_longer}
 
 -- ---- names
 
@@ -91,7 +91,7 @@ paths_left : (faults : List Left) (o : Option WalkFault) (path : List ℕ) → l
 paths_left faults None path = map-append (λ (left : Left). left.0) faults []
 paths_left faults (Some fault) path = map-append (λ (left : Left). left.0) faults ((path, fault) ∷ [])
 
-all-append : {X : Type 0} (P : X → Type 0) (xs ys : List X) → AllByRecursion P xs → AllByRecursion P ys → AllByRecursion P (xs ++ ys)
+pub all-append : {X : Type 0} (P : X → Type 0) (xs ys : List X) → AllByRecursion P xs → AllByRecursion P ys → AllByRecursion P (xs ++ ys)
 all-append P [] ys h k = k
 all-append P (x ∷ xs) ys h k = (h.0, all-append P xs ys h.1 k)
 
@@ -217,6 +217,10 @@ pub counts_none : (count later : ℕ) (walked : Walked) → count ≤ later → 
 counts_none count later walked up = λ start below all. all_later (faults_walked walked) start count later up all
 
 -- ---- the paths that a walk goes on by
+
+-- each path is longer than one that is short enough
+abbrev pub AreDeeper : List ℕ → List (List ℕ) → Type 0
+AreDeeper path paths = AllByRecursion (λ deeper. (length path ≤ longest_path) × (length path < length deeper)) paths
 
 children_deeper : (path : List ℕ) (names : List (List ℕ)) → length path ≤ longest_path → AreDeeper path (children path names)
 children_deeper path [] short = tt

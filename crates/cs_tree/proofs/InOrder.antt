@@ -13,7 +13,6 @@ use Rattle.std.specs.List.Sorted.{IsStrictlySortedBy}
 use Rattle.std.specs.Ordering.{is_lt}
 use Rattle.std.specs.declared.cmp.Ordering.{Ordering}
 use Rattle.cs_tree.specs.Cover.{same}
-use Rattle.cs_tree.specs.Walks.{is_among}
 
 module _ {X : Type 0} (key : X → List ℕ) where
   abbrev pub by_key : X → X → Ordering
@@ -54,10 +53,6 @@ module _ {X : Type 0} (key : X → List ℕ) where
   pub once_same : (test : List ℕ → Bool) (xs : List X) → list_any (λ x. test (key x)) (dedup same_key xs) ≡ list_any (λ x. test (key x)) xs
   once_same test [] = refl
   once_same test (x ∷ xs) = once_from test x xs
-
-pub among-map : {X : Type 0} (key : X → List ℕ) (xs : List X) (name : List ℕ) → is_among (map key xs) name ≡ list_any (λ x. same (key x) name) xs
-among-map key [] name = refl
-among-map key (x ∷ xs) name = ap (λ b. same (key x) name || b) (among-map key xs name)
 
 -- ---- what is left was there
 

@@ -16,7 +16,8 @@ use Rattle.std.specs.FinMap.{find, get, insert, from_entries, get-from_entries, 
 use Rattle.cs_tree.specs.Cover.{slash, same}
 use Rattle.cs_tree.specs.Snapshot.{Item, item_at, folder, bad, missing}
 use Rattle.cs_tree.specs.Changes.{is_folder, unlisting, left_without, goes_with}
-use Rattle.cs_tree.specs.MemoryItems.{snapshot_of, pair_of, item_of, place_at, left_of, left_at, unlisted_pair}
+use Rattle.cs_tree.specs.MemoryItems.{snapshot_of, pair_of, item_of, left_of, left_at}
+use Rattle.cs_tree.specs.StoredItems.{place_at, unlisted_pair}
 use Rattle.cs_tree.specs.Told.{Told, ends, fails}
 use Rattle.cs_tree.specs.Trees.{OpenReadGives}
 use Rattle.cs_tree.specs.declared.stored.Names.{Names}
@@ -281,7 +282,7 @@ left_on items (Some i) front told rest taken n e bytes ending l = by_item (slice
 
 -- a read of what is left of the open file
 pub reads_on : (items : List Stored) (opened : Option ℕ) (told rest : Told) (taken n : ℕ) (buf : List ℕ) → left_at items taken opened ≡ Some told → n ≤ length buf → ReadGives (Some told) (Some rest) (Ok n) buf → OpenReadGives (left_at items taken opened) (left_at items (taken + n) opened) (Ok n) buf
-reads_on items opened told rest taken n buf e few h =
+reads_on items opened told rest taken n buf e bound h =
     let later = left_on items opened (take n buf) told rest taken n e h.0.0 h.0.1 (omega (arith, length-take n buf)) in
     subst (λ o. OpenReadGives o (left_at items (taken + n) opened) (Ok n) buf) (sym e) (subst (λ o. OpenReadGives (Some told) o (Ok n) buf) (sym later) h)
 

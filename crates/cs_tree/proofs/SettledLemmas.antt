@@ -8,7 +8,7 @@ use Rattle.std.specs.Cmp.Lexicographic.{bytes_decides}
 use Rattle.std.proofs.lemmas.Bool.{true≢false, and_parts, and_from, ne_eqb, eqb-false, or_cases, or_parts, or_from, or_left, or_right, cond_both, eqb-true, not-true, le-ltb, ltb-false}
 use Rattle.std.proofs.lemmas.List.Folds.{list_all-append}
 use Rattle.cs_tree.specs.Cover.{slash, same, begins}
-use Rattle.cs_tree.specs.Clean.{is_clean, elements, without_first, with_element, steps, with_slashes, path_of, absolute, clean_path, has_nul, longest_path}
+use Rattle.cs_tree.specs.Clean.{is_clean, elements, with_element, steps, with_slashes, path_of, absolute, clean_path, has_nul, longest_path}
 use Rattle.cs_tree.specs.Proper.{is_proper, is_proper_path}
 use Rattle.cs_tree.specs.Cleaning.{clean_fault, is_settled}
 use Rattle.cs_tree.specs.declared.cleaning.PathFault.{PathFault}
@@ -23,15 +23,15 @@ record IsElement (name : List ℕ) : Type 0 where
   proper : is_proper name ≡ true
   apart : NoSlash name
 
-all_without : (above : List (List ℕ)) → AllByRecursion IsElement above → AllByRecursion IsElement (without_first above)
+all_without : (above : List (List ℕ)) → AllByRecursion IsElement above → AllByRecursion IsElement (drop 1 above)
 all_without [] all = tt
 all_without (x ∷ above) all = all.1
 
 all_stepped : (above : List (List ℕ)) (name : List ℕ) → AllByRecursion IsElement above → NoSlash name → AllByRecursion IsElement (with_element above name)
 all_stepped above name all apart =
-    cond_both (same name [] || same name (codes ".")) above (cond (same name (codes "..")) (without_first above) (name ∷ above)) (AllByRecursion IsElement)
+    cond_both (same name [] || same name (codes ".")) above (cond (same name (codes "..")) (drop 1 above) (name ∷ above)) (AllByRecursion IsElement)
     (λ _. all)
-    (λ plain. cond_both (same name (codes "..")) (without_first above) (name ∷ above) (AllByRecursion IsElement)
+    (λ plain. cond_both (same name (codes "..")) (drop 1 above) (name ∷ above) (AllByRecursion IsElement)
     (λ _. all_without above all)
     (λ down. (record { proper = and_from (not (same name [] || same name (codes "."))) _ (ap not plain) (ap not down); apart = apart }, all)))
 
@@ -89,8 +89,8 @@ slashes-elements (b ∷ rest) = step (eqb b slash) refl (slashes-elements rest) 
 proper_step : (above : List (List ℕ)) (name : List ℕ) → is_proper name ≡ true → with_element above name ≡ name ∷ above
 proper_step above name proper =
     let parts = and_parts (not (same name [] || same name (codes "."))) (not (same name (codes ".."))) proper in
-    ap (λ t. cond t above (cond (same name (codes "..")) (without_first above) (name ∷ above))) (not-true _ parts.0)
-    ∙ ap (λ t. cond t (without_first above) (name ∷ above)) (not-true _ parts.1)
+    ap (λ t. cond t above (cond (same name (codes "..")) (drop 1 above) (name ∷ above))) (not-true _ parts.0)
+    ∙ ap (λ t. cond t (drop 1 above) (name ∷ above)) (not-true _ parts.1)
 
 slashed-steps : (above names : List (List ℕ)) → list_all is_proper names ≡ true → with_slashes (steps above names) ≡ with_slashes above ++ after_slashes names
 unfolding after_slashes

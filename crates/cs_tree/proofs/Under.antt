@@ -7,7 +7,7 @@ use Rattle.std.specs.List.{AllByRecursion}
 use Rattle.cs_tree.specs.Folders.{child}
 use Rattle.cs_tree.specs.Cover.{covers}
 use Rattle.cs_tree.specs.Walks.{names_walked}
-use Rattle.cs_tree.specs.Visits.{AreBelow, KeepsTo, covered_by, children, is_walked, named_if}
+use Rattle.cs_tree.specs.Visits.{KeepsTo, covered_by, children, is_walked, named_if}
 use Rattle.cs_tree.specs.declared.walking.Walked.{Walked}
 use Rattle.cs_tree.proofs.Covering.{covers_itself, covers_chain}
 use Rattle.cs_tree.proofs.NameLemmas.{folder_covers_child}
@@ -16,6 +16,10 @@ keeps_wider : (p q : List ℕ → Bool) (old new : Walked) → ((name : List ℕ
 keeps_wider p q old new wider keeps = λ test h all. keeps test (λ name is. h name (wider name is)) all
 
 -- ---- below one path
+
+-- each path lies below the first one
+abbrev pub AreBelow : List ℕ → List (List ℕ) → Type 0
+AreBelow path paths = AllByRecursion (λ below. covers path below ≡ true) paths
 
 pub below_children : (path : List ℕ) (names : List (List ℕ)) → AreBelow path (children path names)
 below_children path [] = tt

@@ -7,13 +7,13 @@ use Rattle.cs_tree.specs.Cover.{same, covers}
 use Rattle.cs_tree.specs.Folders.{IsTree}
 use Rattle.cs_tree.specs.Snapshot.{Snapshot}
 use Rattle.cs_tree.specs.Walks.{names_walked, faults_walked}
-use Rattle.cs_tree.specs.Visits.{comes, comes_by, Gathers, GathersIn, KeepsTo, ShowsIn, Shows, is_file_seen, fault_seen, names_seen, children, named_if, left_if, AreBelow, AreDeeper}
+use Rattle.cs_tree.specs.Visits.{comes, Gathers, GathersIn, KeepsTo, ShowsIn, Shows, is_file_seen, fault_seen, names_seen, children, named_if, left_if}
 use Rattle.cs_tree.specs.declared.walking.Walked.{Walked}
 use Rattle.cs_tree.specs.declared.walking.Sight.{Sight}
-use Rattle.cs_tree.proofs.Coming.{comes_unfolds}
+use Rattle.cs_tree.proofs.Coming.{comes_by, comes_unfolds}
 use Rattle.cs_tree.proofs.Covering.{covers_chain}
-use Rattle.cs_tree.proofs.Gathering.{gathers_chain, gathers_none, gathers_one, gathers_same}
-use Rattle.cs_tree.proofs.Under.{below_children, keeps_deeper, keeps_path}
+use Rattle.cs_tree.proofs.Gathering.{AreDeeper, gathers_chain, gathers_none, gathers_one, gathers_same}
+use Rattle.cs_tree.proofs.Under.{AreBelow, below_children, keeps_deeper, keeps_path}
 
 -- ---- what is gathered
 
@@ -124,11 +124,11 @@ deeper_weight path (p ∷ paths) deeper =
     omega (arith, pow_mono room, deeper_weight path paths deeper.1)
 
 pub lighter : (path : List ℕ) (paths rest : List (List ℕ)) → AreDeeper path paths → length paths < 2 ^ 64 → weight (rest ++ paths) < weight (rest ++ path ∷ [])
-lighter path paths rest deeper few = omega (arith, weight-append rest paths, weight-append rest (path ∷ []), less paths deeper few)
+lighter path paths rest deeper bound = omega (arith, weight-append rest paths, weight-append rest (path ∷ []), less paths deeper bound)
   where
     less : (paths : List (List ℕ)) → AreDeeper path paths → length paths < 2 ^ 64 → weight paths < path_weight path
-    less [] deeper few = pow_pos (64 * (4096 - length path))
-    less (p ∷ paths) deeper few =
+    less [] deeper bound = pow_pos (64 * (4096 - length path))
+    less (p ∷ paths) deeper bound =
         let wide : 2 ^ (64 * (4096 - length path)) ≡ 2 ^ 64 * 2 ^ (64 * (4095 - length path)) = ap (λ n. 2 ^ n) (omega (arith, deeper.0.0)) ∙ pow-add 2 64 (64 * (4095 - length path)) in
-        let each = mul-lt-mul_of_pos_right few (pow_pos (64 * (4095 - length path))) in
+        let each = mul-lt-mul_of_pos_right bound (pow_pos (64 * (4095 - length path))) in
         omega (arith, wide, each, deeper_weight path (p ∷ paths) deeper)

@@ -8,7 +8,8 @@ use Rattle.cs_tree.specs.Snapshot.{Snapshot, Item, folder, item_at}
 
 -- the folder that lists a path: what stands before its last slash, or the root
 abbrev pub parent_of : List ℕ → List ℕ
-parent_of path = let front = before_last (λ b. nat_eq b slash) path in if same front [] then slash ∷ [] else front
+parent_of path =
+    let front = before_last (λ b. nat_eq b slash) path in if same front [] then slash ∷ [] else front
 
 abbrev pub is_folder : Item → Bool
 is_folder (folder names unnamed) = true

@@ -32,6 +32,10 @@ covers path name =
 abbrev pub is_covered : Paths → List ℕ → Bool
 is_covered paths name = list_any (λ path. covers path name) (set.items paths)
 
+-- whether no other one of the paths covers the path
+abbrev pub is_alone : List (List ℕ) → List ℕ → Bool
+is_alone paths path = not (list_any (λ other. covers other path && not (same other path)) paths)
+
 -- the paths that no other one covers: the minimal elements of the order that covering is
 abbrev pub least : Paths → Paths
-least paths = set.retain paths (λ path. not (list_any (λ other. covers other path && not (same other path)) (set.items paths)))
+least paths = set.retain paths (is_alone (set.items paths))

@@ -12,7 +12,9 @@ calls_left fuse = fuse.left
 abbrev pub inner_tree : {T : Type 0} → FuseTree T → T
 inner_tree fuse = fuse.inner
 
--- Where one call is left until the fuse blows, it fails, and the tree stays as it was; each other call is passed on to it.
+-- Where one call is left until the fuse blows, it fails, and the tree stays as it was; each other call is passed
+-- on to it.
 abbrev pub Blows : {A T : Type 0} → FuseTree T → FuseTree T → Result A TreeFault → Type 0 → Type 0
 Blows fuse later result passed =
-    ((calls_left fuse ≡ 1) × (result ≡ Err Failed) × (inner_tree later ≡ inner_tree fuse)) ⊎ ((calls_left fuse ≢ 1) × passed)
+    ((calls_left fuse ≡ 1) × (result ≡ Err Failed) × (inner_tree later ≡ inner_tree fuse))
+    ⊎ ((calls_left fuse ≢ 1) × passed)

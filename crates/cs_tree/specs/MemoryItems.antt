@@ -1,13 +1,8 @@
 -- How a tree in memory keeps its snapshot: a list of items, each with its path.
-use Rattle.std.specs.Prelude.{◌≡◌, ◌≢◌, ℕ, Result, Ok, Err, List, [], Option, Some, None, map, string_bytes, drop, true, false, slice_get, option_and_then, position}
+use Rattle.std.specs.Prelude.{ℕ, List, [], Option, Some, None, map, string_bytes, drop, true, false, slice_get, option_and_then}
 use Rattle.std.specs.FinMap as map'
-use Rattle.cs_tree.specs.Cover.{same}
 use Rattle.cs_tree.specs.Snapshot.{Snapshot, Item, folder, file, cut, other, bad, denied}
-use Rattle.cs_tree.specs.Changes.{unlisting}
 use Rattle.cs_tree.specs.Told.{Told, told_of}
-use Rattle.cs_tree.specs.Trees.{OpenedAs}
-use Rattle.cs_tree.specs.declared.fault.TreeFault.{TreeFault}
-use Rattle.cs_tree.specs.declared.fault.TreeFault.TheVariants.{Memory}
 use Rattle.cs_tree.specs.declared.mem_tree.Item.{Item as Put}
 use Rattle.cs_tree.specs.declared.mem_tree.Item.TheVariants as put
 use Rattle.cs_tree.specs.declared.stored.MemTree.{MemTree}
@@ -40,14 +35,6 @@ pair_of stored = (string_bytes stored.path, item_of stored.item)
 unfoldable pub snapshot_of : List Stored → Snapshot
 snapshot_of items = map'.from_entries (map pair_of items)
 
--- the same item that no longer lists what the path covers
-abbrev pub unlisted_pair : List ℕ → List ℕ × Item → List ℕ × Item
-unlisted_pair path pair = (pair.0, unlisting path pair.0 pair.1)
-
--- where the first item with the path is
-abbrev pub place_at : List Stored → List ℕ → Option ℕ
-place_at items path = position (λ (stored : Stored). same (string_bytes stored.path) path) items
-
 -- what is left of an item after some bytes were taken
 abbrev pub left_of : ℕ → StoredItem → Option Told
 left_of taken (File bytes) = Some (told_of (drop taken bytes.items) false)
@@ -57,12 +44,6 @@ left_of taken _ = None
 abbrev pub left_at : List Stored → ℕ → Option ℕ → Option Told
 left_at items taken None = None
 left_at items taken (Some i) = option_and_then (λ (s : Stored). left_of taken s.item) (slice_get items i)
-
--- An answer for what opens: what is told of it is left before the file, or it is refused for the same fault,
--- and never for want of memory.
-abbrev pub IsOpening : {A : Type 0} → Result Told TreeFault → (A → Option Told) → Result A TreeFault → Type 0
-IsOpening opening left (Ok at) = OpenedAs opening (left at)
-IsOpening opening left (Err fault) = (fault ≢ Memory) × (opening ≡ Err fault)
 
 -- ---- the tree
 

@@ -11,7 +11,8 @@ parts_path folder text = path_of (steps (steps [] (elements folder)) (elements t
 
 abbrev pub parts_fault : List ℕ → List ℕ → Option PathFault
 parts_fault folder text =
-    if has_nul folder || has_nul text then Some Nul else (if nat_lt longest_path (length (parts_path folder text)) then Some TooLong else None)
+    if has_nul folder || has_nul text then Some Nul
+    else (if nat_lt longest_path (length (parts_path folder text)) then Some TooLong else None)
 
 -- what borrowed texts say
 abbrev pub texts : List (Bor (List ℕ)) → List (List ℕ)

@@ -23,7 +23,8 @@ ReadShows told at answer buf = IfSome told (λ bytes. IfOk answer (GivesAt bytes
 
 -- The front that was filled is all that stands there, as far as there is room.
 abbrev pub FillShows : Option (List ℕ) → ℕ → Result ℕ IoFault → List ℕ → Type 0
-FillShows told at answer buf = IfSome told (λ bytes. IfOk answer (λ n. take n buf ≡ part_of bytes at (length buf)))
+FillShows told at answer buf =
+    IfSome told (λ bytes. IfOk answer (λ n. take n buf ≡ part_of bytes at (length buf)))
 
 -- The part that was read is the one that was asked for.
 abbrev pub PartShows : Option (List ℕ) → ℕ → ℕ → Result (List ℕ) IoFault → Type 0

@@ -26,7 +26,8 @@ RefusedBy Memory told = Unit {0}
 -- A read gives the next bytes, and none only into no room or at the end. A refused one gives none.
 abbrev pub ReadGives : Option Told → Option Told → Result ℕ IoFault → List ℕ → Type 0
 ReadGives told later answer buf =
-    MatchResult answer (λ n. Loses told later (take n buf) × (n ≡ 0 → 0 < length buf → IsAt ends later)) (λ fault. Loses told later [] × RefusedBy fault later)
+    MatchResult answer (λ n. Loses told later (take n buf) × (n ≡ 0 → 0 < length buf → IsAt ends later))
+    (λ fault. Loses told later [] × RefusedBy fault later)
 
 -- a reading up to a limit has failed only where the bytes are within the limit, and failure follows them
 abbrev pub FailsWithin : ℕ → IoFault → Option Told → Type 0
@@ -37,7 +38,8 @@ FailsWithin limit Failed (Some told) = (length told.bytes ≤ limit) × (told.en
 -- All bytes up to the limit are read, and one more where there are more.
 abbrev pub ReadGivesAll : Option Told → Option Told → ℕ → Result (List ℕ) IoFault → Type 0
 ReadGivesAll told later limit answer =
-    MatchResult answer (λ bytes. Loses told later bytes × (length bytes ≤ limit → IsAt ends later)) (λ fault. LosesAtMost (limit + 1) told later × FailsWithin limit fault told)
+    MatchResult answer (λ bytes. Loses told later bytes × (length bytes ≤ limit → IsAt ends later))
+    (λ fault. LosesAtMost (limit + 1) told later × FailsWithin limit fault told)
 
 abbrev pub items_of : Result (Vec ℕ Global) IoFault → Result (List ℕ) IoFault
 items_of (Ok v) = Ok v.items
@@ -45,12 +47,14 @@ items_of (Err fault) = Err fault
 
 -- A write takes a front of its bytes. A refused one takes none.
 abbrev pub Writes : Option Taken → Option Taken → Result ℕ IoFault → List ℕ → Type 0
-Writes taken later answer buf = MatchResult answer (λ n. Grows taken later (take n buf)) (λ fault. Grows taken later [])
+Writes taken later answer buf =
+    MatchResult answer (λ n. Grows taken later (take n buf)) (λ fault. Grows taken later [])
 
 -- All of the bytes are taken, and where the call was refused, a front of them.
 abbrev pub WritesFront : Option Taken → Option Taken → Result (Unit {0}) IoFault → List ℕ → Type 0
 WritesFront taken later answer bytes =
-    MatchResult answer (λ _. Grows taken later bytes) (λ fault. (n : ℕ) × (n ≤ length bytes) × Grows taken later (take n bytes))
+    MatchResult answer (λ _. Grows taken later bytes)
+    (λ fault. (n : ℕ) × (n ≤ length bytes) × Grows taken later (take n bytes))
 
 -- A flush passes on all that was taken. A refused one passes on nothing.
 abbrev pub Flushes : {A E : Type 0} → Option Taken → Option Taken → Result A E → Type 0

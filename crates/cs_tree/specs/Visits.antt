@@ -1,5 +1,5 @@
 -- What a walk gathers on its way: from the paths that it has come to so far, on top of what it had.
-use Rattle.std.specs.Prelude.{◌≡◌, ◌<◌, ◌≤◌, ℕ, Bool, true, false, not, ◌&&◌, ◌||◌, nat_le, if◌then◌else◌, List, [], ◌∷◌, map, filter, length, is_some, Option, Some, None, string_bytes}
+use Rattle.std.specs.Prelude.{◌≡◌, ◌≤◌, ℕ, Bool, true, false, not, ◌&&◌, ◌||◌, nat_le, if◌then◌else◌, List, [], ◌∷◌, map, filter, length, is_some, Option, Some, None, string_bytes}
 use Rattle.cs_tree.specs.Folders.{child, IsTree}
 use Rattle.std.specs.List.{list_any, AllByRecursion}
 use Rattle.cs_tree.specs.Cover.{same, covers}
@@ -19,9 +19,6 @@ use Rattle.cs_tree.specs.declared.walking.Sight.TheVariants as sight
 abbrev pub comes : Snapshot → List ℕ → List ℕ → Bool
 comes tree path name = covers path name && leads tree path (elements_under path name)
 
-abbrev pub comes_by : Snapshot → List (List ℕ) → List ℕ → Bool
-comes_by tree paths name = list_any (λ path. comes tree path name) paths
-
 abbrev pub reaches_by : Snapshot → List (List ℕ) → List ℕ → Bool
 reaches_by tree paths name = list_any (λ path. reaches tree path name) paths
 
@@ -39,11 +36,13 @@ abbrev pub Gains : List (List ℕ) → List (List ℕ) → (List ℕ → Bool) �
 Gains old new test = (name : List ℕ) → is_among new name ≡ (is_among old name || test name)
 
 abbrev pub AreRight : Snapshot → List Left → Type 0
-AreRight tree faults = AllByRecursion (λ (left : Left). trouble_at left.0 (item_at tree left.0) ≡ Some left.1) faults
+AreRight tree faults =
+    AllByRecursion (λ (left : Left). trouble_at left.0 (item_at tree left.0) ≡ Some left.1) faults
 
 pub record Gathers (tree : Snapshot) (come : List ℕ → Bool) (old new : Walked) : Type 0 where
   pub names : Gains (names_walked old) (names_walked new) (λ name. come name && is_taken tree name)
-  pub paths : Gains (left_paths (faults_walked old)) (left_paths (faults_walked new)) (λ path. come path && is_left tree path)
+  pub paths : Gains (left_paths (faults_walked old)) (left_paths (faults_walked new))
+      (λ path. come path && is_left tree path)
   pub right : AreRight tree (faults_walked old) → AreRight tree (faults_walked new)
 
 abbrev pub GathersIn : Option Snapshot → (Snapshot → List ℕ → Bool) → Walked → Walked → Type 0
@@ -63,7 +62,9 @@ covered_by paths name = list_any (λ path. covers path name) paths
 
 -- where each fault was counted from a start on, each is still
 abbrev pub KeepsCounts : ℕ → ℕ → Walked → Walked → Type 0
-KeepsCounts count later old new = (start : ℕ) → start ≤ count → CountsFaults (faults_walked old) start count → CountsFaults (faults_walked new) start later
+KeepsCounts count later old new =
+    (start : ℕ) → start ≤ count → CountsFaults (faults_walked old) start count
+    → CountsFaults (faults_walked new) start later
 
 -- ---- what is seen at one path
 
@@ -96,7 +97,8 @@ names_listed (bad fault) = []
 pub record Shows (tree : Snapshot) (path : List ℕ) (sight : Sight) : Type 0 where
   pub file : is_file_seen sight ≡ is_taken tree path
   pub fault : fault_seen sight ≡ trouble_at path (item_at tree path)
-  pub names : names_seen sight ≡ (if nat_le (length path) longest_path then names_listed (item_at tree path) else [])
+  pub names : names_seen sight ≡
+      (if nat_le (length path) longest_path then names_listed (item_at tree path) else [])
 
 abbrev pub ShowsIn : Option Snapshot → List ℕ → Sight → Type 0
 ShowsIn None path sight = Unit {0}
@@ -131,11 +133,3 @@ named_if false path = []
 abbrev pub left_if : Option WalkFault → List ℕ → List Left
 left_if None path = []
 left_if (Some fault) path = (path, fault) ∷ []
-
--- each path is longer than one that is short enough
-abbrev pub AreDeeper : List ℕ → List (List ℕ) → Type 0
-AreDeeper path paths = AllByRecursion (λ deeper. (length path ≤ longest_path) × (length path < length deeper)) paths
-
--- each path lies below the first one
-abbrev pub AreBelow : List ℕ → List (List ℕ) → Type 0
-AreBelow path paths = AllByRecursion (λ below. covers path below ≡ true) paths

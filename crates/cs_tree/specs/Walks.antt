@@ -23,8 +23,10 @@ use Rattle.cs_tree.specs.declared.walking.WalkFault.TheVariants.{Tree, Unnamed, 
 -- A walk comes to each of its paths whose last element is not left out, and to what it finds listed in a
 -- folder that it comes to, unless the name is left out or the folder's path is too long.
 pub data Reached (tree : Snapshot) (paths : Paths) : List ℕ → Type 0 where
-  named : (path : List ℕ) → set.contains paths path ≡ true → is_left_out (last_element path) ≡ false → Reached tree paths path
-  listed : (path name : List ℕ) → Reached tree paths path → length path ≤ longest_path → lists (item_at tree path) name ≡ true → is_left_out name ≡ false → Reached tree paths (child path name)
+  named : (path : List ℕ) → set.contains paths path ≡ true → is_left_out (last_element path) ≡ false
+      → Reached tree paths path
+  listed : (path name : List ℕ) → Reached tree paths path → length path ≤ longest_path
+      → lists (item_at tree path) name ≡ true → is_left_out name ≡ false → Reached tree paths (child path name)
 
 -- ---- what is found
 
@@ -50,7 +52,8 @@ is_file (bad fault) = false
 
 -- whether a walk from the paths finds the name: it comes to it, and a file stands there
 abbrev pub is_found : Snapshot → Paths → List ℕ → Bool
-is_found tree paths name = is_reached tree paths name && (nat_le (length name) longest_path && is_file (item_at tree name))
+is_found tree paths name =
+    is_reached tree paths name && (nat_le (length name) longest_path && is_file (item_at tree name))
 
 -- why a walk from the paths leaves the path, if it comes to it and has to leave it
 abbrev pub fault_at : Snapshot → Paths → List ℕ → Option WalkFault

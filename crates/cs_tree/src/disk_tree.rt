@@ -56,13 +56,7 @@ impl<R: Files + AllocGlobal + Clone + Drop> DiskTree<R> {
     pub fn new(rt: R) -> DiskTree<R>
         ensures { ⟦<DiskTree<R> as Tree>⟧.failed result ≡ 0 }
     {
-        DiskTree {
-            rt,
-            opens: Opens::Anything,
-            output: None,
-            opened: None,
-            failed: 0,
-        }
+        DiskTree::of_kind(rt, Opens::Anything)
     }
 
     /// The disk, of which `open` opens regular files alone, and links to them. All else is `Failed`,
@@ -70,9 +64,15 @@ impl<R: Files + AllocGlobal + Clone + Drop> DiskTree<R> {
     pub fn of_files(rt: R) -> DiskTree<R>
         ensures { ⟦<DiskTree<R> as Tree>⟧.failed result ≡ 0 }
     {
+        DiskTree::of_kind(rt, Opens::Files)
+    }
+
+    fn of_kind(rt: R, opens: Opens) -> DiskTree<R>
+        ensures { ⟦<DiskTree<R> as Tree>⟧.failed result ≡ 0 }
+    {
         DiskTree {
             rt,
-            opens: Opens::Files,
+            opens,
             output: None,
             opened: None,
             failed: 0,

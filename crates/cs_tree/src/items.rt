@@ -6,8 +6,9 @@ ghost use Rattle.std.specs.List.{list_any};
 ghost use Rattle.std.specs.FinMap as map';
 ghost use Rattle.cs_tree.specs.Snapshot.{item_at};
 ghost use Rattle.cs_tree.specs.Changes.{is_folder as is_folder', has_entries as has_entries', unlisting, with_name, goes_with as goes_with'};
-ghost use Rattle.cs_tree.specs.Trees.{listing_told, names_told, answered, OrMemory, kind_of, listing_of};
-ghost use Rattle.cs_tree.specs.MemoryItems.{item_of, item_put, place_at, pair_of, snapshot_of, left_at, left_of, unlisted_pair, IsOpening};
+ghost use Rattle.cs_tree.specs.Trees.{Answers, listing_told, names_told, kind_of, listing_of};
+ghost use Rattle.cs_tree.specs.MemoryItems.{item_of, item_put, pair_of, snapshot_of, left_at, left_of};
+ghost use Rattle.cs_tree.specs.StoredItems.{place_at, unlisted_pair, IsOpening};
 
 use crate::fault::TreeFault;
 use crate::mem_tree::Item;
@@ -37,7 +38,7 @@ impl StoredItem {
     }
 
     /// Whether it opens as a file.
-    fn opened(&self) -> Result<(), TreeFault>
+    fn opening(&self) -> Result<(), TreeFault>
         ensures { IsOpening (opening_of (item_of self.now)) (λ _. left_of 0 self.now) result }
     {
         match self {
@@ -115,13 +116,12 @@ pub(crate) fn kind_at(items: &[Stored], path: &str) -> Result<Kind, TreeFault>
 
 /// What `entries` answers.
 pub(crate) fn listing_at(alloc: Global, items: &[Stored], path: &str) -> Result<Listing, TreeFault>
-    ensures answer { OrMemory (answered listing_told result)
-        (listing_of (item_at (snapshot_of items.now) path.now)) }
+    ensures answer { Answers listing_told (Some (snapshot_of items.now)) listing_of path.now result }
     ensures names { IfOk result (λ listing. are_elements (names_told listing) ≡ true) }
 {
     match find_item(items, path) {
         Some(StoredItem::Folder(names)) => Ok(Listing {
-            names: names.copied(alloc)?,
+            names: names.copy(alloc)?,
             unnamed: false,
         }),
         Some(StoredItem::Denied) => Err(TreeFault::Denied),
@@ -138,7 +138,7 @@ pub(crate) fn opening_at(items: &[Stored], path: &str) -> Result<usize, TreeFaul
     let Some(at) = place_of(items, path) else {
         return Err(TreeFault::Missing);
     };
-    match items[at].item.opened() {
+    match items[at].item.opening() {
         Ok(()) => Ok(at),
         Err(fault) => Err(fault),
     }

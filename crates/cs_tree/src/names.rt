@@ -62,7 +62,7 @@ impl Names {
     }
 
     /// The names, in their order.
-    pub(crate) fn copied(&self, alloc: Global) -> Result<Vec<String>, AllocError>
+    pub(crate) fn copy(&self, alloc: Global) -> Result<Vec<String>, AllocError>
         ensures { IfOk result (λ names. map string_bytes names.items ≡ listed_names self.now) }
     {
         let mut names = Vec::new(alloc);

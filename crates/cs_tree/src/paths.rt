@@ -1,6 +1,6 @@
 // What a path covers, and the elements of a path.
 ghost use Rattle.std.specs.Prelude.{◌≡◌, ◌≢◌, ◌++◌, ◌∷◌, [], true, false, MatchOption, IsTrue, ◌↔◌, List, ℕ, length, ◌<◌, ◌&&◌, not, nat_eq};
-ghost use Rattle.cs_tree.specs.Covering.{ends_element as ends_element'};
+ghost use Rattle.cs_tree.specs.Below.{ends_element as ends_element'};
 ghost use Rattle.cs_tree.specs.Folders.{stem_of, child, last_element, is_element as is_element'};
 ghost use Rattle.std.specs.List.{list_any};
 ghost use Rattle.cs_tree.specs.Cover.{covers as covers', same, begins, slash};

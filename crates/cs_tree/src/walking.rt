@@ -202,7 +202,7 @@ impl Walked {
         ensures waiting { OnOk result (map string_bytes waiting.new.items
             ≡ map string_bytes waiting.old.items
             ++ children (string_bytes path) (names_seen sight)) }
-        ensures few { OnOk result
+        ensures bound { OnOk result
             (length (children (string_bytes path) (names_seen sight)) < 2 ^ 64) }
     {
         match sight {
@@ -229,7 +229,7 @@ fn wait_for_children(
 ) -> Result<(), AllocError>
     ensures waiting { OnOk result (map string_bytes waiting.new.items
         ≡ map string_bytes waiting.old.items ++ children folder.now (map string_bytes names.now)) }
-    ensures few { OnOk result (length (children folder.now (map string_bytes names.now)) < 2 ^ 64) }
+    ensures bound { OnOk result (length (children folder.now (map string_bytes names.now)) < 2 ^ 64) }
 {
     'names: for name in names {
         if is_walked(name.as_str()) {

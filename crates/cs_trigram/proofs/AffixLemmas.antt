@@ -1,75 +1,68 @@
 -- Affixes of concatenated texts, and of trees.
-use Rattle.std.proofs.Common.{◌≡◌, ℕ, zero, suc, ◌+◌, ◌-◌, ◌<◌, ◌≤◌, ◌⊎◌, ◌&&◌, inl, inr, not, Bool, true, false, List, [], ◌∷◌, ◌++◌, take, drop, length, get_or, refl, sym, ◌∙◌, ap, subst, arith, append_assoc, drop-cons, drop_of_length-le}
+use Rattle.std.proofs.Common.{◌≡◌, ℕ, zero, suc, ◌+◌, ◌-◌, ◌<◌, ◌≤◌, ◌⊎◌, inl, inr, not, true, false, List, [], ◌∷◌, ◌++◌, take, drop, length, get_or, refl, sym, ◌∙◌, ap, subst, arith, append_assoc, drop-cons, drop_of_length-le}
 use Rattle.std.specs.Prelude.{Option}
 use Rattle.std.specs.List.{list_all}
+use Rattle.std.proofs.lemmas.Bool.{and_parts, not-true}
 use Rattle.std.proofs.lemmas.List.{append-nil, take-append-drop}
 use Rattle.cs_syntax.specs.Matching.{Tree, Trees, empty, one_of, one_char, cat, alt, rep, line_start, line_end, word_edge, not_word_edge, none, more, Chain, Takes, TakesAll, TakesSome}
-use Rattle.cs_trigram.specs.Affixes.{part, side_by_side, near_part, HasAffix, HasSomeAffix, AreAffixes, AreAffixesOfAll}
+use Rattle.cs_trigram.specs.Affixes.{part, concatenation, near_part, HasAffix, HasSomeAffix, AreAffixes, AreAffixesOfAll}
 use Rattle.cs_trigram.specs.ShortWord.{bytes_of}
 use Rattle.cs_trigram.specs.declared.affixes.Side.{Side}
 use Rattle.cs_trigram.specs.declared.affixes.Side.TheVariants.{Prefix, Suffix}
 use Rattle.cs_trigram.specs.declared.affixes.Affix.{Affix}
 use Rattle.cs_trigram.proofs.SpellingLemmas.{part_split, part_empty}
 
-pub side_by_side-assoc : (side : Side) (a b c : List ℕ) → side_by_side side (side_by_side side a b) c ≡ side_by_side side a (side_by_side side b c)
-side_by_side-assoc Prefix a b c = append_assoc a b c
-side_by_side-assoc Suffix a b c = sym (append_assoc c b a)
+pub concatenation-assoc : (side : Side) (a b c : List ℕ) → concatenation side (concatenation side a b) c ≡ concatenation side a (concatenation side b c)
+concatenation-assoc Prefix a b c = append_assoc a b c
+concatenation-assoc Suffix a b c = sym (append_assoc c b a)
 
-pub side_by_side-none : (side : Side) (a : List ℕ) → side_by_side side a [] ≡ a
-side_by_side-none Prefix a = append-nil a
-side_by_side-none Suffix a = refl
+pub concatenation-none : (side : Side) (a : List ℕ) → concatenation side a [] ≡ a
+concatenation-none Prefix a = append-nil a
+concatenation-none Suffix a = refl
 
-pub none_side_by_side : (side : Side) (a : List ℕ) → side_by_side side [] a ≡ a
-none_side_by_side Prefix a = refl
-none_side_by_side Suffix a = append-nil a
+pub none_concatenation : (side : Side) (a : List ℕ) → concatenation side [] a ≡ a
+none_concatenation Prefix a = refl
+none_concatenation Suffix a = append-nil a
 
 -- an affix of a concatenation, where the near one is whole and where it is not
-pub fits_concatenation : (side : Side) (near far affix : Affix) → (bytes_of affix.word) ≡ side_by_side side (bytes_of near.word) (bytes_of far.word) → affix.whole ≡ far.whole → near.whole ≡ true →
-    (u v : List ℕ) → HasAffix side near u → HasAffix side far v → HasAffix side affix (side_by_side side u v)
+pub fits_concatenation : (side : Side) (near far affix : Affix) → (bytes_of affix.word) ≡ concatenation side (bytes_of near.word) (bytes_of far.word) → affix.whole ≡ far.whole → near.whole ≡ true →
+    (u v : List ℕ) → HasAffix side near u → HasAffix side far v → HasAffix side affix (concatenation side u v)
 fits_concatenation side near far affix word whole is u v a b =
-    let same : u ≡ (bytes_of near.word) = a.1 ∙ ap (side_by_side side (bytes_of near.word)) (a.2 is) ∙ side_by_side-none side (bytes_of near.word) in (
+    let same : u ≡ (bytes_of near.word) = a.1 ∙ ap (concatenation side (bytes_of near.word)) (a.2 is) ∙ concatenation-none side (bytes_of near.word) in (
       b.0,
-      ap (λ (x : List ℕ). side_by_side side x v) same ∙ ap (side_by_side side (bytes_of near.word)) b.1 ∙ sym (side_by_side-assoc side (bytes_of near.word) (bytes_of far.word) b.0)
-          ∙ ap (λ (x : List ℕ). side_by_side side x b.0) (sym word),
+      ap (λ (x : List ℕ). concatenation side x v) same ∙ ap (concatenation side (bytes_of near.word)) b.1 ∙ sym (concatenation-assoc side (bytes_of near.word) (bytes_of far.word) b.0)
+          ∙ ap (λ (x : List ℕ). concatenation side x b.0) (sym word),
       λ e. b.2 (sym whole ∙ e),
     )
 
 pub fits_open : (side : Side) (near affix : Affix) → (bytes_of affix.word) ≡ (bytes_of near.word) → affix.whole ≡ false →
-    (u v : List ℕ) → HasAffix side near u → HasAffix side affix (side_by_side side u v)
+    (u v : List ℕ) → HasAffix side near u → HasAffix side affix (concatenation side u v)
 fits_open side near affix word loose u v a = (
-  side_by_side side a.0 v,
-  ap (λ (x : List ℕ). side_by_side side x v) a.1 ∙ side_by_side-assoc side (bytes_of near.word) a.0 v ∙ ap (λ (x : List ℕ). side_by_side side x (side_by_side side a.0 v)) (sym word),
+  concatenation side a.0 v,
+  ap (λ (x : List ℕ). concatenation side x v) a.1 ∙ concatenation-assoc side (bytes_of near.word) a.0 v ∙ ap (λ (x : List ℕ). concatenation side x (concatenation side a.0 v)) (sym word),
   λ e. let odd : false ≡ true = sym loose ∙ e in (cc),
 )
 
 -- the same affixes, where none is whole
 pub fits_all_open : (side : Side) (affixes : List Affix) (u v : List ℕ) → list_all (λ (affix : Affix). not affix.whole) affixes ≡ true →
-    HasSomeAffix side affixes u → HasSomeAffix side affixes (side_by_side side u v)
+    HasSomeAffix side affixes u → HasSomeAffix side affixes (concatenation side u v)
 fits_all_open side [] u v loose h = h
 fits_all_open side (e ∷ affixes) u v loose h =
     elim h [
-      | inl a ↦ inl (fits_open side e e refl (not_whole e.whole (list_all (λ (x : Affix). not x.whole) affixes) loose) u v a)
-      | inr b ↦ inr (fits_all_open side affixes u v (others e.whole (list_all (λ (x : Affix). not x.whole) affixes) loose) b)
+      | inl a ↦ inl (fits_open side e e refl (not-true e.whole (and_parts (not e.whole) (list_all (λ (x : Affix). not x.whole) affixes) loose).0) u v a)
+      | inr b ↦ inr (fits_all_open side affixes u v (and_parts (not e.whole) (list_all (λ (x : Affix). not x.whole) affixes) loose).1 b)
     ]
-  where
-    not_whole : (whole rest : Bool) → (not whole && rest) ≡ true → whole ≡ false
-    not_whole true rest h = let odd : false ≡ true = h in (cc)
-    not_whole false rest h = refl
-
-    others : (whole rest : Bool) → (not whole && rest) ≡ true → rest ≡ true
-    others true rest h = let odd : false ≡ true = h in (cc)
-    others false rest h = h
 
 -- an affix with the same word and kind
 pub fits_same : (side : Side) (old affix : Affix) → (bytes_of affix.word) ≡ (bytes_of old.word) → affix.whole ≡ old.whole → (text : List ℕ) → HasAffix side old text → HasAffix side affix text
 fits_same side old affix word whole text a =
-    (a.0, a.1 ∙ ap (λ (x : List ℕ). side_by_side side x a.0) (sym word), λ e. a.2 (sym whole ∙ e))
+    (a.0, a.1 ∙ ap (λ (x : List ℕ). concatenation side x a.0) (sym word), λ e. a.2 (sym whole ∙ e))
 
 -- an affix that is cut
-pub fits_cut : (side : Side) (old affix : Affix) (rest : List ℕ) → (bytes_of old.word) ≡ side_by_side side (bytes_of affix.word) rest → affix.whole ≡ false → (text : List ℕ) → HasAffix side old text → HasAffix side affix text
+pub fits_cut : (side : Side) (old affix : Affix) (rest : List ℕ) → (bytes_of old.word) ≡ concatenation side (bytes_of affix.word) rest → affix.whole ≡ false → (text : List ℕ) → HasAffix side old text → HasAffix side affix text
 fits_cut side old affix rest word loose text a = (
-  side_by_side side rest a.0,
-  a.1 ∙ ap (λ (x : List ℕ). side_by_side side x a.0) word ∙ side_by_side-assoc side (bytes_of affix.word) rest a.0,
+  concatenation side rest a.0,
+  a.1 ∙ ap (λ (x : List ℕ). concatenation side x a.0) word ∙ concatenation-assoc side (bytes_of affix.word) rest a.0,
   λ e. let odd : false ≡ true = sym loose ∙ e in (cc),
 )
 
@@ -100,13 +93,13 @@ fits_at side (e ∷ affixes) (suc i) affix text lt h = inr (fits_at side affixes
 -- the affix of each text, and that of the text without bytes
 pub fits_any : (side : Side) (affix : Affix) (text : List ℕ) → (bytes_of affix.word) ≡ [] → affix.whole ≡ false → HasSomeAffix side (affix ∷ []) text
 fits_any side affix text word loose =
-    inl (text, sym (none_side_by_side side text) ∙ ap (λ (x : List ℕ). side_by_side side x text) (sym word), λ e. let odd : false ≡ true = sym loose ∙ e in (cc))
+    inl (text, sym (none_concatenation side text) ∙ ap (λ (x : List ℕ). concatenation side x text) (sym word), λ e. let odd : false ≡ true = sym loose ∙ e in (cc))
 
 pub fits_none : (side : Side) (affix : Affix) → (bytes_of affix.word) ≡ [] → HasSomeAffix side (affix ∷ []) []
-fits_none side affix word = inl ([], sym (side_by_side-none side []) ∙ ap (λ (x : List ℕ). side_by_side side x []) (sym word), λ e. refl)
+fits_none side affix word = inl ([], sym (concatenation-none side []) ∙ ap (λ (x : List ℕ). concatenation side x []) (sym word), λ e. refl)
 
 pub fits_whole : (side : Side) (affix : Affix) (text : List ℕ) → text ≡ (bytes_of affix.word) → HasAffix side affix text
-fits_whole side affix text e = ([], e ∙ sym (side_by_side-none side (bytes_of affix.word)), λ w. refl)
+fits_whole side affix text e = ([], e ∙ sym (concatenation-none side (bytes_of affix.word)), λ w. refl)
 
 -- places rise
 chain_rises : (R : ℕ → ℕ → Type 0) → ((i j : ℕ) → R i j → i ≤ j) → (k i j : ℕ) → Chain R k i j → i ≤ j
@@ -156,11 +149,11 @@ chain_last R zero i j c = (i, refl, subst (R i) c.2 c.1)
 chain_last R (suc k) i j c = let r = chain_last R k c.0 j c.2 in (r.0, (c.0, c.1, r.1), r.2)
 
 pub round_more : (side : Side) (once fars affixes : List Affix) (t : Tree) (n : ℕ) →
-    ((u v : List ℕ) → HasSomeAffix side once u → HasSomeAffix side fars v → HasSomeAffix side affixes (side_by_side side u v)) →
+    ((u v : List ℕ) → HasSomeAffix side once u → HasSomeAffix side fars v → HasSomeAffix side affixes (concatenation side u v)) →
     AreAffixes side once t → AreAffixesOfRounds side fars t n → AreAffixesOfRounds side affixes t (n + 1)
 round_more side once fars affixes t n both a b = λ s k i j le c. by side both a b s k i j le c
   where
-    by : (side : Side) → ((u v : List ℕ) → HasSomeAffix side once u → HasSomeAffix side fars v → HasSomeAffix side affixes (side_by_side side u v)) →
+    by : (side : Side) → ((u v : List ℕ) → HasSomeAffix side once u → HasSomeAffix side fars v → HasSomeAffix side affixes (concatenation side u v)) →
         AreAffixes side once t → AreAffixesOfRounds side fars t n → (s : List ℕ) (k i j : ℕ) → n + 1 ≤ k → Chain (Takes s t) k i j → HasSomeAffix side affixes (part s i j)
     by side both a b s zero i j le c = absurd (omega arith)
     by Prefix both a b s (suc k) i j le c =
@@ -173,7 +166,7 @@ round_more side once fars affixes t n both a b = λ s k i j le c. by side both a
 
 -- any number of rounds: none, or one and anything
 pub rounds_any : (side : Side) (once any loose affixes : List Affix) (t : Tree) → ((text : List ℕ) → HasSomeAffix side any text) →
-    ((u v : List ℕ) → HasSomeAffix side once u → HasSomeAffix side any v → HasSomeAffix side loose (side_by_side side u v)) →
+    ((u v : List ℕ) → HasSomeAffix side once u → HasSomeAffix side any v → HasSomeAffix side loose (concatenation side u v)) →
     HasSomeAffix side affixes [] → ((text : List ℕ) → HasSomeAffix side loose text → HasSomeAffix side affixes text) →
     AreAffixes side once t → AreAffixesOfRounds side affixes t 0
 rounds_any side once any loose affixes t all both none_fits keep a = λ s k i j le c. by s k i j c
@@ -199,7 +192,7 @@ abbrev pub far_part : Side → ℕ → List ℕ → List ℕ
 far_part Prefix n text = drop n text
 far_part Suffix n text = take (length text - n) text
 
-pub near_far : (side : Side) (n : ℕ) (text : List ℕ) → text ≡ side_by_side side (near_part side n text) (far_part side n text)
+pub near_far : (side : Side) (n : ℕ) (text : List ℕ) → text ≡ concatenation side (near_part side n text) (far_part side n text)
 near_far Prefix n text = sym (take-append-drop n text)
 near_far Suffix n text = sym (take-append-drop (length text - n) text)
 

@@ -3,6 +3,7 @@ use Rattle.std.proofs.Common.{◌≡◌, ℕ, ◌+◌, ◌-◌, ◌*◌, ◌<◌
 use Rattle.std.specs.Prelude.{nat_le, nat_eq, if◌then◌else◌}
 use Rattle.std.specs.List.{list_any, list_all}
 use Rattle.std.specs.Str.{bytes_eq}
+use Rattle.std.specs.Cmp.{both_ways as both_imply}
 use Rattle.std.proofs.Math.Nat.{suc-mul}
 use Rattle.std.proofs.Math.Seq.{take-append_seam}
 use Rattle.std.proofs.lemmas.Bool.{and_parts, le-leb, cases_lt, eqb-true, both_ways}
@@ -101,12 +102,6 @@ many_concatenations n us vs h d e lt =
     ]
 
 -- whether a word is the one and then the other, part by part
-both_or_none : (a b : Bool) → (a ≡ true → b ≡ true) → (b ≡ true → a ≡ true) → a ≡ b
-both_or_none true true f g = refl
-both_or_none true false f g = sym (f refl)
-both_or_none false true f g = g refl
-both_or_none false false f g = refl
-
 pub concatenated_behind : (s u v : List ℕ) → length s ≡ length u + length v → bytes_eq (take (length u) s) u ≡ true →
     bytes_eq (take (length s - length u) (drop (length u) s)) v ≡ bytes_eq s (u ++ v)
 concatenated_behind s u v len front =
@@ -115,13 +110,13 @@ concatenated_behind s u v len front =
     let all : take (length s - length u) back ≡ back = take_all (length s - length u) back (omega (arith, length-drop (length u) s)) in
     let whole : s ≡ u ++ back = sym (take-append-drop (length u) s) ∙ ap (λ (x : List ℕ). x ++ back) first in
     ap (λ (x : List ℕ). bytes_eq x v) all
-    ∙ both_or_none (bytes_eq back v) (bytes_eq s (u ++ v))
+    ∙ both_imply (bytes_eq back v) (bytes_eq s (u ++ v))
     (λ e. (bytes_eq-Decides s (u ++ v)).1 (whole ∙ ap (λ (x : List ℕ). u ++ x) ((bytes_eq-Decides back v).0 e)))
     (λ e. (bytes_eq-Decides back v).1 (append_cancel_left u back v (sym whole ∙ (bytes_eq-Decides s (u ++ v)).0 e)))
 
 pub not_concatenated : (s u v : List ℕ) → bytes_eq (take (length u) s) u ≡ false → false ≡ bytes_eq s (u ++ v)
 not_concatenated s u v other =
-    both_or_none false (bytes_eq s (u ++ v)) (λ e. absurd (both_ways false refl e))
+    both_imply false (bytes_eq s (u ++ v)) (λ e. absurd (both_ways false refl e))
     (λ e.
     let whole = (bytes_eq-Decides s (u ++ v)).0 e in
     sym other ∙ (bytes_eq-Decides (take (length u) s) u).1 (ap (take (length u)) whole ∙ take-append_seam u v))

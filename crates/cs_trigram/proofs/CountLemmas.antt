@@ -1,8 +1,9 @@
 -- Words that are counted: one after another, and either of two.
+use Rattle.std.proofs.Math.Bool.{and-true}
 use Rattle.std.proofs.Math.Seq.{take-suc}
-use Rattle.std.proofs.Common.{get_or, take, reverse, ◌≡◌, ℕ, zero, suc, ◌+◌, ◌<◌, ◌≤◌, ◌⊎◌, ◌&&◌, inl, inr, Bool, true, false, List, [], ◌∷◌, length, refl, sym, ◌∙◌, ap, subst, arith, Vec, Global, map, ◌++◌}
+use Rattle.std.proofs.Common.{get_or, take, reverse, ◌≡◌, ℕ, zero, suc, ◌+◌, ◌<◌, ◌≤◌, ◌⊎◌, ◌&&◌, inl, inr, true, false, List, [], ◌∷◌, length, refl, sym, ◌∙◌, ap, subst, arith, Vec, Global, map, ◌++◌}
 use Rattle.std.proofs.lemmas.List.{append_cancel_left, length-map, reverse-append}
-use Rattle.std.proofs.lemmas.Bool.{and_from, cases_lt, le-leb}
+use Rattle.std.proofs.lemmas.Bool.{and_from, and_left, and_right, cases_lt, le-leb}
 use Rattle.std.specs.Prelude.{Some, nat_le}
 use Rattle.cs_syntax.specs.Matching.{Tree, Trees, cat, alt, rep, empty, none, more}
 use Rattle.cs_trigram.specs.PlainRuns.{IsMember}
@@ -113,11 +114,7 @@ pub endless_front : (t u : Tree) → is_finite t ≡ false → are_finite (pair 
 endless_front t u e = ap (λ b. b && are_finite (more u none)) e
 
 pub endless_back : (t u : Tree) → is_finite u ≡ false → are_finite (pair t u) ≡ false
-endless_back t u e = by (is_finite t) (is_finite u) e
-  where
-    by : (a b : Bool) → b ≡ false → (a && (b && true)) ≡ false
-    by true b e = ap (λ x. x && true) e
-    by false b e = refl
+endless_back t u e = and_right (is_finite t) (is_finite u && true) (and_left (is_finite u) true e)
 
 -- many of either
 within : (us vs : List (List ℕ)) (t u : Tree) (s : SamplesTree us t) (r : SamplesTree vs u) → length (with_words vs us) ≤ 20 → (length us ≤ 20) × (length vs ≤ 20)
@@ -158,20 +155,16 @@ bare_words words t e f only has =
     let small : length words.items ≤ 20 = omega (arith, ap length e) in
     ((f, subst (λ (ws : List (List ℕ)). IsSample ws (HasWord t)) (sym e) sample), small)
 
-and_true : (b : Bool) → (b && true) ≡ b
-and_true true = refl
-and_true false = refl
-
 -- one tree more in front of a sequence, and of a choice
 pub counts_cat : (c : Counted) (t : Tree) (ts : Trees) → Counts c (cat (pair t (cat ts))) → Counts c (cat (more t ts))
 counts_cat c t ts h =
-    counts_as c (cat (pair t (cat ts))) (cat (more t ts)) h (ap (λ b. is_finite t && b) (and_true (are_finite ts)))
+    counts_as c (cat (pair t (cat ts))) (cat (more t ts)) h (ap (λ b. is_finite t && b) (and-true (are_finite ts)))
     (λ w j. (j.0, j.1, j.2, spells_one (cat ts) j.1 j.3, j.4))
     (λ w j. (j.0, j.1, j.2, concatenates_one (cat ts) j.1 j.3, j.4))
 
 pub counts_alt : (c : Counted) (t : Tree) (ts : Trees) → Counts c (alt (pair t (alt ts))) → Counts c (alt (more t ts))
 counts_alt c t ts h =
-    counts_as c (alt (pair t (alt ts))) (alt (more t ts)) h (ap (λ b. is_finite t && b) (and_true (are_finite ts)))
+    counts_as c (alt (pair t (alt ts))) (alt (more t ts)) h (ap (λ b. is_finite t && b) (and-true (are_finite ts)))
     (λ w j. elim j [ inl a ↦ inl a | inr b ↦ elim b [ inl p ↦ inr p | inr n ↦ absurd n ] ])
     (λ w j. elim j [ inl a ↦ inl a | inr b ↦ inr (inl b) ])
 

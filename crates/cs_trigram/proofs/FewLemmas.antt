@@ -1,9 +1,10 @@
 -- Runs with few words, and fronts of runs.
-use Rattle.std.proofs.Common.{◌≡◌, ℕ, zero, suc, ◌-◌, ◌<◌, ◌≤◌, ◌⊎◌, ◌&&◌, inl, inr, Bool, true, false, List, [], ◌∷◌, ◌++◌, take, drop, length, map, refl, sym, ◌∙◌, ap, subst, arith, append_assoc, length-append}
+use Rattle.std.proofs.Common.{◌≡◌, ℕ, zero, suc, ◌-◌, ◌<◌, ◌≤◌, ◌⊎◌, ◌&&◌, inl, inr, true, false, List, [], ◌∷◌, ◌++◌, take, drop, length, map, refl, sym, ◌∙◌, ap, subst, arith, append_assoc, length-append}
 use Rattle.cs_syntax.specs.TreeList.{append}
 use Rattle.std.specs.Prelude.{nat_le, nat_lt}
+use Rattle.std.proofs.Math.Bool.{and_assoc}
 use Rattle.std.proofs.Math.Seq.{take-append_seam, drop-append_seam}
-use Rattle.std.proofs.lemmas.Bool.{and_parts, and_from, leb-true, le-leb, lt-ltb, ltb-true, both_ways}
+use Rattle.std.proofs.lemmas.Bool.{and_parts, and_from, leb-true, le-leb, lt-ltb, ltb-true, both_ways, false_from_ne_true}
 use Rattle.std.proofs.lemmas.List.{append-nil, length-map}
 use Rattle.cs_syntax.specs.Matching.{Tree, Trees, none, more}
 use Rattle.cs_syntax.proofs.TreeListLemmas.{append_assoc_trees}
@@ -15,11 +16,7 @@ use Rattle.cs_trigram.proofs.SampleLemmas.{sample_same, sample_words, sample_con
 
 pub finite_append : (a b : Trees) → are_finite (append a b) ≡ (are_finite a && are_finite b)
 finite_append none b = refl
-finite_append (more t a) b = and_more (is_finite t) (are_finite a) (are_finite b) (are_finite (append a b)) (finite_append a b)
-  where
-    and_more : (x y z r : Bool) → r ≡ (y && z) → (x && r) ≡ ((x && y) && z)
-    and_more true y z r e = e
-    and_more false y z r e = refl
+finite_append (more t a) b = ap (λ r. is_finite t && r) (finite_append a b) ∙ sym (and_assoc (is_finite t) (are_finite a) (are_finite b))
 
 -- what concatenates words of two runs, and what concatenates words of both
 pub concatenates_both : (a b : Trees) (u v : List ℕ) → ConcatenatesWords a u → ConcatenatesWords b v → ConcatenatesWords (append a b) (u ++ v)
@@ -117,11 +114,7 @@ pub few_count : (n : ℕ) → is_few n ≡ true → (0 < n) × (n ≤ 20)
 few_count n h = let p = and_parts (nat_lt 0 n) (nat_le n 20) h in (ltb-true 0 n p.0, leb-true n 20 p.1)
 
 pub many_count : (n : ℕ) → 20 < n → is_few n ≡ false
-many_count n lt = by (is_few n) refl
-  where
-    by : (b : Bool) → is_few n ≡ b → b ≡ false
-    by true e = let p = few_count n e in absurd (omega (arith, p.1, lt))
-    by false e = refl
+many_count n lt = false_from_ne_true (is_few n) (λ e. let p = few_count n e in absurd (omega (arith, p.1, lt)))
 
 pub odd_count : (n : ℕ) → is_few n ≡ false → n ≤ 20 → n ≡ 0
 odd_count zero h le = refl

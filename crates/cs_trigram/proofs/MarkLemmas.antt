@@ -1,5 +1,6 @@
 -- What a number more changes of what is kept.
 use Rattle.std.proofs.Common.{◌≡◌, ◌≢◌, ◌≤◌, ◌<◌, ℕ, zero, suc, ◌+◌, ◌-◌, ◌*◌, ◌/◌, ◌%◌, ◌^◌, Bool, true, false, ◌||◌, eqb, List, [], ◌∷◌, ◌++◌, length, take, get_or, set, refl, sym, ap, subst, ◌∙◌, inl, inr, ◌⊎◌, arith, length-append, drop, get_or-set_same, get_or-set_other, replicate, w64, bit_or, bit_and, not}
+use Rattle.std.proofs.Math.Bool.{or-false, or-true}
 use Rattle.std.proofs.lemmas.List.{append_assoc, append-nil, take-set-le, take_more_set, get_or-replicate, length-replicate, get_or_past, drop_all, drop_more}
 use Rattle.std.proofs.lemmas.Nat.{one_shl}
 use Rattle.std.proofs.lemmas.Nat.Bits.{and_pow, bit_at_set_same, bit_at_set_other, bit_at-lt, bit_at-zero}
@@ -19,14 +20,6 @@ marked cells n = set cells (n / 64) (bit_or (get_or cells (n / 64) 0) (1 * 2 ^ (
 
 has-push : (numbers : List ℕ) (w n : ℕ) → has (numbers ++ w ∷ []) n ≡ (has numbers n || (eqb w n || false))
 has-push numbers w n = has-append n numbers (w ∷ [])
-
-or_true : (a : Bool) → (a || (true || false)) ≡ true
-or_true true = refl
-or_true false = refl
-
-or_false : (a : Bool) → (a || (false || false)) ≡ a
-or_false true = refl
-or_false false = refl
 
 bit-marked_same : (cells : List ℕ) (w : ℕ) → w / 64 < length cells → bit_of (marked cells w) w ≡ 1
 bit-marked_same cells w within =
@@ -50,10 +43,10 @@ Marks-push cells numbers w within marks n = at (cases_eq w n)
     at : ((w ≡ n) ⊎ (w ≡ n → ⊥)) → bit_of (marked cells w) n ≡ as_bit (has (numbers ++ w ∷ []) n)
     at (inl same) =
         ap (bit_of (marked cells w)) (sym same) ∙ bit-marked_same cells w within
-        ∙ ap as_bit (sym (has-push numbers w n ∙ ap (λ t. has numbers n || (t || false)) (eq-eqb w n same) ∙ or_true (has numbers n)))
+        ∙ ap as_bit (sym (has-push numbers w n ∙ ap (λ t. has numbers n || (t || false)) (eq-eqb w n same) ∙ or-true (has numbers n)))
     at (inr apart) =
         bit-marked_other cells w n within apart ∙ marks n
-        ∙ ap as_bit (sym (has-push numbers w n ∙ ap (λ t. has numbers n || (t || false)) (ne_eqb w n apart) ∙ or_false (has numbers n)))
+        ∙ ap as_bit (sym (has-push numbers w n ∙ ap (λ t. has numbers n || (t || false)) (ne_eqb w n apart) ∙ or-false (has numbers n)))
 
 -- a bit that is set tells a member, and one that is not set tells that there is none
 has-bit : (cells numbers : List ℕ) (n : ℕ) → Marks cells numbers → bit_of cells n ≡ 1 → has numbers n ≡ true
@@ -85,7 +78,7 @@ Holds-again cells numbers set w within holds one =
   where
     at : (n : ℕ) → ((w ≡ n) ⊎ (w ≡ n → ⊥)) → has numbers w ≡ true → (has numbers n || (eqb w n || false)) ≡ has numbers n
     at n (inl same) member = ap (λ t. t || (eqb w n || false)) (ap (has numbers) (sym same) ∙ member) ∙ sym (ap (has numbers) (sym same) ∙ member)
-    at n (inr apart) member = ap (λ t. has numbers n || (t || false)) (ne_eqb w n apart) ∙ or_false (has numbers n)
+    at n (inr apart) member = ap (λ t. has numbers n || (t || false)) (ne_eqb w n apart) ∙ or-false (has numbers n)
 
 -- a number put in for the first time
 Holds-new : (cells numbers set : List ℕ) (w : ℕ) → w / 64 < length cells → Holds cells numbers set → bit_of cells w ≡ 0 → Holds (marked cells w) (numbers ++ w ∷ []) (with_number w set) × (length (with_number w set) ≡ length set + 1)

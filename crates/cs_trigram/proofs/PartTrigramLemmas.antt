@@ -2,6 +2,7 @@
 use Rattle.std.proofs.Common.{◌≡◌, ℕ, zero, suc, ◌&&◌, Bool, true, false, List, [], ◌∷◌, ◌++◌, take, drop, length, refl, sym, ◌∙◌, ap, subst}
 use Rattle.std.specs.Prelude.{nat_lt, nat_eq, if◌then◌else◌}
 use Rattle.std.specs.List.{list_all}
+use Rattle.std.proofs.Math.Bool.{and_self_left}
 use Rattle.std.proofs.Math.Seq.{take-append_seam, drop-append_seam}
 use Rattle.std.proofs.lemmas.Bool.{eqb-true, and_parts, and_from}
 use Rattle.cs_trigram.specs.Trigram.{trigram, trigram_sequence, with_number, set_of_numbers, tri}
@@ -14,11 +15,7 @@ module _ (set : ℕ → Bool) where
   placed_by n m ms true same e h = refl
   placed_by n m ms false true e h =
       let is : n ≡ m = eqb-true n m e in
-      rw is (twice (set m) (list_all set ms))
-    where
-      twice : (x y : Bool) → (x && y) ≡ (x && (x && y))
-      twice true y = refl
-      twice false y = refl
+      rw is (sym (and_self_left (set m) (list_all set ms)))
   placed_by n m ms false false e h = rw h (turn (set m) (set n) (list_all set ms))
     where
       turn : (x y z : Bool) → (x && (y && z)) ≡ (y && (x && z))

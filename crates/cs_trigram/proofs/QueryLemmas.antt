@@ -1,19 +1,17 @@
 -- The equations of `holds`, one for each variant.
-use Rattle.std.proofs.Common.{◌≡◌, ℕ, ◌+◌, ◌≤◌, ◌&&◌, ◌||◌, Bool, true, false, List, [], ◌∷◌, ◌++◌, drop, length, map, Vec, Global, refl, sym, ◌∙◌, ap, arith, length-drop}
+use Rattle.std.proofs.Common.{◌≡◌, ℕ, ◌+◌, ◌≤◌, ◌&&◌, ◌||◌, Bool, true, false, List, [], ◌∷◌, ◌++◌, drop, length, Vec, Global, refl, sym, ◌∙◌, ap, arith, length-drop}
 use Rattle.cs_trigram.specs.QueryNumbers.{numbers_step, are_trigrams}
 use Rattle.std.specs.Prelude.{nat_lt}
-use Rattle.std.specs.List.{list_all, list_any}
+use Rattle.std.specs.List.{list_all}
+use Rattle.std.proofs.Math.Bool.{and-true, or-false, or-true, or_assoc}
 use Rattle.std.proofs.lemmas.Bool.{and_from}
 use Rattle.std.proofs.lemmas.List.Folds.{list_all-map, list_all-append, list_any-append}
+use Rattle.cs_tree.proofs.NameLemmas.{list_any-map}
 use Rattle.cs_trigram.specs.Trigram.{trigram_sequence}
 use Rattle.cs_trigram.specs.Query.{holds, holds_step}
 use Rattle.cs_trigram.specs.Sample.{all_hold, some_holds, has_any}
 use Rattle.cs_trigram.specs.declared.queries.Query.{Query, Query-F, fold-roll-Query}
 use Rattle.cs_trigram.specs.declared.queries.Query.TheVariants.{All, Nothing, Tri, And, Or, rolls-All, rolls-Nothing, rolls-Tri, rolls-And, rolls-Or}
-
-list_any-map : (f : Query → Bool) (xs : List Query) → list_any (λ b. b) (map f xs) ≡ list_any f xs
-list_any-map f [] = refl
-list_any-map f (x ∷ xs) = ap (λ b. f x || b) (list_any-map f xs)
 
 module _ (set : ℕ → Bool) where
   pub holds-All : holds All set ≡ true
@@ -33,7 +31,7 @@ module _ (set : ℕ → Bool) where
   pub holds-Or : (members : Vec Query Global) → holds (Or members) set ≡ some_holds members.items set
   holds-Or members =
       ap (λ q. holds q set) (sym (rolls-Or members)) ∙ fold-roll-Query Bool (holds_step set) (Query-F.Or members)
-      ∙ list_any-map (λ q. holds q set) members.items
+      ∙ list_any-map (λ q. holds q set) (λ b. b) members.items
 
 pub numbers-All : are_trigrams All ≡ true
 numbers-All = ap are_trigrams (sym rolls-All) ∙ fold-roll-Query Bool numbers_step Query-F.All
@@ -51,32 +49,20 @@ numbers-Or members =
     ap are_trigrams (sym (rolls-Or members)) ∙ fold-roll-Query Bool numbers_step (Query-F.Or members)
     ∙ list_all-map (λ b. b) are_trigrams members.items
 
-or_assoc : (a b c : Bool) → ((a || b) || c) ≡ (a || (b || c))
-or_assoc true b c = refl
-or_assoc false b c = refl
-
-and_true : (a : Bool) → (a && true) ≡ a
-and_true true = refl
-and_true false = refl
-
-or_false : (a : Bool) → (a || false) ≡ a
-or_false true = refl
-or_false false = refl
-
 -- a member more
 pub all_hold_push : (set : ℕ → Bool) (queries : List Query) (q : Query) → all_hold (queries ++ q ∷ []) set ≡ (all_hold queries set && holds q set)
 all_hold_push set queries q =
-    list_all-append (λ x. holds x set) queries (q ∷ []) ∙ ap (λ b. all_hold queries set && b) (and_true (holds q set))
+    list_all-append (λ x. holds x set) queries (q ∷ []) ∙ ap (λ b. all_hold queries set && b) (and-true (holds q set))
 
 pub numbers_push : (queries : List Query) (q : Query) → list_all are_trigrams (queries ++ q ∷ []) ≡ (list_all are_trigrams queries && are_trigrams q)
-numbers_push queries q = list_all-append are_trigrams queries (q ∷ []) ∙ ap (λ b. list_all are_trigrams queries && b) (and_true (are_trigrams q))
+numbers_push queries q = list_all-append are_trigrams queries (q ∷ []) ∙ ap (λ b. list_all are_trigrams queries && b) (and-true (are_trigrams q))
 
 pub numbers_more : (queries : List Query) (q : Query) → list_all are_trigrams queries ≡ true → are_trigrams q ≡ true → list_all are_trigrams (queries ++ q ∷ []) ≡ true
 numbers_more queries q a b = numbers_push queries q ∙ and_from (list_all are_trigrams queries) (are_trigrams q) a b
 
 pub some_holds_push : (set : ℕ → Bool) (queries : List Query) (q : Query) → some_holds (queries ++ q ∷ []) set ≡ (some_holds queries set || holds q set)
 some_holds_push set queries q =
-    list_any-append (λ x. holds x set) queries (q ∷ []) ∙ ap (λ b. some_holds queries set || b) (or_false (holds q set))
+    list_any-append (λ x. holds x set) queries (q ∷ []) ∙ ap (λ b. some_holds queries set || b) (or-false (holds q set))
 
 pub trigrams_short : (text : List ℕ) → length text ≤ 2 → trigram_sequence text ≡ []
 trigrams_short [] h = refl
@@ -87,7 +73,7 @@ trigrams_short (a ∷ b ∷ c ∷ rest) h = absurd (omega arith)
 pub trigram_end : (set : ℕ → Bool) (members : List Query) (text : List ℕ) (at : ℕ) → length text ≤ at + 2 →
     (all_hold members set && list_all set (trigram_sequence (drop at text))) ≡ all_hold members set
 trigram_end set members text at le =
-    ap (λ (ns : List ℕ). all_hold members set && list_all set ns) (trigrams_short (drop at text) (omega (arith, length-drop at text))) ∙ and_true (all_hold members set)
+    ap (λ (ns : List ℕ). all_hold members set && list_all set ns) (trigrams_short (drop at text) (omega (arith, length-drop at text))) ∙ and-true (all_hold members set)
 
 -- one word more
 pub word_step : (set : ℕ → Bool) (members : List Query) (q : Query) (w : List ℕ) (ws : List (List ℕ)) → holds q set ≡ list_all set (trigram_sequence w) →
@@ -97,13 +83,9 @@ word_step set members q w ws e =
     ∙ or_assoc (some_holds members set) (list_all set (trigram_sequence w)) (has_any set ws)
 
 pub word_end : (set : ℕ → Bool) (members : List Query) → (some_holds members set || has_any set []) ≡ some_holds members set
-word_end set members = or_false (some_holds members set)
+word_end set members = or-false (some_holds members set)
 
 -- a word without trigrams is always there
 pub short_there : (set : ℕ → Bool) (rest : List (List ℕ)) (w : List ℕ) (b : Bool) → length w ≤ 2 → (b || has_any set (w ∷ rest)) ≡ true
 short_there set rest w b le =
-    ap (λ (ns : List ℕ). b || (list_all set ns || has_any set rest)) (trigrams_short w le) ∙ or_all b
-  where
-    or_all : (x : Bool) → (x || true) ≡ true
-    or_all true = refl
-    or_all false = refl
+    ap (λ (ns : List ℕ). b || (list_all set ns || has_any set rest)) (trigrams_short w le) ∙ or-true b

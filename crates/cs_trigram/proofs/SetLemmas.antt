@@ -1,9 +1,11 @@
 -- Ascending lists as sets of numbers.
 use Rattle.std.proofs.Common.{◌≡◌, ◌⊎◌, ℕ, ◌+◌, ◌<◌, ◌≤◌, Bool, true, false, cond, ◌&&◌, ◌||◌, ltb, eqb, List, [], ◌∷◌, ◌++◌, length, refl, sym, ap, subst, ◌∙◌, inl, inr, arith}
-use Rattle.std.proofs.lemmas.Bool.{true≢false, cases_Bool, cond_both, cases_order, eqb-true, eqb-false, eq-eqb, ne_eqb, or_left, or_right, ltb-true, ltb-false}
+use Rattle.std.proofs.Math.Bool.{and-false, or-false, or_comm, or_self_left}
+use Rattle.std.proofs.lemmas.Bool.{true≢false, cases_Bool, cond_both, cases_order, eqb-true, eqb-false, eq-eqb, ne_eqb, or_left, or_parts, or_right, ltb-true, ltb-false}
 use Rattle.std.specs.Prelude.{filter}
 use Rattle.std.specs.List.{AllByRecursion}
 use Rattle.cs_trigram.specs.Trigram.{Ascends, with_number, set_of_numbers, has}
+use Rattle.cs_syntax.proofs.QuotedLemmas.{of_each}
 
 -- every number of the list is above n
 abbrev pub Above : ℕ → List ℕ → Type 0
@@ -56,9 +58,14 @@ module _ (P : ℕ → Type 0) where
   all_set [] all = tt
   all_set (n ∷ ns) all = all_with_number n (set_of_numbers ns) all.0 (all_set ns all.1)
 
-  pub all_append : (xs ys : List ℕ) → AllByRecursion P xs → AllByRecursion P ys → AllByRecursion P (xs ++ ys)
-  all_append [] ys a b = b
-  all_append (x ∷ xs) ys a b = (a.0, all_append xs ys a.1 b)
+  pub all_weaker : (Q : ℕ → Type 0) → ((n : ℕ) → P n → Q n) → (ns : List ℕ) → AllByRecursion P ns → AllByRecursion Q ns
+  all_weaker Q h [] all = tt
+  all_weaker Q h (n ∷ ns) all = (h n all.0, all_weaker Q h ns all.1)
+
+  pub all_filter : (test : ℕ → Bool) (ns : List ℕ) → AllByRecursion P ns → AllByRecursion P (filter test ns)
+  all_filter test [] all = tt
+  all_filter test (n ∷ ns) all =
+      cond_both (test n) (n ∷ filter test ns) (filter test ns) (AllByRecursion P) (λ _. (all.0, all_filter test ns all.1)) (λ _. all_filter test ns all.1)
 
 -- ---- membership
 
@@ -67,17 +74,13 @@ or_swap true true c = refl
 or_swap true false c = refl
 or_swap false b c = refl
 
-or_twice : (a c : Bool) → (a || c) ≡ (a || (a || c))
-or_twice true c = refl
-or_twice false c = refl
-
 pub has-with_number : (n g : ℕ) (ms : List ℕ) → has (with_number n ms) g ≡ (eqb n g || has ms g)
 has-with_number n g [] = refl
 has-with_number n g (m ∷ ms) =
     cond_both (ltb n m) (n ∷ m ∷ ms) (cond (eqb n m) (m ∷ ms) (m ∷ with_number n ms)) (λ ns. has ns g ≡ (eqb n g || (eqb m g || has ms g)))
     (λ _. refl)
     (λ _. cond_both (eqb n m) (m ∷ ms) (m ∷ with_number n ms) (λ ns. has ns g ≡ (eqb n g || (eqb m g || has ms g)))
-    (λ same. or_twice (eqb m g) (has ms g) ∙ ap (λ k. eqb k g || (eqb m g || has ms g)) (sym (eqb-true n m same)))
+    (λ same. sym (or_self_left (eqb m g) (has ms g)) ∙ ap (λ k. eqb k g || (eqb m g || has ms g)) (sym (eqb-true n m same)))
     (λ _. ap (λ t. eqb m g || t) (has-with_number n g ms) ∙ or_swap (eqb m g) (eqb n g) (has ms g)))
 
 pub has-set_of_numbers : (g : ℕ) (ns : List ℕ) → has (set_of_numbers ns) g ≡ has ns g
@@ -129,13 +132,7 @@ ascends_same (x ∷ xs) (y ∷ ys) a b h =
 -- a number put at the end of a list is put into its set
 pub set_of_numbers-push : (xs : List ℕ) (n : ℕ) → set_of_numbers (xs ++ n ∷ []) ≡ with_number n (set_of_numbers xs)
 set_of_numbers-push xs n = ascends_same (set_of_numbers (xs ++ n ∷ [])) (with_number n (set_of_numbers xs)) (ascends_set (xs ++ n ∷ [])) (ascends_with_number n (set_of_numbers xs) (ascends_set xs)) (λ g.
-    has-set_of_numbers g (xs ++ n ∷ []) ∙ has-append g xs (n ∷ []) ∙ or_flip (has xs g) (eqb n g) ∙ ap (λ t. eqb n g || t) (sym (has-set_of_numbers g xs)) ∙ sym (has-with_number n g (set_of_numbers xs)))
-  where
-    or_flip : (a b : Bool) → (a || (b || false)) ≡ (b || a)
-    or_flip true true = refl
-    or_flip true false = refl
-    or_flip false true = refl
-    or_flip false false = refl
+    has-set_of_numbers g (xs ++ n ∷ []) ∙ has-append g xs (n ∷ []) ∙ ap (λ t. has xs g || t) (or-false (eqb n g)) ∙ or_comm (has xs g) (eqb n g) ∙ ap (λ t. eqb n g || t) (sym (has-set_of_numbers g xs)) ∙ sym (has-with_number n g (set_of_numbers xs)))
 
 -- a member changes nothing
 pub with_number-member : (n : ℕ) (set : List ℕ) → Ascends set → has set n ≡ true → with_number n set ≡ set
@@ -152,11 +149,7 @@ length-with_number n (m ∷ ms) new =
     (λ _. omega arith)
     (λ _. cond_both (eqb n m) (m ∷ ms) (m ∷ with_number n ms) (λ ns. length ns ≡ length (m ∷ ms) + 1)
     (λ same. absurd (true≢false (sym (or_left (eqb m n) (has ms n) (eq-eqb m n (sym (eqb-true n m same)))) ∙ new)))
-    (λ _. let rest = length-with_number n ms (or_parts_right (eqb m n) (has ms n) new) in omega (arith, rest)))
-  where
-    or_parts_right : (a b : Bool) → (a || b) ≡ false → b ≡ false
-    or_parts_right true b h = absurd (true≢false h)
-    or_parts_right false b h = h
+    (λ _. let rest = length-with_number n ms (or_parts (eqb m n) (has ms n) new).1 in omega (arith, rest)))
 
 pub length-with_number-ge : (n : ℕ) (set : List ℕ) → length set ≤ length (with_number n set)
 length-with_number-ge n [] = omega arith
@@ -199,13 +192,9 @@ pub members_all : (P : ℕ → Type 0) (ns : List ℕ) → ((n : ℕ) → has ns
 members_all P [] h = tt
 members_all P (n ∷ ns) h = (h n (or_left (eqb n n) _ (eq-eqb n n refl)), members_all P ns (λ m e. h m (or_right (eqb n m) _ e)))
 
--- a property of all numbers of the list holds of a member
-pub all_member : (P : ℕ → Type 0) (ns : List ℕ) (n : ℕ) → AllByRecursion P ns → has ns n ≡ true → P n
-all_member P [] n all h = absurd (true≢false (sym h))
-all_member P (m ∷ ms) n all h = elim (cases_Bool (eqb m n)) [
-  | inl here ↦ subst P (eqb-true m n here) all.0
-  | inr apart ↦ all_member P ms n all.1 (sym (ap (λ b. b || has ms n) apart) ∙ h)
-]
+-- what holds of each number of a set holds of those that it was made of
+pub all_from_set : (P : ℕ → Type 0) (ns : List ℕ) → AllByRecursion P (set_of_numbers ns) → AllByRecursion P ns
+all_from_set P ns all = members_all P ns (λ n h. of_each P (set_of_numbers ns) n all (has-set_of_numbers n ns ∙ h))
 
 -- all numbers behind the first of an ascending list are above it
 pub all_above : (n : ℕ) (ms : List ℕ) → Ascends (n ∷ ms) → AllByRecursion (λ m. n < m) ms
@@ -248,17 +237,13 @@ has-filter p (x ∷ xs) k = elim (cases_Bool (eqb x k)) [
             ap (λ b. has (cond b (x ∷ filter p xs) (filter p xs)) k) (ap p is ∙ passes) ∙ or_left (eqb x k) (has (filter p xs) k) here
             ∙ sym (λ i. (here i || has xs k) && passes i)
         | inr fails ↦
-            ap (λ b. has (cond b (x ∷ filter p xs) (filter p xs)) k) (ap p is ∙ fails) ∙ has-filter p xs k ∙ ap (λ b. has xs k && b) fails ∙ and_false (has xs k)
+            ap (λ b. has (cond b (x ∷ filter p xs) (filter p xs)) k) (ap p is ∙ fails) ∙ has-filter p xs k ∙ ap (λ b. has xs k && b) fails ∙ and-false (has xs k)
             ∙ sym (λ i. (here i || has xs k) && fails i)
       ]
   | inr apart ↦
       cond_both (p x) (x ∷ filter p xs) (filter p xs) (λ ys. has ys k ≡ (has xs k && p k)) (λ _. ap (λ b. b || has (filter p xs) k) apart ∙ has-filter p xs k) (λ _. has-filter p xs k)
       ∙ sym (ap (λ b. (b || has xs k) && p k) apart)
 ]
-  where
-    and_false : (b : Bool) → (b && false) ≡ false
-    and_false true = refl
-    and_false false = refl
 
 -- tests that agree on the members pass the same numbers
 pub filter_within : (p q : ℕ → Bool) (xs : List ℕ) → ((x : ℕ) → has xs x ≡ true → p x ≡ q x) → filter p xs ≡ filter q xs

@@ -13,9 +13,9 @@ abbrev pub part : List ℕ → ℕ → ℕ → List ℕ
 part s i j = take (j - i) (drop i s)
 
 -- the one text at the side, and the other behind it
-abbrev pub side_by_side : Side → List ℕ → List ℕ → List ℕ
-side_by_side Prefix near far = near ++ far
-side_by_side Suffix near far = far ++ near
+abbrev pub concatenation : Side → List ℕ → List ℕ → List ℕ
+concatenation Prefix near far = near ++ far
+concatenation Suffix near far = far ++ near
 
 -- so many bytes at the side
 abbrev pub near_part : Side → ℕ → List ℕ → List ℕ
@@ -28,7 +28,8 @@ are_bare affixes = list_all (λ affix. nat_eq (length (bytes_of affix.word)) 0) 
 
 -- the text has the affix's word at the side, and nothing else where the affix is whole
 abbrev pub HasAffix : Side → Affix → List ℕ → Type 0
-HasAffix side affix text = (rest : List ℕ) × (text ≡ side_by_side side (bytes_of affix.word) rest) × (affix.whole ≡ true → rest ≡ [])
+HasAffix side affix text =
+    (rest : List ℕ) × (text ≡ concatenation side (bytes_of affix.word) rest) × (affix.whole ≡ true → rest ≡ [])
 
 -- the text has some affix
 abbrev pub HasSomeAffix : Side → List Affix → List ℕ → Type 0
@@ -45,24 +46,30 @@ HaveWider side affixes affix = (text : List ℕ) → HasAffix side affix text �
 
 -- each text that has some of the others has some of these
 abbrev pub AreWider : Side → List Affix → List Affix → Type 0
-AreWider side affixes others = (text : List ℕ) → HasSomeAffix side others text → HasSomeAffix side affixes text
+AreWider side affixes others =
+    (text : List ℕ) → HasSomeAffix side others text → HasSomeAffix side affixes text
 
 -- a text that has the one, with a text behind it that has the other, has this affix
 abbrev pub IsAffixOfTwo : Side → Affix → Affix → Affix → Type 0
-IsAffixOfTwo side near far affix = (u v : List ℕ) → HasAffix side near u → HasAffix side far v → HasAffix side affix (side_by_side side u v)
+IsAffixOfTwo side near far affix =
+    (u v : List ℕ) → HasAffix side near u → HasAffix side far v → HasAffix side affix (concatenation side u v)
 
 abbrev pub AreAffixesOfTwo : Side → List Affix → List Affix → List Affix → Type 0
-AreAffixesOfTwo side nears fars affixes = (u v : List ℕ) → HasSomeAffix side nears u → HasSomeAffix side fars v → HasSomeAffix side affixes (side_by_side side u v)
+AreAffixesOfTwo side nears fars affixes =
+    (u v : List ℕ) → HasSomeAffix side nears u → HasSomeAffix side fars v →
+    HasSomeAffix side affixes (concatenation side u v)
 
 -- each part of a line that the tree takes has some affix
 abbrev pub AreAffixes : Side → List Affix → Tree → Type 0
 AreAffixes side affixes t = (s : List ℕ) (i j : ℕ) → Takes s t i j → HasSomeAffix side affixes (part s i j)
 
 abbrev pub AreAffixesOfAll : Side → List Affix → Trees → Type 0
-AreAffixesOfAll side affixes ts = (s : List ℕ) (i j : ℕ) → TakesAll s ts i j → HasSomeAffix side affixes (part s i j)
+AreAffixesOfAll side affixes ts =
+    (s : List ℕ) (i j : ℕ) → TakesAll s ts i j → HasSomeAffix side affixes (part s i j)
 
 abbrev pub AreAffixesOfSome : Side → List Affix → Trees → Type 0
-AreAffixesOfSome side affixes ts = (s : List ℕ) (i j : ℕ) → TakesSome s ts i j → HasSomeAffix side affixes (part s i j)
+AreAffixesOfSome side affixes ts =
+    (s : List ℕ) (i j : ℕ) → TakesSome s ts i j → HasSomeAffix side affixes (part s i j)
 
 -- the same of at least so many rounds of the tree
 abbrev pub AreAffixesOfRepeat : Side → List Affix → Tree → ℕ → Type 0

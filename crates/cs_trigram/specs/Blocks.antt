@@ -8,6 +8,7 @@ last_two (a ∷ []) = a ∷ []
 last_two (a ∷ b ∷ []) = a ∷ b ∷ []
 last_two (a ∷ b ∷ c ∷ rest) = last_two (b ∷ c ∷ rest)
 
--- the first two bytes of a buffer end with the last two of those before the block, or with the one that there is
+-- the first two bytes of a buffer end with the last two of those before the block, or with the one that there
+-- is
 abbrev pub Carries : List ℕ → List ℕ → Type 0
 Carries buffer front = drop (2 - length front) (take 2 buffer) ≡ last_two front

@@ -1,4 +1,5 @@
--- How the texts of a tree begin and end, and those of the parts of a sequence and of the branches of a choice.
+-- How the texts of a tree begin and end, and those of the parts of a sequence and of the branches of a
+-- choice.
 use Rattle.cs_syntax.specs.Matching.{Tree, Trees}
 use Rattle.cs_trigram.specs.Affixes.{AreAffixes, AreAffixesOfAll, AreAffixesOfSome}
 use Rattle.cs_trigram.specs.declared.affixes.Side.TheVariants.{Prefix, Suffix}

@@ -51,7 +51,8 @@ abbrev mutual
   -- the word concatenates a word of each tree, in order
   pub ConcatenatesWords : Trees → List ℕ → Type 0
   ConcatenatesWords none word = word ≡ []
-  ConcatenatesWords (more t ts) word = (front back : List ℕ) × HasWord t front × ConcatenatesWords ts back × (word ≡ front ++ back)
+  ConcatenatesWords (more t ts) word =
+      (front back : List ℕ) × HasWord t front × ConcatenatesWords ts back × (word ≡ front ++ back)
 
   pub SomeHasWord : Trees → List ℕ → Type 0
   SomeHasWord none word = ⊥
@@ -62,7 +63,9 @@ abbrev pub HaveFewWords : Trees → Type 0
 HaveFewWords ts =
     (are_finite ts ≡ true)
     × ((word : List ℕ) × ConcatenatesWords ts word)
-    × ((words : List (List ℕ)) × (length words ≤ 20) × ((word : List ℕ) → ConcatenatesWords ts word → IsMember word words))
+    × ((words : List (List ℕ))
+    × (length words ≤ 20)
+    × ((word : List ℕ) → ConcatenatesWords ts word → IsMember word words))
 
 -- the tree is finite, and its words are few
 abbrev pub HasFewWords : Tree → Type 0

@@ -12,15 +12,17 @@ numbers_of found = take found.len found.list.items
 -- exactly the bits of these are set, no two of them are equal, and no part is remembered of a later file
 abbrev pub IsSound : Found → Type 0
 IsSound found =
-    Holds found.cells.items (numbers_of found) (set_of_numbers (numbers_of found)) × IsLast found.parts.file found.parts.tags.items
+    Holds found.cells.items (numbers_of found) (set_of_numbers (numbers_of found))
+    × IsLast found.parts.file found.parts.tags.items
 
--- What is kept of some bytes, of which these are the trigrams from left to right, with room for so many: their set,
--- and which parts they have; and where there are more, only that.
+-- What is kept of some bytes, of which these are the trigrams from left to right, with room for so many:
+-- their set, and which parts they have; and where there are more, only that.
 pub record Keeps (most : ℕ) (found : Found) (trigrams : List ℕ) : Type 0 where
   pub room : length found.list.items ≡ most + 65538
   pub sound : IsSound found
   pub within : found.len ≤ most →
-      Collects found.cells.items found.list.items found.len trigrams × Remembers found.parts.file found.parts.tags.items trigrams
+      Collects found.cells.items found.list.items found.len trigrams
+      × Remembers found.parts.file found.parts.tags.items trigrams
   pub beyond : most < found.len → most < length (set_of_numbers trigrams)
 
 -- what is kept of these bytes
@@ -29,8 +31,11 @@ Knows most found front = Keeps most found (trigram_sequence front)
 
 -- what is kept of some trigrams is kept of them with these behind them
 abbrev pub KeepsOn : Found → Found → List ℕ → Type 0
-KeepsOn old found more = (most : ℕ) (trigrams : List ℕ) → Keeps most old trigrams → Keeps most found (trigrams ++ more)
+KeepsOn old found more =
+    (most : ℕ) (trigrams : List ℕ) → Keeps most old trigrams → Keeps most found (trigrams ++ more)
 
 -- there are more trigrams than there is room for
 abbrev pub IsOver : Found → Bool → Type 0
-IsOver found over = (most : ℕ) (trigrams : List ℕ) → Keeps most found trigrams → IsTrue over ↔ (most < length (set_of_numbers trigrams))
+IsOver found over =
+    (most : ℕ) (trigrams : List ℕ) → Keeps most found trigrams →
+    IsTrue over ↔ (most < length (set_of_numbers trigrams))

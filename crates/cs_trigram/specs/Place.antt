@@ -23,7 +23,8 @@ IsBehind most place n next = (next.count ≡ place.count + n) × (next.count ≤
 -- The bytes break no rule, and the place stands behind them; or they break this rule first.
 abbrev pub Passes : Limits → List ℕ → List ℕ → Result Place Reason → Type 0
 Passes most front bytes answer =
-    MatchResult answer (λ next. (first_broken most front bytes ≡ None) × Stands next (front ++ bytes)) (λ reason. first_broken most front bytes ≡ Some reason)
+    MatchResult answer (λ next. (first_broken most front bytes ≡ None) × Stands next (front ++ bytes))
+    (λ reason. first_broken most front bytes ≡ Some reason)
 
 -- whatever the place stands behind
 abbrev pub PassesFrom : Limits → Place → List ℕ → Result Place Reason → Type 0

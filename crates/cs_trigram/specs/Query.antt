@@ -24,6 +24,7 @@ holds query set = fold-Query Bool (holds_step set) query
 abbrev pub HasTrigrams : (ℕ → Bool) → List ℕ → Type 0
 HasTrigrams set text = IsTrue (list_all set (tri text))
 
--- the query loses no line: it holds of each set that has the trigrams of a line in which the tree finds something
+-- the query loses no line: it holds of each set that has the trigrams of a line in which the tree finds
+-- something
 abbrev pub LosesNoLine : Query → Tree → Type 0
 LosesNoLine query tree = (line : List ℕ) (set : ℕ → Bool) → Found tree line → HasTrigrams set line → IsTrue (holds query set)

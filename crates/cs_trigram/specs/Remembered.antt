@@ -8,7 +8,8 @@ use Rattle.cs_trigram.specs.SixBytes.{Remembers, IsLast, AreFresh}
 abbrev pub AreNone : Parts → Type 0
 AreNone parts = Remembers parts.file parts.tags.items [] × IsLast parts.file parts.tags.items
 
--- the bytes were gone through: of the parts that they have before the place where they are split, those first ones are fresh
+-- the bytes were gone through: of the parts that they have before the place where they are split, those first
+-- ones are fresh
 abbrev pub Splits : Parts → Parts → List ℕ → Split → Type 0
 Splits old parts bytes split =
     (known : List ℕ) → Remembers old.file old.tags.items known →
@@ -16,4 +17,5 @@ Splits old parts bytes split =
 
 -- the one is of the file that the other is of, and nothing is remembered of a later one where nothing was
 abbrev pub IsStillLast : Parts → Parts → Type 0
-IsStillLast old parts = (parts.file ≡ old.file) × (IsLast old.file old.tags.items → IsLast old.file parts.tags.items)
+IsStillLast old parts =
+    (parts.file ≡ old.file) × (IsLast old.file old.tags.items → IsLast old.file parts.tags.items)

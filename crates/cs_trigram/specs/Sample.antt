@@ -1,4 +1,5 @@
--- Samples of words: at most twenty-one different words, which are all there are where they are at most twenty.
+-- Samples of words: at most twenty-one different words, which are all there are where they are at most
+-- twenty.
 use Rattle.std.specs.Prelude.{ℕ, ◌≡◌, ◌≤◌, ◌<◌, ◌↔◌, ◌&&◌, ◌++◌, ◌∷◌, [], Bool, true, not, List, length, map, nat_le, nat_lt, if◌then◌else◌, Option}
 use Rattle.cs_trigram.specs.QueryNumbers.{are_trigrams}
 use Rattle.cs_syntax.specs.TreeList.{append}
@@ -14,7 +15,8 @@ use Rattle.cs_trigram.specs.declared.queries.Query.{Query}
 -- a word more, where there are at most twenty and it is not there
 abbrev pub with_word : List (List ℕ) → List ℕ → List (List ℕ)
 with_word words word =
-    if nat_le (length words) 20 && not (list_any (λ w. bytes_eq w word) words) then words ++ word ∷ [] else words
+    if nat_le (length words) 20 && not (list_any (λ w. bytes_eq w word) words) then words ++ word ∷ []
+    else words
 
 abbrev pub with_words : List (List ℕ) → List (List ℕ) → List (List ℕ)
 with_words words [] = words
@@ -37,7 +39,8 @@ pub record IsSample (words : List (List ℕ)) (P : List ℕ → Type 0) : Type 0
 
 -- the words are the concatenations, which are at most twenty
 abbrev pub AreFewConcatenations : List (List ℕ) → List (List ℕ) → List (List ℕ) → Type 0
-AreFewConcatenations words fronts backs = (words ≡ with_words [] (concatenations fronts backs)) × (length words ≤ 20)
+AreFewConcatenations words fronts backs =
+    (words ≡ with_words [] (concatenations fronts backs)) × (length words ≤ 20)
 
 -- at least one and at most twenty
 abbrev pub is_few : ℕ → Bool
@@ -74,19 +77,22 @@ some_holds queries set = list_any (λ q. holds q set) queries
 abbrev pub AsksToo : List Query → List Query → ((ℕ → Bool) → Bool) → Type 0
 AsksToo old queries test = (set : ℕ → Bool) → all_hold queries set ≡ (all_hold old set && test set)
 
--- the numbers of these queries are trigrams where those of the old ones are, and the test says so of the others
+-- the numbers of these queries are trigrams where those of the old ones are, and the test says so of the
+-- others
 abbrev pub NumbersToo : List Query → List Query → Bool → Type 0
 NumbersToo old queries small = list_all are_trigrams queries ≡ (list_all are_trigrams old && small)
 
 -- the query loses no line in which the tree takes a part, is sharp, and has numbers of trigrams
 pub record IsRight (query : Query) (t : Tree) : Type 0 where
-  pub holding : (s : List ℕ) (set : ℕ → Bool) (i j : ℕ) → Takes s t i j → HasTrigrams set s → holds query set ≡ true
+  pub holding : (s : List ℕ) (set : ℕ → Bool) (i j : ℕ) → Takes s t i j → HasTrigrams set s →
+      holds query set ≡ true
   pub sharp : (set : ℕ → Bool) → holds query set ≡ true → ShowsPlainRuns set t
   pub numbers : are_trigrams query ≡ true
 
 -- the queries are right for the trees, one of which is taken
 pub record AreRight (queries : List Query) (ts : Trees) : Type 0 where
-  pub holding : (s : List ℕ) (set : ℕ → Bool) (i j : ℕ) → TakesSome s ts i j → HasTrigrams set s → some_holds queries set ≡ true
+  pub holding : (s : List ℕ) (set : ℕ → Bool) (i j : ℕ) → TakesSome s ts i j → HasTrigrams set s →
+      some_holds queries set ≡ true
   pub sharp : (set : ℕ → Bool) → some_holds queries set ≡ true → SomeShowsPlainRuns set ts
   pub numbers : list_all are_trigrams queries ≡ true
 
@@ -134,9 +140,11 @@ AsksForText query text = (set : ℕ → Bool) → holds query set ≡ list_all s
 abbrev pub AsksForWord : Query → List (List ℕ) → Type 0
 AsksForWord query words = (set : ℕ → Bool) → holds query set ≡ has_any set words
 
--- what is asked by a sequence but for the longest run at its front: it holds of each set that has the trigrams of a
--- line in which the sequence takes a part; and where the set also has a word of that run, it shows the plain runs
+-- what is asked by a sequence but for the longest run at its front: it holds of each set that has the
+-- trigrams of a line in which the sequence takes a part; and where the set also has a word of that run, it
+-- shows the plain runs
 pub record IsAsked (front : List (List ℕ)) (needs : (ℕ → Bool) → Bool) (ts : Trees) : Type 0 where
   pub run : IsFront ts front
-  pub holding : (s : List ℕ) (set : ℕ → Bool) (i j : ℕ) → TakesAll s ts i j → HasTrigrams set s → needs set ≡ true
+  pub holding : (s : List ℕ) (set : ℕ → Bool) (i j : ℕ) → TakesAll s ts i j → HasTrigrams set s →
+      needs set ≡ true
   pub sharp : (set : ℕ → Bool) → needs set ≡ true → has_any set front ≡ true → ShowsPlainRuns set (cat ts)

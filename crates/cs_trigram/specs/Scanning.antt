@@ -1,4 +1,5 @@
--- When a scanner is ready for a file: there is room for a block, and what is kept of the last file can be forgotten.
+-- When a scanner is ready for a file: there is room for a block, and what is kept of the last file can be
+-- forgotten.
 use Rattle.std.specs.Prelude.{◌≡◌, ◌+◌, length}
 use Rattle.cs_trigram.specs.declared.limits.Limits.{Limits}
 use Rattle.cs_trigram.specs.declared.gatherer.Gatherer.{Gatherer}

@@ -28,4 +28,5 @@ Collects cells list len numbers = Holds cells (take len list) (set_of_numbers nu
 -- what is collected in the first cells and list is so in the others, with these numbers behind it
 abbrev pub CollectsOn : List ℕ → List ℕ → ℕ → List ℕ → List ℕ → ℕ → List ℕ → Type 0
 CollectsOn cells list len more_cells more_list more_len more =
-    (numbers : List ℕ) → Collects cells list len numbers → Collects more_cells more_list more_len (numbers ++ more)
+    (numbers : List ℕ) → Collects cells list len numbers →
+    Collects more_cells more_list more_len (numbers ++ more)

@@ -2,7 +2,6 @@
 -- docs/FORMAT.md, "Which files are text".
 use Rattle.std.specs.Prelude.{ℕ, ◌<◌, List}
 use Rattle.std.specs.List.{AllByRecursion}
-pub use Rattle.cs_syntax.specs.NumberList.{has}
 use Rattle.cs_trigram.specs.Trigram.{Ascends, closing_trigram}
 
 -- how many numbers three bytes have: 2^24

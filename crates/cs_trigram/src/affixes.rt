@@ -2,7 +2,7 @@
 ghost use Rattle.std.specs.Prelude.{not, ◌≡◌, ◌<◌, ◌≤◌, ◌⊎◌, [], ◌∷◌, ℕ, true, List, length, IfOk, IfSome, OnOk};
 ghost use Rattle.std.specs.List.{list_all};
 ghost use Rattle.cs_trigram.specs.PlainRuns.{IsMember};
-ghost use Rattle.cs_trigram.specs.Affixes.{side_by_side, near_part, are_bare, HasAffix, HasSomeAffix, IsWider, HaveWider, AreWider, IsAffixOfTwo, AreAffixesOfTwo};
+ghost use Rattle.cs_trigram.specs.Affixes.{concatenation, near_part, are_bare, HasAffix, HasSomeAffix, IsWider, HaveWider, AreWider, IsAffixOfTwo, AreAffixesOfTwo};
 ghost use Rattle.cs_trigram.specs.Cuts.{AreCutsOf};
 ghost use Rattle.cs_trigram.specs.ShortWord.{bytes_of};
 
@@ -34,7 +34,7 @@ pub(crate) struct Affix {
 /// The one word at the side, and the other behind it, where they have at most three bytes.
 fn word_of_two(side: Side, near: ShortWord, far: ShortWord) -> Option<ShortWord>
     ensures { IfSome result (λ word. bytes_of word ≡
-        side_by_side side (bytes_of near) (bytes_of far)) }
+        concatenation side (bytes_of near) (bytes_of far)) }
 {
     match side {
         Side::Prefix => near.before(far),
@@ -163,7 +163,7 @@ fn cut_affixes(alloc: Global, side: Side, affixes: Vec<Affix>) -> Result<Vec<Aff
 /// The affix cut to so many bytes, of a text with any other behind it.
 fn open_affix(side: Side, affix: Affix, longest: usize) -> Affix
     ensures { (u v : List ℕ) → HasAffix side affix u →
-        HasAffix side result (side_by_side side u v) }
+        HasAffix side result (concatenation side u v) }
 {
     let short = short_affix(side, affix, longest);
     Affix {
@@ -224,7 +224,7 @@ fn add_concatenations(
     ensures keeps { OnOk result (AreWider side affixes.new.items affixes.old.items) }
     ensures concatenates { OnOk result (length affixes.new.items ≤ 20 → (u v : List ℕ) →
         HasAffix side near u → HasSomeAffix side fars.now v →
-        HasSomeAffix side affixes.new.items (side_by_side side u v)) }
+        HasSomeAffix side affixes.new.items (concatenation side u v)) }
 {
     for far in fars {
         if affixes.len() > MANY {
@@ -248,7 +248,7 @@ fn add_cut_concatenations(
     ensures concatenates { OnOk result (length affixes.new.items ≤ 20 → (all : List Affix)
         (u v : List ℕ) → AreCutsOf side fars.now all → HasAffix side near u →
         HasSomeAffix side all v →
-        HasSomeAffix side affixes.new.items (side_by_side side u v)) }
+        HasSomeAffix side affixes.new.items (concatenation side u v)) }
 {
     let len = near.word.len();
     if !near.whole || len > longest {

@@ -2,7 +2,8 @@
 ghost use Rattle.std.specs.Prelude.{IfOk, IsTrue};
 ghost use Rattle.cs_trigram.specs.QueryNumbers.{are_trigrams};
 ghost use Rattle.cs_syntax.specs.Matching.{cat, alt};
-ghost use Rattle.cs_syntax.specs.Node.{tree_of, trees_of};
+ghost use Rattle.cs_syntax.specs.Node.{tree_of};
+ghost use Rattle.cs_syntax.specs.NodeList.{trees_of};
 ghost use Rattle.cs_trigram.specs.Query.{LosesNoLine};
 ghost use Rattle.cs_trigram.specs.PlainRuns.{IsSharp};
 ghost use Rattle.cs_trigram.specs.Known.{IsKnown};

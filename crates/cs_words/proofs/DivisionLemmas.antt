@@ -100,7 +100,7 @@ other_behind tool = by_items tool (λ at words read. OtherFirst (drop (sum_by wo
 abbrev pub StandThere : List (List ℕ) → List Item → Type 0
 StandThere words read = map (λ item. slice_get words item.at) read ≡ map (λ item. Some item.word) read
 
-slice_get-front : (front : List (List ℕ)) (word : List ℕ) (behind : List (List ℕ)) → slice_get (front ++ word ∷ behind) (length front) ≡ Some word
+pub slice_get-front : (front : List (List ℕ)) (word : List ℕ) (behind : List (List ℕ)) → slice_get (front ++ word ∷ behind) (length front) ≡ Some word
 slice_get-front [] word behind = refl
 slice_get-front (first ∷ front) word behind = slice_get-front front word behind
 

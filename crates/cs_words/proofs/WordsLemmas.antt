@@ -354,6 +354,6 @@ answer_memory (Err fault) answer answers never is = absurd (never (let same : fa
 
 -- a list of one element
 pub one_item : {X : Type 0} (xs : List X) (x : X) → 1 ≤ length xs → length xs < 2 → x ≡ get_or xs 0 x → xs ≡ x ∷ []
-one_item [] x some few is = absurd (omega arith)
-one_item (y ∷ []) x some few is = ap (λ y. y ∷ []) (sym is)
-one_item (y ∷ z ∷ more) x some few is = absurd (let two : 2 ≤ length (y ∷ z ∷ more) = omega arith in omega arith)
+one_item [] x some bound is = absurd (omega arith)
+one_item (y ∷ []) x some bound is = ap (λ y. y ∷ []) (sym is)
+one_item (y ∷ z ∷ more) x some bound is = absurd (let two : 2 ≤ length (y ∷ z ∷ more) = omega arith in omega arith)

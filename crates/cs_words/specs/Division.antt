@@ -16,12 +16,15 @@ BeginsWithNoOption (word ∷ words) = (is_option word ≡ false) × (word ≢ co
 -- The words are those of the items, and then the rest, which begins with no option, or `--` and then any rest.
 -- An item begins with an option, which stands at its place, and takes the next word where that is its value.
 pub record IsDivided (tool : Tool) (words : List (List ℕ)) : Type 0 where
-  pub whole : ((words ≡ flat_map words_of (items tool words) ++ rest tool words) × BeginsWithNoOption (rest tool words))
+  pub whole : ((words ≡ flat_map words_of (items tool words) ++ rest tool words)
+      × BeginsWithNoOption (rest tool words))
       ⊎ (words ≡ flat_map words_of (items tool words) ++ codes "--" ∷ rest tool words)
   pub options : list_all (λ item. is_option item.word) (items tool words) ≡ true
-  pub places : map (λ item. slice_get words item.at) (items tool words) ≡ map (λ item. Some item.word) (items tool words)
+  pub places : map (λ item. slice_get words item.at) (items tool words)
+      ≡ map (λ item. Some item.word) (items tool words)
   pub values : map (λ item. item.next) (items tool words)
-      ≡ map (λ item. if takes_next tool item.word then slice_get words (item.at + 1) else None) (items tool words)
+      ≡ map (λ item. if takes_next tool item.word then slice_get words (item.at + 1) else None)
+      (items tool words)
 
 -- all words are divided so
 abbrev pub WordsAreDivided : Type 0

@@ -30,8 +30,10 @@ switch_name Brute = codes "brute"
 abbrev pub IsFlag : Tool → List ℕ → Option Flag → Type 0
 IsFlag tool name None = (is_among (switches_of tool) name ≡ false) × (is_among (valued_of tool) name ≡ false)
 IsFlag tool name (Some (A_switch switch)) =
-    (is_among (switches_of tool) name ≡ true) × (is_among (valued_of tool) name ≡ false) × (name ≡ switch_name switch)
-IsFlag tool name (Some File) = (is_among (switches_of tool) name ≡ false) × (is_among (valued_of tool) name ≡ true) × (name ≡ codes "f")
+    (is_among (switches_of tool) name ≡ true) × (is_among (valued_of tool) name ≡ false)
+    × (name ≡ switch_name switch)
+IsFlag tool name (Some File) =
+    (is_among (switches_of tool) name ≡ false) × (is_among (valued_of tool) name ≡ true) × (name ≡ codes "f")
 
 -- the item that begins with an option word, before the words behind it
 abbrev pub item_of : Tool → ℕ → List ℕ → List (List ℕ) → Item
@@ -53,7 +55,8 @@ IsNext tool at (word ∷ behind) (Some read) =
 -- the item at the front of the words breaks a rule
 abbrev pub BreaksRule : Tool → ℕ → List (List ℕ) → WordFault → Type 0
 BreaksRule tool at [] fault = ⊥
-BreaksRule tool at (word ∷ behind) fault = (is_option word ≡ true) × (fault_in tool (item_of tool at word behind) ≡ Some fault)
+BreaksRule tool at (word ∷ behind) fault =
+    (is_option word ≡ true) × (fault_in tool (item_of tool at word behind) ≡ Some fault)
 
 -- what the settings say of a switch
 abbrev pub is_set : Switch → Settings → Bool

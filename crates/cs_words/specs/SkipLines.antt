@@ -15,4 +15,5 @@ reason_words LongLine = codes "line too long"
 reason_words ManyTrigrams = codes "too many trigrams"
 
 abbrev pub skip_line_of : List ℕ → Reason → List ℕ
-skip_line_of name reason = tool_name Cindex ++ codes ": " ++ name ++ codes ": not indexed: " ++ reason_words reason ++ codes "\n"
+skip_line_of name reason =
+    tool_name Cindex ++ codes ": " ++ name ++ codes ": not indexed: " ++ reason_words reason ++ codes "\n"

@@ -10,6 +10,9 @@ pub data Wanted : Type 0 where
   grep : (style : Style) (fold : Bool) (pattern : List ℕ) (standard : Bool) (files : List (List ℕ)) → Wanted
 
 abbrev pub job_wanted : Job → Wanted
-job_wanted (Index job) = index job.list job.reset job.log_skip (string_bytes job.cwd) (map string_bytes job.paths.items)
-job_wanted (Search job) = search job.style job.fold job.brute (option_map string_bytes job.file) (string_bytes job.pattern)
-job_wanted (Grep job) = grep job.style job.fold (string_bytes job.pattern) job.standard (map string_bytes job.files.items)
+job_wanted (Index job) =
+    index job.list job.reset job.log_skip (string_bytes job.cwd) (map string_bytes job.paths.items)
+job_wanted (Search job) =
+    search job.style job.fold job.brute (option_map string_bytes job.file) (string_bytes job.pattern)
+job_wanted (Grep job) =
+    grep job.style job.fold (string_bytes job.pattern) job.standard (map string_bytes job.files.items)

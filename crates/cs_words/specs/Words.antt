@@ -105,8 +105,10 @@ value_in item = option_or (value_of item.word) item.next
 -- the rule that an item breaks
 abbrev pub fault_in : Tool → Item → Option WordFault
 fault_in tool item =
-    if is_among (switches_of tool) (name_of item.word) then (if is_none (truth_in item) then Some (BadTruth item.at) else None)
-    else if is_among (valued_of tool) (name_of item.word) then (if is_none (value_in item) then Some (NoValue item.at) else None)
+    if is_among (switches_of tool) (name_of item.word)
+    then (if is_none (truth_in item) then Some (BadTruth item.at) else None)
+    else if is_among (valued_of tool) (name_of item.word)
+    then (if is_none (value_in item) then Some (NoValue item.at) else None)
     else Some (UnknownOption item.at)
 
 -- the fault of the first item that breaks a rule
@@ -138,7 +140,8 @@ style_of items = record {
 abbrev pub search_job : ℕ → List Item → List (List ℕ) → Result Wanted WordFault
 search_job all items [] = Err NoPattern
 search_job all items (pattern ∷ []) =
-    Ok (search (style_of items) (is_on (codes "i") items) (is_on (codes "brute") items) (value_for (codes "f") items) pattern)
+    Ok (search (style_of items) (is_on (codes "i") items) (is_on (codes "brute") items)
+    (value_for (codes "f") items) pattern)
 search_job all items (pattern ∷ extra ∷ more) = Err (ExtraWord (all - length (extra ∷ more)))
 
 -- cgrep has the pattern and any number of files
@@ -150,7 +153,8 @@ grep_job items (pattern ∷ files) =
 -- cindex has any number of paths
 abbrev pub index_job : List ℕ → List Item → List (List ℕ) → Result Wanted WordFault
 index_job cwd items paths =
-    Ok (index (is_on (codes "list") items) (is_on (codes "reset") items) (is_on (codes "logskip") items) cwd paths)
+    Ok (index (is_on (codes "list") items) (is_on (codes "reset") items)
+    (is_on (codes "logskip") items) cwd paths)
 
 -- the job by the items and the rest, which nothing but the rest can refuse
 abbrev pub job_by : Tool → List ℕ → ℕ → List Item → List (List ℕ) → Result Wanted WordFault
@@ -167,4 +171,5 @@ fault_or None job = job
 -- item of each option and by the rest.
 unfoldable pub meaning : Tool → List ℕ → List (List ℕ) → Result Wanted WordFault
 meaning tool cwd words =
-    fault_or (first_fault tool (items tool words)) (job_by tool cwd (length words) (items tool words) (rest tool words))
+    fault_or (first_fault tool (items tool words))
+    (job_by tool cwd (length words) (items tool words) (rest tool words))

@@ -44,7 +44,7 @@ fn is_ended(bytes: &[u8]) -> bool
 
 /// Cuts the sections before the trailer.
 fn cut_there<'a>(bytes: &'a [u8], at: usize) -> Result<Cut<'a>, IndexFault>
-    requires { at + 36 ≡ length bytes.now }
+    requires { at + TRAILER_LEN ≡ length bytes.now }
     ensures ok { IfOk result (λ cut. cut_before bytes.now at ≡ Ok (lent_sections cut)) }
     ensures err { IfErr result (λ fault. cut_before bytes.now at ≡ Err fault) }
     ensures name_index { IfOk result (λ cut. length cut.name_index.now ≤ length bytes.now) }

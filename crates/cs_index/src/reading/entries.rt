@@ -5,6 +5,7 @@ ghost use Rattle.cs_index.specs.PostingLists.{read_list};
 ghost use Rattle.std.specs.List.{list_all};
 ghost use Rattle.cs_index.specs.Image.{ListEntry};
 ghost use Rattle.cs_index.specs.Opening.{entries_in, entry_at, trigram_at, is_entry, is_list_index, is_name_index, is_names_section, rises, texts_of};
+ghost use Rattle.cs_index.specs.Rising.{most_ids};
 
 use crate::reading::bytes::{first_text, read_number, read_trigram};
 use crate::reading::postings::Postings;
@@ -133,11 +134,11 @@ pub(crate) fn list_of<'a>(
     postings: &'a [u8],
     list_index: &[u8],
     at: usize,
-    names: u32,
+    name_count: u32,
 ) -> Postings<'a>
     requires within { at + 11 ≤ length list_index.now }
-    requires few { names < 2 ^ 31 }
-    ensures { result ≡ read_list postings.now names (entry_at list_index.now at) }
+    requires bound { name_count < most_ids }
+    ensures { result ≡ read_list postings.now name_count (entry_at list_index.now at) }
 {
     let count = read_number(list_index, at + 3);
     let offset = read_number(list_index, at + 7) as usize;
@@ -147,5 +148,5 @@ pub(crate) fn list_of<'a>(
     if read_trigram(postings, offset) != read_trigram(list_index, at) {
         return Postings::damage();
     }
-    Postings::new(&postings[offset + 3..], count, names)
+    Postings::new(&postings[offset + 3..], count, name_count)
 }

@@ -12,7 +12,7 @@ impl<'a> Index<'a> {
         ensures { IfOk result (λ order.
             IsOrderOf self.now.names (option_map (λ ids. ids.items) order)) }
     {
-        let mut named = self.named(alloc)?;
+        let mut named = self.names_with_ids(alloc)?;
         named.sort_unstable_by(|a, b| a.0.cmp(b.0));
         if !names_ascend(&named) {
             return Ok(None);
@@ -22,7 +22,7 @@ impl<'a> Index<'a> {
     }
 
     /// The names with their ids.
-    fn named(&self, alloc: Global) -> Result<Vec<(&'a str, u32)>, AllocError>
+    fn names_with_ids(&self, alloc: Global) -> Result<Vec<(&'a str, u32)>, AllocError>
         ensures { IfOk result (λ named. lent_names named.items ≡ with_ids self.now.names) }
     {
         let count = self.len();

@@ -1,7 +1,7 @@
 // The ids of a list, read from the bytes of an index.
 ghost use Rattle.std.specs.Prelude.{◌≡◌, ◌≤◌, ◌<◌, ◌^◌, ◌+◌, ◌++◌, Some, None, List, ℕ, Option, drop, length, IfSome, MatchOption};
 ghost use Rattle.std.specs.List.{AllByRecursion};
-ghost use Rattle.cs_index.specs.Rising.{ids_onward};
+ghost use Rattle.cs_index.specs.Rising.{ids_onward, most_ids};
 ghost use Rattle.cs_index.specs.Postings.{ids_given, nothing_read};
 ghost use Rattle.cs_index.specs.PostingLists.{varint_at, read_varint, Ids, damage, read_ids};
 ghost use Rattle.std.specs.Iterator.{YieldsFirst, item_count};
@@ -17,7 +17,7 @@ pub struct Postings<'a> {
     bytes: &'a [u8],
     left: u32,
     next: u32,
-    names: u32,
+    name_count: u32,
     has_ended: bool,
 }
 
@@ -27,22 +27,22 @@ impl<'a> Model for Postings<'a> {
 
     ghost Value = { Ids };
 
-    ghost view = { λ s. left_of s.has_ended s.names s.left s.next s.bytes.now };
+    ghost view = { λ s. left_of s.has_ended s.name_count s.left s.next s.bytes.now };
 
-    ghost invariant = { λ s. IsLeft s.names s.next };
+    ghost invariant = { λ s. IsLeft s.name_count s.next };
 }
 
 impl<'a> Postings<'a> {
     /// The ids at the front of the bytes: so many of them, each below the number of names.
-    pub fn new(bytes: &'a [u8], count: u32, names: u32) -> Self
-        requires { names < 2 ^ 31 }
-        ensures { result ≡ read_ids names count 0 bytes.now }
+    pub fn new(bytes: &'a [u8], count: u32, name_count: u32) -> Self
+        requires { name_count < most_ids }
+        ensures { result ≡ read_ids name_count count 0 bytes.now }
     {
         Postings {
             bytes,
             left: count,
             next: 0,
-            names,
+            name_count,
             has_ended: false,
         }
     }
@@ -55,7 +55,7 @@ impl<'a> Postings<'a> {
             bytes: &[],
             left: 0,
             next: 0,
-            names: 0,
+            name_count: 0,
             has_ended: true,
         }
     }
@@ -71,7 +71,7 @@ impl<'a> Postings<'a> {
         if self.has_ended || self.next == 0 || last != self.next - 1 {
             return Stretch::none();
         }
-        let room = end.min(self.names).saturating_sub(self.next);
+        let room = end.min(self.name_count).saturating_sub(self.next);
         let (ids, rest) = Stretch::front(self.bytes, self.left, room);
         self.bytes = rest;
         self.left -= ids.len();
@@ -110,7 +110,7 @@ impl<'a> Iterator for Postings<'a> {
                 Some(Err(IndexFault::BadList))
             };
         }
-        if delta == 0 || delta > self.names - self.next {
+        if delta == 0 || delta > self.name_count - self.next {
             self.has_ended = true;
             return Some(Err(IndexFault::BadList));
         }

@@ -43,7 +43,7 @@ pub(crate) fn find_starts<S: Store>(
 /// Where sections begin, of so many bytes with these first ones and these last ones.
 fn starts_of(head: &[u8], tail: &[u8], len: usize) -> Result<Starts, IndexFault>
     ensures cut { (bytes : List ℕ) → length bytes ≡ len → head.now ≡ part_of bytes 0 16 →
-        tail.now ≡ part_of bytes (len - 36) 36 → IsCutAt bytes result }
+        tail.now ≡ part_of bytes (len - TRAILER_LEN) TRAILER_LEN → IsCutAt bytes result }
     ensures order { IfOk result AreInOrder }
 {
     if !head.starts_with(MAGIC) {
@@ -60,7 +60,7 @@ fn is_trailer(tail: &[u8], len: usize) -> bool
     ensures value { result ≡ is_tail tail.now len }
     ensures enough { IsTrue result → 52 ≤ len }
     ensures short { IsTrue result → len < 2 ^ 32 }
-    ensures long { IsTrue result → 36 ≤ length tail.now }
+    ensures long { IsTrue result → TRAILER_LEN ≤ length tail.now }
 {
     len >= 52 && len < 1 << 32 && tail.len() >= TRAILER_LEN && tail.ends_with(TRAILER_MAGIC)
 }

@@ -82,7 +82,7 @@ fn read_stored<S: Store>(
     starts: Starts,
 ) -> Result<Result<StoredIndex, IndexFault>, IoFault>
     requires { AreInOrder starts }
-    ensures reads { IfSome (S.told store.old)
+    ensures opens { IfSome (S.told store.old)
         (λ bytes. starts.trailer ≤ length bytes →
         IfOk result (SectionsOpenAs bytes (sections_at bytes starts))) }
     ensures within { IfOk result (λ answer. IfOk answer (λ held. LiesBefore held starts.trailer)) }

@@ -108,8 +108,8 @@ impl Builder {
         ensures other { IfErr result
             (λ fault. (fault ≡ BuildFault.TooLarge) ⊎ (fault ≡ BuildFault.Memory)) }
     {
-        let names = self.names.len() as u32;
-        self.batch.flush(&mut self.lists, names)?;
+        let name_count = self.names.len() as u32;
+        self.batch.flush(&mut self.lists, name_count)?;
         let mut sections = Sections::of(self.alloc, self.paths, self.names);
         self.lists.lay(&mut sections)?;
         sections.finish_within(most)
@@ -119,7 +119,7 @@ impl Builder {
     /// own.
     pub fn add_within(&mut self, most: u32, name: &str, trigrams: &[u32]) -> Result<u32, BuildFault>
         requires once { AreTrigramsOnce trigrams.now }
-        requires few { most ≤ most_names }
+        requires bound { most ≤ most_names }
         ensures ok { OnOk result
             (self.new ≡ with_name self.old name.now (set_of_numbers trigrams.now)) }
         ensures id { IfOk result (λ id. id ≡ length self.old.entries) }
@@ -163,7 +163,7 @@ impl Builder {
         requires below { AllByRecursion (λ g. g < closing_trigram) trigrams.now }
         requires storable { is_storable name.now ≡ true }
         requires above { is_above (names_of self.old.entries) name.now ≡ true }
-        requires few { length self.old.entries < most_names }
+        requires bound { length self.old.entries < most_names }
         ensures ok { OnOk result
             (self.new ≡ with_name self.old name.now (set_of_numbers trigrams.now)) }
         ensures id { IfOk result (λ id. id ≡ length self.old.entries) }

@@ -10,7 +10,7 @@ pub(crate) fn run_of(keys: &[u32]) -> usize
     requires { 0 < length keys.now }
     ensures some { 0 < result }
     ensures within { result ≤ length keys.now }
-    ensures few { result < 256 }
+    ensures bound { result < 256 }
     ensures run { AreOfTrigram (trigram_of (slice_index keys.now 0)) (take result keys.now) }
 {
     let trigram = keys[0] / PLACES;

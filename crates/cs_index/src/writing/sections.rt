@@ -2,7 +2,7 @@
 ghost use Rattle.std.specs.Prelude.{◌≡◌, ◌≢◌, ◌<◌, ◌≤◌, ◌+◌, ◌^◌, ◌⊎◌, ◌↔◌, [], List, ℕ, true, false, length, map, string_bytes, None, Some, Err, IfOk, IfErr, OnOk, OnErr};
 ghost use Rattle.cs_trigram.specs.Trigram.{closing_trigram};
 ghost use Rattle.cs_index.specs.IdStream.{ids_in, IsStream};
-ghost use Rattle.cs_index.specs.Rising.{next_after, ids_onward};
+ghost use Rattle.cs_index.specs.Rising.{next_after, ids_onward, most_ids};
 ghost use Rattle.std.specs.List.{AllByRecursion};
 ghost use Rattle.cs_index.specs.Image.{image_of, IsString};
 ghost use Rattle.cs_index.specs.Indexable.{IsIndexable};
@@ -51,7 +51,7 @@ impl Sections {
     /// The sections of an index of these paths, without a name.
     pub fn new(alloc: Global, paths: &[String]) -> Result<Sections, BuildFault>
         ensures ok { IfOk result (λ sections. (sections.paths ≡ map string_bytes paths.now)
-            × (sections.names ≡ []) × (sections.lists ≡ []) × (sections.begun ≡ None)) }
+            × (sections.names ≡ []) × (sections.lists ≡ []) × (sections.last_trigram ≡ None)) }
         ensures bad_paths { (result ≡ Err BuildFault.BadPaths) ↔
             (are_paths (map string_bytes paths.now) ≡ false) }
         ensures other { IfErr result
@@ -68,8 +68,9 @@ impl Sections {
     pub(crate) fn of(alloc: Global, paths: Strings, names: Strings) -> Sections
         requires each_path { AllByRecursion IsString paths }
         requires each_name { AllByRecursion IsString names }
-        requires few { length names ≤ 2 ^ 31 }
-        ensures { result ≡ record { paths = paths; names = names; lists = []; begun = None } }
+        requires bound { length names ≤ most_ids }
+        ensures { result ≡
+            record { paths = paths; names = names; lists = []; last_trigram = None } }
     {
         Sections {
             alloc,
@@ -90,7 +91,7 @@ impl Sections {
         requires unlisted { self.old.lists ≡ [] }
         requires storable { is_storable name.now ≡ true }
         requires above { is_above self.old.names name.now ≡ true }
-        requires few { length self.old.names < 2 ^ 31 }
+        requires bound { length self.old.names < most_ids }
         ensures ok { OnOk result (self.new ≡ with_laid_name self.old name.now) }
         ensures id { IfOk result (λ id. id ≡ length self.old.names) }
         ensures err { OnErr result (self.new ≡ self.old) }
@@ -112,7 +113,7 @@ impl Sections {
     /// Gives the list that was begun last one more id. A refused call changes nothing.
     #[inline]
     pub fn id(&mut self, id: u32) -> Result<(), AllocError>
-        requires begun { self.old.begun ≢ None }
+        requires begun { self.old.last_trigram ≢ None }
         requires named { id < length self.old.names }
         requires above { next_after 0 (last_ids self.old) ≤ id }
         ensures ok { OnOk result (self.new ≡ with_last_id self.old id) }

@@ -1,9 +1,8 @@
 // The keys of a batch, put in order and kept in a byte each.
 ghost use Rattle.std.specs.Prelude.{◌≡◌, ◌≢◌, ◌<◌, ◌≤◌, ◌+◌, ◌*◌, ◌%◌, ◌++◌, [], ℕ, None, length, drop, slice_index, slice_index_or, IfOk, IfSome, OnOk};
 ghost use Rattle.std.specs.List.{AllByRecursion};
-ghost use Rattle.cs_index.specs.IdStream.{most_ids};
 ghost use Rattle.cs_index.specs.Keys.{trigram_of, AreOfTrigram};
-ghost use Rattle.cs_index.specs.Rising.{RiseWithin};
+ghost use Rattle.cs_index.specs.Rising.{most_ids, RiseWithin};
 ghost use Rattle.cs_index.specs.Segments.{gaps_of, ids_of_segment, keys_in, AreAhead, AreHeads, AreSortedKeys, BeginsWith};
 ghost use Rattle.cs_trigram.specs.Trigram.{Ascends};
 
@@ -134,7 +133,7 @@ impl Segment {
 /// Adds the head and the gaps of a run.
 fn push_run(heads: &mut Vec<u32>, gaps: &mut Vec<u8>, run: &[u32]) -> Result<(), AllocError>
     requires some { 0 < length run.now }
-    requires few { length run.now < 256 }
+    requires bound { length run.now < 256 }
     requires one { AreOfTrigram (trigram_of (slice_index run.now 0)) run.now }
     requires near { AllByRecursion (λ key. key % 256 < 128) run.now }
     requires ascending { Ascends run.now }

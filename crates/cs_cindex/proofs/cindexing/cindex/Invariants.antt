@@ -1,7 +1,7 @@
 use Rattle.std.proofs.Common.{◌≡◌, ℕ, ◌≤◌, take, map, get_or}
 use Rattle.cs_history.specs.Headline.{Indexes}
 use Rattle.cs_cindex.specs.Bytes.{index_bytes}
-use Rattle.cs_cindex.specs.Steps.{RightAll, Steps, job_trees, standing}
+use Rattle.cs_cindex.specs.Steps.{RightAll, Steps, job_trees, state}
 use Rattle.cs_cindex.proofs.cindexing.cindex.Given as goal
 
 -- the trees that are still to come are as they were, and the index and the replies are those of the jobs so far
@@ -13,7 +13,7 @@ invariant-jobs g l =
       rest : (k : ℕ) (d : _) → l.i ≤ k → get_or l.trees k d ≡ get_or l.initial.trees k d;
       index : Indexes (take l.i l.jobs) (take l.i snapshots) (take l.i l.replies) (index_bytes l.fn.old) (index_bytes l.index);
       steps : Steps (take l.i l.jobs) (job_trees g.T.Tree.snapshot g.T.Tree.failed (take l.i l.initial.trees) (take l.i l.trees)) (take l.i l.replies)
-          (standing g.O.Sink.taken g.O.Sink.failed g.E.Sink.taken g.E.Sink.failed (index_bytes l.fn.old) l.initial.out l.initial.err)
-          (standing g.O.Sink.taken g.O.Sink.failed g.E.Sink.taken g.E.Sink.failed (index_bytes l.index) l.out l.err);
+          (state g.O.Sink.taken g.O.Sink.failed g.E.Sink.taken g.E.Sink.failed (index_bytes l.fn.old) l.initial.out l.initial.err)
+          (state g.O.Sink.taken g.O.Sink.failed g.E.Sink.taken g.E.Sink.failed (index_bytes l.index) l.out l.err);
       right : RightAll (take l.i snapshots) (index_bytes l.fn.old) (take l.i l.jobs) (take l.i l.replies);
     }

@@ -1,5 +1,5 @@
 use Rattle.std.proofs.Common.{◌-◌, length}
-use Rattle.cs_match.specs.Skipping.{ArePassed}
+use Rattle.cs_match.specs.Passed.{ArePassed}
 use Rattle.cs_match.specs.Chains.{ShowsLines}
 use Rattle.cs_match.proofs.chains.pass_quiet.Given as goal
 

@@ -3,7 +3,8 @@ use Rattle.cs_syntax.specs.TreeList.{append}
 use Rattle.std.specs.Prelude.{None}
 use Rattle.std.proofs.lemmas.Bool.{le-leb}
 use Rattle.cs_syntax.specs.Matching.{cat, rep, none, more}
-use Rattle.cs_syntax.specs.Node.{tree_of, trees_of}
+use Rattle.cs_syntax.specs.Node.{tree_of}
+use Rattle.cs_syntax.specs.NodeList.{trees_of}
 use Rattle.cs_syntax.specs.declared.node.Node.{Node}
 use Rattle.cs_match.specs.Expansion.{expansion, expansions, copies, optional}
 use Rattle.cs_syntax.proofs.NodeLemmas.{tree_of-Cat}

@@ -1,7 +1,8 @@
 use Rattle.std.proofs.Common.{◌≡◌, drop}
 use Rattle.cs_syntax.specs.TreeList.{append}
 use Rattle.cs_syntax.specs.Matching.{none}
-use Rattle.cs_syntax.specs.Node.{tree_of, trees_of}
+use Rattle.cs_syntax.specs.Node.{tree_of}
+use Rattle.cs_syntax.specs.NodeList.{trees_of}
 use Rattle.cs_match.specs.Expansion.{expansion, expansions, copies, optional}
 use Rattle.cs_match.proofs.compiler.+write_out.Given as goal
 

@@ -1,6 +1,6 @@
 use Rattle.std.proofs.Common.{arith, length-take-le, subst, sym}
 use Rattle.std.specs.Prelude.{Any}
-use Rattle.cs_sieve.specs.Standing.{Stands}
+use Rattle.cs_sieve.specs.Stands.{Stands}
 use Rattle.cs_match.proofs.WithoutLemmas.{windows_placed, without_before}
 use Rattle.cs_match.proofs.finding.lines_without_window.Goals as goal
 

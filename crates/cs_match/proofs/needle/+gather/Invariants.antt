@@ -1,6 +1,6 @@
 use Rattle.std.proofs.Common.{drop}
 use Rattle.cs_syntax.specs.Matching.{TakesAll}
-use Rattle.cs_syntax.specs.Node.{trees_of}
+use Rattle.cs_syntax.specs.NodeList.{trees_of}
 use Rattle.cs_match.specs.Runs.{Follow}
 use Rattle.cs_match.specs.declared.runs.Runs.{Runs}
 use Rattle.cs_match.proofs.needle.+gather.Given as goal

@@ -1,7 +1,8 @@
 use Rattle.std.proofs.Common.{◌≡◌, ℕ, ◌+◌, ◌≤◌, ◌++◌, ◌∙◌, Bool, List, refl, sym, ap, take, drop, length, arith}
 use Rattle.std.proofs.lemmas.List.{take-append-drop}
 use Rattle.cs_syntax.proofs.NodeLemmas.{tree_of-Empty, tree_of-LineStart, tree_of-LineEnd, tree_of-WordEdge, tree_of-NotWordEdge}
-use Rattle.cs_syntax.specs.Node.{tree_of, trees_of}
+use Rattle.cs_syntax.specs.Node.{tree_of}
+use Rattle.cs_syntax.specs.NodeList.{trees_of}
 use Rattle.cs_syntax.proofs.TreeLemmas.{trees_from}
 use Rattle.cs_match.specs.Places.{places}
 use Rattle.cs_match.proofs.PassingLemmas.{left_all, left_each, noted_others, first_noted, moved_long, moved_ahead, moved_all, moved_each}

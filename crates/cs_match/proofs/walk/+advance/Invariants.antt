@@ -1,6 +1,6 @@
 use Rattle.std.proofs.Common.{◌≡◌, ◌+◌, ◌++◌, ◌||◌, drop, take, length}
 use Rattle.cs_syntax.specs.Matching.{cat, alt}
-use Rattle.cs_syntax.specs.Node.{trees_of}
+use Rattle.cs_syntax.specs.NodeList.{trees_of}
 use Rattle.cs_match.specs.Places.{places_of, repeats_of, exits, round_ends_of, step_all, step_each}
 use Rattle.cs_match.proofs.PassingLemmas.{first_repeats, first_round_ends}
 use Rattle.cs_match.proofs.walk.+advance.Given as goal

@@ -1,5 +1,5 @@
 use Rattle.std.proofs.Common.{◌≡◌, ◌+◌, drop}
-use Rattle.cs_syntax.specs.Node.{trees_of}
+use Rattle.cs_syntax.specs.NodeList.{trees_of}
 use Rattle.cs_match.specs.Places.{repeats_of}
 use Rattle.cs_match.proofs.walk.+count_repeats.Given as goal
 

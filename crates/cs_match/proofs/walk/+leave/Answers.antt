@@ -1,7 +1,8 @@
 use Rattle.std.proofs.Common.{◌≡◌, ◌+◌, drop, sym, ◌∙◌, ap, arith}
 use Rattle.std.proofs.Math.Bool.{and_assoc, or_assoc}
 use Rattle.cs_syntax.specs.Matching.{rep}
-use Rattle.cs_syntax.specs.Node.{tree_of, trees_of}
+use Rattle.cs_syntax.specs.Node.{tree_of}
+use Rattle.cs_syntax.specs.NodeList.{trees_of}
 use Rattle.cs_syntax.proofs.NodeLemmas.{tree_of-Rep}
 use Rattle.cs_syntax.proofs.TreeLemmas.{trees_from}
 use Rattle.cs_match.specs.Places.{nullable, nullable_all, nullable_some, leaves, round_ends}

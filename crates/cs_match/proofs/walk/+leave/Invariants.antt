@@ -1,7 +1,7 @@
 use Rattle.std.proofs.Common.{◌≡◌, ◌+◌, ◌≤◌, ◌&&◌, ◌||◌, drop, length, min}
 use Rattle.std.proofs.Math.Seq.{sets}
 use Rattle.cs_syntax.specs.Matching.{cat}
-use Rattle.cs_syntax.specs.Node.{trees_of}
+use Rattle.cs_syntax.specs.NodeList.{trees_of}
 use Rattle.cs_match.specs.Places.{places_of, repeats_of, nullable_all, nullable_some, leaves_all, leaves_some, exits, round_ends_of}
 use Rattle.cs_match.proofs.walk.+leave.Given as goal
 

@@ -2,7 +2,8 @@ use Rattle.std.proofs.Common.{◌≡◌, ◌+◌, ◌++◌, List, inl, inr, drop
 use Rattle.std.proofs.lemmas.Result.{on_ok_weaker}
 use Rattle.cs_sieve.specs.declared.window.Window.{Window}
 use Rattle.cs_syntax.specs.Matching.{Trees, cat, alt, TakesAll, TakesSome}
-use Rattle.cs_syntax.specs.Node.{tree_of, trees_of}
+use Rattle.cs_syntax.specs.Node.{tree_of}
+use Rattle.cs_syntax.specs.NodeList.{trees_of}
 use Rattle.cs_syntax.specs.declared.node.Node.{Node}
 use Rattle.cs_syntax.proofs.NodeLemmas.{tree_of-Set, tree_of-Cat, tree_of-Alt, tree_of-Rep}
 use Rattle.cs_syntax.proofs.TreeLemmas.{trees_from}

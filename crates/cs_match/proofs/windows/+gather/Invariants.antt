@@ -1,6 +1,6 @@
 use Rattle.std.proofs.Common.{ℕ, ◌≤◌, ◌⊎◌, List, length, drop}
 use Rattle.cs_syntax.specs.Matching.{TakesAll, TakesSome}
-use Rattle.cs_syntax.specs.Node.{trees_of}
+use Rattle.cs_syntax.specs.NodeList.{trees_of}
 use Rattle.cs_match.specs.NeededWindows.{HasOne}
 use Rattle.cs_match.specs.Trails.{TrailsFollow}
 use Rattle.cs_match.specs.declared.trail.Trail.{Trail}

@@ -22,7 +22,7 @@ stretch-requires-clause-named c =
 
 pub ids-preserved : goal.ids-preserved
 ids-preserved c =
-    let begun : c.ids.sections.begun ≡ Some c.args.trigram = c.ids.invariant.begun c.in-Some.id c.in-Some.is in
+    let begun : c.ids.sections.last_trigram ≡ Some c.args.trigram = c.ids.invariant.begun c.in-Some.id c.in-Some.is in
     let next : lower_of (slice_get c.ids.older.ids 0) (slice_get c.ids.newer.ids 0) ≡ Some c.in-Some.id = sym c.ids.invariant.next ∙ c.in-Some.is in
     let more = run_given c.args.trigram c.args.sections.now c.ids.sections c.id.new.self c.args.older.ids c.args.newer.ids c.ids.older.ids c.ids.newer.ids c.ids.invariant.given c.requires.above begun c.in-Some.id next c.in_ok-id.ensures.ok c.take_run-run.result c.take_run-run.new.older.ids c.take_run-run.new.newer.ids c.take_run-run.ensures.run c.stretch.new.self c.in_ok-stretch.ensures.ok in
     let older : c.pass.new.self.ids ≡ without_number c.in-Some.id c.take_run-run.new.older.ids = ap (λ (r : Ids). r.ids) c.in_ok-pass.ensures.ok in

@@ -5,5 +5,5 @@ use Rattle.cs_merge.proofs.listing.lay_parts.Given as goal
 abbrev pub invariant-parts : goal.invariant-parts
 invariant-parts l = record {
   given : IsGiven l.trigram l.fn.sections l.sections (parts_ids l.parts) [] (parts_ids (drop l.first-index l.parts)) [];
-  begun : l.sections.begun ≡ Some l.trigram;
+  begun : l.sections.last_trigram ≡ Some l.trigram;
 }

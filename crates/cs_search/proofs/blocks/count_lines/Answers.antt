@@ -1,4 +1,4 @@
-use Rattle.std.proofs.Common.{length, arith}
+use Rattle.std.proofs.Common.{arith}
 use Rattle.cs_match.proofs.LinesLemmas.{lines_within}
 use Rattle.cs_search.proofs.blocks.count_lines.Goals as goal
 
@@ -6,4 +6,4 @@ pub overflow_add-tally : goal.overflow_add-tally
 overflow_add-tally c = omega (arith, c.newlines.ensures, lines_within c.args.block.now, c.requires.room)
 
 pub overflow_add-tally-2 : goal.overflow_add-tally-2
-overflow_add-tally-2 c = omega (arith, c.args.tally.now.few, c.count.ensures.few, lines_within c.args.block.now, c.requires.room)
+overflow_add-tally-2 c = omega (arith, c.args.tally.now.bound, c.count.ensures.bound, lines_within c.args.block.now, c.requires.room)

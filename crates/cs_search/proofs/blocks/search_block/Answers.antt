@@ -1,8 +1,8 @@
 use Rattle.std.proofs.Common.{◌≡◌, ◌+◌, Bool, true, false, List, ℕ, length, MatchBool, sym, ap, subst, ◌∙◌}
 use Rattle.std.proofs.lemmas.Bool.{false≢true}
 use Rattle.cs_search.specs.TestedLines.{Tests, TestsFront, IsListed}
-use Rattle.cs_search.proofs.BlockLemmas.{ended_all, unended_rest}
-use Rattle.cs_search.proofs.FrontLemmas.{any_err}
+use Rattle.cs_search.proofs.BlockLemmas.{ended_all, rest_is_last}
+use Rattle.cs_index.proofs.ResultLemmas.{any_err}
 use Rattle.cs_search.proofs.blocks.search_block.Goals as goal
 
 at_true : (P Q : Type 0) (b : Bool) → b ≡ true → MatchBool b P Q → P
@@ -29,7 +29,7 @@ returns-in_err-search_lines-clause-front g c =
 pub returns-clause-rest : goal.returns-clause-rest
 returns-clause-rest g c =
     let e = c.ended_len-stop.ensures in
-    (e.within, unended_rest c.args.block.now c.ended_len-stop.result e.whole e.rest)
+    (e.within, rest_is_last c.args.block.now c.ended_len-stop.result e.whole e.rest)
 
 pub returns-clause-lines : goal.returns-clause-lines
 returns-clause-lines g c =

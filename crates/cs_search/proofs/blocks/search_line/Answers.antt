@@ -1,7 +1,8 @@
 use Rattle.std.proofs.Common.{refl, ◌∙◌}
 use Rattle.std.proofs.lemmas.Bool.Decides.{same_from_decides}
 use Rattle.cs_search.proofs.TestedLemmas.{Tests-hit, Tests-miss}
-use Rattle.cs_search.proofs.FrontLemmas.{any_err, TestsFront-hit}
+use Rattle.cs_index.proofs.ResultLemmas.{any_err}
+use Rattle.cs_search.proofs.FrontLemmas.{TestsFront-hit}
 use Rattle.cs_search.proofs.blocks.search_line.Goals as goal
 
 pub returns-in_ok-print_hit-clause-tests : goal.returns-in_ok-print_hit-clause-tests

@@ -10,7 +10,8 @@ use Rattle.cs_search.specs.declared.tally.Tally.{Tally}
 use Rattle.cs_search.specs.TestedLines.{Tests, TestsFront, IsListed}
 use Rattle.cs_search.proofs.BlockLemmas.{ended_front, ended_all, lines_on, whole_on, counted_within}
 use Rattle.cs_search.proofs.TestedLemmas.{Tests-none, Tests-more, Tests-passed, Tests-counted, IsListed-first, IsListed-more}
-use Rattle.cs_search.proofs.FrontLemmas.{any_err, TestsFront-more, TestsFront-after}
+use Rattle.cs_index.proofs.ResultLemmas.{any_err}
+use Rattle.cs_search.proofs.FrontLemmas.{TestsFront-more, TestsFront-after}
 use Rattle.cs_search.proofs.blocks.search_lines.Goals as goal
 use Rattle.cs_search.proofs.blocks.search_lines.Goals.{else-form-via-then-form+else-tally-gt0, else-form-via-else-form}
 

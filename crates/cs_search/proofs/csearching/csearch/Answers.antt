@@ -5,7 +5,7 @@ use Rattle.cs_tree.proofs.Growing.{Grows-same}
 use Rattle.cs_tree.specs.Failures.{CountsOne}
 use Rattle.cs_words.specs.declared.jobs.Tool.TheVariants.{Csearch}
 use Rattle.cs_search.proofs.CgrepLemmas.{all_quiet}
-use Rattle.cs_search.proofs.FrontLemmas.{any_err}
+use Rattle.cs_index.proofs.ResultLemmas.{any_err}
 use Rattle.cs_search.proofs.PrintedLemmas.{PrintsFaults-no}
 use Rattle.cs_search.proofs.PromiseLemmas.{like_cgrep_quiet}
 use Rattle.cs_search.proofs.csearching.csearch.Goals as goal

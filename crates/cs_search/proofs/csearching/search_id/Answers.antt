@@ -6,7 +6,7 @@ use Rattle.cs_search.specs.Searcher.{PrintsAllFaults}
 use Rattle.cs_search.specs.declared.report.TheConstants.{MOST_SEARCHED}
 use Rattle.cs_search.specs.IndexSearch.{names_at}
 use Rattle.cs_search.specs.Printed.{all_printed, file_printed}
-use Rattle.cs_search.proofs.FrontLemmas.{any_err}
+use Rattle.cs_index.proofs.ResultLemmas.{any_err}
 use Rattle.cs_search.proofs.PrintedLemmas.{done, undone, PrintsAllFaults-none, PrintsAllFaults-refused}
 use Rattle.cs_search.proofs.CsearchLemmas.{Prints-nothing, Prints-as, PrintsFront-as, none_at, left_out_at, kept_at, name_at}
 use Rattle.cs_search.proofs.csearching.search_id.Goals as goal

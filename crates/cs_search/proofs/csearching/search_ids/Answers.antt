@@ -8,8 +8,8 @@ use Rattle.cs_search.specs.declared.report.TheConstants.{MOST_SEARCHED}
 use Rattle.cs_search.specs.IndexSearch.{names_at, DecidesNames}
 use Rattle.cs_search.specs.Searcher.{Prints, PrintsAllFaults, PrintsFront}
 use Rattle.cs_search.specs.Printed.{Printed, file_printed, all_printed}
-use Rattle.cs_search.proofs.FrontLemmas.{any_err}
-use Rattle.cs_search.proofs.PrintedLemmas.{Prints-none, Prints-sequel, PrintsFront-sequel, done, undone, PrintsAllFaults-none, PrintsAllFaults-more, PrintsAllFaults-rest, PrintsAllFaults-refused}
+use Rattle.cs_index.proofs.ResultLemmas.{any_err}
+use Rattle.cs_search.proofs.PrintedLemmas.{Prints-none, Prints-both, PrintsFront-both, done, undone, PrintsAllFaults-none, PrintsAllFaults-more, PrintsAllFaults-rest, PrintsAllFaults-refused}
 use Rattle.cs_search.proofs.CsearchLemmas.{chosen_more, chosen_rest, names_at_more, names_at_rest}
 use Rattle.cs_search.proofs.csearching.search_ids.Goals as goal
 
@@ -42,7 +42,7 @@ loop-id-preserved g c =
           let tools = subst (λ t. Prints (option_map (λ (s : Snapshot). all_printed (file_printed MOST_SEARCHED t c.loop-id.searcher.style finds s) (filter keeps (names_at all (id ∷ [])))) (g.T.Tree.snapshot c.loop-id.tree)) (g.O.Sink.taken c.loop-id.out) (g.O.Sink.taken c.search_id.new.out) (g.E.Sink.taken c.loop-id.err) (g.E.Sink.taken c.search_id.new.err) c.in_ok-matched.field-0) i.kept.tool one in
           let styles = subst (λ t. Prints (option_map (λ (s : Snapshot). all_printed (file_printed MOST_SEARCHED searcher.tool t finds s) (filter keeps (names_at all (id ∷ [])))) (g.T.Tree.snapshot c.loop-id.tree)) (g.O.Sink.taken c.loop-id.out) (g.O.Sink.taken c.search_id.new.out) (g.E.Sink.taken c.loop-id.err) (g.E.Sink.taken c.search_id.new.err) c.in_ok-matched.field-0) i.kept.style tools in
           let last = subst (λ tree. Prints (option_map (λ (s : Snapshot). all_printed (file s) (filter keeps (names_at all (id ∷ [])))) tree) (g.O.Sink.taken c.loop-id.out) (g.O.Sink.taken c.search_id.new.out) (g.E.Sink.taken c.loop-id.err) (g.E.Sink.taken c.search_id.new.err) c.in_ok-matched.field-0) i.keeps styles in
-          Prints-sequel snapshot (λ s. all_printed (file s) (filter keeps (names_at all (take at ids)))) (λ s. all_printed (file s) (filter keeps (names_at all (id ∷ [])))) (λ s. all_printed (file s) (filter keeps (names_at all (take (at + 1) ids)))) _ _ _ _ _ _ c.loop-id.matched c.in_ok-matched.field-0
+          Prints-both snapshot (λ s. all_printed (file s) (filter keeps (names_at all (take at ids)))) (λ s. all_printed (file s) (filter keeps (names_at all (id ∷ [])))) (λ s. all_printed (file s) (filter keeps (names_at all (take (at + 1) ids)))) _ _ _ _ _ _ c.loop-id.matched c.in_ok-matched.field-0
           (λ s. chosen_more (file s) keeps all ids at c.loop-id-test.true)
           (i.prints finds keeps decides names) last;
       faults =
@@ -82,7 +82,7 @@ returns-in_err-matched-clause-front g c =
     let tools = subst (λ t. Holds (option_map (λ (s : Snapshot). all_printed (file_printed MOST_SEARCHED t c.loop-id.searcher.style finds s) (filter keeps (names_at all (id ∷ [])))) (g.T.Tree.snapshot c.loop-id.tree))) i.kept.tool one in
     let styles = subst (λ t. Holds (option_map (λ (s : Snapshot). all_printed (file_printed MOST_SEARCHED searcher.tool t finds s) (filter keeps (names_at all (id ∷ [])))) (g.T.Tree.snapshot c.loop-id.tree))) i.kept.style tools in
     let last = subst (λ tree. Holds (option_map (λ (s : Snapshot). all_printed (file s) (filter keeps (names_at all (id ∷ [])))) tree)) i.keeps styles in
-    PrintsFront-sequel (g.T.Tree.snapshot c.args.tree.now) (λ s. all_printed (file s) (filter keeps (names_at all (take at ids)))) (λ s. all_printed (file s) (filter keeps (names_at all (id ∷ [])))) (λ s. all_printed (file s) (filter keeps (names_at all (drop (at + 1) ids)))) (λ s. all_printed (file s) (filter keeps (names_at all ids))) _ _ _ _ _ _ c.loop-id.matched
+    PrintsFront-both (g.T.Tree.snapshot c.args.tree.now) (λ s. all_printed (file s) (filter keeps (names_at all (take at ids)))) (λ s. all_printed (file s) (filter keeps (names_at all (id ∷ [])))) (λ s. all_printed (file s) (filter keeps (names_at all (drop (at + 1) ids)))) (λ s. all_printed (file s) (filter keeps (names_at all ids))) _ _ _ _ _ _ c.loop-id.matched
     (λ s. chosen_rest (file s) keeps all ids at c.loop-id-test.true)
     (i.prints finds keeps decides names) last)
 

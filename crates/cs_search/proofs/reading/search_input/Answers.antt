@@ -9,15 +9,16 @@ use Rattle.cs_search.specs.declared.stop.Stop.TheVariants.{End, Left}
 use Rattle.cs_tree.proofs.Losing.{Loses_few}
 use Rattle.cs_match.specs.Lines.{ended_lines}
 use Rattle.cs_match.specs.LineParts.{IsPart}
-use Rattle.cs_match.specs.Unended.{unended}
+use Rattle.cs_match.specs.LastPart.{last_part}
 use Rattle.cs_search.specs.Buffer.{pending}
 use Rattle.cs_search.specs.TestedLines.{Tests, TestsFront, IsListed}
 use Rattle.cs_search.specs.Progress.{HasRead, HasTested}
-use Rattle.cs_match.proofs.LinesLemmas.{IsPart-unended, lines_within}
+use Rattle.cs_match.proofs.LinesLemmas.{IsPart-last_part, lines_within}
 use Rattle.cs_search.proofs.BufferLemmas.{Gains-split, Gains-size}
 use Rattle.cs_search.proofs.TestedLemmas.{Tests-none, Tests-more}
 use Rattle.cs_search.proofs.ProgressLemmas.{HasRead-none, HasTested-none, HasRead-more, HasTested-more, FindsBy-empty, FindsBy-listed, FindsBy-past, Stops-past, Loses-taken, LosesAtMost-more}
-use Rattle.cs_search.proofs.FrontLemmas.{any_err, FindsFront-tested, FindsFront-piece}
+use Rattle.cs_index.proofs.ResultLemmas.{any_err}
+use Rattle.cs_search.proofs.FrontLemmas.{FindsFront-tested, FindsFront-piece}
 use Rattle.cs_search.proofs.reading.search_input.Goals as goal
 
 pub pieces-init : goal.pieces-init
@@ -25,7 +26,7 @@ pieces-init g c =
     let r = c.requires in
     let none : c.args.most - c.args.most ≡ 0 = omega arith in
     record {
-      few = omega (arith, r.lines, ap (λ (l : List ℕ). length l) r.empty);
+      bound = omega (arith, r.lines, ap (λ (l : List ℕ). length l) r.empty);
       part = subst IsPart (sym r.empty) tt;
       read = HasRead-none (g.R.Source.told c.args.input.now) _ _ _ none r.empty r.lines;
       tested = λ finds decides. HasTested-none (g.R.Source.told c.args.input.now) (c.args.most - c.args.most) (λ lines. Tests c.args.form.now.style c.args.form.now.name.now finds lines c.args.tally.now c.args.tally.now (g.O.Sink.taken c.args.out.now) (g.O.Sink.taken c.args.out.now)) none (Tests-none c.args.form.now.style c.args.form.now.name.now finds c.args.tally.now (g.O.Sink.taken c.args.out.now));
@@ -63,7 +64,7 @@ returns-in_err-start-clause-front g c =
     let piece = drop (length old) (pending c.fill.new.self) in
     let block : c.pending.result.now ≡ old ++ piece = c.pending.ensures ∙ Gains-split _ _ _ e.gains in
     let size : length piece ≡ c.in-Ok.n = Gains-size _ _ _ e.gains in
-    FindsFront-piece _ _ finds _ c.pieces.tally _ (g.O.Sink.taken c.pieces.out) _ (g.R.Source.told c.args.input.now) (g.R.Source.told c.pieces.input) (g.R.Source.told c.fill.new.input) (c.args.most - c.pieces.left) old piece c.pieces.tally.lines _ (omega (arith, e.within, i.few, size)) i.read e.told.0 i.unlisted (omega (arith, c.requires.lines)) (i.tested finds decides)
+    FindsFront-piece _ _ finds _ c.pieces.tally _ (g.O.Sink.taken c.pieces.out) _ (g.R.Source.told c.args.input.now) (g.R.Source.told c.pieces.input) (g.R.Source.told c.fill.new.input) (c.args.most - c.pieces.left) old piece c.pieces.tally.lines _ (omega (arith, e.within, i.bound, size)) i.read e.told.0 i.unlisted (omega (arith, c.requires.lines)) (i.tested finds decides)
     (subst (λ b. TestsFront c.args.form.now.style c.args.form.now.name.now finds (ended_lines b) (c.pieces.tally.lines + 1) (g.O.Sink.taken c.pieces.out) (g.O.Sink.taken c.search_block.new.out)) block (c.in_err-start.ensures.front finds (subst (Decides finds) (sym i.same) decides))))
 
 pub returns-in_err-stop-clause-front : goal.returns-in_err-stop-clause-front
@@ -76,7 +77,7 @@ pub returns-in_err-start-clause-loses : goal.returns-in_err-start-clause-loses
 returns-in_err-start-clause-loses g c =
     let i = c.pieces.invariant in
     let e = c.in-Ok.ensures in
-    LosesAtMost-more _ (g.R.Source.told c.pieces.input) _ (c.args.most - c.pieces.left) c.in-Ok.n _ (Loses-taken _ _ _ _ _ i.read) (Loses_few _ _ _ c.in-Ok.n e.told.0 (omega (arith, Gains-size _ _ _ e.gains))) (omega (arith, e.within, i.few))
+    LosesAtMost-more _ (g.R.Source.told c.pieces.input) _ (c.args.most - c.pieces.left) c.in-Ok.n _ (Loses-taken _ _ _ _ _ i.read) (Loses_few _ _ _ c.in-Ok.n e.told.0 (omega (arith, Gains-size _ _ _ e.gains))) (omega (arith, e.within, i.bound))
 
 pub returns-in_default-clause-finds : goal.returns-in_default-clause-finds
 returns-in_default-clause-finds g c = λ finds decides.
@@ -88,14 +89,14 @@ returns-in_default-clause-finds g c = λ finds decides.
     let block : c.pending.result.now ≡ old ++ piece = c.pending.ensures ∙ Gains-split _ _ _ e.gains in
     let size : length piece ≡ c.in-Ok.n = Gains-size _ _ _ e.gains in
     let is_listed = rw c.in_default.is at (s.tests finds (subst (Decides finds) (sym i.same) decides)) in
-    FindsBy-listed _ _ finds _ _ _ _ _ (g.R.Source.told c.args.input.now) (g.R.Source.told c.pieces.input) (g.R.Source.told c.fill.new.input) (c.args.most - c.pieces.left) old piece c.pieces.tally.lines c.pieces.tally (g.O.Sink.taken c.pieces.out) (omega (arith, e.within, i.few, size)) i.read e.told.0 (i.unlisted is_listed.listed) (omega (arith, c.requires.lines)) (i.tested finds decides)
+    FindsBy-listed _ _ finds _ _ _ _ _ (g.R.Source.told c.args.input.now) (g.R.Source.told c.pieces.input) (g.R.Source.told c.fill.new.input) (c.args.most - c.pieces.left) old piece c.pieces.tally.lines c.pieces.tally (g.O.Sink.taken c.pieces.out) (omega (arith, e.within, i.bound, size)) i.read e.told.0 (i.unlisted is_listed.listed) (omega (arith, c.requires.lines)) (i.tested finds decides)
     (subst (λ b. IsListed c.args.form.now.style c.args.form.now.name.now finds (ended_lines b) (c.pieces.tally.lines + 1) c.search_block.new.tally (g.O.Sink.taken c.pieces.out) (g.O.Sink.taken c.search_block.new.out)) block is_listed)
 
 pub returns-in_default-clause-loses : goal.returns-in_default-clause-loses
 returns-in_default-clause-loses g c =
     let i = c.pieces.invariant in
     let e = c.in-Ok.ensures in
-    LosesAtMost-more _ (g.R.Source.told c.pieces.input) _ (c.args.most - c.pieces.left) c.in-Ok.n _ (Loses-taken _ _ _ _ _ i.read) (Loses_few _ _ _ c.in-Ok.n e.told.0 (omega (arith, Gains-size _ _ _ e.gains))) (omega (arith, e.within, i.few))
+    LosesAtMost-more _ (g.R.Source.told c.pieces.input) _ (c.args.most - c.pieces.left) c.in-Ok.n _ (Loses-taken _ _ _ _ _ i.read) (Loses_few _ _ _ c.in-Ok.n e.told.0 (omega (arith, Gains-size _ _ _ e.gains))) (omega (arith, e.within, i.bound))
 
 pub pieces-preserved : goal.pieces-preserved
 pieces-preserved g c =
@@ -106,8 +107,8 @@ pieces-preserved g c =
     let piece = drop (length old) (pending c.fill.new.self) in
     let block : c.pending.result.now ≡ old ++ piece = c.pending.ensures ∙ Gains-split _ _ _ e.gains in
     let size : length piece ≡ c.in-Ok.n = Gains-size _ _ _ e.gains in
-    let rest : pending c.skip.new.self ≡ unended c.pending.result.now = c.skip.ensures ∙ ap (λ b. drop c.in-Some.start b) (sym c.pending.ensures) ∙ s.rest.1 in
-    let n : c.args.most - c.pieces.left + length piece ≡ c.args.most - (c.pieces.left - c.in-Ok.n) = omega (arith, e.within, i.few, size) in
+    let rest : pending c.skip.new.self ≡ last_part c.pending.result.now = c.skip.ensures ∙ ap (λ b. drop c.in-Some.start b) (sym c.pending.ensures) ∙ s.rest.1 in
+    let n : c.args.most - c.pieces.left + length piece ≡ c.args.most - (c.pieces.left - c.in-Ok.n) = omega (arith, e.within, i.bound, size) in
     let told = g.R.Source.told c.args.input.now in
     let later = g.R.Source.told c.fill.new.input in
     let left = g.R.Source.told c.pieces.input in
@@ -115,10 +116,10 @@ pieces-preserved g c =
     let Mid = λ (finds : List ℕ → Bool) (lines : List (List ℕ)). Tests c.args.form.now.style c.args.form.now.name.now finds lines c.args.tally.now c.pieces.tally (g.O.Sink.taken c.args.out.now) (g.O.Sink.taken c.pieces.out) in
     let After = λ (finds : List ℕ → Bool) (lines : List (List ℕ)). Tests c.args.form.now.style c.args.form.now.name.now finds lines c.args.tally.now c.search_block.new.tally (g.O.Sink.taken c.args.out.now) (g.O.Sink.taken c.search_block.new.out) in
     record {
-      few = omega (arith, e.within, i.few, s.lines, ap (λ (l : List ℕ). length l) rest, ap (λ (l : List ℕ). length l) c.pending.ensures, e.gains.size, lines_within c.pending.result.now);
-      part = subst IsPart (sym rest) (IsPart-unended c.pending.result.now);
+      bound = omega (arith, e.within, i.bound, s.lines, ap (λ (l : List ℕ). length l) rest, ap (λ (l : List ℕ). length l) c.pending.ensures, e.gains.size, lines_within c.pending.result.now);
+      part = subst IsPart (sym rest) (IsPart-last_part c.pending.result.now);
       read = subst (λ k. HasRead told later k (pending c.skip.new.self) c.search_block.new.tally.lines) n
-          (HasRead-more (c.args.most - c.pieces.left) old piece c.pieces.tally.lines told left later _ _ i.read e.told.0 (rest ∙ ap unended block) counted);
+          (HasRead-more (c.args.most - c.pieces.left) old piece c.pieces.tally.lines told left later _ _ i.read e.told.0 (rest ∙ ap last_part block) counted);
       tested = λ finds decides.
           let found = subst (λ b. Tests c.args.form.now.style c.args.form.now.name.now finds (ended_lines b) c.pieces.tally c.search_block.new.tally (g.O.Sink.taken c.pieces.out) (g.O.Sink.taken c.search_block.new.out)) block (s.tests finds (subst (Decides finds) (sym i.same) decides)) in
           subst (λ k. HasTested told k (After finds)) n

@@ -8,7 +8,7 @@ use Rattle.cs_search.proofs.reading.search_input.Given as goal
 
 abbrev pub invariant-pieces : goal.invariant-pieces
 invariant-pieces g l = record {
-  few : l.tally.lines + length (pending l.buffer) + l.left ≤ l.most;
+  bound : l.tally.lines + length (pending l.buffer) + l.left ≤ l.most;
   part : IsPart (pending l.buffer);
   read : HasRead (g.R.Source.told l.initial.input) (g.R.Source.told l.input) (l.most - l.left) (pending l.buffer) l.tally.lines;
   tested : (finds : List ℕ → Bool) → Decides finds l.initial.matcher → HasTested (g.R.Source.told l.initial.input) (l.most - l.left) (λ lines. Tests l.form.style l.form.name.now finds lines l.initial.tally l.tally (g.O.Sink.taken l.initial.out) (g.O.Sink.taken l.out));

@@ -3,7 +3,8 @@ use Rattle.cs_match.specs.Finding.{Decides}
 use Rattle.cs_search.specs.declared.stop.Stop.TheVariants.{End}
 use Rattle.cs_search.specs.Progress.{Stops}
 use Rattle.cs_search.proofs.ReportedLemmas.{Reports-listed, Reports-left, Reports-end}
-use Rattle.cs_search.proofs.FrontLemmas.{any_err, ReportsFront-read, ReportsFront-rest, ReportsFront-total}
+use Rattle.cs_index.proofs.ResultLemmas.{any_err}
+use Rattle.cs_search.proofs.FrontLemmas.{ReportsFront-read, ReportsFront-rest, ReportsFront-total}
 use Rattle.cs_search.proofs.report.grep_within.Goals as goal
 
 pub returns-in-Listed-clause-report : goal.returns-in-Listed-clause-report

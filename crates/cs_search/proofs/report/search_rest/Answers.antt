@@ -1,7 +1,7 @@
 use Rattle.std.proofs.Common.{ℕ, List, sym, subst, ◌∙◌}
 use Rattle.std.proofs.lemmas.Bool.{eqb-true}
 use Rattle.std.proofs.lemmas.List.{nil_from_length}
-use Rattle.cs_match.specs.Unended.{last_line}
+use Rattle.cs_match.specs.LastPart.{last_line}
 use Rattle.cs_search.specs.TestedLines.{Tests}
 use Rattle.cs_search.proofs.TestedLemmas.{Tests-none}
 use Rattle.cs_search.proofs.report.search_rest.Goals as goal

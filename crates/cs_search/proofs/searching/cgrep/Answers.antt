@@ -6,7 +6,7 @@ use Rattle.cs_match.specs.Finding.{Decides}
 use Rattle.cs_tree.specs.Failures.{CountsOne}
 use Rattle.cs_tree.specs.Taken.{EndsAfter}
 use Rattle.cs_tree.specs.TakenAll.{TakesAll}
-use Rattle.cs_search.proofs.FrontLemmas.{any_err}
+use Rattle.cs_index.proofs.ResultLemmas.{any_err}
 use Rattle.cs_search.proofs.PrintedLemmas.{done, PrintsSome-front, PrintsSome-all, PrintsFaults-flushed}
 use Rattle.cs_search.proofs.CgrepLemmas.{all_quiet, begun_refused, decides_program, PrintsStatus-flushed, PrintsFaultsOf-as, PrintsFaultsOf-nothing}
 use Rattle.cs_search.specs.declared.status.Status.{Status}

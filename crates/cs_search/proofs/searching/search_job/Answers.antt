@@ -9,7 +9,7 @@ use Rattle.cs_words.specs.declared.jobs.Tool.TheVariants.{Cgrep}
 use Rattle.cs_search.specs.Cgrep.{standard_name}
 use Rattle.cs_search.specs.Printed.{Printed, input_printed, file_printed, all_printed}
 use Rattle.cs_search.specs.Searcher.{Prints, PrintsAllFaults, PrintsFront}
-use Rattle.cs_search.proofs.FrontLemmas.{any_err}
+use Rattle.cs_index.proofs.ResultLemmas.{any_err}
 use Rattle.cs_search.proofs.PrintedLemmas.{done, undone, PrintsAllFaults-refused}
 use Rattle.cs_search.proofs.CgrepLemmas.{cgrep_standard, cgrep_files, PrintsFaultsOf-standard, PrintsFaultsOf-files}
 use Rattle.cs_search.proofs.searching.search_job.Goals as goal

@@ -3,10 +3,9 @@ use Rattle.std.specs.Prelude.{nat_eq}
 use Rattle.std.proofs.lemmas.Bool.{ne_eqb}
 use Rattle.std.proofs.lemmas.List.{drop-drop}
 use Rattle.cs_syntax.specs.Classes.{items_from, class_front, piece, misread}
-use Rattle.cs_syntax.specs.ClassState.{with_items}
 use Rattle.cs_syntax.specs.declared.fault.PatternFault.TheVariants.{OpenClass}
 use Rattle.cs_syntax.proofs.ListLemmas.{here_is, tail_is, length-tail}
-use Rattle.cs_syntax.proofs.ClassLemmas.{with_items-last, with_items-closed, with_items-failed, items_from-item, items_from-fault, items_from-close, have-last}
+use Rattle.cs_syntax.proofs.ClassLemmas.{with_items, with_items-last, with_items-closed, with_items-failed, items_from-item, items_from-fault, items_from-close, have-last}
 use Rattle.cs_syntax.proofs.classes.items.Goals as goal
 
 pub returns-then-closes-clause-value : goal.returns-then-closes-clause-value

@@ -1,7 +1,8 @@
 use Rattle.std.proofs.Common.{◌≡◌, ◌≤◌, ◌+◌, ◌-◌, List, drop, length}
 use Rattle.std.specs.Prelude.{nat_eq, true}
 use Rattle.cs_syntax.specs.Classes.{items_from}
-use Rattle.cs_syntax.specs.ClassState.{with_items, HaveItems}
+use Rattle.cs_syntax.specs.ClassState.{HaveItems}
+use Rattle.cs_syntax.proofs.ClassLemmas.{with_items}
 use Rattle.cs_syntax.specs.declared.class_item.ClassItem.{ClassItem}
 use Rattle.cs_syntax.proofs.classes.items.Given as goal
 

@@ -1,6 +1,6 @@
 use Rattle.std.proofs.Common.{◌≡◌, drop}
 use Rattle.cs_syntax.specs.Lowering.{ascii_forms, all_wide_forms}
-use Rattle.cs_syntax.specs.Node.{trees_of}
+use Rattle.cs_syntax.specs.NodeList.{trees_of}
 use Rattle.cs_syntax.specs.TreeList.{append}
 use Rattle.cs_syntax.proofs.lowering.lower.Given as goal
 

@@ -1,7 +1,7 @@
 use Rattle.std.proofs.Common.{◌+◌, List, ℕ, drop, sym, ◌∙◌, ap, drop_of_length-le}
 use Rattle.cs_syntax.specs.Matching.{Tree, Trees, one_of, more}
 use Rattle.cs_syntax.specs.Fronts.{byte_sets, sequence}
-use Rattle.cs_syntax.specs.Node.{trees_of}
+use Rattle.cs_syntax.specs.NodeList.{trees_of}
 use Rattle.cs_syntax.specs.TreeList.{append}
 use Rattle.cs_syntax.proofs.TreeListLemmas.{append_none, append_last}
 use Rattle.cs_syntax.proofs.ListLemmas.{here_is}

@@ -1,6 +1,6 @@
 use Rattle.std.proofs.Common.{◌≡◌, drop}
 use Rattle.cs_syntax.specs.Fronts.{byte_sets}
-use Rattle.cs_syntax.specs.Node.{trees_of}
+use Rattle.cs_syntax.specs.NodeList.{trees_of}
 use Rattle.cs_syntax.specs.TreeList.{append}
 use Rattle.cs_syntax.proofs.units.bytes_node.Given as goal
 

@@ -1,5 +1,5 @@
 use Rattle.std.proofs.Common.{◌≡◌, ◌+◌, ◌≤◌, drop}
-use Rattle.cs_syntax.specs.Node.{trees_of}
+use Rattle.cs_syntax.specs.NodeList.{trees_of}
 use Rattle.cs_syntax.specs.Weight.{most_weight, weights}
 use Rattle.cs_syntax.proofs.weight.+weigh.Given as goal
 

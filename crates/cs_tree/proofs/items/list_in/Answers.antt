@@ -4,7 +4,8 @@ use Rattle.std.proofs.lemmas.Bool.{true≢false}
 use Rattle.std.specs.FinMap.{insert}
 use Rattle.cs_tree.specs.Snapshot.{folder}
 use Rattle.cs_tree.specs.Changes.{is_folder, listing}
-use Rattle.cs_tree.specs.MemoryItems.{snapshot_of, place_at, item_of, left_of}
+use Rattle.cs_tree.specs.MemoryItems.{snapshot_of, item_of, left_of}
+use Rattle.cs_tree.specs.StoredItems.{place_at}
 use Rattle.cs_tree.proofs.PlaceLemmas.{set_placed, set_alike, item_placed, path_placed, item_unplaced, folder_item, files_stay}
 use Rattle.cs_tree.proofs.items.list_in.Goals as goal
 

@@ -1,6 +1,7 @@
 use Rattle.std.proofs.Common.{◌≡◌, ap, sym, refl, ◌∙◌, Some, None}
 use Rattle.std.specs.Prelude.{string_bytes}
-use Rattle.cs_tree.specs.MemoryItems.{snapshot_of, place_at}
+use Rattle.cs_tree.specs.MemoryItems.{snapshot_of}
+use Rattle.cs_tree.specs.StoredItems.{place_at}
 use Rattle.cs_tree.proofs.PlaceLemmas.{set_placed, push_unplaced}
 use Rattle.cs_tree.proofs.items.place.Goals as goal
 

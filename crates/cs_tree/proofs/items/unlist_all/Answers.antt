@@ -1,5 +1,6 @@
 use Rattle.std.proofs.Common.{rules, ◌≡◌, ap, map, ◌∙◌, arith}
-use Rattle.cs_tree.specs.MemoryItems.{pair_of, unlisted_pair}
+use Rattle.cs_tree.specs.MemoryItems.{pair_of}
+use Rattle.cs_tree.specs.StoredItems.{unlisted_pair}
 use Rattle.cs_tree.proofs.PlaceLemmas.{changed_more}
 use Rattle.cs_tree.proofs.items.unlist_all.Goals as goal
 

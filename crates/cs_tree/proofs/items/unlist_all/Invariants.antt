@@ -1,5 +1,6 @@
 use Rattle.std.proofs.Common.{◌≡◌, ◌++◌, length, map, take, drop}
-use Rattle.cs_tree.specs.MemoryItems.{pair_of, unlisted_pair}
+use Rattle.cs_tree.specs.MemoryItems.{pair_of}
+use Rattle.cs_tree.specs.StoredItems.{unlisted_pair}
 use Rattle.cs_tree.proofs.items.unlist_all.Given as goal
 
 -- the items so far no longer list what the path covers

@@ -5,7 +5,8 @@ use Rattle.std.proofs.lemmas.List.Sorted.{list_any-IsPermutation}
 use Rattle.std.specs.Prelude.{string_bytes}
 use Rattle.std.specs.List.{list_any}
 use Rattle.cs_tree.specs.Cover.{same}
-use Rattle.cs_tree.proofs.InOrder.{sorted_once, once_same, same_key, among-map}
+use Rattle.cs_tree.proofs.InOrder.{sorted_once, once_same, same_key}
+use Rattle.cs_tree.proofs.NameLemmas.{list_any-map}
 use Rattle.cs_tree.proofs.ordering.order_names.Goals as goal
 
 pub returns-clause-ascend : goal.returns-clause-ascend
@@ -15,8 +16,8 @@ returns-clause-ascend c =
 
 pub returns-clause-same : goal.returns-clause-same
 returns-clause-same c = λ name.
-    among-map string_bytes c.dedup.new.self.items name
+    list_any-map string_bytes (λ other. same other name) c.dedup.new.self.items
     ∙ ap (list_any (λ x. same (string_bytes x) name)) (dedup_is (same_key string_bytes) c.sort_unstable.new.self.items c.dedup.new.self.items c.dedup.ensures.filtered)
     ∙ once_same string_bytes (λ q. same q name) c.sort_unstable.new.self.items
     ∙ sym (list_any-IsPermutation (λ x. same (string_bytes x) name) c.args.names.now.items c.sort_unstable.new.self.items c.sort_unstable.ensures.permutation)
-    ∙ sym (among-map string_bytes c.args.names.now.items name)
+    ∙ sym (list_any-map string_bytes (λ other. same other name) c.args.names.now.items)

@@ -7,12 +7,12 @@ use Rattle.cs_tree.specs.PathSet as set
 use Rattle.cs_tree.proofs.ReduceLemmas.{sorted-items, filter-least}
 use Rattle.cs_tree.proofs.reducing.reduce.Goals as goal
 
-pub uncovered-requires : goal.uncovered-requires
-uncovered-requires c =
+pub paths_alone-requires : goal.paths_alone-requires
+paths_alone-requires c =
     subst (IsStrictlySortedBy bytes_cmp) (sym (ap texts c.deref.ensures.value ∙ c.in_ok-ordered.ensures)) (sorted-items (set.from_list (map string_bytes c.args.paths.now)))
 
 pub returns : goal.returns
 returns c =
-    subst (λ (least : List (List ℕ)). IfOk c.uncovered.result (λ kept. map string_bytes kept.items ≡ least))
+    subst (λ (least : List (List ℕ)). IfOk c.paths_alone.result (λ kept. map string_bytes kept.items ≡ least))
     (filter-least (set.from_list (map string_bytes c.args.paths.now)) (texts c.deref.result.now) (ap texts c.deref.ensures.value ∙ c.in_ok-ordered.ensures))
-    c.uncovered.ensures
+    c.paths_alone.ensures

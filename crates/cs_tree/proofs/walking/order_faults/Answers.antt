@@ -11,7 +11,8 @@ use Rattle.std.specs.declared.alloc.Global.{Global}
 use Rattle.cs_tree.specs.Cover.{same}
 use Rattle.cs_tree.specs.Walks.{Left, is_among, left_paths, left_entry}
 use Rattle.cs_tree.specs.declared.walking.WalkFault.{WalkFault}
-use Rattle.cs_tree.proofs.InOrder.{sorted_once, once_same, same_key, by_key, among-map, kept_once}
+use Rattle.cs_tree.proofs.InOrder.{sorted_once, once_same, same_key, by_key, kept_once}
+use Rattle.cs_tree.proofs.NameLemmas.{list_any-map}
 use Rattle.cs_tree.proofs.walking.order_faults.Goals as goal
 
 abbrev Entry : Type 0
@@ -37,11 +38,11 @@ returns-clause-same c =
     let once : c.dedup_by.new.self.items ≡ dedup (same_key path_of) sorted = dedup_same _ (same_key path_of) _ (λ x y b f' x' y' h. search rules) sorted _ c.dedup_by.ensures.filtered in
     λ path.
     ap (λ paths. is_among paths path) (paths_seen c.dedup_by.new.self.items)
-    ∙ among-map path_of c.dedup_by.new.self.items path
+    ∙ list_any-map path_of (λ other. same other path) c.dedup_by.new.self.items
     ∙ ap (list_any (λ x. same (path_of x) path)) once
     ∙ once_same path_of (λ q. same q path) sorted
     ∙ sym (list_any-IsPermutation (λ x. same (path_of x) path) c.args.faults.now.items sorted c.sort_unstable_by.ensures.permutation)
-    ∙ sym (among-map path_of c.args.faults.now.items path)
+    ∙ sym (list_any-map path_of (λ other. same other path) c.args.faults.now.items)
     ∙ ap (λ paths. is_among paths path) (sym (paths_seen c.args.faults.now.items))
 
 pub returns-clause-kept : goal.returns-clause-kept

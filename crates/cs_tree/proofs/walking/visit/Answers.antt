@@ -2,11 +2,12 @@ use Rattle.std.proofs.Common.{◌≡◌, [], ◌∷◌, ◌++◌, map, refl, ari
 use Rattle.std.proofs.lemmas.List.{map-append}
 use Rattle.std.specs.Prelude.{string_bytes}
 use Rattle.cs_tree.specs.Clean.{longest_path}
-use Rattle.cs_tree.specs.Visits.{AreBelow, IsEntered, ShowsIn, is_file_seen, names_seen}
+use Rattle.cs_tree.specs.Visits.{IsEntered, ShowsIn, is_file_seen, names_seen}
 use Rattle.cs_tree.proofs.Asking.{asks_nothing, asks_on}
 use Rattle.cs_tree.proofs.Covering.{covers_itself}
 use Rattle.cs_tree.proofs.Gathering.{counts_chain, counts_one, entered_deeper}
 use Rattle.cs_tree.proofs.Waiting.{UnderwayIn, starts_in, goes_on_in, last_below, waiting_below, keeps_on, lighter, weight}
+use Rattle.cs_tree.proofs.Under.{AreBelow}
 use Rattle.cs_tree.proofs.walking.visit.Goals as goal
 
 pub waiting-init : goal.waiting-init
@@ -28,7 +29,7 @@ waiting-smaller g c =
     let before : map string_bytes c.waiting.waiting.items ≡ map string_bytes c.pop.new.self.items ++ string_bytes c.in-Some.path ∷ [] =
     ap (map string_bytes) c.in-Some.ensures.items ∙ map-append string_bytes c.pop.new.self.items (c.in-Some.path ∷ []) in
     let deeper = entered_deeper (string_bytes c.in-Some.path) c.in_ok-sight.sight (subst (λ path. IsEntered path c.in_ok-sight.sight) c.as_str.ensures.value c.in_ok-sight.ensures.entered) in
-    omega (arith, ap weight before, ap weight c.in_ok-note.ensures.waiting, lighter (string_bytes c.in-Some.path) _ (map string_bytes c.pop.new.self.items) deeper c.in_ok-note.ensures.few)
+    omega (arith, ap weight before, ap weight c.in_ok-note.ensures.waiting, lighter (string_bytes c.in-Some.path) _ (map string_bytes c.pop.new.self.items) deeper c.in_ok-note.ensures.bound)
 
 pub waiting-preserved : goal.waiting-preserved
 waiting-preserved g c =

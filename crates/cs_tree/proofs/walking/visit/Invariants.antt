@@ -3,8 +3,9 @@ use Rattle.std.specs.Prelude.{string_bytes}
 use Rattle.cs_tree.specs.Clean.{longest_path}
 use Rattle.cs_tree.specs.Trees.{AsksWithin}
 use Rattle.cs_tree.specs.Cover.{covers}
-use Rattle.cs_tree.specs.Visits.{KeepsCounts, KeepsTo, AreBelow}
+use Rattle.cs_tree.specs.Visits.{KeepsCounts, KeepsTo}
 use Rattle.cs_tree.proofs.Waiting.{UnderwayIn, weight}
+use Rattle.cs_tree.proofs.Under.{AreBelow}
 use Rattle.cs_tree.proofs.walking.visit.Given as goal
 
 -- what the walk has come to is gathered, and the paths that wait lead to the rest

@@ -1,5 +1,5 @@
 use Rattle.std.proofs.Common.{false, inl, inr}
-use Rattle.cs_trigram.specs.Affixes.{side_by_side}
+use Rattle.cs_trigram.specs.Affixes.{concatenation}
 use Rattle.cs_trigram.specs.declared.affixes.Affix.{Affix}
 use Rattle.cs_trigram.specs.declared.short_word.ShortWord.TheVariants.{Empty}
 use Rattle.cs_trigram.proofs.AffixLemmas.{fits_from}
@@ -12,10 +12,10 @@ loop-far-preserved c =
       λ text h. c.in_ok-add_affix.ensures side text (inr (c.loop-far.invariant.0 text h)),
       λ u v a b.
           elim (c.loop-far.invariant.1 u v a b) [
-            | inl x ↦ inl (c.in_ok-add_affix.ensures side (side_by_side side u v) (inr x))
+            | inl x ↦ inl (c.in_ok-add_affix.ensures side (concatenation side u v) (inr x))
             | inr y ↦
                 elim (fits_from side c.args.fars.now c.loop-far.far-index none v c.loop-far-test.true y) [
-                  | inl e ↦ inl (c.in_ok-add_affix.ensures side (side_by_side side u v) (inl (c.affix_of_two.ensures u v a e)))
+                  | inl e ↦ inl (c.in_ok-add_affix.ensures side (concatenation side u v) (inl (c.affix_of_two.ensures u v a e)))
                   | inr z ↦ inr z
                 ]
           ],

@@ -1,5 +1,5 @@
 use Rattle.std.proofs.Common.{sym, ◌∙◌}
-use Rattle.cs_trigram.specs.Affixes.{side_by_side}
+use Rattle.cs_trigram.specs.Affixes.{concatenation}
 use Rattle.cs_trigram.proofs.NodeLemmas.{if_ok}
 use Rattle.cs_trigram.proofs.AffixLemmas.{fits_all_open, fits_via}
 use Rattle.cs_trigram.proofs.affixes.concatenate_affixes.Goals as goal
@@ -10,4 +10,4 @@ returns-then-are_open c =
     (λ affixes same. λ u v a b.
     let side = c.args.side in
     let nears = c.args.nears.now in
-    fits_via side nears affixes.items (side_by_side side u v) same (fits_all_open side nears u v (sym c.are_open.ensures ∙ c.if-are_open.true) a))
+    fits_via side nears affixes.items (concatenation side u v) same (fits_all_open side nears u v (sym c.are_open.ensures ∙ c.if-are_open.true) a))

@@ -1,5 +1,5 @@
 use Rattle.std.proofs.Common.{List, ℕ, false, refl, sym, ap, ◌∙◌}
-use Rattle.cs_trigram.specs.Affixes.{side_by_side}
+use Rattle.cs_trigram.specs.Affixes.{concatenation}
 use Rattle.cs_trigram.specs.ShortWord.{bytes_of}
 use Rattle.cs_trigram.specs.declared.affixes.Affix.{Affix}
 use Rattle.cs_trigram.proofs.AffixLemmas.{far_part, near_far, fits_cut}
@@ -12,4 +12,4 @@ returns c = λ text.
     let word = bytes_of c.args.affix.word in
     let rest = far_part side c.args.longest word in
     fits_cut side c.args.affix affix rest
-    (near_far side c.args.longest word ∙ ap (λ (x : List ℕ). side_by_side side x rest) (sym c.near_word.ensures)) refl text
+    (near_far side c.args.longest word ∙ ap (λ (x : List ℕ). concatenation side x rest) (sym c.near_word.ensures)) refl text

@@ -1,5 +1,5 @@
 use Rattle.std.proofs.Common.{◌≤◌, drop, length}
-use Rattle.cs_syntax.specs.Node.{trees_of}
+use Rattle.cs_syntax.specs.NodeList.{trees_of}
 use Rattle.cs_trigram.specs.Known.{IsSequence, IsChoice}
 use Rattle.cs_trigram.proofs.analysis.+query.Given as goal
 

@@ -8,7 +8,7 @@ use Rattle.cs_tree.specs.Taken.{TakesFront}
 use Rattle.cs_cindex.specs.Notices.{Line, Prints, text_of}
 use Rattle.cs_cindex.specs.Verdicts.{noted_entries}
 use Rattle.cs_cindex.specs.Files.{AreTextsIn, AreFileLinesIn, AreAbove, HaveNamesOf}
-use Rattle.cs_cindex.proofs.LineLemmas.{any_err}
+use Rattle.cs_index.proofs.ResultLemmas.{any_err}
 use Rattle.cs_cindex.proofs.FileLemmas.{names_at, names_more, names_rest, told_at, noted_at, texts_none, prints_none, above_none, texts_next, names_next, prints_step, above_next, above_first, ascend_next, front_read, front_noted, too_many}
 use Rattle.cs_cindex.proofs.indexer.Indexer.index_files.Goals as goal
 

@@ -13,7 +13,7 @@ returns-then-first-lt128-clause-small t c = one_group c.args.room c.in_ok-first.
 
 -- what the rest may be
 rest_small : (room high : ℕ) → room ≤ 5 → 1 ≤ room → high < 128 ^ (room - 1) → 128 * high + 128 ≤ 128 ^ room
-rest_small room high few some small = let more = room_more room some in omega (arith, more, small)
+rest_small room high bound some small = let more = room_more room some in omega (arith, more, small)
 
 pub overflow_mul-result : goal.overflow_mul-result
 overflow_mul-result t c =

@@ -4,8 +4,8 @@ use Rattle.cs_index.specs.Starts.{with_lists}
 use Rattle.cs_index.proofs.StoredLemmas.{fault_read, held_read, told_so, were_told}
 use Rattle.cs_index.proofs.reading.stored.read_stored.Goals as goal
 
-pub returns-in-Err-clause-reads : goal.returns-in-Err-clause-reads
-returns-in-Err-clause-reads g c =
+pub returns-in-Err-clause-opens : goal.returns-in-Err-clause-opens
+returns-in-Err-clause-opens g c =
     told_so _ _ (g.S.Store.told c.args.store.now)
     (λ bytes were within.
     fault_read c.args.starts c.requires c.in_ok-path_bytes.path_bytes.items c.in_ok-name_bytes.name_bytes.items c.in_ok-name_index.name_index.items c.in_ok-list_index.list_index.items bytes within were c.in-Err.fault
@@ -14,8 +14,8 @@ returns-in-Err-clause-reads g c =
     (were_told c.args.starts _ _ _ _ _ _ _ _ c.in_ok-path_bytes.ensures.keeps c.in_ok-name_bytes.ensures.keeps c.in_ok-name_index.ensures.keeps
     c.in_ok-path_bytes.ensures.bytes c.in_ok-name_bytes.ensures.bytes c.in_ok-name_index.ensures.bytes c.in_ok-list_index.ensures.bytes)
 
-pub returns-clause-reads : goal.returns-clause-reads
-returns-clause-reads g c =
+pub returns-clause-opens : goal.returns-clause-opens
+returns-clause-opens g c =
     told_so _ _ (g.S.Store.told c.args.store.now)
     (λ bytes were within.
     held_read c.args.starts c.requires c.in_ok-path_bytes.path_bytes.items c.in_ok-name_bytes.name_bytes.items c.in_ok-name_index.name_index.items c.in_ok-list_index.list_index.items bytes within were

@@ -7,7 +7,7 @@ abbrev pub invariant-run : goal.invariant-run
 invariant-run l = record {
   some : 0 < l.end;
   within : l.end ≤ length l.keys;
-  few : l.end < 256;
+  bound : l.end < 256;
   run : AreOfTrigram (trigram_of (get_or l.keys 0 0)) (take l.end l.keys);
 }
 

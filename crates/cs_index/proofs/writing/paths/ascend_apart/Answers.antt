@@ -2,7 +2,7 @@ use Rattle.std.proofs.Common.{◌≡◌, ◌∙◌, false, List, ℕ, map, strin
 use Rattle.std.proofs.lemmas.Bool.{true≢false, cases_Bool}
 use Rattle.cs_tree.specs.NamesAscending.{are_ascending}
 use Rattle.cs_index.specs.Built.{are_reduced}
-use Rattle.cs_index.specs.Ascending.{is_alone}
+use Rattle.cs_tree.specs.Cover.{is_alone}
 use Rattle.cs_index.proofs.PathLemmas.{list_all-map, reduced_is, reduced_up}
 use Rattle.cs_index.proofs.writing.paths.ascend_apart.Goals as goal
 

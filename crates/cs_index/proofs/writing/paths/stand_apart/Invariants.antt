@@ -1,6 +1,6 @@
 use Rattle.std.proofs.Common.{◌≡◌, map, drop, string_bytes, String, Global}
 use Rattle.std.specs.List.{list_all}
-use Rattle.cs_index.specs.Ascending.{is_alone}
+use Rattle.cs_tree.specs.Cover.{is_alone}
 use Rattle.cs_index.proofs.writing.paths.stand_apart.Given as goal
 
 abbrev pub invariant-paths : goal.invariant-paths

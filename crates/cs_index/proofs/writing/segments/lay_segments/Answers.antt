@@ -1,9 +1,8 @@
 use Rattle.std.proofs.Common.{◌≡◌, ◌+◌, ◌-◌, ◌*◌, ◌<◌, ◌≤◌, ◌++◌, ℕ, List, [], length, get_or, refl, sym, ap, subst, ◌∙◌, arith}
 use Rattle.std.specs.List.{AllByRecursion}
 use Rattle.cs_trigram.specs.Trigram.{closing_trigram}
-use Rattle.cs_index.specs.IdStream.{most_ids}
 use Rattle.cs_index.specs.Laid.{Laid, with_postings, AllBelow}
-use Rattle.cs_index.specs.Rising.{RiseWithin}
+use Rattle.cs_index.specs.Rising.{most_ids, RiseWithin}
 use Rattle.cs_index.specs.Segments.{ids_of_segments, lists_from, with_segments, AreAhead, SegmentKeys}
 use Rattle.cs_index.proofs.GivenLemmas.{all_below, all_given_ahead, below_skip, below_listed, below_none, each_list, given_rise, list_each, listed_within, lists_below, none_given, ordered_below, rise_wider, segment_ids}
 use Rattle.cs_index.proofs.LaidLemmas.{postings_more, postings_append}
@@ -26,11 +25,11 @@ gather-requires-clause-rise c = λ last small.
     let g : ℕ = c.fronts.front * 256 + last in
     let none : get_or c.fronts.lists last [] ≡ [] = list_each (λ ids. ids ≡ []) c.fronts.lists last
     (omega (arith, small, c.fronts.invariant.long)) c.fronts.invariant.empty in
-    let names : ℕ = length c.args.sections.now.names in
+    let name_count : ℕ = length c.args.sections.now.names in
     subst (RiseWithin most_ids 0) (sym (ap (λ ids. ids ++ ids_of_segments c.fronts.segments g) none
     ∙ c.fronts.invariant.later g (omega arith)))
-    (rise_wider names most_ids 0 (ids_of_segments c.args.segments.now g) c.requires.few
-    (given_rise names c.args.segments.now c.requires.each g))
+    (rise_wider name_count most_ids 0 (ids_of_segments c.args.segments.now g) c.requires.bound
+    (given_rise name_count c.args.segments.now c.requires.each g))
 
 pub lay_lists-requires-clause-above : goal.lay_lists-requires-clause-above
 lay_lists-requires-clause-above c =
@@ -43,14 +42,14 @@ lay_lists-requires-clause-above c =
 pub lay_lists-requires-clause-rise : goal.lay_lists-requires-clause-rise
 lay_lists-requires-clause-rise c =
     let n : ℕ = c.fronts.front * 256 in
-    let names : ℕ = length c.args.sections.now.names in
-    let same : length c.fronts.sections.names ≡ names = ap length (ap (λ (l : Laid). l.names) c.fronts.invariant.laid
+    let name_count : ℕ = length c.args.sections.now.names in
+    let same : length c.fronts.sections.names ≡ name_count = ap length (ap (λ (l : Laid). l.names) c.fronts.invariant.laid
     ∙ (postings_more c.args.sections.now (lists_below n (ids_of_segments c.args.segments.now))).1) in
     let are = found c.fronts.lists c.gather.new.lists c.fronts.segments c.args.segments.now n c.fronts.invariant.long
     c.fronts.invariant.empty c.gather.ensures.long c.in_ok-gather.ensures.given c.fronts.invariant.later in
     subst (λ m. AllByRecursion (RiseWithin m 0) c.gather.new.lists) (sym same)
-    (each_list (RiseWithin names 0) c.gather.new.lists (λ k h. subst (RiseWithin names 0) (sym (are k h))
-    (given_rise names c.args.segments.now c.requires.each (n + k))))
+    (each_list (RiseWithin name_count 0) c.gather.new.lists (λ k h. subst (RiseWithin name_count 0) (sym (are k h))
+    (given_rise name_count c.args.segments.now c.requires.each (n + k))))
 
 pub lay_lists-requires-clause-below : goal.lay_lists-requires-clause-below
 lay_lists-requires-clause-below c =
@@ -114,8 +113,8 @@ fronts-preserved c =
 pub returns : goal.returns
 returns c =
     let f = ids_of_segments c.args.segments.now in
-    let names : ℕ = length c.args.sections.now.names in
+    let name_count : ℕ = length c.args.sections.now.names in
     c.fronts.invariant.laid
-    ∙ ap (with_postings c.args.sections.now) (ordered_below names (c.fronts.front * 256) (with_segments [] c.args.segments.now) f
+    ∙ ap (with_postings c.args.sections.now) (ordered_below name_count (c.fronts.front * 256) (with_segments [] c.args.segments.now) f
     c.requires.each (segment_ids c.args.segments.now)
     (λ g past. none_given c.args.segments.now g c.requires.order (omega (arith, past, c.fronts-test.false))))

@@ -15,7 +15,7 @@ segments-preserved c =
     let next : drop i ss ≡ get_or ss i d ∷ drop (i + 1) ss = drop-cons ss i d c.segments-test.true
     ∙ ap (λ j. get_or ss i d ∷ drop j ss) (sym (add-one i)) in
     let rest = subst (AllByRecursion (λ (s : SegmentKeys). AreAhead c.args.from s.keys)) next c.segments.invariant.rest in
-    let here : c.args.from ≤ c.front.result = c.front.ensures.least c.args.from c.requires.few
+    let here : c.args.from ≤ c.front.result = c.front.ensures.least c.args.from c.requires.bound
     (subst (λ (s : SegmentKeys). AreAhead c.args.from s.keys) (sym c.segment-item.is) rest.0) in
     record {
       from = omega (arith, is, here, c.segments.invariant.from);

@@ -1,7 +1,6 @@
 use Rattle.std.proofs.Common.{◌≡◌, ◌<◌, ◌+◌, drop}
 use Rattle.std.specs.List.{AllByRecursion}
-use Rattle.cs_index.specs.IdStream.{most_ids}
-use Rattle.cs_index.specs.Rising.{next_after}
+use Rattle.cs_index.specs.Rising.{most_ids, next_after}
 use Rattle.cs_index.specs.Segments.{sums_from}
 use Rattle.cs_index.proofs.writing.stream.last_of.Given as goal
 

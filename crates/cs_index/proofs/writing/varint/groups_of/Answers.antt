@@ -7,14 +7,14 @@ use Rattle.cs_index.proofs.writing.varint.groups_of.Goals.{then-groups-test+else
 
 pub groups-init : goal.groups-init
 groups-init c = record
-    { few = omega arith; whole = refl; small = omega arith; so_far = group_first c.args.n (0 ∷ 0 ∷ 0 ∷ 0 ∷ 0 ∷ []) }
+    { bound = omega arith; whole = refl; small = omega arith; so_far = group_first c.args.n (0 ∷ 0 ∷ 0 ∷ 0 ∷ 0 ∷ []) }
 
 pub groups-preserved : goal.groups-preserved
 groups-preserved c =
     let l = c.groups in
     let within : l.len < length l.bytes = omega (arith, l.invariant.whole, c.if-len-lt4.true) in
     record {
-      few = omega arith;
+      bound = omega arith;
       whole = length-set _ _ _ ∙ l.invariant.whole;
       small = subst (λ p. l.rest / 128 * p ≤ c.args.n) (sym (ap (λ k. 128 ^ k) (add-one l.len) ∙ pow-suc 128 l.len))
           (small_more c.args.n l.rest (128 ^ l.len) l.invariant.small);
@@ -24,12 +24,12 @@ groups-preserved c =
 pub returns-clause-groups : goal.returns-clause-groups
 returns-clause-groups c =
     let l = c.groups in
-    let within : l.len < length l.bytes = omega (arith, l.invariant.whole, l.invariant.few) in
+    let within : l.len < length l.bytes = omega (arith, l.invariant.whole, l.invariant.bound) in
     let fits : c.args.n < 2 ^ 32 = omega arith in
     let small : l.rest < 128 =
     elim c.groups-test.branch [
-      | then-groups-test+else-len-lt4 w ↦ four_groups c.args.n l.len l.rest fits l.invariant.few w.if-len-lt4.false
+      | then-groups-test+else-len-lt4 w ↦ four_groups c.args.n l.len l.rest fits l.invariant.bound w.if-len-lt4.false
           l.invariant.small
       | else-groups-test w ↦ w.groups-test.false
     ] in
-    sym (group_end c.args.n l.len l.rest l.bytes l.invariant.few within small l.invariant.so_far)
+    sym (group_end c.args.n l.len l.rest l.bytes l.invariant.bound within small l.invariant.so_far)

@@ -5,7 +5,7 @@ use Rattle.cs_index.proofs.writing.varint.groups_of.Given as goal
 -- the bytes so far, and those of the rest
 abbrev pub invariant-groups : goal.invariant-groups
 invariant-groups l = record {
-  few : l.len ≤ 4;
+  bound : l.len ≤ 4;
   whole : length l.bytes ≡ 5;
   small : l.rest * 128 ^ l.len ≤ l.n;
   so_far : varint l.n ≡ take l.len l.bytes ++ varint_within (5 - l.len) l.rest;

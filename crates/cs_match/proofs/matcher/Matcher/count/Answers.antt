@@ -31,8 +31,8 @@ lines-preserved c =
       same = e.same ∙ c.lines.invariant.same;
     }
 
-pub returns-clause-few : goal.returns-clause-few
-returns-clause-few c =
+pub returns-clause-bound : goal.returns-clause-bound
+returns-clause-bound c =
     let block = c.args.block.now in
     let i = c.lines.invariant.counted in
     let decided = finding_is_decided c.args.self.now in

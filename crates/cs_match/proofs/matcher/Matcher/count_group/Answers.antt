@@ -16,9 +16,9 @@ returns-in-Some-clause-counted c =
       low = h.low;
       high = h.high;
       whole = h.whole;
-      few = h.few;
+      bound = h.bound;
       count = λ finds decides.
           h.count finds (subst (CountsLines finds) (sym c.deref.ensures.value)
-          (table_counts (tree_in table) table.rows.items table.used table.cells.items right.rows.few right.cells right.rows right.looped finds
+          (table_counts (tree_in table) table.rows.items table.used table.cells.items right.rows.bound right.cells right.rows right.looped finds
           (subst (Decides finds) (sym c.self.view_is) decides)));
     }

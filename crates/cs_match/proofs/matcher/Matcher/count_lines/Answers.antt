@@ -1,8 +1,9 @@
 use Rattle.std.proofs.Common.{◌≡◌, ◌+◌, ◌-◌, List, ℕ, Bool, take, drop, cond, refl, sym, subst, ◌∙◌, arith}
+use Rattle.std.proofs.lemmas.Bool.Decides.{same_from_decides}
 use Rattle.cs_match.specs.Finding.{Decides}
 use Rattle.cs_match.specs.Counting.{AreCounted}
 use Rattle.cs_match.proofs.ChainLemmas.{passed_none}
-use Rattle.cs_match.proofs.CountingLemmas.{counted_passed, counted_append, counted_line, alike, number_of}
+use Rattle.cs_match.proofs.CountingLemmas.{counted_passed, counted_append, counted_line, number_of}
 use Rattle.cs_match.proofs.WholeLemmas.{whole_from}
 use Rattle.cs_match.proofs.matcher.Matcher.count_lines.Goals as goal
 
@@ -25,7 +26,8 @@ lines-preserved c =
     let found = c.is_match.result in
     let number : cond found 1 0 ≡ c.from-hits.result = sym (c.from-hits.ensures ∙ number_of found) in
     let line = counted_line kind block at end found e.low e.high e.part e.newline
-    (λ finds decides. alike found (finds (take (end - at) (drop at block))) c.is_match.ensures.found (subst (Decides finds) (sym c.lines.invariant.same) decides (take (end - at) (drop at block)))) in
+    (λ finds decides.
+    same_from_decides (finds (take (end - at) (drop at block))) found (subst (Decides finds) (sym c.lines.invariant.same) decides (take (end - at) (drop at block))) c.is_match.ensures.found) in
     record {
       counted = counted_append kind block c.args.from at (end + 1) c.lines.hits c.from-hits.result c.lines.invariant.counted
           (subst (AreCounted kind block at (end + 1)) number line);

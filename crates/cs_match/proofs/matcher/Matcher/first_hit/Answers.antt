@@ -1,7 +1,8 @@
 use Rattle.std.proofs.Common.{◌+◌, ◌-◌, arith, take, drop, subst, sym, refl, ◌∙◌, rules}
+use Rattle.std.proofs.lemmas.Bool.Decides.{same_from_decides}
 use Rattle.cs_match.specs.Finding.{Decides}
 use Rattle.cs_match.proofs.WholeLemmas.{whole_from}
-use Rattle.cs_match.proofs.ChainLemmas.{passed_none, passed_append, passed_line, not_found}
+use Rattle.cs_match.proofs.ChainLemmas.{passed_none, passed_append, passed_line}
 use Rattle.cs_match.proofs.matcher.Matcher.first_hit.Goals as goal
 
 pub lines-init : goal.lines-init
@@ -19,7 +20,9 @@ lines-preserved c =
     record {
       passed = passed_append (λ finds. Decides finds c.args.self.now) part 0 at (end + 1) c.lines.invariant.passed
           (passed_line (λ finds. Decides finds c.args.self.now) part at end e.low e.high e.part e.newline
-          (λ finds decides. not_found c.is_match.result (finds (take (end - at) (drop at part))) c.is_match.ensures.found (subst (Decides finds) (sym c.lines.invariant.same) decides (take (end - at) (drop at part))) c.if-is_match.false));
+          (λ finds decides.
+          same_from_decides (finds (take (end - at) (drop at part))) c.is_match.result (subst (Decides finds) (sym c.lines.invariant.same) decides (take (end - at) (drop at part))) c.is_match.ensures.found
+          ∙ c.if-is_match.false));
       same = c.is_match.ensures.same ∙ c.lines.invariant.same;
     }
 

@@ -1,6 +1,6 @@
 use Rattle.std.proofs.Common.{◌-◌, ◌≡◌, length}
 use Rattle.cs_match.specs.Finding.{Decides}
-use Rattle.cs_match.specs.Skipping.{ArePassed}
+use Rattle.cs_match.specs.Passed.{ArePassed}
 use Rattle.cs_match.proofs.matcher.Matcher.first_hit.Given as goal
 
 abbrev pub invariant-lines : goal.invariant-lines

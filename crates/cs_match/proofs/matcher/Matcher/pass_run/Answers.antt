@@ -1,7 +1,7 @@
 use Rattle.std.proofs.Common.{subst}
 use Rattle.cs_syntax.specs.Matching.{Tree}
 use Rattle.cs_match.specs.Finding.{Decides}
-use Rattle.cs_match.specs.Skipping.{ArePassed}
+use Rattle.cs_match.specs.Passed.{ArePassed}
 use Rattle.cs_match.proofs.ChainLemmas.{passed_none}
 use Rattle.cs_match.proofs.matcher.Matcher.pass_run.Goals as goal
 

@@ -16,6 +16,6 @@ returns c =
       whole = h.whole;
       none = λ finds decides.
           h.none finds (subst (ShowsLines finds) (sym c.deref.ensures.value)
-          (table_shows (tree_in table) table.rows.items table.used table.cells.items right.rows.few right.cells right.rows right.looped finds
+          (table_shows (tree_in table) table.rows.items table.used table.cells.items right.rows.bound right.cells right.rows right.looped finds
           (subst (Decides finds) (sym c.self.view_is) decides)));
     }

@@ -1,7 +1,7 @@
 use Rattle.std.proofs.Common.{◌≡◌, ◌≤◌, ◌-◌, ◌+◌, ℕ, Bool, List, length, length-take, arith, take, drop, subst, sym, ◌∙◌}
 use Rattle.cs_syntax.specs.Matching.{Tree}
 use Rattle.cs_match.specs.Finding.{Decides}
-use Rattle.cs_match.specs.Skipping.{ArePassed}
+use Rattle.cs_match.specs.Passed.{ArePassed}
 use Rattle.cs_match.proofs.WholeLemmas.{whole_from}
 use Rattle.cs_match.proofs.ChainLemmas.{passed_none, passed_append, passed_within}
 use Rattle.cs_match.proofs.matcher.Matcher.skip.Goals as goal

@@ -1,5 +1,5 @@
 use Rattle.std.proofs.Common.{◌≡◌, ◌++◌, drop}
-use Rattle.cs_syntax.specs.Node.{trees_of}
+use Rattle.cs_syntax.specs.NodeList.{trees_of}
 use Rattle.cs_match.specs.Shifts.{place_sets_of, firsts_of, ArePhrases}
 use Rattle.cs_match.proofs.phrases.Phrases.add_all.Given as goal
 

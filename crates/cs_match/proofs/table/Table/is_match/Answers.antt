@@ -12,7 +12,7 @@ returns-then-at-clause-found c =
     let given = c.loop-b.invariant in
     let new = c.next-at.new.self in
     let lt : i < length line = omega arith in
-    let left = run_found t (tree_in new) new.rows.items new.used c.next-at.result (standing_in c.loop-b.self c.loop-b.at) (c.next-at.ensures.same ∙ given.same) line i (get_or line i 0) given.row.same c.next-at.ensures.leads lt refl c.if-b-eq10.false c.next-at.ensures.right.rows.few c.if-at.true in
+    let left = run_found t (tree_in new) new.rows.items new.used c.next-at.result (standing_in c.loop-b.self c.loop-b.at) (c.next-at.ensures.same ∙ given.same) line i (get_or line i 0) given.row.same c.next-at.ensures.leads lt refl c.if-b-eq10.false c.next-at.ensures.right.rows.bound c.if-at.true in
     let f = found_at t line c.requires.right.looped i (omega arith) left in
     (λ _. f, λ _. refl)
 
@@ -40,5 +40,5 @@ returns-clause-found c =
     let i = c.loop-b.b-index in
     let given = c.loop-b.invariant in
     let new = c.next.new.self in
-    let ends = run_ends t (tree_in new) new.rows.items new.used c.next.result (standing_in c.loop-b.self c.loop-b.at) (c.next.ensures.same ∙ given.same) line i 10 given.row.same c.next.ensures.leads (omega arith) refl c.next.ensures.right.rows.few in
+    let ends = run_ends t (tree_in new) new.rows.items new.used c.next.result (standing_in c.loop-b.self c.loop-b.at) (c.next.ensures.same ∙ given.same) line i 10 given.row.same c.next.ensures.leads (omega arith) refl c.next.ensures.right.rows.bound in
     found_last t line c.requires.right.looped _ ends (λ k lt. given.none k (omega arith))

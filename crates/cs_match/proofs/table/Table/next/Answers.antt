@@ -16,7 +16,7 @@ returns-else-next-clause-leads c =
     let here : c.index-next.result.now ≡ get_or cell (256 * row + c.args.byte) 0 =
     get_or_read cell (bit_or c.args.from c.from.result) c.index-next.result.now (omega (arith, place, c.requires.right.cells.all)) c.index-next.ensures 0
     ∙ ap (λ k. get_or cell k 0) place in
-    let few : row < 254 = omega (arith, c.requires.row.in_use, c.requires.right.rows.few) in
-    let told = c.requires.right.cells.right row c.args.byte few (omega arith) in
+    let bound : row < 254 = omega (arith, c.requires.row.in_use, c.requires.right.rows.bound) in
+    let told = c.requires.right.cells.right row c.args.byte bound (omega arith) in
     let P : ℕ → Type 0 = λ x. IsCell (tree_in s) s.rows.items s.used row c.args.byte x in
     known_leads (tree_in s) s.rows.items s.used row c.args.byte c.index-next.result.now (subst P (sym here) told) c.if-next.false

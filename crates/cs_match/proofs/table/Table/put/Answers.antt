@@ -16,7 +16,7 @@ returns-clause-right c =
       shifts = c.requires.right.shifts;
       rows = c.requires.right.rows;
       cells = subst P (sym place)
-          (put_cell (tree_in s) s.rows.items s.used s.cells.items c.requires.right.cells (c.args.from / 256) c.args.byte c.args.next c.requires.row.in_use c.requires.right.rows.few (omega arith) c.requires.leads);
+          (put_cell (tree_in s) s.rows.items s.used s.cells.items c.requires.right.cells (c.args.from / 256) c.args.byte c.args.next c.requires.row.in_use c.requires.right.rows.bound (omega arith) c.requires.leads);
       room = c.requires.right.room;
       loops = c.requires.right.loops;
     }

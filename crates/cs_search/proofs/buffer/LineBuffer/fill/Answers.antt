@@ -1,7 +1,8 @@
 use Rattle.std.proofs.Common.{◌++◌, ◌-◌, ◌+◌, take, drop, ap, sym, subst, ◌∙◌, arith, length-take, length-drop}
 use Rattle.cs_tree.specs.Transfers.{Loses}
 use Rattle.cs_search.specs.Buffer.{pending}
-use Rattle.cs_search.proofs.BufferLemmas.{refilled, pending_same, pending_more, Gains-append, gained, on_err_of}
+use Rattle.cs_index.proofs.ResultLemmas.{any_err}
+use Rattle.cs_search.proofs.BufferLemmas.{refilled, pending_same, pending_more, Gains-append, gained}
 use Rattle.cs_search.proofs.buffer.LineBuffer.fill.Goals as goal
 
 pub returns-in_err-n-clause-same : goal.returns-in_err-n-clause-same
@@ -11,7 +12,7 @@ returns-in_err-n-clause-same g c =
     let bytes = c.read_behind.new.bytes in
     let before = c.read_behind.ensures.before ∙ ap (λ l. take buffer.end l) c.deref_mut.ensures.value in
     let size = c.read_behind.auto.bytes ∙ c.deref_mut.ensures.len in
-    on_err_of c.from_residual-in_err-n.result (
+    any_err c.from_residual-in_err-n.result (
     ap (λ l. take (buffer.end - buffer.start) (drop buffer.start l)) (refilled buffer.bytes.len buffer.bytes.items bytes size)
     ∙ pending_same buffer bytes before ∙ c.in_ok-make_room.ensures.same)
 

@@ -3,7 +3,7 @@ use Rattle.cs_words.specs.declared.jobs.Tool.TheVariants.{Csearch}
 use Rattle.cs_search.specs.Printed.{Printed}
 use Rattle.cs_search.specs.IndexSearch.{names_at}
 use Rattle.cs_search.specs.Searcher.{Prints, PrintsFront}
-use Rattle.cs_search.proofs.FrontLemmas.{any_err}
+use Rattle.cs_index.proofs.ResultLemmas.{any_err}
 use Rattle.cs_search.proofs.PrintedLemmas.{PrintsAllFaults-none}
 use Rattle.cs_search.proofs.CsearchLemmas.{by_csearch}
 use Rattle.cs_search.proofs.plan.Plan.search.Goals as goal

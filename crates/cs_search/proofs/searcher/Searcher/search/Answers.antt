@@ -6,7 +6,7 @@ use Rattle.cs_search.specs.GrepFaults.{is_failed_read}
 use Rattle.cs_tree.specs.Failures.{count_if}
 use Rattle.cs_tree.specs.Told.{Grows}
 use Rattle.cs_tree.specs.Taken.{TakesFront}
-use Rattle.cs_search.proofs.FrontLemmas.{any_err}
+use Rattle.cs_index.proofs.ResultLemmas.{any_err}
 use Rattle.cs_search.proofs.PrintedLemmas.{fault_text, Prints-input, PrintsFront-input, PrintsFront-fault, done, undone, PrintsAllFaults-none, PrintsAllFaults-left, PrintsAllFaults-refused}
 use Rattle.cs_search.proofs.searcher.Searcher.search.Goals as goal
 

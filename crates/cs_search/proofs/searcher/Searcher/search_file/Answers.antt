@@ -9,7 +9,7 @@ use Rattle.cs_search.specs.declared.report.TheConstants.{MOST_SEARCHED}
 use Rattle.cs_search.specs.Searcher.{Prints, PrintsFront}
 use Rattle.cs_tree.specs.Taken.{TakesFront}
 use Rattle.cs_search.specs.Printed.{input_printed}
-use Rattle.cs_search.proofs.FrontLemmas.{any_err}
+use Rattle.cs_index.proofs.ResultLemmas.{any_err}
 use Rattle.cs_search.proofs.PrintedLemmas.{Prints-opened, Prints-refused, PrintsFront-none, PrintsFront-opened, PrintsFront-refused, done, undone, PrintsAllFaults-none, PrintsAllFaults-open, PrintsAllFaults-refused}
 use Rattle.cs_search.proofs.searcher.Searcher.search_file.Goals as goal
 

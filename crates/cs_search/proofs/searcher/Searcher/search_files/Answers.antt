@@ -8,8 +8,8 @@ use Rattle.cs_tree.specs.Snapshot.{Snapshot}
 use Rattle.cs_search.specs.declared.report.TheConstants.{MOST_SEARCHED}
 use Rattle.cs_search.specs.Searcher.{Prints, PrintsAllFaults, PrintsFront}
 use Rattle.cs_search.specs.Printed.{Printed, file_printed, all_printed}
-use Rattle.cs_search.proofs.FrontLemmas.{any_err}
-use Rattle.cs_search.proofs.PrintedLemmas.{Prints-none, Prints-sequel, PrintsFront-sequel, all_mapped, all_more, mapped_more, mapped_rest, done, undone, PrintsAllFaults-none, PrintsAllFaults-more, PrintsAllFaults-rest, PrintsAllFaults-refused}
+use Rattle.cs_index.proofs.ResultLemmas.{any_err}
+use Rattle.cs_search.proofs.PrintedLemmas.{Prints-none, Prints-both, PrintsFront-both, all_mapped, all_more, mapped_more, mapped_rest, done, undone, PrintsAllFaults-none, PrintsAllFaults-more, PrintsAllFaults-rest, PrintsAllFaults-refused}
 use Rattle.cs_search.proofs.searcher.Searcher.search_files.Goals as goal
 
 pub loop-name-init : goal.loop-name-init
@@ -38,7 +38,7 @@ loop-name-preserved g c =
           let styles = subst (λ t. Prints (option_map (λ (s : Snapshot). file_printed MOST_SEARCHED self.tool t finds s c.as_str.result.now) (g.T.Tree.snapshot c.loop-name.tree)) (g.O.Sink.taken c.loop-name.out) (g.O.Sink.taken c.search_file.new.out) (g.E.Sink.taken c.loop-name.err) (g.E.Sink.taken c.search_file.new.err) c.in_ok-matched.field-0) i.kept.style tools in
           let trees = subst (λ tree. Prints (option_map (λ (s : Snapshot). file s c.as_str.result.now) tree) (g.O.Sink.taken c.loop-name.out) (g.O.Sink.taken c.search_file.new.out) (g.E.Sink.taken c.loop-name.err) (g.E.Sink.taken c.search_file.new.err) c.in_ok-matched.field-0) i.keeps styles in
           let last = subst (λ name. Prints (option_map (λ (s : Snapshot). file s name) (g.T.Tree.snapshot c.args.tree.now)) (g.O.Sink.taken c.loop-name.out) (g.O.Sink.taken c.search_file.new.out) (g.E.Sink.taken c.loop-name.err) (g.E.Sink.taken c.search_file.new.err) c.in_ok-matched.field-0) c.as_str.ensures.value trees in
-          Prints-sequel (g.T.Tree.snapshot c.args.tree.now) (λ s. all_printed (file s) (map string_bytes (take at names))) (λ s. file s (string_bytes item)) (λ s. all_printed (file s) (map string_bytes (take (at + 1) names))) _ _ _ _ _ _ c.loop-name.matched c.in_ok-matched.field-0
+          Prints-both (g.T.Tree.snapshot c.args.tree.now) (λ s. all_printed (file s) (map string_bytes (take at names))) (λ s. file s (string_bytes item)) (λ s. all_printed (file s) (map string_bytes (take (at + 1) names))) _ _ _ _ _ _ c.loop-name.matched c.in_ok-matched.field-0
           (λ s. ap (all_printed (file s)) (mapped_more string_bytes names at item c.loop-name-test.true c.name-item.is) ∙ all_more (file s) (map string_bytes (take at names)) (string_bytes item))
           (i.prints finds decides) last;
       faults =
@@ -78,7 +78,7 @@ returns-in_err-matched-clause-front g c =
     let styles = subst (λ t. Holds (option_map (λ (s : Snapshot). file_printed MOST_SEARCHED self.tool t finds s c.as_str.result.now) (g.T.Tree.snapshot c.loop-name.tree))) i.kept.style tools in
     let trees = subst (λ tree. Holds (option_map (λ (s : Snapshot). file s c.as_str.result.now) tree)) i.keeps styles in
     let last = subst (λ name. Holds (option_map (λ (s : Snapshot). file s name) (g.T.Tree.snapshot c.args.tree.now))) c.as_str.ensures.value trees in
-    PrintsFront-sequel (g.T.Tree.snapshot c.args.tree.now) (λ s. all_printed (file s) (map string_bytes (take at names))) (λ s. file s (string_bytes item)) (λ s. all_printed (file s) (map string_bytes (drop (at + 1) names))) (λ s. all_printed (file s) (map string_bytes names)) _ _ _ _ _ _ c.loop-name.matched
+    PrintsFront-both (g.T.Tree.snapshot c.args.tree.now) (λ s. all_printed (file s) (map string_bytes (take at names))) (λ s. file s (string_bytes item)) (λ s. all_printed (file s) (map string_bytes (drop (at + 1) names))) (λ s. all_printed (file s) (map string_bytes names)) _ _ _ _ _ _ c.loop-name.matched
     (λ s. all_mapped (file s) string_bytes names at item c.loop-name-test.true c.name-item.is)
     (i.prints finds decides) last)
 

@@ -1,5 +1,5 @@
 use Rattle.std.proofs.Common.{◌≤◌, ◌-◌, length}
-use Rattle.cs_sieve.specs.Standing.{NoneStands}
+use Rattle.cs_sieve.specs.Stands.{NoneStands}
 use Rattle.cs_sieve.proofs.sieve.Sieve.skip.Given as goal
 
 abbrev pub invariant-places : goal.invariant-places

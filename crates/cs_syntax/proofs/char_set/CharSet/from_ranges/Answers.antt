@@ -5,13 +5,13 @@ use Rattle.cs_syntax.specs.CharRuns.{IsRun}
 use Rattle.cs_syntax.proofs.CharSetLemmas.{has_char-IsPermutation}
 use Rattle.cs_syntax.proofs.char_set.CharSet.from_ranges.Goals as goal
 
-pub joined-requires-clause-runs : goal.joined-requires-clause-runs
-joined-requires-clause-runs c =
+pub maximal_runs-requires-clause-runs : goal.maximal_runs-requires-clause-runs
+maximal_runs-requires-clause-runs c =
     rw c.deref.ensures.value
     (All-permutation IsRun _ _ c.sort_unstable_by_key.ensures.permutation c.in_ok-runs.ensures.runs)
 
-pub joined-requires-clause-ascending : goal.joined-requires-clause-ascending
-joined-requires-clause-ascending c =
+pub maximal_runs-requires-clause-ascending : goal.maximal_runs-requires-clause-ascending
+maximal_runs-requires-clause-ascending c =
     rw c.deref.ensures.value
     (IsNonDecreasingBy-from_sort_by_key (λ (run : ℕ × ℕ). run.0) _ c.sort_unstable_by_key.ensures.sorted (λ a r q k. search rules))
 

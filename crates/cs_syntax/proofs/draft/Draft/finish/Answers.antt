@@ -1,7 +1,7 @@
 use Rattle.std.proofs.Common.{◌<◌, length, sym, ◌∙◌, ap, arith}
 use Rattle.cs_syntax.specs.Matching.{alt, none}
 use Rattle.cs_syntax.specs.PartialGroups.{choice_after}
-use Rattle.cs_syntax.specs.Node.{trees_of}
+use Rattle.cs_syntax.specs.NodeList.{trees_of}
 use Rattle.cs_syntax.proofs.NodeLemmas.{tree_of-Alt}
 use Rattle.cs_syntax.proofs.TreeLemmas.{branches_last}
 use Rattle.cs_syntax.proofs.draft.Draft.finish.Goals as goal

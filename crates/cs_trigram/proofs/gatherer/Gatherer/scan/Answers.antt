@@ -5,7 +5,8 @@ use Rattle.cs_trigram.specs.TrigramSets.{trigram_count}
 use Rattle.cs_trigram.specs.Scans.{AreTrigramsOnce}
 use Rattle.cs_trigram.specs.Found.{numbers_of}
 use Rattle.cs_trigram.specs.Ended.{HasNumbers}
-use Rattle.cs_trigram.proofs.SetLemmas.{ascends-short, members_all, all_member, has-set_of_numbers}
+use Rattle.cs_trigram.proofs.SetLemmas.{ascends-short, members_all, has-set_of_numbers}
+use Rattle.cs_syntax.proofs.QuotedLemmas.{of_each}
 use Rattle.cs_trigram.proofs.gatherer.Gatherer.scan.Goals as goal
 
 few : (numbers : List ℕ) → AreTrigramsOnce numbers → length numbers < 2 ^ 32
@@ -16,7 +17,7 @@ few numbers once = omega (arith, once.1, short (set_of_numbers numbers) once.0.0
     short (n ∷ ns) up all = omega (arith, ascends-short n ns 16777215 up all)
 
 below : (numbers : List ℕ) → AreTrigramsOnce numbers → AllByRecursion (λ n. n < trigram_count) numbers
-below numbers once = members_all (λ n. n < 16777216) numbers (λ n h. bound n (all_member (λ m. m < 16777215) (set_of_numbers numbers) n once.0.1 (has-set_of_numbers n numbers ∙ h)))
+below numbers once = members_all (λ n. n < 16777216) numbers (λ n h. bound n (of_each (λ m. m < 16777215) (set_of_numbers numbers) n once.0.1 (has-set_of_numbers n numbers ∙ h)))
   where
     bound : (n : ℕ) → n < 16777215 → n < 16777216
     bound n h = omega (arith, h)

@@ -20,11 +20,11 @@ list_of-requires-clause-within c =
     let within = placed c.self.inside.cut.list_index.now c.args.self.now c.args.place c.lists.result (ap (λ (p : Parts). p.entries) c.self.view_is) c.lists.ensures c.if-place-lists.false in
     omega (arith, within)
 
-pub list_of-requires-clause-few : goal.list_of-requires-clause-few
-list_of-requires-clause-few c =
-    let few = few_read (lent_sections c.self.inside.cut) c.self.invariant in
+pub list_of-requires-clause-bound : goal.list_of-requires-clause-bound
+list_of-requires-clause-bound c =
+    let bound = few_read (lent_sections c.self.inside.cut) c.self.invariant in
     let same : c.len.result ≡ length (texts_of c.self.inside.cut.names.now) = c.len.ensures ∙ sym (ap (λ (p : Parts). length p.names) c.self.view_is) in
-    omega (arith, few, same)
+    omega (arith, bound, same)
 
 pub returns : goal.returns
 returns c =

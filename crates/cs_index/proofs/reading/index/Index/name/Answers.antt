@@ -2,7 +2,7 @@ use Rattle.std.proofs.Common.{◌≡◌, ◌≤◌, ◌<◌, ◌-◌, ◌*◌, �
 use Rattle.std.proofs.lemmas.List.{take_rest}
 use Rattle.cs_index.specs.Opening.{number_at, texts_of}
 use Rattle.cs_index.specs.OpenedParts.{Parts}
-use Rattle.cs_index.proofs.OpenLemmas.{name_count}
+use Rattle.cs_index.proofs.OpenLemmas.{offsets_long}
 use Rattle.cs_index.proofs.ReadingLemmas.{formed}
 use Rattle.cs_index.proofs.NameLemmas.{name_begins, name_given}
 use Rattle.cs_index.proofs.reading.index.Index.name.Goals as goal
@@ -13,7 +13,7 @@ below names now id count is counted h = let same = ap length is in omega (arith,
 
 pub read_number-start-requires : goal.read_number-start-requires
 read_number-start-requires c =
-    let long = name_count c.self.inside.cut.name_index.now (texts_of c.self.inside.cut.names.now) c.self.invariant.name_index in
+    let long = offsets_long c.self.inside.cut.name_index.now (texts_of c.self.inside.cut.names.now) c.self.invariant.name_index in
     let within = below c.self.inside.cut.names.now c.args.self.now c.args.id c.len.result (ap (λ (p : Parts). p.names) c.self.view_is) c.len.ensures c.if-id-len.false in
     omega (arith, long, within)
 

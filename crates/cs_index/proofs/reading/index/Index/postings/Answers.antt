@@ -8,11 +8,11 @@ use Rattle.cs_index.proofs.reading.index.Index.postings.Goals as goal
 pub place_of-requires : goal.place_of-requires
 place_of-requires c = entries_rise (length c.self.inside.cut.postings.now) c.self.inside.cut.list_index.now c.self.invariant.list_index
 
-pub list_of-requires-clause-few : goal.list_of-requires-clause-few
-list_of-requires-clause-few c =
-    let few = few_read (lent_sections c.self.inside.cut) c.self.invariant in
+pub list_of-requires-clause-bound : goal.list_of-requires-clause-bound
+list_of-requires-clause-bound c =
+    let bound = few_read (lent_sections c.self.inside.cut) c.self.invariant in
     let same : c.len.result ≡ length (texts_of c.self.inside.cut.names.now) = c.len.ensures ∙ sym (ap (λ (p : Parts). length p.names) c.self.view_is) in
-    omega (arith, few, same)
+    omega (arith, bound, same)
 
 pub returns : goal.returns
 returns c = search rules

@@ -16,7 +16,8 @@ use Rattle.cs_index.proofs.ResultLemmas.{any_err}
 use Rattle.cs_index.proofs.GatheredLemmas.{length-entries_of}
 use Rattle.cs_index.proofs.BuiltLemmas.{entries_added, entries_given}
 use Rattle.cs_index.proofs.BuildingLemmas.{built_added}
-use Rattle.cs_index.proofs.KeyLemmas.{file_given, waiting_added, all_of_set}
+use Rattle.cs_index.proofs.KeyLemmas.{file_given, waiting_added}
+use Rattle.cs_trigram.proofs.SetLemmas.{all_set}
 use Rattle.cs_index.proofs.writing.builder.Builder.add_above.Goals as goal
 
 many : (b : Inside) → length b.names ≡ length (built_of b).entries
@@ -29,12 +30,12 @@ counted b now id is e = e ∙ many b ∙ ap (λ (built : Built). length built.en
 pub overflow_cast-id : goal.overflow_cast-id
 overflow_cast-id c =
     let count = counted c.self.inside c.args.self.now c.len-id.result c.self.view_is c.len-id.ensures in
-    omega (arith, count, c.requires.few)
+    omega (arith, count, c.requires.bound)
 
-pub make_room-requires-clause-few : goal.make_room-requires-clause-few
-make_room-requires-clause-few c =
+pub make_room-requires-clause-bound : goal.make_room-requires-clause-bound
+make_room-requires-clause-bound c =
     let count = counted c.self.inside c.args.self.now c.len-id.result c.self.view_is c.len-id.ensures in
-    omega (arith, count, c.requires.few)
+    omega (arith, count, c.requires.bound)
 
 -- Names, lists and a batch are those of a value.
 record Hold (b : Inside) (now : Built) (names : List (List ℕ)) (lists : List Posting) (batch : Batch) : Type 0 where
@@ -56,12 +57,12 @@ roomy b now lists batch id is at held same = record {
 }
 
 -- another batch of the same keys
-waits_same : (names : ℕ) (lists : List Posting) (room batch : Batch) → batch.keys.items ≡ room.keys.items →
+waits_same : (name_count : ℕ) (lists : List Posting) (room batch : Batch) → batch.keys.items ≡ room.keys.items →
     batch.base ≡ room.base →
-    AreWaiting names room.base lists room.keys.items → AreWaiting names batch.base lists batch.keys.items
-waits_same names lists room batch keys base waits =
-    subst (λ n. AreWaiting names n lists batch.keys.items) (sym base)
-    (subst (AreWaiting names room.base lists) (sym keys) waits)
+    AreWaiting name_count room.base lists room.keys.items → AreWaiting name_count batch.base lists batch.keys.items
+waits_same name_count lists room batch keys base waits =
+    subst (λ n. AreWaiting name_count n lists batch.keys.items) (sym base)
+    (subst (AreWaiting name_count room.base lists) (sym keys) waits)
 
 same_keys : (b : Inside) (now : Built) (names : List (List ℕ)) (lists : List Posting) (room batch : Batch) →
     batch.keys.items ≡ room.keys.items → batch.base ≡ room.base → names ≡ b.names →
@@ -69,7 +70,7 @@ same_keys : (b : Inside) (now : Built) (names : List (List ℕ)) (lists : List P
 same_keys b now names lists room batch keys base named h = record {
   held = subst (λ (ns : List (List ℕ)). IsBatch (length ns) lists batch) (sym named) (record {
     begun = omega (arith, base, h.held.begun);
-    few = omega (arith, base, h.held.few);
+    bound = omega (arith, base, h.held.bound);
     waits = waits_same (length b.names) lists room batch keys base h.held.waits;
   });
   is = (λ i. record {
@@ -85,12 +86,12 @@ added : (b : Inside) (now : Built) (names : List (List ℕ)) (name gs : List ℕ
     batch.base ≡ room.base → length b.names < room.base + 128 → AreDistinct gs →
     AllByRecursion (λ g. g < closing_trigram) gs → Hold b now b.names lists room →
     Hold b (with_name now name (set_of_numbers gs)) names lists batch
-added b now names name gs lists room batch named keys base few distinct below h =
+added b now names name gs lists room batch named keys base bound distinct below h =
     let n : ℕ = length b.names in
     let place : ℕ = n - room.base in
     let rest : List ℕ = room.keys.items in
     let at : room.base + place ≡ n = omega (arith, h.held.begun) in
-    let small : place < 256 = omega (arith, few) in
+    let small : place < 256 = omega (arith, bound) in
     let more : length (b.names ++ name ∷ []) ≡ n + 1 = length_push b.names name in
     let waits : AreWaiting (n + 1) room.base lists (rest ++ keys_of place gs) =
     waiting_added n room.base place lists rest gs h.held.waits small at distinct below in
@@ -98,7 +99,7 @@ added b now names name gs lists room batch named keys base few distinct below h 
       held = subst (λ (ns : List (List ℕ)). IsBatch (length ns) lists batch) (sym named) (subst (λ m. IsBatch m
           lists batch) (sym more) (record {
             begun = omega (arith, base, h.held.begun);
-            few = omega (arith, base, few);
+            bound = omega (arith, base, bound);
             waits = subst (λ m. AreWaiting (n + 1) m lists batch.keys.items) (sym base)
                 (subst (AreWaiting (n + 1) room.base lists) (sym keys) waits);
           }));
@@ -175,11 +176,11 @@ more : (b : Inside) (now : Built) (names : List (List ℕ)) (name gs : List ℕ)
     batch.base ≡ spare.base → AreDistinct gs →
     AllByRecursion (λ g. g < closing_trigram) gs →
     Hold b (with_name now name (set_of_numbers gs)) names lists batch
-more b now names name gs lists id room spare batch is at held same keys base few named pushed base'
+more b now names name gs lists id room spare batch is at held same keys base bound named pushed base'
     distinct below =
     added b now names name gs lists spare batch named (pushed
     ∙ ap (λ n. spare.keys.items ++ keys_of (n - spare.base) gs) at)
-    base' (omega (arith, few, at, base)) distinct below
+    base' (omega (arith, bound, at, base)) distinct below
     (same_keys b now b.names lists room spare keys base refl (roomy b now lists room id is at held same))
 
 pub invariant_of-self-2 : goal.invariant_of-self-2
@@ -197,9 +198,9 @@ invariant_of-self-2 c =
           c.args.trigrams.now) (subst IsBuilt c.self.view_is c.self.invariant.built) c.in_ok-push.ensures.each
           c.requires.above (
             ascends_set c.args.trigrams.now,
-            all_of_set (λ g. g < closing_trigram) c.args.trigrams.now
+            all_set (λ g. g < closing_trigram) c.args.trigrams.now
                 c.requires.below,
-          ) c.requires.few);
+          ) c.requires.bound);
     }
 
 pub returns-clause-ok : goal.returns-clause-ok

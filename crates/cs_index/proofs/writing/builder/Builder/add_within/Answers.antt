@@ -8,8 +8,8 @@ add_above-requires-clause-distinct c = once_distinct c.args.trigrams.now c.requi
 pub add_above-requires-clause-below : goal.add_above-requires-clause-below
 add_above-requires-clause-below c = once_below c.args.trigrams.now c.requires.once
 
-pub add_above-requires-clause-few : goal.add_above-requires-clause-few
-add_above-requires-clause-few c = search rules
+pub add_above-requires-clause-bound : goal.add_above-requires-clause-bound
+add_above-requires-clause-bound c = search rules
 
 pub returns-in_err-add_above-clause-too_large : goal.returns-in_err-add_above-clause-too_large
 returns-in_err-add_above-clause-too_large c = search rules

@@ -17,15 +17,15 @@ use Rattle.cs_index.proofs.GatheredLemmas.{length-entries_of}
 use Rattle.cs_index.proofs.BuildingLemmas.{names_entries}
 use Rattle.cs_index.proofs.writing.builder.Builder.finish_within.Goals as goal
 
-pub overflow_cast-names : goal.overflow_cast-names
-overflow_cast-names c =
+pub overflow_cast-name_count : goal.overflow_cast-name_count
+overflow_cast-name_count c =
     let many = length-entries_of 0 c.self.inside.names (ordered_lists (complete_lists c.self.inside)) in
-    omega (arith, many, c.len-names.ensures, c.self.invariant.built.few)
+    omega (arith, many, c.len-name_count.ensures, c.self.invariant.built.bound)
 
-pub flush-requires-clause-few : goal.flush-requires-clause-few
-flush-requires-clause-few c =
+pub flush-requires-clause-bound : goal.flush-requires-clause-bound
+flush-requires-clause-bound c =
     let many = length-entries_of 0 c.self.inside.names (ordered_lists (complete_lists c.self.inside)) in
-    omega (arith, many, c.len-names.ensures, c.self.invariant.built.few)
+    omega (arith, many, c.len-name_count.ensures, c.self.invariant.built.bound)
 
 -- once nothing waits, the lists give each trigram what they gave with what waited
 done : (b : Inside) (lists : List Posting) (batch : Batch) → batch.keys.items ≡ [] →
@@ -35,7 +35,7 @@ done b lists batch empty same =
 
 -- nothing is laid of these paths and names
 abbrev empty : Inside → Laid
-empty b = record { paths = b.paths; names = b.names; lists = []; begun = None }
+empty b = record { paths = b.paths; names = b.names; lists = []; last_trigram = None }
 
 whole : (b : Inside) (now : Built) (laid : Laid) (lists : List Posting) → built_of b ≡ now →
     GiveSame lists (complete_lists b) → laid ≡ with_postings (empty b) (ordered_lists lists) →
@@ -52,10 +52,10 @@ of-sections-requires-clause-each_name c = subst (AllByRecursion IsString)
     (names_entries 0 c.self.inside.names (ordered_lists (complete_lists c.self.inside)))
     c.self.invariant.built.each_name
 
-pub of-sections-requires-clause-few : goal.of-sections-requires-clause-few
-of-sections-requires-clause-few c =
+pub of-sections-requires-clause-bound : goal.of-sections-requires-clause-bound
+of-sections-requires-clause-bound c =
     let many = length-entries_of 0 c.self.inside.names (ordered_lists (complete_lists c.self.inside)) in
-    omega (arith, many, c.self.invariant.built.few)
+    omega (arith, many, c.self.invariant.built.bound)
 
 pub returns-clause-ok : goal.returns-clause-ok
 returns-clause-ok c =

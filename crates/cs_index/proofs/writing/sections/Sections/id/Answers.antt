@@ -13,7 +13,7 @@ pub overflow_add-self : goal.overflow_add-self
 overflow_add-self c =
     let known = at_hand c.self.inside c.args.self.now c.args.id c.self.view_is c.self.invariant c.in-None.is
     c.requires.begun c.requires.above c.requires.named in
-    omega (arith, known.few, known.small)
+    omega (arith, known.bound, known.small)
 
 pub invariant_of-self-in-None : goal.invariant_of-self-in-None
 invariant_of-self-in-None c =

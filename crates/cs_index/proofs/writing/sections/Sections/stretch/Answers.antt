@@ -4,15 +4,15 @@ use Rattle.cs_index.proofs.writing.sections.Sections.stretch.Goals as goal
 
 pub overflow_add-self : goal.overflow_add-self
 overflow_add-self c =
-    let few = count_all c.self.inside c.args.self.now c.args.ids.now c.self.view_is c.self.invariant c.requires.some
+    let bound = count_all c.self.inside c.args.self.now c.args.ids.now c.self.view_is c.self.invariant c.requires.some
     c.requires.named c.next.ensures.rise in
-    omega (arith, few.1, c.next.ensures.value)
+    omega (arith, bound.1, c.next.ensures.value)
 
 pub overflow_add-self-2 : goal.overflow_add-self-2
 overflow_add-self-2 c =
-    let few = count_all c.self.inside c.args.self.now c.args.ids.now c.self.view_is c.self.invariant c.requires.some
+    let bound = count_all c.self.inside c.args.self.now c.args.ids.now c.self.view_is c.self.invariant c.requires.some
     c.requires.named c.next.ensures.rise in
-    omega (arith, few.0, c.len.ensures)
+    omega (arith, bound.0, c.len.ensures)
 
 pub invariant_of-self-2 : goal.invariant_of-self-2
 invariant_of-self-2 c =

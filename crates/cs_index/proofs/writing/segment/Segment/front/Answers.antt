@@ -14,7 +14,7 @@ returns-in-Some-clause-ahead c =
     (subst (λ (o : SegmentKeys). Ascends o.keys) c.self.view_is c.self.invariant.packed.order.ascend)
 
 pub returns-in-Some-clause-least : goal.returns-in-Some-clause-least
-returns-in-Some-clause-least c = λ n few ahead.
+returns-in-Some-clause-least c = λ n bound ahead.
     first_ahead (trigram_of c.in-Some.head.now) n c.args.self.now.keys
     (begins c.self.inside c.deref.result.now c.in-Some.head.now c.args.self.now c.self.invariant c.self.view_is
     c.deref.ensures.value (sym c.in-Some.ensures.lookup.0) c.in-Some.ensures.lookup.1)

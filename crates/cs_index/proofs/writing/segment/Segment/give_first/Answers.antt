@@ -2,8 +2,7 @@ use Rattle.std.proofs.Common.{◌≡◌, ◌≢◌, ◌+◌, ◌-◌, ◌*◌, �
 use Rattle.std.proofs.lemmas.Bool.{cases_lt}
 use Rattle.std.proofs.lemmas.List.{drop_all, drop_at, get_or_default}
 use Rattle.std.specs.List.{AllByRecursion}
-use Rattle.cs_index.specs.IdStream.{most_ids}
-use Rattle.cs_index.specs.Rising.{next_after, RiseWithin}
+use Rattle.cs_index.specs.Rising.{most_ids, next_after, RiseWithin}
 use Rattle.cs_index.specs.Keys.{trigram_of}
 use Rattle.cs_index.specs.Segments.{ids_of_segment, keys_in, sums_from, run_in, BeginsWith, SegmentKeys}
 use Rattle.cs_index.specs.Packing.{keys_left, IsSegment}

@@ -3,8 +3,8 @@ use Rattle.std.proofs.lemmas.List.{take_all}
 use Rattle.std.specs.Prelude.{flat_map}
 use Rattle.std.specs.List.{AllByRecursion}
 use Rattle.cs_index.specs.Image.{deltas_from, varint}
-use Rattle.cs_index.specs.IdStream.{most_ids, ids_in, IsStream}
-use Rattle.cs_index.specs.Rising.{next_after, RiseWithin}
+use Rattle.cs_index.specs.IdStream.{ids_in, IsStream}
+use Rattle.cs_index.specs.Rising.{most_ids, next_after, RiseWithin}
 use Rattle.cs_index.specs.Segments.{sums_from}
 use Rattle.cs_index.proofs.BuildingLemmas.{rise_next}
 use Rattle.cs_index.proofs.SegmentLemmas.{first_sum, ids_below, ids_written, length-sums_from, next_sum}
@@ -21,7 +21,7 @@ record AreMore (stream bytes gaps : List ℕ) (from count next last : ℕ) : Typ
   extended : Extended stream count next (sums_from from gaps) (flat_map varint (deltas_from next (sums_from from gaps)))
   written : stream ++ flat_map varint (deltas_from next (sums_from from gaps)) ≡ bytes
   follows : next_after next (sums_from from gaps) ≡ last + 1
-  few : last + 1 ≤ most_ids
+  bound : last + 1 ≤ most_ids
 
 more : (stream bytes gaps now : List ℕ) (from count next last : ℕ) → IsStream stream count next →
     ids_in stream count ≡ now → RiseWithin most_ids (next_after 0 now) (sums_from from gaps) → 0 < length gaps →
@@ -36,7 +36,7 @@ more stream bytes gaps now from count next last is view rise some short laid end
       extended = stream_more stream count next (sums_from from gaps) is up;
       written = ap (λ bs. stream ++ bs) (ids_written next from gaps some short) ∙ sym laid;
       follows = follows;
-      few = (let most = rise_next most_ids next (sums_from from gaps) up (omega (arith, first.0, first.1)) in
+      bound = (let most = rise_next most_ids next (sums_from from gaps) up (omega (arith, first.0, first.1)) in
           omega (arith, most, follows));
     }
 
@@ -54,7 +54,7 @@ overflow_cast-self c =
     let is = stream_more s.deltas.items s.count s.next (sums_from c.args.from c.args.gaps.now) c.self.invariant
     (from_next c.args.self.now s.deltas.items c.args.gaps.now c.args.from s.count s.next c.self.invariant
     c.self.view_is c.requires.rise) in
-    omega (arith, is.few, length-sums_from c.args.from c.args.gaps.now)
+    omega (arith, is.bound, length-sums_from c.args.from c.args.gaps.now)
 
 pub overflow_add-self : goal.overflow_add-self
 overflow_add-self c =
@@ -62,7 +62,7 @@ overflow_add-self c =
     let is = stream_more s.deltas.items s.count s.next (sums_from c.args.from c.args.gaps.now) c.self.invariant
     (from_next c.args.self.now s.deltas.items c.args.gaps.now c.args.from s.count s.next c.self.invariant
     c.self.view_is c.requires.rise) in
-    omega (arith, is.few, length-sums_from c.args.from c.args.gaps.now)
+    omega (arith, is.bound, length-sums_from c.args.from c.args.gaps.now)
 
 pub last_of-requires : goal.last_of-requires
 last_of-requires c = ids_below most_ids (next_after 0 c.args.self.now) (sums_from c.args.from c.args.gaps.now) c.requires.rise

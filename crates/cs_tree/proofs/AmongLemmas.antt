@@ -1,0 +1,199 @@
+-- A path among paths that ascend: what covers it is searched among its fronts.
+use denote.Ref.{Bor}
+use Rattle.cs_tree.specs.Covering.{Covers, itself, below, root}
+use Rattle.cs_tree.specs.PathSet.{Paths}
+use Rattle.cs_tree.specs.NameOrder.{bytes_cmp}
+use Rattle.std.proofs.Common.{◌≡◌, ℕ, ◌+◌, ◌<◌, Bool, true, false, not, ◌&&◌, ◌||◌, List, [], ◌∷◌, ◌++◌, length, map, drop, get_or, Option, Some, None, refl, sym, ap, subst, ◌∙◌, ◌⊎◌, inl, inr, arith, append_assoc, length-append}
+use Rattle.std.specs.Prelude.{Result, Ok, Err, is_ok}
+use Rattle.std.specs.List.{list_any}
+use Rattle.std.specs.List.Sorted.{IsSorted, IsStrictlySortedBy, IsBinarySearchResult, IsSearchInRange}
+use Rattle.std.specs.Ordering.{is_lt, is_eq, nat_cmp, ordering_reverse}
+use Rattle.std.specs.Cmp.{both_ways as same_tests}
+use Rattle.std.specs.Cmp.Lexicographic.{bytes_decides, slice_cmp, nat_list_cmp_total, texts_ties}
+use Rattle.std.specs.declared.cmp.Ordering.TheVariants.{Less}
+use Rattle.std.specs.Option.{MatchOption}
+use Rattle.std.specs.Str.Pattern.{RFindsChar, SplitsAroundMatch}
+use Rattle.std.proofs.lemmas.Bool.{true≢false, and_parts, and_from, or_cases, or_left, or_right, false_from_ne_true, not-true, not_from_false, both_ways, cases_lt}
+use Rattle.std.proofs.lemmas.List.{length-map}
+use Rattle.std.proofs.Math.ListN.{get_or-map}
+use Rattle.std.proofs.lemmas.List.Folds.{list_any_none, list_any_at}
+use Rattle.std.proofs.lemmas.List.Sorted.{searchable_from_sorted}
+use Rattle.std.proofs.lemmas.Map.Keys.{Less-from_sorted}
+use Rattle.cs_tree.specs.Cover.{slash, same, begins, covers, is_alone, is_among, is_covered}
+use Rattle.cs_tree.specs.Below.{lies_below}
+use Rattle.cs_tree.specs.PathSet as set
+use Rattle.std.proofs.lemmas.Str.Pattern.{NoCharPasses-char}
+use Rattle.cs_tree.proofs.Covering.{begins_rest, begins_at, covers_says}
+use Rattle.cs_tree.proofs.Splitting.{NoSlash, no_slash, no_slash_parts, LastSlash, rsplit_says}
+use Rattle.cs_tree.proofs.Sets.{alike}
+use Rattle.cs_tree.proofs.NameLemmas.{list_any-map}
+use Rattle.cs_tree.proofs.ReduceLemmas.{items-from_list}
+
+-- ---- a path that is searched
+
+module _ {X : Type 0} (bytes : X → List ℕ) where
+  -- neighbours of what ascends by its bytes
+  adjacent : (xs : List X) → IsStrictlySortedBy bytes_cmp (map bytes xs) → IsSorted (λ (x y : X). bytes_cmp (bytes x) (bytes y)) xs
+  adjacent xs strict = λ k d low high.
+      let less : bytes_cmp (get_or (map bytes xs) k (bytes d)) (get_or (map bytes xs) (k + 1) (bytes d)) ≡ Less = Less-from_sorted bytes_cmp (map bytes xs) k (k + 1) (bytes d) strict (omega arith) (omega (arith, high, length-map xs bytes)) in
+      let rises : bytes_cmp (bytes (get_or xs k d)) (bytes (get_or xs (k + 1) d)) ≡ Less = sym (ap (λ x. bytes_cmp x (get_or (map bytes xs) (k + 1) (bytes d))) (get_or-map bytes xs k d) ∙ ap (bytes_cmp (bytes (get_or xs k d))) (get_or-map bytes xs (k + 1) d)) ∙ less in
+      ap is_lt (nat_list_cmp_total.antisymm (bytes (get_or xs (k + 1) d)) (bytes (get_or xs k d)) ∙ ap ordering_reverse rises)
+
+  pub listed : (xs : List X) (path : List ℕ) (r : Result ℕ ℕ) → IsStrictlySortedBy bytes_cmp (map bytes xs) → IsSearchInRange r (length xs) → IsBinarySearchResult (λ (x : X). slice_cmp nat_cmp (bytes x) path) xs r → is_ok r ≡ is_among (map bytes xs) path
+  listed [] path (Ok i) strict bound found = absurd (omega (arith, bound))
+  listed (x ∷ xs) path (Ok i) strict bound found =
+      sym (list_any-map bytes (λ other. same other path) (x ∷ xs)
+      ∙ list_any_at (λ (y : X). same (bytes y) path) (x ∷ xs) i x bound
+      ((bytes_decides (bytes (get_or (x ∷ xs) i x)) path).1 (alike (bytes (get_or (x ∷ xs) i x)) path (found x))))
+  listed xs path (Err i) strict bound found =
+      let parts = found (searchable_from_sorted nat_list_cmp_total bytes xs path (adjacent xs strict)) in
+      sym (list_any-map bytes (λ other. same other path) xs
+      ∙ list_any_none (λ (y : X). same (bytes y) path) xs (λ k d within. elim (cases_lt k i) [
+        | inl before ↦ texts_ties (bytes (get_or xs k d)) path ∙ ap is_eq (parts.0 k d (omega arith) before)
+        | inr after ↦ texts_ties (bytes (get_or xs k d)) path ∙ ap is_eq (parts.1 k d after within)
+      ]))
+
+-- ---- a path after its last slash
+
+list_any_or : {X : Type 0} (f g : X → Bool) (xs : List X) → list_any (λ x. f x || g x) xs ≡ (list_any f xs || list_any g xs)
+list_any_or f g [] = refl
+list_any_or f g (x ∷ xs) = ap (λ b. (f x || g x) || b) (list_any_or f g xs) ∙ regroup (f x) (g x) (list_any f xs) (list_any g xs)
+  where
+    regroup : (a b c d : Bool) → ((a || b) || (c || d)) ≡ ((a || c) || (b || d))
+    regroup true b c d = refl
+    regroup false true true d = refl
+    regroup false true false d = refl
+    regroup false false c d = refl
+
+list_any_and : {X : Type 0} (f : X → Bool) (given : Bool) (xs : List X) → list_any (λ x. f x && given) xs ≡ (given && list_any f xs)
+list_any_and f true [] = refl
+list_any_and f false [] = refl
+list_any_and f given (x ∷ xs) = ap (λ b. (f x && given) || b) (list_any_and f given xs) ∙ regroup (f x) given (list_any f xs)
+  where
+    regroup : (a b c : Bool) → ((a && b) || (b && c)) ≡ (b && (a || c))
+    regroup true true c = refl
+    regroup true false c = refl
+    regroup false true c = refl
+    regroup false false c = refl
+
+list_any_false : {X : Type 0} (f : X → Bool) → ((x : X) → f x ≡ false) → (xs : List X) → list_any f xs ≡ false
+list_any_false f none [] = refl
+list_any_false f none (x ∷ xs) = ap (λ b. b || list_any f xs) (none x) ∙ list_any_false f none xs
+
+some_slash_in : (front rest : List ℕ) → NoSlash (front ++ slash ∷ rest) → ⊥
+some_slash_in [] rest h = true≢false h
+some_slash_in (b ∷ front) rest h = some_slash_in front rest (no_slash_parts b (front ++ slash ∷ rest) h).1
+
+-- a path that goes on by a slash after another one
+below_parts : (path other : List ℕ) → lies_below path other ≡ true → (rest : List ℕ) × (path ≡ other ++ slash ∷ rest)
+below_parts path other h =
+    let found = begins_rest (other ++ slash ∷ []) path h in
+    (found.0, found.1 ∙ append_assoc other (slash ∷ []) found.0)
+
+below_from : (path other rest : List ℕ) → path ≡ other ++ slash ∷ rest → lies_below path other ≡ true
+below_from path other rest e = subst (λ p. begins (other ++ slash ∷ []) p ≡ true) (append_assoc other (slash ∷ []) rest ∙ sym e) (begins_at (other ++ slash ∷ []) rest)
+
+below_longer : (path other : List ℕ) → lies_below path other ≡ true → length other < length path
+below_longer path other h =
+    let found = below_parts path other h in
+    let long : length path ≡ length (other ++ slash ∷ found.0) = ap length found.1 in
+    omega (arith, long, length-append other (slash ∷ found.0))
+
+either_front : (other front rest name : List ℕ) → other ++ slash ∷ rest ≡ front ++ slash ∷ name → NoSlash name → (other ≡ front) ⊎ ((more : List ℕ) × (front ≡ other ++ slash ∷ more))
+either_front [] [] rest name e h = inl refl
+either_front [] (c ∷ front) rest name e h = inr (front, let first : slash ≡ c = ap (λ xs. get_or xs 0 0) e in ap (λ x. x ∷ front) (sym first))
+either_front (b ∷ other) [] rest name e h = absurd (some_slash_in other rest (subst NoSlash (sym (ap (drop 1) e)) h))
+either_front (b ∷ other) (c ∷ front) rest name e h =
+    let first : b ≡ c = ap (λ xs. get_or xs 0 0) e in
+    elim (either_front other front rest name (ap (drop 1) e) h) [
+      | inl is ↦ inl (let is' : other ≡ front = is in cc)
+      | inr later ↦ inr (later.0, let after : front ≡ other ++ slash ∷ later.0 = later.1 in cc)
+    ]
+
+below_last : (path front name : List ℕ) → LastSlash path front name → (other : List ℕ) → lies_below path other ≡ (same other front || lies_below front other)
+below_last path front name h other = same_tests _ _
+    (λ lower.
+    let found = below_parts path other lower in
+    elim (either_front other front found.0 name (sym found.1 ∙ h.whole) h.last) [
+      | inl is ↦ or_left (same other front) _ ((bytes_decides other front).1 is)
+      | inr later ↦ or_right (same other front) _ (below_from front other later.0 later.1)
+    ])
+    (λ either. elim (or_cases (same other front) (lies_below front other) either) [
+      | inl is ↦ below_from path other name (h.whole ∙ ap (λ f. f ++ slash ∷ name) (sym ((bytes_decides other front).0 is)))
+      | inr later ↦
+          let found = below_parts front other later in
+          below_from path other (found.0 ++ slash ∷ name) (h.whole ∙ ap (λ f. f ++ slash ∷ name) found.1 ∙ append_assoc other (slash ∷ found.0) (slash ∷ name))
+    ])
+
+-- some path is what stands before the last slash, or that lies below some
+pub any_below_last : (path front name : List ℕ) (paths : List (List ℕ)) → LastSlash path front name → list_any (lies_below path) paths ≡ (list_any (λ other. same other front) paths || list_any (lies_below front) paths)
+any_below_last path front name paths h = (λ i. list_any (λ other. below_last path front name h other i) paths) ∙ list_any_or (λ other. same other front) (lies_below front) paths
+
+any_below_none : (path : List ℕ) (paths : List (List ℕ)) → NoSlash path → list_any (lies_below path) paths ≡ false
+any_below_none path paths h = list_any_false (lies_below path) (λ other. false_from_ne_true _ (λ lower.
+    let found = below_parts path other lower in some_slash_in other found.0 (subst NoSlash found.1 h))) paths
+
+-- what the cut at the last slash says
+abbrev pub FrontSays : List ℕ → List (List ℕ) → Option (Bor (List ℕ) × Bor (List ℕ)) → Type 0
+FrontSays path paths cut = MatchOption cut (list_any (lies_below path) paths ≡ false)
+    (λ parts. (list_any (lies_below path) paths ≡ (list_any (λ other. same other parts.0.now) paths || list_any (lies_below parts.0.now) paths)) × (length parts.0.now < length path))
+
+pub front_says : (path : List ℕ) (paths : List (List ℕ)) (cut : Option (Bor (List ℕ) × Bor (List ℕ))) → MatchOption cut (RFindsChar slash path None) (λ x. SplitsAroundMatch (RFindsChar slash) path x.0.now x.1.now) → FrontSays path paths cut
+front_says path paths None h = any_below_none path paths (no_slash path (λ i l. NoCharPasses-char slash path i h (omega arith) l))
+front_says path paths (Some x) h =
+    let split = rsplit_says path (Some x) h in
+    (any_below_last path x.0.now x.1.now paths split, below_longer path x.0.now (below_from path x.0.now x.1.now split.whole))
+
+-- ---- a path that another one covers
+
+covers_apart_from : (path other : List ℕ) → (covers other path && not (same other path)) ≡ (lies_below path other || (same other (slash ∷ []) && (begins (slash ∷ []) path && not (same path (slash ∷ [])))))
+covers_apart_from path other = same_tests _ _
+    (λ h. let parts = and_parts (covers other path) (not (same other path)) h in says (not-true _ parts.1) (covers_says other path parts.0))
+    (λ h. elim (or_cases (lies_below path other) _ h) [
+      | inl lower ↦ and_from (covers other path) _ (or_right (same other path) _ (or_left (lies_below path other) _ lower)) (not_from_false _ (false_from_ne_true _ (λ is.
+          let long = below_longer path other lower in let e : length other ≡ length path = ap length ((bytes_decides other path).0 is) in absurd (omega arith))))
+      | inr top ↦
+          let parts = and_parts (same other (slash ∷ [])) _ top in
+          let rest = and_parts (begins (slash ∷ []) path) (not (same path (slash ∷ []))) parts.1 in
+          and_from (covers other path) _ (or_right (same other path) _ (or_right (lies_below path other) _ (and_from (same other (slash ∷ [])) _ parts.0 rest.0))) (not_from_false _ (false_from_ne_true _ (λ is.
+          both_ways (same path (slash ∷ [])) (not-true _ rest.1) ((bytes_decides path (slash ∷ [])).1 (sym ((bytes_decides other path).0 is) ∙ (bytes_decides other (slash ∷ [])).0 parts.0)))))
+    ])
+  where
+    says : same other path ≡ false → Covers other path → (lies_below path other || (same other (slash ∷ []) && (begins (slash ∷ []) path && not (same path (slash ∷ []))))) ≡ true
+    says apart (itself e) = absurd (both_ways (same other path) apart ((bytes_decides other path).1 e))
+    says apart (below rest e) = or_left (lies_below path other) _ (below_from path other rest e)
+    says apart (root rest e f) = or_right (lies_below path other) _ (and_from (same other (slash ∷ [])) _ ((bytes_decides other (slash ∷ [])).1 e)
+        (and_from (begins (slash ∷ []) path) _ (subst (λ t. begins (slash ∷ []) t ≡ true) (sym f) refl)
+        (not_from_false _ (false_from_ne_true _ (λ is. both_ways (same other path) apart ((bytes_decides other path).1 (e ∙ sym ((bytes_decides path (slash ∷ [])).0 is))))))))
+
+-- what covers it lies above it, or is the root
+pub alone_is : (path : List ℕ) (paths : List (List ℕ)) → is_alone paths path ≡ not (list_any (lies_below path) paths || ((begins (slash ∷ []) path && not (same path (slash ∷ []))) && is_among paths (slash ∷ [])))
+alone_is path paths = ap not
+    ((λ i. list_any (λ other. covers_apart_from path other i) paths)
+    ∙ list_any_or (lies_below path) (λ other. same other (slash ∷ []) && (begins (slash ∷ []) path && not (same path (slash ∷ [])))) paths
+    ∙ ap (λ b. list_any (lies_below path) paths || b) (list_any_and (λ other. same other (slash ∷ [])) (begins (slash ∷ []) path && not (same path (slash ∷ []))) paths))
+
+-- ---- a name that one of the paths covers
+
+regroup : (a b c g x y z : Bool) → ((a || (b || (c && g))) || (x || (y || (g && z)))) ≡ ((a || x) || ((b || y) || (g && (c || z))))
+regroup true b c g x y z = refl
+regroup false true c g true y z = refl
+regroup false true c g false y z = refl
+regroup false false true true true y z = refl
+regroup false false true true false true z = refl
+regroup false false true true false false z = refl
+regroup false false true false true y z = refl
+regroup false false true false false true z = refl
+regroup false false true false false false z = refl
+regroup false false false g x y z = refl
+
+-- a path that covers the name is the name, a front of it, or the root
+fronts_cover : (name : List ℕ) (ps : List (List ℕ)) → list_any (λ path. covers path name) ps ≡ (is_among ps name || (list_any (lies_below name) ps || (begins (slash ∷ []) name && is_among ps (slash ∷ []))))
+fronts_cover name [] = elim (begins (slash ∷ []) name) as (λ b. false ≡ (b && false)) [ true ↦ refl | false ↦ refl ]
+fronts_cover name (path ∷ ps) =
+    ap (λ b. covers path name || b) (fronts_cover name ps)
+    ∙ regroup (same path name) (lies_below name path) (same path (slash ∷ [])) (begins (slash ∷ []) name) (is_among ps name) (list_any (lies_below name) ps) (is_among ps (slash ∷ []))
+
+-- it is one of the paths, or lies below one, or below the root
+pub covered_is : (name : List ℕ) (ps : List (List ℕ)) → IsStrictlySortedBy bytes_cmp ps → is_covered (set.from_list ps) name ≡ (is_among ps name || (list_any (lies_below name) ps || (begins (slash ∷ []) name && is_among ps (slash ∷ []))))
+covered_is name ps up = ap (list_any (λ path. covers path name)) (items-from_list ps up) ∙ fronts_cover name ps

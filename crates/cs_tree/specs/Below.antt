@@ -1,0 +1,13 @@
+-- Where an element of a name ends, so that a path may cover it.
+-- docs/FORMAT.md, "Paths and names".
+use Rattle.std.specs.Prelude.{ℕ, Bool, true, nat_eq, List, [], ◌∷◌, ◌++◌}
+use Rattle.cs_tree.specs.Cover.{slash, begins}
+
+-- whether the path lies below the other one: it goes on by a slash after it
+abbrev pub lies_below : List ℕ → List ℕ → Bool
+lies_below path other = begins (other ++ slash ∷ []) path
+
+-- whether an element ends before the rest of a text
+abbrev pub ends_element : List ℕ → Bool
+ends_element [] = true
+ends_element (b ∷ rest) = nat_eq b slash

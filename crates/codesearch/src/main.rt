@@ -2,16 +2,16 @@
 //! All that it does is `run`, over any of them; all that it reads and prints goes by way of `cs_tools`.
 #![tactic(auto)]
 
-mod program;
+mod command;
 mod storage;
 mod words;
 
-use cs_tools::Tool;
-use cs_tree::{DiskStore, DiskTree, StdSink, StdSource, is_absolute};
-use program::{
+use command::{
     FIRST_WORD, NO_FOLDER, OUT_OF_MEMORY, Ran, asks_for_lines, blame, refuse, refuse_word, run,
     tool_of,
 };
+use cs_tools::Tool;
+use cs_tree::{DiskStore, DiskTree, StdSink, StdSource, is_absolute};
 use std::alloc::AllocError;
 use std::env;
 use std::fs::File;

@@ -2,7 +2,7 @@
 use Rattle.std.proofs.Common.{◌≡◌, ℕ, suc, ◌+◌, ◌-◌, ◌^◌, ◌<◌, ◌≤◌, Bool, true, false, cond, ◌&&◌, ◌||◌, List, [], ◌∷◌, ◌++◌, map, take, drop, get_or, length, refl, sym, ap, subst, ◌∙◌, arith, Option, Some, None, append-nil, append_assoc, length-append, add-one, drop-cons}
 use Rattle.cs_tree.specs.NameOrder.{bytes_cmp}
 use Rattle.cs_tree.specs.NamesAscending.{are_ascending}
-use Rattle.std.specs.Prelude.{option_map, filter_map, slice_get}
+use Rattle.std.specs.Prelude.{option_map, filter_map, slice_get, bytes_eq, option_to_list}
 use Rattle.std.specs.List.{AllByRecursion, cons_option}
 use Rattle.std.specs.Option.{option_map_or}
 use Rattle.std.specs.Ordering.{is_lt}
@@ -11,7 +11,7 @@ use Rattle.std.proofs.lemmas.Bool.{and_parts, or_left, or_right}
 use Rattle.std.proofs.lemmas.List.Folds.{list_any-append}
 use Rattle.std.proofs.lemmas.List.{take_at, take_more, take-append-drop, map-append}
 use Rattle.std.proofs.lemmas.List.Elements.{filter_map-append}
-use Rattle.cs_tree.specs.Cover.{is_among, same}
+use Rattle.cs_tree.specs.Cover.{is_among}
 use Rattle.cs_tree.specs.Snapshot.{Snapshot}
 use Rattle.cs_tree.specs.Told.{Grows, Taken}
 use Rattle.cs_trigram.specs.Trigram.{set_of_numbers}
@@ -19,16 +19,16 @@ use Rattle.cs_index.specs.Image.{Entry, names_of}
 use Rattle.cs_index.specs.Built.{is_storable, is_above}
 use Rattle.cs_words.specs.declared.fault.FileFault.TheVariants.{Unnamed}
 use Rattle.cs_history.specs.FileTrigrams.{file_trigrams}
-use Rattle.cs_cindex.specs.declared.reading.Verdict.{Verdict}
-use Rattle.cs_cindex.specs.declared.reading.Verdict.TheVariants.{Text, Skipped, Left}
+use Rattle.cs_cindex.specs.declared.verdicts.Verdict.{Verdict}
+use Rattle.cs_cindex.specs.declared.verdicts.Verdict.TheVariants.{Text, Skipped, Left}
 use Rattle.cs_tree.specs.Taken.{TakesFront}
-use Rattle.cs_cindex.specs.Notices.{Line, faulted, file_line, text_of, AreCounted, Prints, PrintsFront}
-use Rattle.cs_cindex.specs.Verdicts.{trigrams_told, line_told, IsVerdict, IsVerdictIn, IsVerdictCounted, one_line, noted_line, added_entries, noted_entries}
+use Rattle.cs_cindex.specs.Notices.{Line, faulted, file_line, text_of, AreLinesCounted, PrintsLines, PrintsLinesFront}
+use Rattle.cs_cindex.specs.Verdicts.{verdict_trigrams, verdict_line, IsVerdict, IsVerdictIn, IsVerdictCounted, noted_line, added_entries, noted_entries}
 use Rattle.cs_cindex.specs.Files.{texts_at, are_storable, AreTextsIn, AreTooManyIn, AreFileLinesIn, BeginFileLinesIn, AreAbove, HaveNamesOf}
-use Rattle.cs_index.proofs.PathLemmas.{tail_up}
+use Rattle.cs_index.proofs.PathOrderLemmas.{tail_up}
 use Rattle.cs_tree.proofs.BeforeLemmas.{before_chain}
 use Rattle.cs_tree.proofs.Fronts.{front_all}
-use Rattle.cs_cindex.proofs.LineLemmas.{front_after, text-append, AreCounted-wider, AreCounted-append}
+use Rattle.cs_cindex.proofs.LineLemmas.{front_after, text-append, AreLinesCounted-wider, AreLinesCounted-append}
 use Rattle.cs_tree.proofs.Growing.{Grows-chain, Grows-same}
 
 -- ---- lists of names
@@ -58,22 +58,22 @@ storable_last names name h =
 
 -- ---- one file
 
-noted_told : (log_skip : Bool) (name : List ℕ) (verdict : Verdict) → is_storable name ≡ true → noted_line log_skip name verdict ≡ line_told log_skip name verdict
+noted_told : (log_skip : Bool) (name : List ℕ) (verdict : Verdict) → is_storable name ≡ true → noted_line log_skip name verdict ≡ verdict_line log_skip name verdict
 noted_told log_skip name (Text trigrams) h = ap (λ b. cond b None (Some (faulted name Unnamed))) h
 noted_told log_skip name (Skipped reason) h = refl
 noted_told log_skip name (Left why) h = refl
 
-one_cons : (line : Option Line) → one_line line ≡ cons_option line []
+one_cons : (line : Option Line) → option_to_list line ≡ cons_option line []
 one_cons None = refl
 one_cons (Some line) = refl
 
-lines_one : (log_skip : Bool) (tree : Snapshot) (name : List ℕ) (verdict : Verdict) → is_storable name ≡ true → IsVerdict tree name verdict → one_line (noted_line log_skip name verdict) ≡ filter_map (file_line log_skip tree) (name ∷ [])
-lines_one log_skip tree name verdict h is = ap one_line (noted_told log_skip name verdict h ∙ is.line log_skip) ∙ one_cons (file_line log_skip tree name)
+lines_one : (log_skip : Bool) (tree : Snapshot) (name : List ℕ) (verdict : Verdict) → is_storable name ≡ true → IsVerdict tree name verdict → option_to_list (noted_line log_skip name verdict) ≡ filter_map (file_line log_skip tree) (name ∷ [])
+lines_one log_skip tree name verdict h is = ap option_to_list (noted_told log_skip name verdict h ∙ is.line log_skip) ∙ one_cons (file_line log_skip tree name)
 
 abbrev pub with_name : List ℕ → Option (List ℕ) → Option Entry
 with_name name trigrams = option_map (λ (trigrams : List ℕ). (name, trigrams)) trigrams
 
-entries_told : (name : List ℕ) (verdict : Verdict) → is_storable name ≡ true → noted_entries name verdict ≡ cons_option (with_name name (trigrams_told verdict)) []
+entries_told : (name : List ℕ) (verdict : Verdict) → is_storable name ≡ true → noted_entries name verdict ≡ cons_option (with_name name (verdict_trigrams verdict)) []
 entries_told name (Text trigrams) h = ap (λ b. cond b ((name, (set_of_numbers trigrams.now)) ∷ []) []) h
 entries_told name (Skipped reason) h = refl
 entries_told name (Left why) h = refl
@@ -91,29 +91,29 @@ texts_step (Some tree) names entries name verdict are is = λ storable.
     ∙ ap (λ (es : List Entry). texts_at tree names ++ es) (entries_one tree name verdict parts.1 is)
     ∙ sym (filter_map-append (λ name. with_name name (file_trigrams tree name)) names (name ∷ []))
 
-lines_step : (log_skip : Bool) (told : Option Snapshot) (names : List (List ℕ)) (lines : List Line) (name : List ℕ) (verdict : Verdict) → AreFileLinesIn log_skip told names lines → IsVerdictIn told name verdict → AreFileLinesIn log_skip told (names ++ name ∷ []) (lines ++ one_line (noted_line log_skip name verdict))
+lines_step : (log_skip : Bool) (told : Option Snapshot) (names : List (List ℕ)) (lines : List Line) (name : List ℕ) (verdict : Verdict) → AreFileLinesIn log_skip told names lines → IsVerdictIn told name verdict → AreFileLinesIn log_skip told (names ++ name ∷ []) (lines ++ option_to_list (noted_line log_skip name verdict))
 lines_step log_skip None names lines name verdict are is = tt
 lines_step log_skip (Some tree) names lines name verdict are is = λ storable.
     let parts = storable_last names name storable in
-    ap (λ (ls : List Line). ls ++ one_line (noted_line log_skip name verdict)) (are parts.0)
+    ap (λ (ls : List Line). ls ++ option_to_list (noted_line log_skip name verdict)) (are parts.0)
     ∙ ap (λ (ls : List Line). filter_map (file_line log_skip tree) names ++ ls) (lines_one log_skip tree name verdict parts.1 is)
     ∙ sym (filter_map-append (file_line log_skip tree) names (name ∷ []))
 
-noted_counted : (log_skip : Bool) (name : List ℕ) (verdict : Verdict) (old new : ℕ) → IsVerdictCounted verdict old new → AreCounted (one_line (noted_line log_skip name verdict)) old new
-noted_counted log_skip name (Text trigrams) old new h = elim (is_storable name) as (λ b. AreCounted (one_line (cond b None (Some (faulted name Unnamed)))) old new) [ true ↦ tt | false ↦ (λ fails. cc, tt) ]
+noted_counted : (log_skip : Bool) (name : List ℕ) (verdict : Verdict) (old new : ℕ) → IsVerdictCounted verdict old new → AreLinesCounted (option_to_list (noted_line log_skip name verdict)) old new
+noted_counted log_skip name (Text trigrams) old new h = elim (is_storable name) as (λ b. AreLinesCounted (option_to_list (cond b None (Some (faulted name Unnamed)))) old new) [ true ↦ tt | false ↦ (λ fails. cc, tt) ]
 noted_counted true name (Skipped reason) old new h = (tt, tt)
 noted_counted false name (Skipped reason) old new h = tt
 noted_counted log_skip name (Left why) old new h = (h, tt)
 
-module _ (log_skip : Bool) (told : Option Snapshot) (names : List (List ℕ)) (before failed failed' : ℕ) (rises : before ≤ failed) (more : failed ≤ failed') (taken now : Option Taken) (p : Prints (AreFileLinesIn log_skip told names) before failed taken now) where
-  pub prints_step : (later : Option Taken) (name : List ℕ) (verdict : Verdict) → IsVerdictIn told name verdict → IsVerdictCounted verdict failed failed' → Grows now later (text_of (one_line (noted_line log_skip name verdict))) → Prints (AreFileLinesIn log_skip told (names ++ name ∷ [])) before failed' taken later
+module _ (log_skip : Bool) (told : Option Snapshot) (names : List (List ℕ)) (before failed failed' : ℕ) (rises : before ≤ failed) (more : failed ≤ failed') (taken now : Option Taken) (p : PrintsLines (AreFileLinesIn log_skip told names) before failed taken now) where
+  pub prints_step : (later : Option Taken) (name : List ℕ) (verdict : Verdict) → IsVerdictIn told name verdict → IsVerdictCounted verdict failed failed' → Grows now later (text_of (option_to_list (noted_line log_skip name verdict))) → PrintsLines (AreFileLinesIn log_skip told (names ++ name ∷ [])) before failed' taken later
   prints_step later name verdict is counted grows = record {
-    lines = p.lines ++ one_line (noted_line log_skip name verdict);
+    lines = p.lines ++ option_to_list (noted_line log_skip name verdict);
     due = lines_step log_skip told names p.lines name verdict p.due is;
-    counted = AreCounted-append p.lines (one_line (noted_line log_skip name verdict)) before failed'
-        (AreCounted-wider before before failed failed' (omega arith) more p.lines p.counted)
-        (AreCounted-wider before failed failed' failed' rises (omega arith) (one_line (noted_line log_skip name verdict)) (noted_counted log_skip name verdict failed failed' counted));
-    grows = subst (Grows taken later) (sym (text-append p.lines (one_line (noted_line log_skip name verdict)))) (Grows-chain taken now later (text_of p.lines) (text_of (one_line (noted_line log_skip name verdict))) p.grows grows);
+    counted = AreLinesCounted-append p.lines (option_to_list (noted_line log_skip name verdict)) before failed'
+        (AreLinesCounted-wider before before failed failed' (omega arith) more p.lines p.counted)
+        (AreLinesCounted-wider before failed failed' failed' rises (omega arith) (option_to_list (noted_line log_skip name verdict)) (noted_counted log_skip name verdict failed failed' counted));
+    grows = subst (Grows taken later) (sym (text-append p.lines (option_to_list (noted_line log_skip name verdict)))) (Grows-chain taken now later (text_of p.lines) (text_of (option_to_list (noted_line log_skip name verdict))) p.grows grows);
   }
 
   -- ---- a call that is refused
@@ -129,27 +129,27 @@ module _ (log_skip : Bool) (told : Option Snapshot) (names : List (List ℕ)) (b
       ∙ take_at (filter_map give names) (filter_map give rest) (length lines) (sym (ap (λ (ls : List Line). length ls) (are parts.0))))
 
   -- before the next file is read
-  pub front_read : (all rest : List (List ℕ)) → all ≡ names ++ rest → PrintsFront (BeginFileLinesIn log_skip told all) before failed' taken now
+  pub front_read : (all rest : List (List ℕ)) → all ≡ names ++ rest → PrintsLinesFront (BeginFileLinesIn log_skip told all) before failed' taken now
   front_read all rest is =
       let front = front_all (text_of p.lines) taken now p.grows in
       record {
         lines = p.lines;
         due = begin_lines told all names rest p.lines is p.due;
-        counted = AreCounted-wider before before failed failed' (omega arith) more p.lines p.counted;
+        counted = AreLinesCounted-wider before before failed failed' (omega arith) more p.lines p.counted;
         front = front;
       }
 
   -- while its line is printed
-  pub front_noted : (later : Option Taken) (all rest : List (List ℕ)) (name : List ℕ) (verdict : Verdict) → all ≡ names ++ name ∷ rest → IsVerdictIn told name verdict → IsVerdictCounted verdict failed failed' → TakesFront (text_of (one_line (noted_line log_skip name verdict))) now later → PrintsFront (BeginFileLinesIn log_skip told all) before failed' taken later
+  pub front_noted : (later : Option Taken) (all rest : List (List ℕ)) (name : List ℕ) (verdict : Verdict) → all ≡ names ++ name ∷ rest → IsVerdictIn told name verdict → IsVerdictCounted verdict failed failed' → TakesFront (text_of (option_to_list (noted_line log_skip name verdict))) now later → PrintsLinesFront (BeginFileLinesIn log_skip told all) before failed' taken later
   front_noted later all rest name verdict is verdict_is counted front =
-      let line = one_line (noted_line log_skip name verdict) in
+      let line = option_to_list (noted_line log_skip name verdict) in
       let whole = front_after p.lines line [] taken now later p.grows front in
       record {
         lines = p.lines ++ line;
         due = begin_lines told all (names ++ name ∷ []) rest (p.lines ++ line) (is ∙ sym (append_assoc names (name ∷ []) rest)) (lines_step log_skip told names p.lines name verdict p.due verdict_is);
-        counted = AreCounted-append p.lines line before failed'
-            (AreCounted-wider before before failed failed' (omega arith) more p.lines p.counted)
-            (AreCounted-wider before failed failed' failed' rises (omega arith) line (noted_counted log_skip name verdict failed failed' counted));
+        counted = AreLinesCounted-append p.lines line before failed'
+            (AreLinesCounted-wider before before failed failed' (omega arith) more p.lines p.counted)
+            (AreLinesCounted-wider before failed failed' failed' rises (omega arith) line (noted_counted log_skip name verdict failed failed' counted));
         front = subst (λ (ls : List Line). TakesFront (text_of (p.lines ++ ls)) taken later) (append-nil line) whole;
       }
 
@@ -217,8 +217,8 @@ above_step entries name (Left why) rest up all = above_same entries rest all.1
 pub told_at : (told told' : Option Snapshot) (name name' : List ℕ) (verdict : Verdict) → told ≡ told' → name ≡ name' → IsVerdictIn told name verdict → IsVerdictIn told' name' verdict
 told_at told told' name name' verdict e f is = rw (← e, ← f) is
 
-pub noted_at : (log_skip log_skip' : Bool) (name name' : List ℕ) (verdict : Verdict) → log_skip ≡ log_skip' → name ≡ name' → one_line (noted_line log_skip name verdict) ≡ one_line (noted_line log_skip' name' verdict)
-noted_at log_skip log_skip' name name' verdict e f = ap (λ b. one_line (noted_line b name verdict)) e ∙ ap (λ n. one_line (noted_line log_skip' n verdict)) f
+pub noted_at : (log_skip log_skip' : Bool) (name name' : List ℕ) (verdict : Verdict) → log_skip ≡ log_skip' → name ≡ name' → option_to_list (noted_line log_skip name verdict) ≡ option_to_list (noted_line log_skip' name' verdict)
+noted_at log_skip log_skip' name name' verdict e f = ap (λ b. option_to_list (noted_line b name verdict)) e ∙ ap (λ n. option_to_list (noted_line log_skip' n verdict)) f
 
 pub texts_next : (told : Option Snapshot) (names names' : List (List ℕ)) (entries entries' : List Entry) (name : List ℕ) (verdict : Verdict) → names' ≡ names ++ name ∷ [] → entries' ≡ entries ++ noted_entries name verdict → AreTextsIn told names entries → IsVerdictIn told name verdict → AreTextsIn told names' entries'
 texts_next told names names' entries entries' name verdict e f are is = rw (e, f) (texts_step told names entries name verdict are is)
@@ -228,10 +228,10 @@ names_step : (names : List (List ℕ)) (entries : List Entry) (name : List ℕ) 
 names_step names entries name verdict have = before entries have
   where
     split : (one : List ℕ) → is_among (names ++ name ∷ []) one ≡ (is_among names one || is_among (name ∷ []) one)
-    split one = list_any-append (λ other. same other one) names (name ∷ [])
+    split one = list_any-append (λ other. bytes_eq other one) names (name ∷ [])
 
     last : is_among (names ++ name ∷ []) name ≡ true
-    last = split name ∙ or_right (is_among names name) _ (or_left (same name name) false ((bytes_decides name name).1 refl))
+    last = split name ∙ or_right (is_among names name) _ (or_left (bytes_eq name name) false ((bytes_decides name name).1 refl))
 
     added : (trigrams : List ℕ) → HaveNamesOf (names ++ name ∷ []) (added_entries name trigrams)
     added trigrams = elim (is_storable name) as (λ b. HaveNamesOf (names ++ name ∷ []) (cond b ((name, trigrams) ∷ []) [])) [ true ↦ (last, tt) | false ↦ tt ]
@@ -267,5 +267,5 @@ lines_none : (log_skip : Bool) (told : Option Snapshot) → AreFileLinesIn log_s
 lines_none log_skip None = tt
 lines_none log_skip (Some tree) = λ storable. refl
 
-pub prints_none : (log_skip : Bool) (told : Option Snapshot) (failed : ℕ) (taken : Option Taken) → Prints (AreFileLinesIn log_skip told []) failed failed taken taken
+pub prints_none : (log_skip : Bool) (told : Option Snapshot) (failed : ℕ) (taken : Option Taken) → PrintsLines (AreFileLinesIn log_skip told []) failed failed taken taken
 prints_none log_skip told failed taken = record { lines = []; due = lines_none log_skip told; counted = tt; grows = Grows-same taken }

@@ -24,10 +24,10 @@ use Rattle.cs_words.specs.declared.fault.CindexFault.TheVariants.{BadIndex, Unso
 use Rattle.cs_history.specs.Jobs.{given_texts}
 use Rattle.cs_history.proofs.JobLemmas.{given_clean}
 use Rattle.std.specs.Result.{IsOkAnd}
-use Rattle.cs_cindex.specs.Joins.{IsSound}
+use Rattle.cs_history.specs.WellFormed.{IsJoinable}
 use Rattle.cs_cindex.specs.Next.{IsIndex}
 use Rattle.cs_cindex.specs.JobPaths.{AreCleaned, starts}
-use Rattle.cs_cindex.proofs.PathLemmas.{all_taken, settled_storable, reduced_paths}
+use Rattle.cs_cindex.proofs.JobPathLemmas.{all_taken, settled_storable, reduced_paths}
 use Rattle.cs_merge.proofs.HoldingLemmas.{set_of_items}
 use Rattle.cs_cindex.proofs.OldLemmas.{OpensWith, opened_image}
 
@@ -75,9 +75,9 @@ some_path job ts clean some none = some (sym (length-map ts string_bytes) ∙ co
 
 -- ---- what a walk gives can be joined
 
-sound_content : (opening : Result Parts IndexFault) (paths : Paths) (files : Files) → OpensWith opening paths files → IsOkAnd opening IsSound
+sound_content : (opening : Result Parts IndexFault) (paths : Paths) (files : Files) → OpensWith opening paths files → IsOkAnd opening IsJoinable
 sound_content (Ok parts) paths files h = h.sound
 sound_content (Err fault) paths files h = h
 
-pub sound_own : (paths : Paths) (bytes : List ℕ) → IsIndex paths bytes → length bytes < 2 ^ 32 → IsOkAnd (opening bytes) IsSound
+pub sound_own : (paths : Paths) (bytes : List ℕ) → IsIndex paths bytes → length bytes < 2 ^ 32 → IsOkAnd (opening bytes) IsJoinable
 sound_own paths bytes index short = sound_content (opening bytes) paths index.files (opened_image bytes paths index.files index.content index.under index.is short)

@@ -6,23 +6,23 @@ use Rattle.std.specs.Prelude.{filter_map}
 use Rattle.cs_tree.specs.PathSet as set
 use Rattle.cs_tree.specs.Snapshot.{Snapshot}
 use Rattle.cs_tree.specs.Told.{Grows, Taken}
-use Rattle.cs_tree.specs.Walks.{Left, FindsIn, CountsFaults, left_entry}
+use Rattle.cs_tree.specs.Walks.{LeftPath, FindsIn, CountsFaults, left_entry}
 use Rattle.cs_tree.proofs.Growing.{Grows-chain}
 use Rattle.cs_index.specs.Built.{are_paths}
 use Rattle.cs_tree.specs.Taken.{TakesFront}
-use Rattle.cs_cindex.specs.Notices.{Line, left_line, file_line, text_of, AreLinesIn, BeginLinesIn, AreCounted, Prints, PrintsFront}
+use Rattle.cs_cindex.specs.Notices.{Line, left_line, file_line, text_of, AreLinesIn, BeginLinesIn, AreLinesCounted, PrintsLines, PrintsLinesFront}
 use Rattle.cs_index.specs.Image.{Entry}
 use Rattle.cs_cindex.specs.Files.{AreFileLinesIn, BeginFileLinesIn, AreTextsIn, AreTooManyIn}
 use Rattle.cs_tree.proofs.Fronts.{front_all}
-use Rattle.cs_cindex.proofs.LineLemmas.{LeftEntry, front_after, text-append, AreCounted-wider, AreCounted-append, walk_counted}
-use Rattle.cs_cindex.proofs.OrderLemmas.{lines_once}
-use Rattle.cs_cindex.proofs.IndexLemmas.{names_stored}
+use Rattle.cs_cindex.proofs.LineLemmas.{LeftEntry, front_after, text-append, AreLinesCounted-wider, AreLinesCounted-append, walk_counted}
+use Rattle.cs_cindex.proofs.WalkOrderLemmas.{lines_once}
+use Rattle.cs_cindex.proofs.FoundIndexLemmas.{names_stored}
 
 -- what was printed of files, where what the code has is known by equations
-files_printed : (log_skip log_skip' : Bool) (told told' : Option Snapshot) (names names' : List (List ℕ)) (failed failed' : ℕ) (taken taken' : Option Taken) → log_skip ≡ log_skip' → told ≡ told' → names ≡ names' → Prints (AreFileLinesIn log_skip told names) failed failed' taken taken' → Prints (AreFileLinesIn log_skip' told' names') failed failed' taken taken'
+files_printed : (log_skip log_skip' : Bool) (told told' : Option Snapshot) (names names' : List (List ℕ)) (failed failed' : ℕ) (taken taken' : Option Taken) → log_skip ≡ log_skip' → told ≡ told' → names ≡ names' → PrintsLines (AreFileLinesIn log_skip told names) failed failed' taken taken' → PrintsLines (AreFileLinesIn log_skip' told' names') failed failed' taken taken'
 files_printed log_skip log_skip' told told' names names' failed failed' taken taken' a b c p = rw (← a, ← b, ← c) p
 
-pub files_front : (log_skip log_skip' : Bool) (told told' : Option Snapshot) (names names' : List (List ℕ)) (failed failed' : ℕ) (taken taken' : Option Taken) → log_skip ≡ log_skip' → told ≡ told' → names ≡ names' → PrintsFront (BeginFileLinesIn log_skip told names) failed failed' taken taken' → PrintsFront (BeginFileLinesIn log_skip' told' names') failed failed' taken taken'
+pub files_front : (log_skip log_skip' : Bool) (told told' : Option Snapshot) (names names' : List (List ℕ)) (failed failed' : ℕ) (taken taken' : Option Taken) → log_skip ≡ log_skip' → told ≡ told' → names ≡ names' → PrintsLinesFront (BeginFileLinesIn log_skip told names) failed failed' taken taken' → PrintsLinesFront (BeginFileLinesIn log_skip' told' names') failed failed' taken taken'
 files_front log_skip log_skip' told told' names names' failed failed' taken taken' a b c p = rw (← a, ← b, ← c) p
 
 pub texts_walked : (told told' : Option Snapshot) (names names' : List (List ℕ)) (entries : List Entry) → told ≡ told' → names ≡ names' → AreTextsIn told names entries → AreTextsIn told' names' entries
@@ -31,7 +31,7 @@ texts_walked told told' names names' entries a b are = rw (← a, ← b) are
 pub many_walked : (told told' : Option Snapshot) (names names' : List (List ℕ)) → told ≡ told' → names ≡ names' → AreTooManyIn told names → AreTooManyIn told' names'
 many_walked told told' names names' a b many = rw (← a, ← b) many
 
-module _ (log_skip : Bool) (told : Option Snapshot) (paths names : List (List ℕ)) (faults : List Left) (ok : are_paths paths ≡ true) (finds : FindsIn told (set.from_list paths) names faults) where
+module _ (log_skip : Bool) (told : Option Snapshot) (paths names : List (List ℕ)) (faults : List LeftPath) (ok : are_paths paths ≡ true) (finds : FindsIn told (set.from_list paths) names faults) where
   abbrev walked : List Line
   walked = map left_line faults
 
@@ -68,7 +68,7 @@ module _ (log_skip : Bool) (told : Option Snapshot) (paths names : List (List �
 
   module _ (before failed : ℕ) (taken now : Option Taken) (counted : CountsFaults faults before failed) where
     -- while the walk's faults are printed
-    pub front_left : TakesFront (text_of walked) taken now → PrintsFront (BeginLinesIn log_skip told (set.from_list paths)) before failed taken now
+    pub front_left : TakesFront (text_of walked) taken now → PrintsLinesFront (BeginLinesIn log_skip told (set.from_list paths)) before failed taken now
     front_left front = record {
       lines = walked;
       due = subst (BeginLinesIn log_skip told (set.from_list paths)) (append-nil walked) (begin_all [] (none_front told));
@@ -77,13 +77,13 @@ module _ (log_skip : Bool) (told : Option Snapshot) (paths names : List (List �
     }
 
     module _ (failed' : ℕ) (later : Option Taken) (rises : before ≤ failed) (more : failed ≤ failed') (printed : Grows taken now (text_of walked)) where
-      all_counted : (lines : List Line) → AreCounted lines failed failed' → AreCounted (walked ++ lines) before failed'
-      all_counted lines h = AreCounted-append walked lines before failed'
-          (AreCounted-wider before before failed failed' (omega arith) more walked (walk_counted faults before failed counted))
-          (AreCounted-wider before failed failed' failed' rises (omega arith) lines h)
+      all_counted : (lines : List Line) → AreLinesCounted lines failed failed' → AreLinesCounted (walked ++ lines) before failed'
+      all_counted lines h = AreLinesCounted-append walked lines before failed'
+          (AreLinesCounted-wider before before failed failed' (omega arith) more walked (walk_counted faults before failed counted))
+          (AreLinesCounted-wider before failed failed' failed' rises (omega arith) lines h)
 
       -- while the files are read
-      pub front_files : PrintsFront (BeginFileLinesIn log_skip told names) failed failed' now later → PrintsFront (BeginLinesIn log_skip told (set.from_list paths)) before failed' taken later
+      pub front_files : PrintsLinesFront (BeginFileLinesIn log_skip told names) failed failed' now later → PrintsLinesFront (BeginLinesIn log_skip told (set.from_list paths)) before failed' taken later
       front_files p =
           let front = front_after walked p.lines [] taken now later printed p.front in
           record {
@@ -94,7 +94,7 @@ module _ (log_skip : Bool) (told : Option Snapshot) (paths names : List (List �
           }
 
       -- at the end
-      pub prints_all : Prints (AreFileLinesIn log_skip told names) failed failed' now later → Prints (AreLinesIn log_skip told (set.from_list paths)) before failed' taken later
+      pub prints_all : PrintsLines (AreFileLinesIn log_skip told names) failed failed' now later → PrintsLines (AreLinesIn log_skip told (set.from_list paths)) before failed' taken later
       prints_all p = record {
         lines = walked ++ p.lines;
         due = due_all p.lines p.due;
@@ -106,15 +106,15 @@ module _ (log_skip : Bool) (told : Option Snapshot) (paths names : List (List �
 pub walk_printed : (log_skip log_skip' : Bool) (told told' : Option Snapshot) (paths names names' : List (List ℕ)) (left left' : List LeftEntry) (before failed failed' : ℕ) (taken now later : Option Taken) →
     are_paths paths ≡ true → FindsIn told' (set.from_list paths) names' (map left_entry left') → CountsFaults (map left_entry left') before failed → before ≤ failed → failed ≤ failed' →
     left ≡ left' → Grows taken now (text_of (map left_line (map left_entry left))) →
-    log_skip ≡ log_skip' → told ≡ told' → names ≡ names' → Prints (AreFileLinesIn log_skip told names) failed failed' now later →
-    Prints (AreLinesIn log_skip' told' (set.from_list paths)) before failed' taken later
+    log_skip ≡ log_skip' → told ≡ told' → names ≡ names' → PrintsLines (AreFileLinesIn log_skip told names) failed failed' now later →
+    PrintsLines (AreLinesIn log_skip' told' (set.from_list paths)) before failed' taken later
 walk_printed log_skip log_skip' told told' paths names names' left left' before failed failed' taken now later ok finds counted rises more same printed a b c files =
     prints_all log_skip' told' paths names' (map left_entry left') ok finds before failed taken now counted failed' later rises more
     (subst (λ entries. Grows taken now (text_of (map left_line (map left_entry entries)))) same printed)
     (files_printed log_skip log_skip' told told' names names' failed failed' now later a b c files)
 
 -- all lines are the first of them
-pub front_whole : (log_skip : Bool) (told : Option Snapshot) (paths : Paths) (failed failed' : ℕ) (taken taken' : Option Taken) → Prints (AreLinesIn log_skip told paths) failed failed' taken taken' → PrintsFront (BeginLinesIn log_skip told paths) failed failed' taken taken'
+pub front_whole : (log_skip : Bool) (told : Option Snapshot) (paths : Paths) (failed failed' : ℕ) (taken taken' : Option Taken) → PrintsLines (AreLinesIn log_skip told paths) failed failed' taken taken' → PrintsLinesFront (BeginLinesIn log_skip told paths) failed failed' taken taken'
 front_whole log_skip told paths failed failed' taken taken' p =
     let front = front_all (text_of p.lines) taken taken' p.grows in
     record { lines = p.lines; due = by_tree told p.due; counted = p.counted; front = front }

@@ -1,16 +1,16 @@
-pub mod LineLemmas
-pub mod VerdictLemmas
-pub mod FileLemmas
-pub mod NameLemmas
-pub mod OrderLemmas
-pub mod IndexLemmas
-pub mod IndexingLemmas
-pub mod PathLemmas
-pub mod OldLemmas
-pub mod GoingLemmas
-pub mod ToldLemmas
-pub mod NextLemmas
-pub mod JobLemmas
-pub mod OutcomeLemmas
-pub mod StepLemmas
-pub mod CallLemmas
+mod CallLemmas
+mod FileLemmas
+mod FoundIndexLemmas
+mod FoundNameLemmas
+mod GoingLemmas
+mod IndexingLemmas
+mod JobOutputLemmas
+mod JobPathLemmas
+mod LineLemmas
+mod NextLemmas
+mod OldLemmas
+mod OutcomeLemmas
+mod RefusedJobLemmas
+mod StepLemmas
+mod VerdictLemmas
+mod WalkOrderLemmas

@@ -9,7 +9,7 @@ use Rattle.std.proofs.lemmas.List.{take_more, take-append-drop, map-append}
 use Rattle.std.proofs.lemmas.List.Concat.{flat_map-append}
 use Rattle.cs_tree.specs.Snapshot.{Snapshot}
 use Rattle.cs_tree.specs.Told.{Grows, Taken}
-use Rattle.cs_tree.specs.Walks.{Left, left_entry, CountsFault, CountsFaults}
+use Rattle.cs_tree.specs.Walks.{LeftPath, left_entry, CountsFault, CountsFaults}
 use Rattle.cs_tree.specs.declared.walking.WalkFault.{WalkFault}
 use Rattle.cs_tree.specs.declared.walking.WalkFault.TheVariants as walk
 use Rattle.std.specs.Prelude.{String}
@@ -20,7 +20,7 @@ use Rattle.cs_words.specs.declared.jobs.Tool.TheVariants.{Cindex}
 use Rattle.cs_words.specs.declared.fault.FileFault.{FileFault}
 use Rattle.cs_tree.proofs.Fronts.{front_none, front_left, front_right}
 use Rattle.cs_tree.specs.Taken.{TakesFront}
-use Rattle.cs_cindex.specs.Notices.{Line, faulted, skipped, line_text, text_of, left_line, walk_fault, BeginLinesIn, PrintsFront, IsCounted, IsLineCounted, AreCounted}
+use Rattle.cs_cindex.specs.Notices.{Line, faulted, skipped, line_text, text_of, left_line, walk_fault, BeginLinesIn, PrintsLinesFront, IsCounted, IsLineCounted, AreLinesCounted}
 use Rattle.cs_cindex.specs.Verdicts.{PrintsAll}
 
 -- ---- the text of lines
@@ -117,13 +117,13 @@ module _ (a b c d : ℕ) (low : a ≤ b) (high : c ≤ d) where
   line-wider (faulted name why) h = IsCounted-wider why h
   line-wider (skipped name reason) h = tt
 
-  pub AreCounted-wider : (lines : List Line) → AreCounted lines b c → AreCounted lines a d
-  AreCounted-wider [] h = tt
-  AreCounted-wider (line ∷ lines) h = (line-wider line h.0, AreCounted-wider lines h.1)
+  pub AreLinesCounted-wider : (lines : List Line) → AreLinesCounted lines b c → AreLinesCounted lines a d
+  AreLinesCounted-wider [] h = tt
+  AreLinesCounted-wider (line ∷ lines) h = (line-wider line h.0, AreLinesCounted-wider lines h.1)
 
-pub AreCounted-append : (front lines : List Line) (old new : ℕ) → AreCounted front old new → AreCounted lines old new → AreCounted (front ++ lines) old new
-AreCounted-append [] lines old new h g = g
-AreCounted-append (line ∷ front) lines old new h g = (h.0, AreCounted-append front lines old new h.1 g)
+pub AreLinesCounted-append : (front lines : List Line) (old new : ℕ) → AreLinesCounted front old new → AreLinesCounted lines old new → AreLinesCounted (front ++ lines) old new
+AreLinesCounted-append [] lines old new h g = g
+AreLinesCounted-append (line ∷ front) lines old new h g = (h.0, AreLinesCounted-append front lines old new h.1 g)
 
 -- ---- nothing was printed
 
@@ -132,7 +132,7 @@ module _ (log_skip : Bool) (paths : Paths) where
   Begin-none None = tt
   Begin-none (Some tree) = λ is all are. refl
 
-  pub Front-none : (told : Option Snapshot) (failed failed' : ℕ) (taken : Option Taken) → PrintsFront (BeginLinesIn log_skip told paths) failed failed' taken taken
+  pub Front-none : (told : Option Snapshot) (failed failed' : ℕ) (taken : Option Taken) → PrintsLinesFront (BeginLinesIn log_skip told paths) failed failed' taken taken
   Front-none told failed failed' taken = record { lines = []; due = Begin-none told; counted = tt; front = front_none [] taken }
 
 -- ---- the failures of a walk
@@ -142,6 +142,6 @@ left_counted (walk.Tree fault) old new h = λ fails. h
 left_counted walk.Unnamed old new h = λ fails. cc
 left_counted walk.TooLong old new h = λ fails. cc
 
-pub walk_counted : (faults : List Left) (old new : ℕ) → CountsFaults faults old new → AreCounted (map left_line faults) old new
+pub walk_counted : (faults : List LeftPath) (old new : ℕ) → CountsFaults faults old new → AreLinesCounted (map left_line faults) old new
 walk_counted [] old new h = tt
 walk_counted (left ∷ faults) old new h = (left_counted left.1 old new h.0, walk_counted faults old new h.1)

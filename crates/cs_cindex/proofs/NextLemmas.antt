@@ -23,35 +23,37 @@ use Rattle.cs_words.specs.declared.jobs.IndexJob.{IndexJob}
 use Rattle.cs_words.specs.declared.fault.CindexFault.{CindexFault}
 use Rattle.cs_words.specs.declared.fault.CindexFault.TheVariants.{NoIndex, BadIndex, Unsorted, TooLarge, BadPath, Write, Memory}
 use Rattle.cs_history.specs.History.{History, nothing, ◌⊳◌, Visit, walked_paths, paths_of, index_of}
-use Rattle.cs_history.specs.WellFormed.{IsHistory}
+use Rattle.cs_history.specs.WellFormed.{IsJoinable, IsHistory}
 use Rattle.cs_history.specs.Jobs.{given_texts, given_paths, has_no_path, AreTaken, visit_of, after_done}
 use Rattle.cs_history.specs.Premises.{snapshot_told, IsShort, Premises}
-use Rattle.cs_history.specs.Replies.{IsLong, Walks}
+use Rattle.cs_history.specs.JobKinds.{Walks}
+use Rattle.cs_history.specs.Replies.{IsLong}
 use Rattle.cs_history.proofs.JobLemmas.{taken_visit}
 use Rattle.cs_history.proofs.FollowingLemmas.{first_premises}
 use Rattle.cs_history.proofs.HistoryLemmas.{walk_content, walk_lies}
 use Rattle.cs_history.proofs.IndexLemmas.{joined_as, first_index, given_some, walked_own, walked_again, no_index}
 use Rattle.std.specs.Result.{IsOkAnd}
-use Rattle.cs_cindex.specs.Joins.{IsSound, JoinsTo, IsJoinRefusal}
-use Rattle.cs_cindex.specs.Next.{opening_paths, base_paths, paths_walked, opening_join, next_index, HasWholeLists, IsIndex, IsIndexOf, IsTreeTooLarge, IsOwn, IsNextLong, alone, joined, IsNext}
+use Rattle.cs_cindex.specs.Joins.{JoinsTo, IsJoinRefusal}
+use Rattle.cs_cindex.specs.Next.{opening_paths, base_paths, paths_of_job, opening_join, next_index, HasWholeLists, IsIndex, IsIndexOf, IsTreeTooLarge, IsOwnIndex, IsNextLong, alone, joined, IsNext}
 use Rattle.cs_cindex.specs.Refusals.{base, IsWalkFault}
 use Rattle.cs_cindex.proofs.OldLemmas.{OpensWith, OpensFor, history_opens, opened_image}
+use Rattle.cs_cindex.proofs.RefusedJobLemmas.{walks_parts}
 
 -- ---- of what a walk gives, whatever bytes the job goes on from
 
 -- the index of what the job finds, alone
 abbrev index_alone : IndexJob → Snapshot → Option (List ℕ) → List ℕ
-index_alone job tree old = tree_index tree (paths_walked job old)
+index_alone job tree old = tree_index tree (paths_of_job job old)
 
 -- what indexing gives is the job's own index
-pub own_index : (job : IndexJob) (tree : Option Snapshot) (old : Option (List ℕ)) (paths : Paths) (bytes : List ℕ) → paths ≡ paths_walked job old → IsIndex paths bytes → IsIndexOf tree paths bytes → length bytes < 2 ^ 32 → IsOwn job tree old bytes
+pub own_index : (job : IndexJob) (tree : Option Snapshot) (old : Option (List ℕ)) (paths : Paths) (bytes : List ℕ) → paths ≡ paths_of_job job old → IsIndex paths bytes → IsIndexOf tree paths bytes → length bytes < 2 ^ 32 → IsOwnIndex job tree old bytes
 own_index job tree old paths bytes e index built short = record {
   index = subst (λ ps. IsIndex ps bytes) e index;
   told = subst (λ ps. IsIndexOf tree ps bytes) e built;
   short = short;
 }
 
-pub next_anew : (job : IndexJob) (tree : Option Snapshot) (bytes : List ℕ) → IsOwn job tree None bytes → IsNext job tree None (Some bytes)
+pub next_anew : (job : IndexJob) (tree : Option Snapshot) (bytes : List ℕ) → IsOwnIndex job tree None bytes → IsNext job tree None (Some bytes)
 next_anew job tree bytes own = record { own = bytes; own_is = own; whole = tt; is = refl; short = own.short }
 
 joins_opening : (parts : Parts) (opening : Result Parts IndexFault) (bytes : List ℕ) → JoinsTo parts opening bytes → Some bytes ≡ opening_join (Ok parts) opening
@@ -69,7 +71,7 @@ whole_opening parts (Err fault) bytes joins = absurd joins
 whole_old : (old : List ℕ) (parts : Parts) → opening old ≡ Ok parts → are_whole parts ≡ true → HasWholeLists (Some old)
 whole_old old parts opens whole = subst (λ o. IsOkAnd o (λ parts. are_whole parts ≡ true)) (sym opens) whole
 
-pub next_onto : (job : IndexJob) (tree : Option Snapshot) (old : List ℕ) (parts : Parts) (own bytes : List ℕ) → opening old ≡ Ok parts → IsOwn job tree (Some old) own → JoinsTo parts (opening own) bytes → length bytes < 2 ^ 32 → IsNext job tree (Some old) (Some bytes)
+pub next_onto : (job : IndexJob) (tree : Option Snapshot) (old : List ℕ) (parts : Parts) (own bytes : List ℕ) → opening old ≡ Ok parts → IsOwnIndex job tree (Some old) own → JoinsTo parts (opening own) bytes → length bytes < 2 ^ 32 → IsNext job tree (Some old) (Some bytes)
 next_onto job tree old parts own bytes opens own_is joins short = record {
   own = own;
   own_is = own_is;
@@ -82,11 +84,11 @@ next_onto job tree old parts own bytes opens own_is joins short = record {
 pub told_next : (job : IndexJob) (tree : Option Snapshot) (old new : Option (List ℕ)) → IsNext job tree old new → Tells tree → new ≡ next_index old (index_alone job (snapshot_told tree) old)
 told_next job tree old new next tells = next.is ∙ ap (next_index old) (next.own_is.told tells)
 
-pub told_short : (job : IndexJob) (tree : Option Snapshot) (old : Option (List ℕ)) (own : List ℕ) → IsOwn job tree old own → Tells tree → length (index_alone job (snapshot_told tree) old) < 2 ^ 32
+pub told_short : (job : IndexJob) (tree : Option Snapshot) (old : Option (List ℕ)) (own : List ℕ) → IsOwnIndex job tree old own → Tells tree → length (index_alone job (snapshot_told tree) old) < 2 ^ 32
 told_short job tree old own own_is tells = subst (λ b. length b < 2 ^ 32) (own_is.told tells) own_is.short
 
 -- a refusal of indexing is one of the job
-pub index_refusal : (job : IndexJob) (tree : Option Snapshot) (old : Option (List ℕ)) (paths : Paths) (fault : CindexFault) → paths ≡ paths_walked job old → IsIndexingFault fault → (fault ≡ TooLarge → IsTreeTooLarge tree paths) → IsWalkFault job tree old fault
+pub index_refusal : (job : IndexJob) (tree : Option Snapshot) (old : Option (List ℕ)) (paths : Paths) (fault : CindexFault) → paths ≡ paths_of_job job old → IsIndexingFault fault → (fault ≡ TooLarge → IsTreeTooLarge tree paths) → IsWalkFault job tree old fault
 index_refusal job tree old paths TooLarge e only large = alone (subst (IsTreeTooLarge tree) e (large refl))
 index_refusal job tree old paths Write e only large = tt
 index_refusal job tree old paths Memory e only large = tt
@@ -100,7 +102,7 @@ long_opening : (parts : Parts) (opening : Result Parts IndexFault) → IsOkAnd o
 long_opening parts (Ok own) long = (joinable_whole parts own long.0, long.1)
 long_opening parts (Err fault) long = absurd long
 
-module _ (job : IndexJob) (tree : Option Snapshot) (old : List ℕ) (parts : Parts) (own : List ℕ) (opens : opening old ≡ Ok parts) (own_is : IsOwn job tree (Some old) own) (sound : IsOkAnd (opening own) IsSound) where
+module _ (job : IndexJob) (tree : Option Snapshot) (old : List ℕ) (parts : Parts) (own : List ℕ) (opens : opening old ≡ Ok parts) (own_is : IsOwnIndex job tree (Some old) own) (sound : IsOkAnd (opening own) IsJoinable) where
   pub join_refusal : (fault : CindexFault) → IsJoinRefusal parts (opening own) fault → IsWalkFault job tree (Some old) fault
   join_refusal (BadIndex fault) h = record {
     is = (h sound).0;
@@ -126,7 +128,7 @@ pub record On (job : IndexJob) (tree : Snapshot) (old : Option (List ℕ)) (earl
   pub bound : IsShort old
 
 no_length : set.len (set.from_list []) ≡ 0
-no_length = ap set.len (same_set (set.from_list []) set.empty (λ q. ap is_some (map'.get-from_entries nat_list_cmp_total (set.with_units []) q ∙ sym (map'.get-empty bytes_cmp q)))) ∙ map'.len-empty bytes_cmp (Unit {0})
+no_length = ap set.len (same_set (set.from_list []) set.empty (λ q. ap is_some (map'.get-from_entries nat_list_cmp_total (set.unit_entries []) q ∙ sym (map'.get-empty bytes_cmp q)))) ∙ map'.len-empty bytes_cmp (Unit {0})
 
 none_given : (job : IndexJob) → has_no_path job ≡ true → set.len (given_paths job) ≡ 0
 none_given job none = ap (λ ts. set.len (set.from_list (map (λ text. clean_path (string_bytes job.cwd) text) ts))) (no_texts (given_texts job) (length-map job.paths.items string_bytes ∙ eqb-true (length job.paths.items) 0 none)) ∙ no_length
@@ -143,7 +145,7 @@ recorded_left : (old : Option (List ℕ)) (earlier : History) → IsHistory earl
 recorded_left None earlier is left bound = ap paths_of (sym (no_index earlier left))
 recorded_left (Some bytes) earlier is left bound = content_paths (opening bytes) earlier (history_opens earlier bytes is left bound)
 
-walked_is : (job : IndexJob) (tree : Snapshot) (old : Option (List ℕ)) (earlier : History) → On job tree old earlier → paths_walked job old ≡ walked_paths (visit_of job tree) earlier
+walked_is : (job : IndexJob) (tree : Snapshot) (old : Option (List ℕ)) (earlier : History) → On job tree old earlier → paths_of_job job old ≡ walked_paths (visit_of job tree) earlier
 walked_is job tree old earlier on =
     elim (cases_Bool (has_no_path job)) [
       | inl none ↦
@@ -201,8 +203,8 @@ on_base job tree old earlier taken p =
 
 pub walks_on : (job : IndexJob) (tree : Snapshot) (earlier : History) → Walks job → after_done earlier job tree ≡ visit_of job tree ⊳ cond job.reset nothing earlier
 walks_on job tree earlier w =
-    ap (λ b. cond b earlier (cond job.reset (cond (has_no_path job) nothing (visit_of job tree ⊳ nothing)) (visit_of job tree ⊳ earlier))) w.0
-    ∙ by_reset job.reset (has_no_path job) w.1
+    ap (λ b. cond b earlier (cond job.reset (cond (has_no_path job) nothing (visit_of job tree ⊳ nothing)) (visit_of job tree ⊳ earlier))) (walks_parts job w).0
+    ∙ by_reset job.reset (has_no_path job) (walks_parts job w).1
   where
     by_reset : (r none : Bool) → (r && none) ≡ false → cond r (cond none nothing (visit_of job tree ⊳ nothing)) (visit_of job tree ⊳ earlier) ≡ visit_of job tree ⊳ cond r nothing earlier
     by_reset true true e = absurd (true≢false e)

@@ -26,24 +26,22 @@ use Rattle.cs_words.specs.declared.fault.CindexFault.TheVariants.{BadIndex, Unso
 use Rattle.cs_merge.specs.Content.{IsContent, LieUnder}
 use Rattle.cs_merge.proofs.ContentLemmas.{content_indexable, ascending_sets}
 use Rattle.cs_history.specs.History.{History, nothing, handed_in, ◌⊳◌, all_given_paths, paths_of, files_of, index_of}
-use Rattle.cs_history.specs.WellFormed.{AreClean, IsBeginning, IsHistory}
+use Rattle.cs_history.specs.WellFormed.{AreClean, IsJoinable, IsBeginning, IsHistory}
 use Rattle.cs_history.proofs.BeginningLemmas.{begun_opens}
 use Rattle.cs_history.proofs.HistoryLemmas.{history_content, history_lies, has_beginning, files_begun, index_is, clean_paths, least_twice}
 use Rattle.cs_tree.specs.Cleaning.{is_settled}
-use Rattle.cs_merge.specs.Joinable.{are_covered}
 use Rattle.std.specs.Result.{IsOkAnd}
-use Rattle.cs_cindex.specs.Joins.{IsSound}
 use Rattle.cs_cindex.specs.Refusals.{opening_fault, unfit_parts_fault, IsDamaged}
 use Rattle.cs_tree.proofs.ReduceLemmas.{contains-from_list, true_from_T}
 use Rattle.cs_merge.proofs.HoldingLemmas.{set_of_items, map_of_entries}
-use Rattle.cs_cindex.proofs.PathLemmas.{all_pass}
+use Rattle.cs_cindex.proofs.JobPathLemmas.{all_pass}
 
 -- ---- what an index that opens holds
 
 pub record HasContent (parts : Parts) (paths : Paths) (files : Files) : Type 0 where
   pub paths_are : paths_in parts ≡ paths
   pub files_are : files_in parts ≡ files
-  pub sound : IsSound parts
+  pub sound : IsJoinable parts
 
 abbrev pub OpensWith : Result Parts IndexFault → Paths → Files → Type 0
 OpensWith opening paths files = IsOkAnd opening (λ parts. HasContent parts paths files)
@@ -69,8 +67,7 @@ each_key P files h = each (map'.keys files) (λ name member. by_option name (map
     each [] g = tt
     each (n ∷ ns) g = (g n (or_left (eq_by_cmp bytes_cmp n n) _ (tied_same n)), each ns (λ name member. g name (or_right (eq_by_cmp bytes_cmp name n) _ member)))
 
-covered_names : (parts : Parts) (paths : Paths) (files : Files) → set.from_list parts.paths ≡ paths → parts.names ≡ names_of (map'.entries files) → LieUnder paths files → are_covered parts ≡ true
-unfolding are_covered
+covered_names : (parts : Parts) (paths : Paths) (files : Files) → set.from_list parts.paths ≡ paths → parts.names ≡ names_of (map'.entries files) → LieUnder paths files → list_all (is_covered (paths_in parts)) parts.names ≡ true
 covered_names parts paths files p n under =
     ap (λ s. list_all (λ name. is_covered s name) parts.names) p
     ∙ ap (λ ns. list_all (λ name. is_covered paths name) ns) n
@@ -109,7 +106,7 @@ pub record GoesOn (earlier : History) (parts : Parts) : Type 0 where
   pub paths_are : least (paths_in parts) ≡ paths_of earlier
   pub files_are : files_in parts ≡ files_of earlier
   pub settled : list_all is_settled parts.paths ≡ true
-  pub sound : IsSound parts
+  pub sound : IsJoinable parts
 
 abbrev pub OpensFor : History → Result Parts IndexFault → Type 0
 OpensFor earlier opening = IsOkAnd opening (GoesOn earlier)
@@ -124,12 +121,11 @@ content_goes earlier (Ok parts) clean h = record {
 }
 
 begun_goes : (bytes : List ℕ) (parts : Parts) → IsBeginning bytes parts → GoesOn (handed_in bytes parts) parts
-unfolding are_covered
 begun_goes bytes parts is = record {
   paths_are = refl;
   files_are = sym (files_begun bytes parts);
   settled = is.settled;
-  sound = record { distinct = is.distinct; covered = is.under; whole = is.whole };
+  sound = is.joinable;
 }
 
 pub history_opens : (earlier : History) (bytes : List ℕ) → IsHistory earlier → index_of earlier ≡ Some bytes → length bytes < 2 ^ 32 → OpensFor earlier (opening bytes)

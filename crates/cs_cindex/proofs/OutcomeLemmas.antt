@@ -1,5 +1,5 @@
 -- What becomes of the index, and why jobs are refused.
-use Rattle.std.proofs.Common.{◌≡◌, ℕ, ◌&&◌, cond, List, [], ◌∷◌, refl, sym, ap, subst, ◌∙◌, ◌⊎◌, Option, Some, None}
+use Rattle.std.proofs.Common.{◌≡◌, ℕ, cond, List, [], ◌∷◌, refl, sym, ap, subst, ◌∙◌, ◌⊎◌, Option, Some, None}
 use Rattle.std.specs.Prelude.{string_bytes, option_map}
 use Rattle.std.specs.Option.{option_or}
 use Rattle.cs_tree.specs.Snapshot.{Snapshot}
@@ -9,16 +9,17 @@ use Rattle.cs_words.specs.declared.jobs.Reply.TheVariants.{Done, Refused}
 use Rattle.cs_words.specs.declared.fault.CindexFault.{CindexFault}
 use Rattle.cs_words.specs.declared.fault.CindexFault.TheVariants.{TooLarge, BadPath}
 use Rattle.cs_history.specs.History.{History, nothing, index_of}
-use Rattle.cs_history.specs.Jobs.{given_texts, has_no_path, AreTaken}
+use Rattle.cs_history.specs.Jobs.{given_texts, AreTaken}
 use Rattle.cs_history.specs.Premises.{snapshot_told, Premises}
 use Rattle.cs_history.specs.Headline.{Indexes}
-use Rattle.cs_history.specs.Replies.{Walks, IsLong, IsTooLarge}
+use Rattle.cs_history.specs.JobKinds.{job_kind, Walks}
+use Rattle.cs_history.specs.Replies.{IsLong, IsTooLarge, first_bad}
 use Rattle.cs_cindex.specs.Next.{IsNextLong, IsNext}
-use Rattle.cs_cindex.specs.Refusals.{lists, clears, walks, job_kind, base, first_bad, base_fault, early_walk_fault, early_fault_of, early_fault, IsLateFault, EarlyOr, HasCause}
+use Rattle.cs_cindex.specs.Refusals.{base, base_fault, early_walk_fault, early_fault_of, early_fault, IsLateFault, EarlyOr, HasCause}
 use Rattle.cs_cindex.specs.Outcomes.{RightAfter}
-use Rattle.cs_cindex.proofs.PathLemmas.{all_taken}
+use Rattle.cs_cindex.proofs.JobPathLemmas.{all_taken}
 use Rattle.cs_cindex.proofs.NextLemmas.{told_next, told_short, on_base, walks_on, next_is, large_is, fits_is}
-use Rattle.cs_cindex.proofs.JobLemmas.{Causes, none_there, refused, causes, listing, clearing, walking, cases_of, is_early, right_reply}
+use Rattle.cs_cindex.proofs.RefusedJobLemmas.{Causes, none_there, refused, causes, listing, clearing, walking, cases_of, is_early, right_reply}
 
 none_bad_of : (o b : Option CindexFault) (bad : Option ℕ) → option_or (option_map (λ place. BadPath place) bad) b ≡ None → bad ≡ None
 none_bad_of o b None e = refl
@@ -29,14 +30,9 @@ walk_taken job old e = all_taken (string_bytes job.cwd) (given_texts job) (none_
 
 -- ---- jobs that walk
 
-pub walks_kind : (job : IndexJob) → Walks job → job_kind job ≡ walks
-walks_kind job w =
-    ap (λ b. cond b lists (cond (job.reset && has_no_path job) clears walks)) w.0
-    ∙ ap (λ b. cond b clears walks) w.1
-
 -- cleaning takes the paths of one that is not refused early
 early_taken : (job : IndexJob) (old : Option (List ℕ)) → Walks job → early_fault job old ≡ None → AreTaken job
-early_taken job old w e = walk_taken job (base job old) (sym (ap (λ kind. early_fault_of kind job old) (walks_kind job w)) ∙ e)
+early_taken job old w e = walk_taken job (base job old) (sym (ap (λ kind. early_fault_of kind job old) w) ∙ e)
 
 pub walk_indexes : (job : IndexJob) (tree : Option Snapshot) (old : Option (List ℕ)) (bytes : List ℕ) → Walks job → early_walk_fault job (base job old) ≡ None → IsNext job tree (base job old) (Some bytes) → Indexes (job ∷ []) (tree ∷ []) (Done ∷ []) old (Some bytes)
 walk_indexes job tree old bytes w none next =
@@ -71,12 +67,11 @@ large_late job tree old earlier p none late =
       | listing l k ↦ absurd (subst (λ kind. IsLateFault kind job tree old TooLarge) k late)
       | clearing l r n k ↦ absurd (subst (λ kind. IsLateFault kind job tree old TooLarge) k late)
       | walking l one k ↦
-          let w : Walks job = (l, one) in
           let next : IsNextLong job tree (base job old) = subst (λ kind. IsLateFault kind job tree old TooLarge) k late in
           record {
-            walks = w;
-            long = subst (λ h. IsLong (Some (Rattle.cs_history.specs.Replies.own_index earlier job (snapshot_told tree))) ⊎ IsLong (index_of h)) (sym (walks_on job (snapshot_told tree) earlier w))
-                (large_is job tree (base job old) (cond job.reset nothing earlier) p.trees_tell.0 (on_base job tree old earlier (early_taken job old w none) p) next);
+            walks = k;
+            long = subst (λ h. IsLong (Some (Rattle.cs_history.specs.Replies.own_index earlier job (snapshot_told tree))) ⊎ IsLong (index_of h)) (sym (walks_on job (snapshot_told tree) earlier k))
+                (large_is job tree (base job old) (cond job.reset nothing earlier) p.trees_tell.0 (on_base job tree old earlier (early_taken job old k none) p) next);
           }
     ]
 

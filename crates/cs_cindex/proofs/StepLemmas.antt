@@ -20,20 +20,21 @@ use Rattle.cs_history.specs.History.{nothing, ◌⊳◌, index_of}
 use Rattle.cs_history.specs.Jobs.{given_texts, has_no_path, IsTaken, visit_of}
 use Rattle.cs_history.specs.Premises.{snapshot_told}
 use Rattle.cs_history.specs.Headline.{Indexes}
-use Rattle.cs_history.specs.Replies.{Walks}
+use Rattle.cs_history.specs.JobKinds.{JobKind, lists, clears, walks, job_kind}
 use Rattle.cs_cindex.specs.Bytes.{index_bytes}
 use Rattle.std.specs.Option.{option_copied}
 use Rattle.cs_tree.specs.Taken.{TakesFront, MayEnd}
 use Rattle.cs_cindex.specs.Next.{IsNext}
 use Rattle.cs_cindex.specs.Output.{JobPrintsBy, WalkPrints, WalkPrintsSome, index_lines, list_lines, is_failed_write}
-use Rattle.cs_cindex.specs.Refusals.{JobKind, lists, clears, walks, job_kind, base, list_fault, early_walk_fault, early_fault_of, IsOutputFault, IsWalkFault, IsLateFault, EarlyOr}
+use Rattle.cs_cindex.specs.Refusals.{base, list_fault, early_walk_fault, early_fault_of, IsOutputFault, IsWalkFault, IsLateFault, EarlyOr}
 use Rattle.cs_cindex.specs.Steps.{JobTree, Outputs, State, IsStep, IsWholeStep}
 use Rattle.cs_cindex.specs.declared.outcome.Outcome.{Outcome}
 use Rattle.cs_cindex.specs.Outcomes.{IsWholeStepTo, index_from, reply_of}
 use Rattle.cs_tree.proofs.Fronts.{front_none, front_all}
 use Rattle.cs_tree.proofs.Growing.{Grows-same}
-use Rattle.cs_cindex.proofs.ToldLemmas.{prints_refused}
-use Rattle.cs_cindex.proofs.OutcomeLemmas.{walks_kind, walk_indexes}
+use Rattle.cs_cindex.proofs.JobOutputLemmas.{prints_refused}
+use Rattle.cs_cindex.proofs.OutcomeLemmas.{walk_indexes}
+use Rattle.cs_cindex.proofs.RefusedJobLemmas.{walks_kind, walks_parts}
 
 -- ---- the index after a job that does not walk
 
@@ -87,7 +88,7 @@ module _ (job : IndexJob) (tree : JobTree) (old : State) (later : Outputs) where
         index = list_indexes job tree.snapshot old.index l;
         cause = ap (λ k. early_fault_of k job old.index) kind ∙ none;
         keeps = ((λ _. refl), (λ f r n. absurd (true≢false (sym l ∙ f))));
-        walked = λ _ w. absurd (true≢false (sym l ∙ w.0));
+        walked = λ _ w. absurd (true≢false (sym l ∙ (walks_parts job w).0));
         out = subst (λ k. Grows old.outputs.out later.out (list_lines k old.index)) (sym kind) out;
         err = subst (λ k. JobPrintsBy k Done job tree.snapshot old.index tree.failed tree.failed_then old.outputs.err later.err) (sym kind) err;
         writes = (o, e);
@@ -114,20 +115,20 @@ module _ (job : IndexJob) (tree : JobTree) (old : State) (later : Outputs) where
         index = clear_indexes job tree.snapshot old.index l r n;
         cause = ap (λ k. early_fault_of k job old.index) kind;
         keeps = ((λ f. absurd (true≢false (sym f ∙ l))), (λ _ _ _. refl));
-        walked = λ _ w. absurd (true≢false (sym alone ∙ w.1));
+        walked = λ _ w. absurd (true≢false (sym alone ∙ (walks_parts job w).1));
         out = subst (λ k. Grows old.outputs.out later.out (list_lines k old.index)) (sym kind) out;
         err = subst (λ k. JobPrintsBy k Done job tree.snapshot old.index tree.failed tree.failed_then old.outputs.err later.err) (sym kind) err;
         writes = (o, e);
       }
 
-  module _ (w : Walks job) (from : Option (List ℕ)) (is : base job old.index ≡ from) (out : Grows old.outputs.out later.out []) (o : later.out_failed ≡ old.outputs.out_failed) where
+  module _ (w : (job.list ≡ false) × ((job.reset && has_no_path job) ≡ false)) (from : Option (List ℕ)) (is : base job old.index ≡ from) (out : Grows old.outputs.out later.out []) (o : later.out_failed ≡ old.outputs.out_failed) where
     pub walk_done : (bytes : List ℕ) → early_walk_fault job from ≡ None → IsNext job tree.snapshot from (Some bytes) → WalkPrints job tree.snapshot from tree.failed tree.failed_then old.outputs.err later.err → later.err_failed ≡ old.outputs.err_failed → IsStep job tree Done old (record { index = Some bytes; outputs = later })
     walk_done bytes none next err e =
         let kind = walks_kind job w in
         let early = ap (early_walk_fault job) is ∙ none in
         let next' = subst (λ b. IsNext job tree.snapshot b (Some bytes)) (sym is) next in
         record {
-          index = walk_indexes job tree.snapshot old.index bytes w early next';
+          index = walk_indexes job tree.snapshot old.index bytes kind early next';
           cause = ap (λ k. early_fault_of k job old.index) kind ∙ early;
           keeps = ((λ f. absurd (true≢false (sym f ∙ w.0))), (λ f r n. absurd (true≢false (sym (ap (λ b. b && has_no_path job) r ∙ n) ∙ w.1))));
           walked = λ _ _. next';

@@ -6,7 +6,7 @@ use Rattle.cs_trigram.specs.Scans.{Finding, found_or, finding, SaysInAnyOrder, I
 use Rattle.cs_tree.specs.Snapshot.{Snapshot, Item, folder, file, cut, other, bad, item_at}
 use Rattle.cs_tree.specs.Told.{Told}
 use Rattle.cs_tree.specs.Reached.{read_item}
-use Rattle.cs_tree.specs.Trees.{Opens, OpensAs, OpenedAs, open_told}
+use Rattle.cs_tree.specs.Trees.{OpensFile, OpensFileAs, OpenedAs, open_told}
 use Rattle.cs_tree.specs.declared.fault.TreeFault.{TreeFault}
 use Rattle.cs_tree.specs.declared.fault.TreeFault.TheVariants as tree
 use Rattle.cs_trigram.specs.Text.{limits, text_trigrams, skip, first_broken, none_skipped}
@@ -17,10 +17,10 @@ use Rattle.cs_trigram.specs.declared.scan.ScanFault.{ScanFault}
 use Rattle.cs_trigram.specs.declared.scan.Gathered.TheVariants as answer
 use Rattle.cs_trigram.specs.declared.scan.ScanFault.TheVariants as fault
 use Rattle.cs_words.specs.declared.fault.FileFault.TheVariants.{Failed}
-use Rattle.cs_cindex.specs.declared.reading.Verdict.{Verdict}
-use Rattle.cs_cindex.specs.declared.reading.Verdict.TheVariants.{Text, Skipped, Left}
+use Rattle.cs_cindex.specs.declared.verdicts.Verdict.{Verdict}
+use Rattle.cs_cindex.specs.declared.verdicts.Verdict.TheVariants.{Text, Skipped, Left}
 use Rattle.cs_cindex.specs.Notices.{file_line, opening_line, finding_line}
-use Rattle.cs_cindex.specs.Verdicts.{trigrams_told, line_told, IsVerdict, IsVerdictIn}
+use Rattle.cs_cindex.specs.Verdicts.{verdict_trigrams, verdict_line, IsVerdict, IsVerdictIn}
 
 -- the trigrams of what a scan finds, and of what is opened
 abbrev pub finding_trigrams : Finding → Option (List ℕ)
@@ -49,8 +49,8 @@ trigrams_opened (bad why) = refl
 
 -- the verdict says the same as this
 record Agrees (name : List ℕ) (verdict : Verdict) (opening : Result Told TreeFault) : Type 0 where
-  trigrams : trigrams_told verdict ≡ opened_trigrams opening
-  line : (log_skip : Bool) → line_told log_skip name verdict ≡ opening_line log_skip name opening
+  trigrams : verdict_trigrams verdict ≡ opened_trigrams opening
+  line : (log_skip : Bool) → verdict_line log_skip name verdict ≡ opening_line log_skip name opening
 
 verdict_is : (tree : Snapshot) (name : List ℕ) (verdict : Verdict) → Agrees name verdict (opening_of (item_at tree name)) → IsVerdict tree name verdict
 unfolding file_line
@@ -58,14 +58,14 @@ verdict_is tree name verdict agrees = record { trigrams = agrees.trigrams ∙ sy
 
 -- ---- a file that is not opened
 
-refused_at : (fault : TreeFault) (opening : Result Told TreeFault) (later : Option Told) → fault ≢ tree.Memory → OpensAs (Err fault) opening later → opening ≡ Err fault
+refused_at : (fault : TreeFault) (opening : Result Told TreeFault) (later : Option Told) → fault ≢ tree.Memory → OpensFileAs (Err fault) opening later → opening ≡ Err fault
 refused_at tree.Missing opening later not o = o.0
 refused_at tree.Denied opening later not o = o.0
 refused_at tree.Output opening later not o = o.0
 refused_at tree.Failed opening later not o = o.0
 refused_at tree.Memory opening later not o = absurd (not refl)
 
-pub verdict_refused : (snapshot : Option Snapshot) (name : List ℕ) (fault : TreeFault) (later : Option Told) → fault ≢ tree.Memory → Opens snapshot name (Err fault) later → IsVerdictIn snapshot name (Left (file_fault_of fault))
+pub verdict_refused : (snapshot : Option Snapshot) (name : List ℕ) (fault : TreeFault) (later : Option Told) → fault ≢ tree.Memory → OpensFile snapshot name (Err fault) later → IsVerdictIn snapshot name (Left (file_fault_of fault))
 verdict_refused None name fault later not opens = tt
 verdict_refused (Some tree) name fault later not opens =
     verdict_is tree name (Left (file_fault_of fault)) (subst (Agrees name (Left (file_fault_of fault))) (sym (refused_at fault (opening_of (item_at tree name)) later not opens)) (record { trigrams = refl; line = λ log_skip. refl }))
@@ -73,21 +73,21 @@ verdict_refused (Some tree) name fault later not opens =
 -- ---- a file that is scanned
 
 record Finds (name : List ℕ) (verdict : Verdict) (found : Finding) : Type 0 where
-  trigrams : trigrams_told verdict ≡ finding_trigrams found
-  line : (log_skip : Bool) → line_told log_skip name verdict ≡ finding_line log_skip name found
+  trigrams : verdict_trigrams verdict ≡ finding_trigrams found
+  line : (log_skip : Bool) → verdict_line log_skip name verdict ≡ finding_line log_skip name found
 
 opened_at : (name : List ℕ) (verdict : Verdict) (opening : Result Told TreeFault) (later : Option Told) → OpenedAs opening later → ((told : Told) → later ≡ Some told → Finds name verdict (finding limits told)) → Agrees name verdict opening
 opened_at name verdict (Ok told) later is finds = let f = finds told is in record { trigrams = f.trigrams; line = f.line }
 opened_at name verdict (Err why) later is finds = absurd is
 
-verdict_opened : (snapshot : Option Snapshot) (name : List ℕ) (verdict : Verdict) (later : Option Told) → Opens snapshot name (Ok tt) later → ((told : Told) → open_told snapshot later ≡ Some told → Finds name verdict (finding limits told)) → IsVerdictIn snapshot name verdict
+verdict_opened : (snapshot : Option Snapshot) (name : List ℕ) (verdict : Verdict) (later : Option Told) → OpensFile snapshot name (Ok tt) later → ((told : Told) → open_told snapshot later ≡ Some told → Finds name verdict (finding limits told)) → IsVerdictIn snapshot name verdict
 verdict_opened None name verdict later opens finds = tt
 verdict_opened (Some tree) name verdict later opens finds = verdict_is tree name verdict (opened_at name verdict (opening_of (item_at tree name)) later opens finds)
 
 right_at : (read : Option Told) (told : Told) (scan : Result Gathered ScanFault) → read ≡ Some told → IsRightGathering limits read scan → SaysInAnyOrder scan (finding limits told)
 right_at read told scan is right = rw is at right
 
-module _ (snapshot : Option Snapshot) (name : List ℕ) (later : Option Told) (opens : Opens snapshot name (Ok tt) later) where
+module _ (snapshot : Option Snapshot) (name : List ℕ) (later : Option Told) (opens : OpensFile snapshot name (Ok tt) later) where
   pub verdict_text : (trigrams : Bor (List ℕ)) (bytes : ℕ) → IsRightGathering limits (open_told snapshot later) (Ok (answer.Text trigrams bytes)) → IsVerdictIn snapshot name (Text trigrams)
   verdict_text trigrams bytes right = verdict_opened snapshot name (Text trigrams) later opens (λ told is.
       subst (Finds name (Text trigrams)) (right_at (open_told snapshot later) told (Ok (answer.Text trigrams bytes)) is right) (record { trigrams = refl; line = λ log_skip. refl }))

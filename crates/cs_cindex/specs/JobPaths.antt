@@ -6,7 +6,7 @@ use Rattle.cs_words.specs.declared.jobs.IndexJob.{IndexJob}
 use Rattle.cs_words.specs.declared.fault.CindexFault.{CindexFault}
 use Rattle.cs_words.specs.declared.fault.CindexFault.TheVariants.{BadPath, Memory}
 use Rattle.cs_history.specs.Jobs.{given_texts}
-use Rattle.cs_cindex.specs.Refusals.{first_bad}
+use Rattle.cs_history.specs.Replies.{first_bad}
 
 -- ---- the paths
 

@@ -1,6 +1,5 @@
 -- How an index is joined with that of a walk.
-use Rattle.std.specs.Prelude.{◌≡◌, ℕ, true, false, List, Some, Result}
-use Rattle.cs_tree.specs.Folders.{are_distinct}
+use Rattle.std.specs.Prelude.{◌≡◌, ℕ, false, List, Some, Result}
 use Rattle.std.specs.Result.{IsOkAnd}
 use Rattle.cs_index.specs.OpenedParts.{Parts, are_whole}
 use Rattle.cs_index.specs.declared.fault.IndexFault.{IndexFault}
@@ -10,14 +9,9 @@ use Rattle.cs_words.specs.declared.fault.CindexFault.{CindexFault}
 use Rattle.cs_words.specs.declared.fault.CindexFault.TheVariants.{BadIndex, Unsorted, TooLarge, Memory}
 use Rattle.cs_merge.specs.declared.fault.MergeFault.{MergeFault}
 use Rattle.cs_merge.specs.declared.fault.MergeFault.TheVariants as merge
-use Rattle.cs_merge.specs.Joinable.{are_covered, joined_index, AreJoinable}
+use Rattle.cs_merge.specs.Joinable.{joined_index, AreJoinable}
+use Rattle.cs_history.specs.WellFormed.{IsJoinable}
 use Rattle.cs_history.specs.Replies.{IsLong}
-
--- an index that can be joined to another one: its names are distinct and lie under paths, and each list is whole
-pub record IsSound (parts : Parts) : Type 0 where
-  pub distinct : are_distinct parts.names ≡ true
-  pub covered : are_covered parts ≡ true
-  pub whole : are_whole parts ≡ true
 
 -- what opens is an index that can be joined to the old one, and these bytes are that of both
 abbrev pub JoinsTo : Parts → Result Parts IndexFault → List ℕ → Type 0
@@ -26,11 +20,11 @@ JoinsTo old opening bytes =
 
 -- why an index is not joined with that of a walk
 abbrev pub IsJoinRefusal : Parts → Result Parts IndexFault → CindexFault → Type 0
-IsJoinRefusal old newer (BadIndex fault) = IsOkAnd newer IsSound → (fault ≡ BadList) × (are_whole old ≡ false)
+IsJoinRefusal old newer (BadIndex fault) = IsOkAnd newer IsJoinable → (fault ≡ BadList) × (are_whole old ≡ false)
 IsJoinRefusal old newer TooLarge =
     IsOkAnd newer (λ newer. AreJoinable old newer × IsLong (Some (joined_index old newer)))
 IsJoinRefusal old newer Memory = Unit {0}
-IsJoinRefusal old newer Unsorted = IsOkAnd newer IsSound → ⊥
+IsJoinRefusal old newer Unsorted = IsOkAnd newer IsJoinable → ⊥
 IsJoinRefusal old newer _ = ⊥
 
 -- a fault of joining as that of a job

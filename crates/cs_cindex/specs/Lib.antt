@@ -2,6 +2,8 @@
 pub use Rattle.cs_index.specs.Stored
 pub use Rattle.cs_history.specs.Headline
 pub use Rattle.cs_history.specs.Jobs
+pub use Rattle.cs_history.specs.JobKinds
+pub use Rattle.cs_history.specs.Replies
 pub mod Bytes
 pub mod Notices
 pub mod Next

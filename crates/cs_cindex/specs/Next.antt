@@ -1,6 +1,6 @@
 -- What a job walks, and the index that comes of it, whatever bytes it goes on from.
 -- docs/PROMISES.md, "Jobs of cindex".
-use Rattle.std.specs.Prelude.{◌≡◌, ◌<◌, ◌^◌, ℕ, true, if◌then◌else◌, List, length, Option, Some, None, Result, Ok, Err}
+use Rattle.std.specs.Prelude.{◌≡◌, ℕ, true, if◌then◌else◌, List, Option, Some, None, Result, Ok, Err}
 use Rattle.std.specs.Result.{IsOkAnd}
 use Rattle.cs_history.specs.JobIndex.{tree_index}
 use Rattle.cs_tree.specs.Folders.{Tells}
@@ -32,8 +32,8 @@ base_paths None = set.empty
 base_paths (Some bytes) = opening_paths (opening bytes)
 
 -- what a job walks that goes on from an index: its own paths, or where it has none those of the index
-abbrev pub paths_walked : IndexJob → Option (List ℕ) → Paths
-paths_walked job old = least (if has_no_path job then base_paths old else given_paths job)
+abbrev pub paths_of_job : IndexJob → Option (List ℕ) → Paths
+paths_of_job job old = least (if has_no_path job then base_paths old else given_paths job)
 
 -- ---- the index after it
 
@@ -70,25 +70,25 @@ IsTreeTooLarge tree paths = Tells tree → IsLong (Some (tree_index (snapshot_to
 
 -- A job's own index is one of the paths that it walks, and 32 bits count its bytes. Where the tree tells what
 -- stands in it, it is that of what the job finds.
-pub record IsOwn (job : IndexJob) (tree : Option Snapshot) (old : Option (List ℕ))
+pub record IsOwnIndex (job : IndexJob) (tree : Option Snapshot) (old : Option (List ℕ))
     (own : List ℕ) : Type 0 where
-  pub index : IsIndex (paths_walked job old) own
-  pub told : IsIndexOf tree (paths_walked job old) own
-  pub short : length own < 2 ^ 32
+  pub index : IsIndex (paths_of_job job old) own
+  pub told : IsIndexOf tree (paths_of_job job old) own
+  pub short : IsShort (Some own)
 
 -- Why a job that walks is too large: 32 bits do not count the bytes of its own index; or it has one, every list
 -- that it goes on from is whole, and they do not count those of the index after it.
 pub data IsNextLong (job : IndexJob) (tree : Option Snapshot) (old : Option (List ℕ)) : Type 0 where
-  alone : IsTreeTooLarge tree (paths_walked job old) → IsNextLong job tree old
+  alone : IsTreeTooLarge tree (paths_of_job job old) → IsNextLong job tree old
   joined :
-      (own : List ℕ) → IsOwn job tree old own → HasWholeLists old → IsLong (next_index old own) →
+      (own : List ℕ) → IsOwnIndex job tree old own → HasWholeLists old → IsLong (next_index old own) →
       IsNextLong job tree old
 
 -- What a job that walks and is done leaves: its own index, joined with the one that it goes on from. No list of
 -- that is damaged, and 32 bits count the bytes of the new one.
 pub record IsNext (job : IndexJob) (tree : Option Snapshot) (old new : Option (List ℕ)) : Type 0 where
   pub own : List ℕ
-  pub own_is : IsOwn job tree old own
+  pub own_is : IsOwnIndex job tree old own
   pub whole : HasWholeLists old
   pub is : new ≡ next_index old own
   pub short : IsShort new

@@ -1,6 +1,6 @@
 -- What is printed while the files of a tree are indexed: a line for each path that a walk leaves, in the
 -- order of the paths, and then one for each file that is left out, in the order of the names.
--- docs/PROMISES.md, "What is printed"; docs/FORMAT.md, "Which files are text".
+-- docs/PROMISES.md, "Jobs of cindex"; docs/FORMAT.md, "Which files are text".
 use Rattle.std.specs.Prelude.{◌≡◌, ℕ, Bool, true, if◌then◌else◌, List, ◌++◌, map, filter_map, take, length, Option, Some, None, Result, Ok, Err}
 use Rattle.cs_words.specs.SkipLines.{skip_line_of}
 use Rattle.cs_tree.specs.TreeAnswers.{opening_of}
@@ -13,7 +13,7 @@ use Rattle.std.specs.List.{AllByRecursion, flat_map}
 use Rattle.cs_tree.specs.Snapshot.{Snapshot, item_at}
 use Rattle.cs_tree.specs.Told.{Told, Grows, Taken}
 use Rattle.cs_tree.specs.Taken.{TakesFront}
-use Rattle.cs_tree.specs.Walks.{Left, Finds}
+use Rattle.cs_tree.specs.Walks.{LeftPath, Finds}
 use Rattle.cs_tree.specs.declared.fault.TreeFault.{TreeFault}
 use Rattle.cs_tree.specs.declared.walking.WalkFault.{WalkFault}
 use Rattle.cs_tree.specs.declared.walking.WalkFault.TheVariants as walk
@@ -44,7 +44,7 @@ walk_fault (walk.Tree fault) = file_fault_of fault
 walk_fault walk.Unnamed = Unnamed
 walk_fault walk.TooLong = PathTooLong
 
-abbrev pub left_line : Left → Line
+abbrev pub left_line : LeftPath → Line
 left_line left = faulted left.0 (walk_fault left.1)
 
 -- ---- of files
@@ -66,13 +66,13 @@ file_line log_skip tree name = opening_line log_skip name (opening_of (item_at t
 -- ---- of a job
 
 -- for the names that a walk finds, and the paths that it leaves
-abbrev pub lines_for : Bool → Snapshot → List (List ℕ) → List Left → List Line
+abbrev pub lines_for : Bool → Snapshot → List (List ℕ) → List LeftPath → List Line
 lines_for log_skip tree names faults = map left_line faults ++ filter_map (file_line log_skip tree) names
 
 -- These are the lines of a job that walks from the paths.
 pub record AreLines (log_skip : Bool) (tree : Snapshot) (paths : Paths) (lines : List Line) : Type 0 where
   pub names : List (List ℕ)
-  pub faults : List Left
+  pub faults : List LeftPath
   pub finds : Finds tree paths names faults
   pub are : lines ≡ lines_for log_skip tree names faults
 
@@ -97,20 +97,20 @@ abbrev pub IsLineCounted : ℕ → ℕ → Line → Type 0
 IsLineCounted old new (faulted name why) = IsCounted why old new
 IsLineCounted old new (skipped name reason) = Unit {0}
 
-abbrev pub AreCounted : List Line → ℕ → ℕ → Type 0
-AreCounted lines old new = AllByRecursion (IsLineCounted old new) lines
+abbrev pub AreLinesCounted : List Line → ℕ → ℕ → Type 0
+AreLinesCounted lines old new = AllByRecursion (IsLineCounted old new) lines
 
 -- The lines that are due were printed and nothing else, and the failures that they tell of were counted.
-pub record Prints (Due : List Line → Type 0) (failed failed' : ℕ) (taken taken' : Option Taken) : Type 0 where
+pub record PrintsLines (Due : List Line → Type 0) (failed failed' : ℕ) (taken taken' : Option Taken) : Type 0 where
   pub lines : List Line
   pub due : Due lines
-  pub counted : AreCounted lines failed failed'
+  pub counted : AreLinesCounted lines failed failed'
   pub grows : Grows taken taken' (text_of lines)
 
 -- The same, but of the last of these lines maybe not all bytes.
-pub record PrintsFront (Due : List Line → Type 0) (failed failed' : ℕ)
+pub record PrintsLinesFront (Due : List Line → Type 0) (failed failed' : ℕ)
     (taken taken' : Option Taken) : Type 0 where
   pub lines : List Line
   pub due : Due lines
-  pub counted : AreCounted lines failed failed'
+  pub counted : AreLinesCounted lines failed failed'
   pub front : TakesFront (text_of lines) taken taken'

@@ -1,4 +1,4 @@
--- What a job prints. docs/PROMISES.md, "What is printed".
+-- What a job prints. docs/PROMISES.md, "Jobs of cindex".
 use Rattle.std.specs.Prelude.{◌≤◌, ◌⊎◌, ℕ, length, List, [], ◌++◌, codes, Option, Some, None, Result, Ok, Err, Bool, true, false}
 use Rattle.std.specs.List.{flat_map}
 use Rattle.cs_tree.specs.Snapshot.{Snapshot}
@@ -18,9 +18,10 @@ use Rattle.cs_words.specs.declared.jobs.Reply.TheVariants.{Done, Refused}
 use Rattle.cs_words.specs.declared.fault.CindexFault.{CindexFault}
 use Rattle.cs_words.specs.declared.fault.CindexFault.TheVariants.{NoIndex, BadIndex, Unsorted, TooLarge, BadPath, Write, Memory}
 use Rattle.cs_tree.specs.Taken.{TakesFront}
-use Rattle.cs_cindex.specs.Notices.{AreLinesIn, BeginLinesIn, Prints, PrintsFront}
-use Rattle.cs_cindex.specs.Next.{paths_walked}
-use Rattle.cs_cindex.specs.Refusals.{JobKind, lists, clears, walks, base, early_walk_fault}
+use Rattle.cs_cindex.specs.Notices.{AreLinesIn, BeginLinesIn, PrintsLines, PrintsLinesFront}
+use Rattle.cs_cindex.specs.Next.{paths_of_job}
+use Rattle.cs_history.specs.JobKinds.{JobKind, lists, clears, walks}
+use Rattle.cs_cindex.specs.Refusals.{base, early_walk_fault}
 
 -- ---- standard output
 
@@ -53,13 +54,13 @@ TakesBy (Refused fault) bytes taken later = TakesFront bytes taken later
 abbrev pub WalkPrints : IndexJob → Option Snapshot → Option (List ℕ) → ℕ → ℕ → Option Taken → Option Taken →
     Type 0
 WalkPrints job tree old failed failed_then err later =
-    Prints (AreLinesIn job.log_skip tree (paths_walked job old)) failed failed_then err later
+    PrintsLines (AreLinesIn job.log_skip tree (paths_of_job job old)) failed failed_then err later
 
 -- a front of them
 abbrev pub WalkPrintsFront : IndexJob → Option Snapshot → Option (List ℕ) → ℕ → ℕ → Option Taken →
     Option Taken → Type 0
 WalkPrintsFront job tree old failed failed_then err later =
-    PrintsFront (BeginLinesIn job.log_skip tree (paths_walked job old)) failed failed_then err later
+    PrintsLinesFront (BeginLinesIn job.log_skip tree (paths_of_job job old)) failed failed_then err later
 
 -- More texts are found than an index may name: then it would be too large in any case.
 abbrev pub AreTooMany : Option Snapshot → Paths → Type 0
@@ -82,7 +83,7 @@ abbrev pub WalkPrintsSome : Option CindexFault → CindexFault → IndexJob → 
     Option (List ℕ) → ℕ → ℕ → Option Taken → Option Taken → Type 0
 WalkPrintsSome None fault job tree old failed failed_then err later =
     WalkPrints job tree old failed failed_then err later
-    ⊎ (IsMidway fault tree (paths_walked job old) × WalkPrintsFront job tree old failed failed_then err later)
+    ⊎ (IsMidway fault tree (paths_of_job job old) × WalkPrintsFront job tree old failed failed_then err later)
 WalkPrintsSome (Some early) fault job tree old failed failed_then err later = Grows err later []
 
 -- what one has printed, by its reply

@@ -1,11 +1,11 @@
 -- Why a job is refused, whatever bytes the old index has.
--- docs/PROMISES.md, "Refusals of cindex"; the comment of the command cindex.
-use Rattle.std.specs.Prelude.{◌≡◌, ◌⊎◌, ℕ, false, not, ◌&&◌, if◌then◌else◌, List, position, Option, Some, None, option_map, is_some, Result, Ok, Err, string_bytes}
+-- docs/PROMISES.md, "Jobs of cindex"; the comment of Go's command cindex.
+use Rattle.std.specs.Prelude.{◌≡◌, ◌⊎◌, ℕ, false, not, if◌then◌else◌, List, Option, Some, None, option_map, Result, Ok, Err, string_bytes}
 use Rattle.cs_tree.specs.Folders.{are_distinct}
 use Rattle.std.specs.List.{list_all}
 use Rattle.std.specs.Option.{option_or}
 use Rattle.std.specs.Result.{IsOkAnd}
-use Rattle.cs_tree.specs.Cleaning.{clean_fault, is_settled}
+use Rattle.cs_tree.specs.Cleaning.{is_settled}
 use Rattle.cs_tree.specs.Snapshot.{Snapshot}
 use Rattle.cs_index.specs.Opening.{opening}
 use Rattle.cs_index.specs.OpenedParts.{Parts, are_whole}
@@ -18,30 +18,15 @@ use Rattle.cs_words.specs.declared.jobs.Reply.TheVariants.{Done, Refused}
 use Rattle.cs_words.specs.declared.fault.CindexFault.{CindexFault}
 use Rattle.cs_words.specs.declared.fault.CindexFault.TheVariants.{NoIndex, BadIndex, Unsorted, TooLarge, BadPath, Write, Memory}
 use Rattle.cs_history.specs.Jobs.{given_texts, has_no_path}
-use Rattle.cs_cindex.specs.Next.{IsNextLong, IsOwn}
-
--- ---- what a job is
-
-pub data JobKind : Type 0 where
-  -- `-list`, whatever stands beside it
-  lists : JobKind
-  -- `-reset` without paths
-  clears : JobKind
-  -- any other job
-  walks : JobKind
-
-abbrev pub job_kind : IndexJob → JobKind
-job_kind job = if job.list then lists else (if job.reset && has_no_path job then clears else walks)
+use Rattle.cs_history.specs.JobKinds.{JobKind, lists, clears, walks, job_kind}
+use Rattle.cs_history.specs.Replies.{first_bad}
+use Rattle.cs_cindex.specs.Next.{IsNextLong, IsOwnIndex}
 
 -- the index that a job that walks goes on from: none with `-reset`
 abbrev pub base : IndexJob → Option (List ℕ) → Option (List ℕ)
 base job old = if job.reset then None else old
 
 -- ---- before anything is printed
-
--- the place of the first text that cleaning refuses
-abbrev pub first_bad : List ℕ → List (List ℕ) → Option ℕ
-first_bad folder given_texts = position (λ text. is_some (clean_fault folder text)) given_texts
 
 -- what a test says of an index that opens; one that does not open is bad
 abbrev pub opening_fault : (Parts → Option CindexFault) → Result Parts IndexFault → Option CindexFault
@@ -99,7 +84,7 @@ pub record IsDamageFault (job : IndexJob) (tree : Option Snapshot) (old : Option
   pub is : fault ≡ BadList
   pub damaged : IsDamaged old
   pub own : List ℕ
-  pub own_is : IsOwn job tree old own
+  pub own_is : IsOwnIndex job tree old own
 
 -- A job that walks is also refused for a damaged list of the index that it goes on from, or for size.
 abbrev pub IsWalkFault : IndexJob → Option Snapshot → Option (List ℕ) → CindexFault → Type 0

@@ -9,13 +9,14 @@ use Rattle.cs_words.specs.declared.jobs.IndexJob.{IndexJob}
 use Rattle.cs_words.specs.declared.jobs.Reply.{Reply}
 use Rattle.cs_words.specs.declared.jobs.Reply.TheVariants.{Done, Refused}
 use Rattle.cs_cindex.specs.Next.{IsNext}
-use Rattle.cs_cindex.specs.Refusals.{HasCause, job_kind, base}
+use Rattle.cs_cindex.specs.Refusals.{HasCause, base}
 use Rattle.cs_cindex.specs.Output.{TakesBy, JobPrintsBy, list_lines, has_failed_write}
 use Rattle.cs_history.specs.History.{History}
 use Rattle.cs_history.specs.Jobs.{has_no_path}
 use Rattle.cs_history.specs.Premises.{snapshot_told, Premises}
 use Rattle.cs_history.specs.Headline.{Indexes}
-use Rattle.cs_history.specs.Replies.{Walks, AreRightReplies}
+use Rattle.cs_history.specs.JobKinds.{job_kind, Walks}
+use Rattle.cs_history.specs.Replies.{AreRightReplies}
 
 -- ---- the index
 

@@ -7,28 +7,28 @@ use Rattle.cs_index.specs.Image.{Entry}
 use Rattle.cs_index.specs.Built.{is_storable}
 use Rattle.cs_words.specs.declared.fault.FileFault.TheVariants.{Unnamed}
 use Rattle.cs_history.specs.FileTrigrams.{file_trigrams}
-use Rattle.cs_cindex.specs.declared.reading.Verdict.{Verdict}
-use Rattle.cs_cindex.specs.declared.reading.Verdict.TheVariants.{Text, Skipped, Left}
+use Rattle.cs_cindex.specs.declared.verdicts.Verdict.{Verdict}
+use Rattle.cs_cindex.specs.declared.verdicts.Verdict.TheVariants.{Text, Skipped, Left}
 use Rattle.cs_tree.specs.Told.{Taken}
-use Rattle.cs_tree.specs.TakenAll.{TakesAll}
+use Rattle.cs_tree.specs.TakenAll.{TakesBytes}
 use Rattle.cs_cindex.specs.Notices.{Line, faulted, skipped, file_line, text_of, IsCounted}
 
 -- ---- what it says
 
-abbrev pub trigrams_told : Verdict → Option (List ℕ)
-trigrams_told (Text trigrams) = Some (set_of_numbers trigrams.now)
-trigrams_told (Skipped reason) = None
-trigrams_told (Left why) = None
+abbrev pub verdict_trigrams : Verdict → Option (List ℕ)
+verdict_trigrams (Text trigrams) = Some (set_of_numbers trigrams.now)
+verdict_trigrams (Skipped reason) = None
+verdict_trigrams (Left why) = None
 
-abbrev pub line_told : Bool → List ℕ → Verdict → Option Line
-line_told log_skip name (Text trigrams) = None
-line_told log_skip name (Skipped reason) = if log_skip then Some (skipped name reason) else None
-line_told log_skip name (Left why) = Some (faulted name why)
+abbrev pub verdict_line : Bool → List ℕ → Verdict → Option Line
+verdict_line log_skip name (Text trigrams) = None
+verdict_line log_skip name (Skipped reason) = if log_skip then Some (skipped name reason) else None
+verdict_line log_skip name (Left why) = Some (faulted name why)
 
 -- It says what stands at the name.
 pub record IsVerdict (tree : Snapshot) (name : List ℕ) (verdict : Verdict) : Type 0 where
-  pub trigrams : trigrams_told verdict ≡ file_trigrams tree name
-  pub line : (log_skip : Bool) → line_told log_skip name verdict ≡ file_line log_skip tree name
+  pub trigrams : verdict_trigrams verdict ≡ file_trigrams tree name
+  pub line : (log_skip : Bool) → verdict_line log_skip name verdict ≡ file_line log_skip tree name
 
 abbrev pub IsVerdictIn : Option Snapshot → List ℕ → Verdict → Type 0
 IsVerdictIn None name verdict = Unit {0}
@@ -47,10 +47,6 @@ IsVerdictCounted (Skipped reason) old new = Unit {0}
 IsVerdictCounted (Left why) old new = IsCounted why old new
 
 -- ---- what is done of it; a text is left out where no index can hold its name
-
-abbrev pub one_line : Option Line → List Line
-one_line None = []
-one_line (Some line) = line ∷ []
 
 abbrev pub added_line : List ℕ → Option Line
 added_line name = if is_storable name then None else Some (faulted name Unnamed)
@@ -72,4 +68,4 @@ noted_entries name (Left why) = []
 
 -- The lines were printed, and where the call was refused, a front of their bytes.
 abbrev pub PrintsAll : {A E : Type 0} → List Line → Option Taken → Option Taken → Result A E → Type 0
-PrintsAll lines taken later result = TakesAll (text_of lines) taken later result
+PrintsAll lines taken later result = TakesBytes (text_of lines) taken later result

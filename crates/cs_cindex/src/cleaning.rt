@@ -1,9 +1,10 @@
 // The paths of a job, cleaned.
 ghost use Rattle.std.specs.Prelude.{◌≡◌, ◌∷◌, [], true, map, string_bytes, IfOk, MatchResult, None};
-ghost use Rattle.cs_tree.specs.Cover.{begins, slash};
+ghost use Rattle.std.specs.Path.{slash};
+ghost use Rattle.cs_tree.specs.Cover.{begins};
 ghost use Rattle.cs_tree.specs.Clean.{clean_path};
 ghost use Rattle.cs_tree.specs.Cleaning.{clean_fault};
-ghost use Rattle.cs_cindex.specs.Refusals.{first_bad};
+ghost use Rattle.cs_history.specs.Replies.{first_bad};
 ghost use Rattle.cs_cindex.specs.JobPaths.{IsCleanFault, AreCleanFault, cleaned_texts};
 
 use cs_tree::{PathFault, clean};

@@ -1,20 +1,21 @@
 // The files of a tree, one after the other, put into an index.
-ghost use Rattle.std.specs.Prelude.{◌≡◌, ◌<◌, ◌≤◌, ◌^◌, ◌⊎◌, ◌++◌, true, [], map, string_bytes, length, Some, IfOk, IfErr, OnOk, OnErr};
+ghost use Rattle.std.specs.Prelude.{◌≡◌, ◌≤◌, ◌⊎◌, ◌++◌, true, [], map, string_bytes, length, Some, IfOk, IfErr, OnOk, OnErr, option_to_list};
 ghost use Rattle.cs_tree.specs.NamesAscending.{are_ascending};
 ghost use Rattle.cs_tree.specs.FailureCount.{count_after};
 ghost use Rattle.cs_trigram.specs.Trigram.{set_of_numbers};
 ghost use Rattle.cs_trigram.specs.Scans.{AreTrigramsOnce};
 ghost use Rattle.cs_index.specs.Built.{are_paths, is_above, IsBuilt, most_names};
 ghost use Rattle.cs_index.specs.Image.{image_of, names_of};
+ghost use Rattle.cs_history.specs.Premises.{IsShort};
 ghost use Rattle.cs_history.specs.Replies.{IsLong};
 ghost use Rattle.cs_cindex.specs.Output.{is_failed_write};
-ghost use Rattle.cs_cindex.specs.Notices.{Prints, PrintsFront};
+ghost use Rattle.cs_cindex.specs.Notices.{PrintsLines, PrintsLinesFront};
 ghost use Rattle.cs_cindex.specs.Refusals.{IsOutputFault};
-ghost use Rattle.cs_cindex.specs.Verdicts.{HasTrigramsOnce, added_entries, added_line, noted_entries, noted_line, one_line, PrintsAll};
+ghost use Rattle.cs_cindex.specs.Verdicts.{HasTrigramsOnce, added_entries, added_line, noted_entries, noted_line, PrintsAll};
 ghost use Rattle.cs_cindex.specs.Files.{AreTextsIn, AreTooManyIn, AreFileLinesIn, BeginFileLinesIn, HaveNamesOf, IsIndexingFault};
 
 use crate::printing::{print_fault, print_skipped};
-use crate::reading::{Verdict, read_file};
+use crate::verdicts::{Verdict, read_file};
 use cs_index::{BuildFault, Builder};
 use cs_tree::{Sink, Tree};
 use cs_trigram::{Reason, Scanner};
@@ -67,10 +68,10 @@ impl Indexer {
             (T.snapshot tree.old) (map string_bytes names.now) self.new.builder.entries) }
         ensures names { OnOk result
             (HaveNamesOf (map string_bytes names.now) self.new.builder.entries) }
-        ensures prints { OnOk result (Prints
+        ensures prints { OnOk result (PrintsLines
             (AreFileLinesIn self.old.log_skip (T.snapshot tree.old) (map string_bytes names.now))
             (T.failed tree.old) (T.failed tree.new) (E.taken err.old) (E.taken err.new)) }
-        ensures front { OnErr result (PrintsFront
+        ensures front { OnErr result (PrintsLinesFront
             (BeginFileLinesIn self.old.log_skip (T.snapshot tree.old) (map string_bytes names.now))
             (T.failed tree.old) (T.failed tree.new) (E.taken err.old) (E.taken err.new)) }
         ensures too_large { result ≡ Err CindexFault.TooLarge →
@@ -99,7 +100,8 @@ impl Indexer {
         requires above { is_above (names_of self.old.builder.entries) name.now ≡ true }
         ensures entries { OnOk result (self.new.builder.entries ≡
             self.old.builder.entries ++ noted_entries name.now verdict.entry) }
-        ensures prints { PrintsAll (one_line (noted_line self.old.log_skip name.now verdict.entry))
+        ensures prints { PrintsAll
+            (option_to_list (noted_line self.old.log_skip name.now verdict.entry))
             (E.taken err.old) (E.taken err.new) result }
         ensures too_large { result ≡ Err CindexFault.TooLarge →
             most_names ≤ length self.old.builder.entries }
@@ -123,7 +125,7 @@ impl Indexer {
         err: &mut E,
     ) -> Result<(), CindexFault>
         ensures prints { PrintsAll
-            (one_line (noted_line self.now.log_skip name.now (Verdict.Skipped reason)))
+            (option_to_list (noted_line self.now.log_skip name.now (Verdict.Skipped reason)))
             (E.taken err.old) (E.taken err.new) result }
         ensures writes { E.failed err.new ≡ count_after is_failed_write result (E.failed err.old) }
         ensures only { IfErr result IsOutputFault }
@@ -140,7 +142,7 @@ impl Indexer {
         requires above { is_above (names_of self.old.builder.entries) name.now ≡ true }
         ensures entries { OnOk result (self.new.builder.entries ≡
             self.old.builder.entries ++ added_entries name.now (set_of_numbers trigrams.now)) }
-        ensures prints { PrintsAll (one_line (added_line name.now))
+        ensures prints { PrintsAll (option_to_list (added_line name.now))
             (E.taken err.old) (E.taken err.new) result }
         ensures too_large { result ≡ Err CindexFault.TooLarge →
             most_names ≤ length self.old.builder.entries }
@@ -163,7 +165,7 @@ impl Indexer {
         ensures is { IfOk result
             (λ index. index.items ≡ image_of self.builder.paths self.builder.entries) }
         ensures built { IsBuilt self.builder }
-        ensures short { IfOk result (λ index. length index.items < 2 ^ 32) }
+        ensures short { IfOk result (λ index. IsShort (Some index.items)) }
         ensures too_large { result ≡ Err CindexFault.TooLarge →
             IsLong (Some (image_of self.builder.paths self.builder.entries)) }
         ensures only { IfErr result

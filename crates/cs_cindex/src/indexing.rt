@@ -1,12 +1,13 @@
 // The index of the files below some paths.
-ghost use Rattle.std.specs.Prelude.{◌≡◌, ◌<◌, ◌^◌, ◌⊎◌, true, map, string_bytes, length, IfOk, IfErr};
+ghost use Rattle.std.specs.Prelude.{◌≡◌, ◌⊎◌, true, map, string_bytes, IfOk, IfErr, Some};
 ghost use Rattle.cs_tree.specs.FailureCount.{count_after};
 ghost use Rattle.cs_tree.specs.PathSet as set;
 ghost use Rattle.cs_index.specs.Built.{are_paths};
 ghost use Rattle.cs_cindex.specs.Output.{AreTooMany, is_failed_write};
+ghost use Rattle.cs_history.specs.Premises.{IsShort};
 ghost use Rattle.cs_cindex.specs.Files.{IsIndexingFault};
 ghost use Rattle.cs_cindex.specs.Next.{IsIndex, IsIndexOf, IsTreeTooLarge};
-ghost use Rattle.cs_cindex.specs.Notices.{AreLinesIn, BeginLinesIn, Prints, PrintsFront};
+ghost use Rattle.cs_cindex.specs.Notices.{AreLinesIn, BeginLinesIn, PrintsLines, PrintsLinesFront};
 
 use crate::indexer::Indexer;
 use crate::printing::print_left;
@@ -37,21 +38,21 @@ pub(crate) fn index_paths<T: Tree, E: Sink>(
     requires { are_paths (map string_bytes paths.now) ≡ true }
     ensures image { IfOk result (λ index.
         IsIndexOf (T.snapshot tree.old) (set.from_list (map string_bytes paths.now)) index.items) }
-    ensures short { IfOk result (λ index. length index.items < 2 ^ 32) }
+    ensures short { IfOk result (λ index. IsShort (Some index.items)) }
     ensures well_formed { IfOk result
         (λ index. IsIndex (set.from_list (map string_bytes paths.now)) index.items) }
-    ensures prints { IfOk result (λ _. Prints
+    ensures prints { IfOk result (λ _. PrintsLines
         (AreLinesIn log_skip (T.snapshot tree.old) (set.from_list (map string_bytes paths.now)))
         (T.failed tree.old) (T.failed tree.new) (E.taken err.old) (E.taken err.new)) }
     ensures too_large { result ≡ Err CindexFault.TooLarge →
         IsTreeTooLarge (T.snapshot tree.old) (set.from_list (map string_bytes paths.now)) }
     ensures whole { result ≡ Err CindexFault.TooLarge →
         AreTooMany (T.snapshot tree.old) (set.from_list (map string_bytes paths.now)) ⊎
-        Prints
+        PrintsLines
         (AreLinesIn log_skip (T.snapshot tree.old) (set.from_list (map string_bytes paths.now)))
         (T.failed tree.old) (T.failed tree.new) (E.taken err.old) (E.taken err.new) }
     ensures only { IfErr result IsIndexingFault }
-    ensures front { IfErr result (λ _. PrintsFront
+    ensures front { IfErr result (λ _. PrintsLinesFront
         (BeginLinesIn log_skip (T.snapshot tree.old) (set.from_list (map string_bytes paths.now)))
         (T.failed tree.old) (T.failed tree.new) (E.taken err.old) (E.taken err.new)) }
     ensures writes { E.failed err.new ≡ count_after is_failed_write result (E.failed err.old) }

@@ -13,7 +13,7 @@ mod listing;
 mod old;
 mod outcome;
 mod printing;
-mod reading;
+mod verdicts;
 mod walked;
 
 pub use cindexing::cindex;

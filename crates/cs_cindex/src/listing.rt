@@ -1,7 +1,7 @@
 // The paths of an index, on lines.
 ghost use Rattle.std.specs.Prelude.{◌≡◌, ◌++◌, ℕ, List, Some, codes, true, IfErr};
 ghost use Rattle.cs_tree.specs.FailureCount.{count_after};
-ghost use Rattle.cs_tree.specs.TakenAll.{TakesAll};
+ghost use Rattle.cs_tree.specs.TakenAll.{TakesBytes};
 ghost use Rattle.cs_index.specs.Stored.{OpensAs};
 ghost use Rattle.cs_words.specs.declared.jobs.IndexJob.{IndexJob as IndexJob'};
 ghost use Rattle.std.specs.Option.{option_copied};
@@ -65,7 +65,7 @@ fn print_opened<O: Sink>(
     ensures refusal { (bytes : List ℕ) → OpensAs bytes opened →
         AnswersFor result (list_fault (Some bytes)) IsOutputFault }
     ensures out { (bytes : List ℕ) → OpensAs bytes opened →
-        TakesAll (index_lines (Some bytes)) (O.taken out.old) (O.taken out.new) result }
+        TakesBytes (index_lines (Some bytes)) (O.taken out.old) (O.taken out.new) result }
     ensures writes { O.failed out.new ≡ count_after is_failed_write result (O.failed out.old) }
 {
     let index = opened?;
@@ -75,7 +75,7 @@ fn print_opened<O: Sink>(
 /// Prints each path of the index on a line.
 pub(crate) fn list_paths<O: Sink>(old: Option<&[u8]>, out: &mut O) -> Result<(), CindexFault>
     ensures refusal { AnswersFor result (list_fault (option_copied old.entry)) IsOutputFault }
-    ensures out { TakesAll (index_lines (option_copied old.entry))
+    ensures out { TakesBytes (index_lines (option_copied old.entry))
         (O.taken out.old) (O.taken out.new) result }
     ensures writes { O.failed out.new ≡ count_after is_failed_write result (O.failed out.old) }
 {
@@ -89,7 +89,7 @@ pub(crate) fn list_paths<O: Sink>(old: Option<&[u8]>, out: &mut O) -> Result<(),
 /// Prints each path on a line.
 fn print_paths<O: Sink>(paths: Texts<'_>, out: &mut O) -> Result<(), CindexFault>
     ensures refusal { IfErr result IsOutputFault }
-    ensures out { TakesAll (path_lines paths.entry) (O.taken out.old) (O.taken out.new) result }
+    ensures out { TakesBytes (path_lines paths.entry) (O.taken out.old) (O.taken out.new) result }
     ensures writes { O.failed out.new ≡ count_after is_failed_write result (O.failed out.old) }
 {
     'paths: for path in paths {
@@ -101,7 +101,7 @@ fn print_paths<O: Sink>(paths: Texts<'_>, out: &mut O) -> Result<(), CindexFault
 /// Prints the path on a line.
 fn print_line<O: Sink>(path: &str, out: &mut O) -> Result<(), CindexFault>
     ensures refusal { IfErr result IsOutputFault }
-    ensures out { TakesAll (path.now ++ codes "\n") (O.taken out.old) (O.taken out.new) result }
+    ensures out { TakesBytes (path.now ++ codes "\n") (O.taken out.old) (O.taken out.new) result }
     ensures writes { O.failed out.new ≡ count_after is_failed_write result (O.failed out.old) }
 {
     write_all(out, path.as_bytes())?;

@@ -1,5 +1,5 @@
 // Jobs that walk.
-ghost use Rattle.std.specs.Prelude.{◌≡◌, ◌<◌, ◌^◌, true, Some, None, map, string_bytes, length, IfOk, IfErr};
+ghost use Rattle.std.specs.Prelude.{◌≡◌, true, Some, None, map, string_bytes, IfOk, IfErr};
 ghost use Rattle.cs_tree.specs.Folders.{are_distinct};
 ghost use Rattle.cs_tree.specs.FailureCount.{count_after};
 ghost use Rattle.std.specs.Option.{option_copied};
@@ -9,6 +9,7 @@ ghost use Rattle.cs_index.specs.Opening.{opening};
 ghost use Rattle.cs_cindex.specs.Joins.{IsJoinRefusal, JoinsTo, refusal_of};
 ghost use Rattle.cs_cindex.specs.Next.{IsNext};
 ghost use Rattle.cs_cindex.specs.Refusals.{IsWalkFault, base_fault, early_walk_fault};
+ghost use Rattle.cs_history.specs.Premises.{IsShort};
 ghost use Rattle.cs_history.specs.Jobs.{HasAbsoluteFolder};
 ghost use Rattle.cs_cindex.specs.Output.{is_failed_write};
 ghost use Rattle.cs_cindex.specs.Outcomes.{AnswersFor, WalkPrintsFor};
@@ -24,7 +25,7 @@ use cs_words::{CindexFault, IndexJob};
 use std::alloc::{AllocError, Global};
 
 /// The index after a job that walks, from the index that it goes on from.
-#[tactic(auto, using(crate::proofs::ToldLemmas::nothing_printed))]
+#[tactic(auto, using(crate::proofs::JobOutputLemmas::nothing_printed))]
 pub(crate) fn walked_index<T: Tree, E: Sink>(
     alloc: Global,
     old: Option<&[u8]>,
@@ -34,7 +35,8 @@ pub(crate) fn walked_index<T: Tree, E: Sink>(
 ) -> Result<Vec<u8>, CindexFault>
     requires { HasAbsoluteFolder job.now }
     ensures next { IfOk result
-        (λ index. IsNext job.now (T.snapshot tree.old) (option_copied old.entry) (Some index.items)) }
+        (λ index. IsNext job.now (T.snapshot tree.old) (option_copied old.entry)
+        (Some index.items)) }
     ensures refusal { AnswersFor result (early_walk_fault job.now (option_copied old.entry))
         (IsWalkFault job.now (T.snapshot tree.old) (option_copied old.entry)) }
     ensures prints { WalkPrintsFor result (early_walk_fault job.now (option_copied old.entry))
@@ -57,7 +59,7 @@ pub(crate) fn walked_index<T: Tree, E: Sink>(
 }
 
 /// The index of what the job finds below its cleaned paths, where there is none to join it to.
-#[tactic(auto, using(crate::proofs::ToldLemmas::nothing_printed))]
+#[tactic(auto, using(crate::proofs::JobOutputLemmas::nothing_printed))]
 fn index_anew<T: Tree, E: Sink>(
     alloc: Global,
     given: &[String],
@@ -85,7 +87,7 @@ fn index_anew<T: Tree, E: Sink>(
 }
 
 /// The old index, joined with what the job finds below its cleaned paths or those of the old index.
-#[tactic(auto, using(crate::proofs::ToldLemmas::nothing_printed))]
+#[tactic(auto, using(crate::proofs::JobOutputLemmas::nothing_printed))]
 fn index_onto<T: Tree, E: Sink>(
     alloc: Global,
     old: &[u8],
@@ -134,7 +136,7 @@ fn paths_to_walk(
 fn join(alloc: Global, old: &Index<'_>, newer: &[u8]) -> Result<Vec<u8>, CindexFault>
     requires { are_distinct old.now.names ≡ true }
     ensures joined { IfOk result (λ index. JoinsTo old.now (opening newer.now) index.items) }
-    ensures short { IfOk result (λ index. length index.items < 2 ^ 32) }
+    ensures short { IfOk result (λ index. IsShort (Some index.items)) }
     ensures fault { IfErr result (IsJoinRefusal old.now (opening newer.now)) }
 {
     let newer = Index::open(newer)?;

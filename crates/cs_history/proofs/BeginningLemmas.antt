@@ -1,4 +1,5 @@
 -- An index that opens, whoever wrote it: what it spells can be held by an index.
+use Rattle.std.specs.Prelude.{bytes_eq}
 use Rattle.std.proofs.Common.{◌≡◌, ℕ, ◌+◌, Bool, true, false, cond, not, ◌||◌, eqb, leb, ltb, List, [], ◌∷◌, length, map, take, drop, refl, sym, ap, subst, ◌∙◌, inl, inr, Some, Result, Ok, Err}
 use Rattle.std.proofs.lemmas.Bool.{cases_Bool, and_parts, or_cases, eqb-true, ltb-true}
 use Rattle.std.specs.List.{AllByRecursion, list_all}
@@ -8,7 +9,7 @@ use Rattle.std.specs.FinMap as map'
 use Rattle.std.specs.FinMap.{find}
 use Rattle.cs_tree.specs.PathSet as set
 use Rattle.cs_tree.specs.NameOrder.{bytes_cmp}
-use Rattle.cs_tree.specs.Cover.{is_covered, same}
+use Rattle.cs_tree.specs.Cover.{is_covered}
 use Rattle.cs_tree.specs.Cleaning.{is_settled}
 use Rattle.cs_tree.proofs.Sets.{tied_is}
 use Rattle.cs_trigram.specs.Trigram.{Ascends, closing_trigram}
@@ -21,8 +22,8 @@ use Rattle.cs_index.specs.declared.fault.IndexFault.{IndexFault}
 use Rattle.cs_index.specs.declared.fault.IndexFault.TheVariants.{BadPaths, BadNames, BadNameIndex, BadListIndex}
 use Rattle.cs_index.proofs.OpenLemmas.{entries_rise}
 use Rattle.cs_index.proofs.OpenedLemmas.{opens_spelled}
-use Rattle.cs_index.proofs.PartsLemmas.{entries_fit}
-use Rattle.cs_index.proofs.TextLemmas.{section_read}
+use Rattle.cs_index.proofs.OpenedPartsLemmas.{entries_fit}
+use Rattle.cs_index.proofs.SectionStringLemmas.{section_read}
 use Rattle.cs_merge.specs.Content.{EachFile, IsContent, LieUnder}
 use Rattle.cs_merge.proofs.HoldingLemmas.{Fits, from_list_all, set_fits, set_ascends, all_files}
 use Rattle.cs_history.specs.WellFormed.{AreClean, IsBeginning}
@@ -79,8 +80,8 @@ module _ (parts : Parts) where
 
   none_counted : (e : ListEntry) → e.count ≡ 0 → whole_ids (ids_read parts e) ≡ []
   none_counted e none =
-      ap (λ count. whole_ids (cond (same (take 3 (drop e.offset parts.postings)) (three_bytes e.trigram)) (read_ids (length parts.names) count 0 (drop (e.offset + 3) parts.postings)) damage)) none
-      ∙ elim (same (take 3 (drop e.offset parts.postings)) (three_bytes e.trigram)) as (λ b. whole_ids (cond b (read_ids (length parts.names) 0 0 (drop (e.offset + 3) parts.postings)) damage) ≡ []) [
+      ap (λ count. whole_ids (cond (bytes_eq (take 3 (drop e.offset parts.postings)) (three_bytes e.trigram)) (read_ids (length parts.names) count 0 (drop (e.offset + 3) parts.postings)) damage)) none
+      ∙ elim (bytes_eq (take 3 (drop e.offset parts.postings)) (three_bytes e.trigram)) as (λ b. whole_ids (cond b (read_ids (length parts.names) 0 0 (drop (e.offset + 3) parts.postings)) damage) ≡ []) [
         | true ↦ either (read_ids (length parts.names) 0 0 (drop (e.offset + 3) parts.postings)).whole
         | false ↦ refl
       ]
@@ -149,4 +150,4 @@ begun_clean bytes parts is path member = record {
 
 pub begun_lies : (bytes : List ℕ) (parts : Parts) → IsBeginning bytes parts → LieUnder (set.from_list parts.paths) (files_in parts)
 begun_lies bytes parts is name trigrams there =
-    (each_spelled parts (λ n. is_covered (set.from_list parts.paths) n ≡ true) (λ (t : List ℕ). Unit {0}) (all_true (is_covered (set.from_list parts.paths)) parts.names is.under) (λ id. tt) name trigrams there).0
+    (each_spelled parts (λ n. is_covered (set.from_list parts.paths) n ≡ true) (λ (t : List ℕ). Unit {0}) (all_true (is_covered (set.from_list parts.paths)) parts.names is.joinable.covered) (λ id. tt) name trigrams there).0

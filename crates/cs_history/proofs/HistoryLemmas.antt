@@ -13,7 +13,7 @@ use Rattle.cs_tree.proofs.Least.{least_says, least_settled, covered-least}
 use Rattle.cs_index.specs.Image.{Files, image, IsString}
 use Rattle.cs_trigram.specs.Text.{text_trigrams, limits}
 use Rattle.cs_merge.specs.Join.{join_files}
-use Rattle.cs_merge.specs.Content.{IsContent, LieUnder, Holds}
+use Rattle.cs_merge.specs.Content.{IsContent, LieUnder, HoldsContent}
 use Rattle.cs_merge.proofs.OpeningLemmas.{held_opens}
 use Rattle.cs_merge.proofs.JoinLemmas.{newer_at, old_at}
 use Rattle.cs_merge.proofs.ContentLemmas.{content_joined, under_joined}
@@ -22,12 +22,12 @@ use Rattle.cs_index.specs.Opening.{opening}
 use Rattle.cs_index.specs.OpenedParts.{Parts, are_whole, paths_in, files_in}
 use Rattle.cs_history.specs.History.{Visit, History, nothing, handed_in, ◌⊳◌, all_given_paths, paths_of, walked_paths, files_of, index_of}
 use Rattle.cs_history.specs.JobIndex.{files_found}
-use Rattle.cs_history.specs.FileTrigrams.{file_trigrams}
+use Rattle.cs_history.specs.FileTrigrams.{file_trigrams, ReadAsIndexed}
 use Rattle.cs_tree.proofs.SettledLemmas.{settled_filled, settled_no_nul, no_nul_bytes}
 use Rattle.cs_history.specs.WellFormed.{IsClean, AreClean, IsHistory}
-use Rattle.cs_history.specs.Begun.{HasBeginning}
-use Rattle.cs_history.specs.SearchHeadline.{IsByJobs, indexed_names, StillReads}
-use Rattle.cs_history.proofs.BeginningLemmas.{spelled_content, begun_clean, begun_lies, begun_opens}
+use Rattle.cs_history.specs.Beginning.{HasBeginning}
+use Rattle.cs_history.specs.SearchHeadline.{IsByJobs, indexed_names}
+use Rattle.cs_history.proofs.BeginningLemmas.{find_all, spelled_content, begun_clean, begun_lies, begun_opens}
 use Rattle.cs_history.proofs.KeepingLemmas.{join_kept, join_paths_of, kept_spelled, get-kept}
 use Rattle.cs_history.proofs.WalkLemmas.{AreStrings, found_content, found_lies}
 
@@ -122,13 +122,13 @@ index_is nothing bytes by h = cc
 index_is (handed_in old parts) bytes by h = absurd by
 index_is (visit ⊳ before) bytes by h = cc
 
-pub index_holds : (history : History) (bytes : List ℕ) → IsHistory history → IsByJobs history → index_of history ≡ Some bytes → length bytes < 2 ^ 32 → Holds bytes (paths_of history) (files_of history)
+pub index_holds : (history : History) (bytes : List ℕ) → IsHistory history → IsByJobs history → index_of history ≡ Some bytes → length bytes < 2 ^ 32 → HoldsContent bytes (paths_of history) (files_of history)
 index_holds history bytes is by h short =
     let same = index_is history bytes by h in
-    subst (λ b. Holds b (paths_of history) (files_of history)) same
+    subst (λ b. HoldsContent b (paths_of history) (files_of history)) same
     (content_held (paths_of history) (files_of history) (history_content history is) (subst (λ b. length b < 2 ^ 32) (sym same) short))
 
-pub index_once : (history : History) (bytes : List ℕ) (paths : Paths) (files : Files) → IsHistory history → IsByJobs history → index_of history ≡ Some bytes → length bytes < 2 ^ 32 → Holds bytes paths files → (paths_of history ≡ paths) × (files_of history ≡ files)
+pub index_once : (history : History) (bytes : List ℕ) (paths : Paths) (files : Files) → IsHistory history → IsByJobs history → index_of history ≡ Some bytes → length bytes < 2 ^ 32 → HoldsContent bytes paths files → (paths_of history ≡ paths) × (files_of history ≡ files)
 index_once history bytes paths files is by h short holds = held_once bytes (paths_of history) paths (files_of history) files (index_holds history bytes is by h short) holds
 
 -- the index of a history opens, also one that was handed in: with its paths, but for some that others cover, and its
@@ -147,7 +147,7 @@ history_opens (handed_in old parts) bytes is h short = subst (λ b. OpensAs b (h
   opened = begun_opens old parts is;
   paths_are = refl;
   files_are = sym (files_begun old parts);
-  whole = is.whole;
+  whole = is.joinable.whole;
 })
   where
     same : Some old ≡ Some bytes → old ≡ bytes
@@ -176,11 +176,11 @@ others_at visit before name h =
 
 -- ---- files that still read as they were indexed
 
-pub names_held : (history : History) (bytes : List ℕ) (paths : Paths) (files : Files) → IsHistory history → IsByJobs history → index_of history ≡ Some bytes → length bytes < 2 ^ 32 → (holds : Holds bytes paths files) → indexed_names history ≡ holds.names
+pub names_held : (history : History) (bytes : List ℕ) (paths : Paths) (files : Files) → IsHistory history → IsByJobs history → index_of history ≡ Some bytes → length bytes < 2 ^ 32 → (holds : HoldsContent bytes paths files) → indexed_names history ≡ holds.names
 names_held history bytes paths files is by h short holds =
     ap map.keys (index_once history bytes paths files is by h short holds).1 ∙ held_names bytes paths files holds
 
-pub reads_agree : (history : History) (bytes : List ℕ) (paths : Paths) (files : Files) (tree : Snapshot) → IsHistory history → IsByJobs history → index_of history ≡ Some bytes → length bytes < 2 ^ 32 → StillReads history tree → (holds : Holds bytes paths files) (id : ℕ) (d : List ℕ) → id < length holds.names → file_trigrams tree (get_or holds.names id d) ≡ Some (set_at id holds.lists)
+pub reads_agree : (history : History) (bytes : List ℕ) (paths : Paths) (files : Files) (tree : Snapshot) → IsHistory history → IsByJobs history → index_of history ≡ Some bytes → length bytes < 2 ^ 32 → ReadAsIndexed tree (map.entries (files_of history)) → (holds : HoldsContent bytes paths files) (id : ℕ) (d : List ℕ) → id < length holds.names → file_trigrams tree (get_or holds.names id d) ≡ Some (set_at id holds.lists)
 reads_agree history bytes paths files tree is by h short still holds id d within =
-    still (get_or holds.names id d) (set_at id holds.lists)
-    (ap (λ m. map.get m (get_or holds.names id d)) (index_once history bytes paths files is by h short holds).1 ∙ held_set bytes paths files holds id d within)
+    find_all (λ name (trigrams : List ℕ). file_trigrams tree name ≡ Some trigrams) (map.entries (files_of history)) (get_or holds.names id d) (set_at id holds.lists) still
+    (sym (map.get-entries (files_of history) (get_or holds.names id d)) ∙ ap (λ m. map.get m (get_or holds.names id d)) (index_once history bytes paths files is by h short holds).1 ∙ held_set bytes paths files holds id d within)

@@ -21,12 +21,12 @@ use Rattle.cs_merge.specs.Join.{join_files, join_paths}
 use Rattle.cs_merge.specs.Joinable.{joined_index}
 use Rattle.cs_merge.proofs.OpeningLemmas.{held_opens}
 use Rattle.cs_tree.proofs.Least.{least-union}
-use Rattle.cs_merge.specs.Content.{Holds}
+use Rattle.cs_merge.specs.Content.{HoldsContent}
 use Rattle.cs_merge.proofs.HoldingLemmas.{content_held}
 use Rattle.cs_history.specs.History.{History, nothing, handed_in, ◌⊳◌, Visit, all_given_paths, paths_of, walked_paths, kept_at, files_of, index_of}
 use Rattle.cs_history.specs.JobIndex.{files_found}
 use Rattle.cs_history.specs.WellFormed.{IsHistory}
-use Rattle.cs_history.specs.Begun.{HasBeginning}
+use Rattle.cs_history.specs.Beginning.{HasBeginning}
 use Rattle.cs_history.specs.SearchHeadline.{IsByJobs}
 use Rattle.cs_history.specs.Jobs.{given_texts, given_paths, has_no_path, visit_of, after_done}
 use Rattle.cs_words.specs.declared.jobs.IndexJob.{IndexJob}
@@ -121,10 +121,10 @@ first_index (v ⊳ before) visit bytes none is = cc
 
 -- on an index: what comes of merging it with what the job found
 module _ (before : History) (visit : Visit) (old newer bytes : List ℕ) (is : IsHistory (visit ⊳ before)) (there : index_of before ≡ Some old) (short : length old < 2 ^ 32) (found : newer ≡ image (walked_paths visit before) (files_found visit before)) (bound : length newer < 2 ^ 32) where
-  own_holds : Holds newer (walked_paths visit before) (files_found visit before)
-  own_holds = subst (λ b. Holds b (walked_paths visit before) (files_found visit before)) (sym found) (content_held (walked_paths visit before) (files_found visit before) (walk_content visit before is) (subst (λ b. length b < 2 ^ 32) found bound))
+  own_holds : HoldsContent newer (walked_paths visit before) (files_found visit before)
+  own_holds = subst (λ b. HoldsContent b (walked_paths visit before) (files_found visit before)) (sym found) (content_held (walked_paths visit before) (files_found visit before) (walk_content visit before is) (subst (λ b. length b < 2 ^ 32) found bound))
 
-  pub merged_index : IsByJobs before → ((p q : Paths) (f g : Files) → Holds old p f → Holds newer q g → bytes ≡ image (join_paths p q) (join_files q f g)) → Some bytes ≡ index_of (visit ⊳ before)
+  pub merged_index : IsByJobs before → ((p q : Paths) (f g : Files) → HoldsContent old p f → HoldsContent newer q g → bytes ≡ image (join_paths p q) (join_files q f g)) → Some bytes ≡ index_of (visit ⊳ before)
   merged_index by merged =
       ap Some (merged (paths_of before) (walked_paths visit before) (files_of before) (files_found visit before) (index_holds before old is.1 by there short) own_holds)
       ∙ index_joined before visit

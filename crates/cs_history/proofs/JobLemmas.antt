@@ -3,11 +3,12 @@ use Rattle.std.proofs.Common.{◌≡◌, true, false, cond, List, [], ◌∷◌,
 use Rattle.cs_tree.specs.Folders.{IsTree, Tells}
 use Rattle.std.proofs.lemmas.Bool.{cases_Bool, cond_both, ltb-false}
 use Rattle.std.proofs.lemmas.Str.{IsUtf8-append, IsUtf8-string_bytes}
-use Rattle.std.specs.Prelude.{string_bytes, String, nat_lt, length}
+use Rattle.std.specs.Prelude.{string_bytes, String, nat_lt, length, bytes_eq}
+use Rattle.std.specs.Path.{slash}
 use Rattle.std.specs.declared.alloc.Global.{Global}
 use Rattle.std.specs.List.{AllByRecursion, AllZip}
 use Rattle.std.specs.FinMap as map'
-use Rattle.cs_tree.specs.Cover.{slash, begins, same}
+use Rattle.cs_tree.specs.Cover.{begins}
 use Rattle.cs_tree.specs.Snapshot.{Snapshot}
 use Rattle.cs_tree.specs.Clean.{absolute, clean_path, has_nul, longest_path}
 use Rattle.cs_tree.proofs.SettledLemmas.{cleaned_settled, settled_from, bytes_no_nul, no_nul_bytes, no_fault_parts}
@@ -20,8 +21,9 @@ use Rattle.cs_history.specs.Premises.{snapshot_told}
 use Rattle.cs_words.specs.declared.jobs.IndexJob.{IndexJob}
 use Rattle.cs_words.specs.declared.jobs.Reply.{Reply}
 use Rattle.cs_words.specs.declared.jobs.Reply.TheVariants.{Done, Refused}
-use Rattle.cs_history.proofs.PathLemmas.{NoNul, IsPart, slash_utf8}
-use Rattle.cs_history.proofs.CleanLemmas.{cleaned_part}
+use Rattle.cs_index.proofs.SectionStringLemmas.{NoNul}
+use Rattle.cs_history.proofs.PathElementLemmas.{IsPart, slash_utf8}
+use Rattle.cs_history.proofs.CleanedPathLemmas.{cleaned_part}
 
 -- ---- the paths of a job
 
@@ -38,7 +40,7 @@ pub taken_clean : (cwd path : String Global) → IsTaken (string_bytes cwd) (str
 taken_clean cwd path h =
     let folder = string_bytes cwd in
     let text = string_bytes path in
-    let passed = no_fault_parts (same text []) (has_nul (absolute folder text)) (nat_lt longest_path (length (clean_path folder text))) h in
+    let passed = no_fault_parts (bytes_eq text []) (has_nul (absolute folder text)) (nat_lt longest_path (length (clean_path folder text))) h in
     let part = cleaned_part folder text (absolute_part cwd path (no_nul_bytes (absolute folder text) passed.0)) in
     record {
       utf8 = part.utf8;

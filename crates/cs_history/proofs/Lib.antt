@@ -1,14 +1,14 @@
-pub mod KeepingLemmas
-pub mod TextLemmas
-pub mod PathLemmas
-pub mod CleanLemmas
-pub mod WalkLemmas
 pub mod BeginningLemmas
-pub mod HistoryLemmas
-pub mod JobLemmas
-pub mod IndexLemmas
 pub mod FollowingLemmas
+pub mod HistoryLemmas
+pub mod IndexLemmas
+pub mod JobLemmas
 pub mod RefusalLemmas
-pub mod ShardLemmas
-mod RowLemmas
+mod CleanedPathLemmas
 mod Examples
+mod KeepingLemmas
+mod PathElementLemmas
+mod RowLemmas
+mod ShardLemmas
+mod TextLemmas
+mod WalkLemmas

@@ -1,6 +1,6 @@
 -- What sets, maps and histories have, as lists that compute: for worked rows.
 use Rattle.std.proofs.Common.{◌≡◌, ℕ, Bool, true, false, not, cond, ◌&&◌, List, [], ◌∷◌, ◌++◌, length, map, filter, refl, sym, ap, ◌∙◌, Option, Some, None}
-use Rattle.std.specs.Prelude.{nat_eq, nat_le, option_map, filter_map, unwrap_or}
+use Rattle.std.specs.Prelude.{nat_eq, nat_le, option_map, filter_map, unwrap_or, bytes_eq}
 use Rattle.std.specs.Cmp.Lexicographic.{nat_list_cmp_total}
 use Rattle.std.specs.List.{list_any}
 use Rattle.std.specs.FinMap as map'
@@ -9,7 +9,7 @@ use Rattle.std.specs.FinMap.Entries.{is_sorted-where_key, find-where_key}
 use Rattle.cs_tree.specs.PathSet as set
 use Rattle.cs_tree.specs.PathSet.{Paths}
 use Rattle.cs_tree.specs.NameOrder.{bytes_cmp}
-use Rattle.cs_tree.specs.Cover.{same, covers, least, is_covered}
+use Rattle.cs_tree.specs.Cover.{covers, least, is_covered}
 use Rattle.cs_tree.specs.Clean.{longest_path}
 use Rattle.cs_tree.specs.Folders.{child, lists, last_element}
 use Rattle.cs_tree.specs.Snapshot.{Snapshot, Item, bad, missing, item_at}
@@ -57,21 +57,21 @@ abbrev names_in : {X : Type 0} → List (List ℕ × X) → List (List ℕ)
 names_in rows = map (λ e. e.0) rows
 
 abbrev least_rows : PathRows → PathRows
-least_rows rows = filter (λ e. not (list_any (λ other. covers other e.0 && not (same other e.0)) (names_in rows))) rows
+least_rows rows = filter (λ e. not (list_any (λ other. covers other e.0 && not (bytes_eq other e.0)) (names_in rows))) rows
 
 entries-least : (paths : Paths) → map'.entries (least paths) ≡ least_rows (map'.entries paths)
-entries-least paths = entries-retained paths (λ path. not (list_any (λ other. covers other path && not (same other path)) (set.items paths)))
+entries-least paths = entries-retained paths (λ path. not (list_any (λ other. covers other path && not (bytes_eq other path)) (set.items paths)))
 
 -- ---- joins
 
-pub entries_joined : (paths : List (List ℕ)) (old newer : List Entry) → map'.entries (join_files (set.from_list paths) (map'.from_entries old) (map'.from_entries newer)) ≡ laid (laid newer ++ filter (λ e. not (list_any (λ path. covers path e.0) (names_in (laid (set.with_units paths))))) (laid old))
+pub entries_joined : (paths : List (List ℕ)) (old newer : List Entry) → map'.entries (join_files (set.from_list paths) (map'.from_entries old) (map'.from_entries newer)) ≡ laid (laid newer ++ filter (λ e. not (list_any (λ path. covers path e.0) (names_in (laid (set.unit_entries paths))))) (laid old))
 entries_joined paths old newer =
     let given : Paths = set.from_list paths in
     let before : map'.FinMap bytes_cmp (List ℕ) = map'.from_entries old in
     let after : map'.FinMap bytes_cmp (List ℕ) = map'.from_entries newer in
     entries-laid (map'.entries after ++ map'.entries (map'.retain_keys before (λ name. not (is_covered given name))))
     ∙ ap (λ es. laid (map'.entries after ++ es)) (entries-retained before (λ name. not (is_covered given name)))
-    ∙ (λ i. laid (entries-laid newer i ++ filter (λ e. not (list_any (λ path. covers path e.0) (names_in (entries-laid (set.with_units paths) i)))) (entries-laid old i)))
+    ∙ (λ i. laid (entries-laid newer i ++ filter (λ e. not (list_any (λ path. covers path e.0) (names_in (entries-laid (set.unit_entries paths) i)))) (entries-laid old i)))
 
 pub entries_of_both : (files others : List Entry) → map'.entries (files_of_both (map'.from_entries files) (map'.from_entries others)) ≡ laid (laid files ++ laid others)
 entries_of_both files others =
@@ -140,7 +140,7 @@ begun_of (visit ⊳ before) = begun_of before
 
 abbrev given_first : Option Parts → PathRows
 given_first None = []
-given_first (Some parts) = laid (set.with_units parts.paths)
+given_first (Some parts) = laid (set.unit_entries parts.paths)
 
 abbrev given_in : Option Parts → List Rows → PathRows
 given_in begun [] = given_first begun
@@ -151,7 +151,7 @@ walked_in begun rows before = cond (nat_eq (length rows.given) 0) (least_rows (g
 
 given-rows : (history : History) → map'.entries (all_given_paths history) ≡ given_in (begun_of history) (jobs_of history)
 given-rows nothing = entries_in_order [] tt
-given-rows (handed_in bytes parts) = entries-laid (set.with_units parts.paths)
+given-rows (handed_in bytes parts) = entries-laid (set.unit_entries parts.paths)
 given-rows (visit ⊳ before) =
     entries-laid (map'.entries (all_given_paths before) ++ map'.entries visit.given) ∙ ap (λ es. laid (es ++ map'.entries visit.given)) (given-rows before)
 
@@ -233,7 +233,7 @@ history_of jobs = history_from None jobs
 
 abbrev rows_made : List Job → List Rows
 rows_made [] = []
-rows_made (job ∷ before) = record { given = laid (set.with_units job.paths); tree = laid job.items } ∷ rows_made before
+rows_made (job ∷ before) = record { given = laid (set.unit_entries job.paths); tree = laid job.items } ∷ rows_made before
 
 made : (begun : Option Parts) (jobs : List Job) → jobs_of (history_from begun jobs) ≡ rows_made jobs
 made begun [] = none_yet begun
@@ -241,7 +241,7 @@ made begun [] = none_yet begun
     none_yet : (begun : Option Parts) → jobs_of (begun_with begun) ≡ []
     none_yet None = refl
     none_yet (Some parts) = refl
-made begun (job ∷ before) = λ i. record { given = entries-laid (set.with_units job.paths) i; tree = entries-laid job.items i } ∷ made begun before i
+made begun (job ∷ before) = λ i. record { given = entries-laid (set.unit_entries job.paths) i; tree = entries-laid job.items i } ∷ made begun before i
 
 begun_made : (begun : Option Parts) (jobs : List Job) → begun_of (history_from begun jobs) ≡ begun
 begun_made begun [] = alone begun

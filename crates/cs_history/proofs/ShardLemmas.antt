@@ -21,7 +21,7 @@ use Rattle.cs_trigram.specs.Query.{holds}
 use Rattle.cs_trigram.specs.declared.queries.Query.{Query}
 use Rattle.cs_index.specs.Image.{Entry, Files}
 use Rattle.cs_merge.specs.Join.{join_files, join_paths}
-use Rattle.cs_merge.specs.Content.{Holds}
+use Rattle.cs_merge.specs.Content.{HoldsContent}
 use Rattle.cs_merge.proofs.JoinLemmas.{get-join_files}
 use Rattle.cs_merge.proofs.HoldingLemmas.{held_names}
 use Rattle.cs_history.specs.Meeting.{names_meeting}
@@ -112,21 +112,21 @@ module _ (passes : Entry → Bool) where
             ∙ sym (ap (λ t. passes_at name (cond t (Some e.1) (find bytes_cmp name es))) beside)
       ]
 
-  below_passing : (x : List ℕ) (es : List Entry) → T (below_all bytes_cmp x es) → T (below_all bytes_cmp x (set.with_units (passing es)))
+  below_passing : (x : List ℕ) (es : List Entry) → T (below_all bytes_cmp x es) → T (below_all bytes_cmp x (set.unit_entries (passing es)))
   below_passing x [] h = tt
   below_passing x (e ∷ es) h =
       let parts = and_T (is_lt (bytes_cmp x e.0)) (below_all bytes_cmp x es) h in
-      elim (passes e) as (λ b. T (below_all bytes_cmp x (set.with_units (map (λ (e : Entry). e.0) (cond b (e ∷ filter passes es) (filter passes es)))))) [
+      elim (passes e) as (λ b. T (below_all bytes_cmp x (set.unit_entries (map (λ (e : Entry). e.0) (cond b (e ∷ filter passes es) (filter passes es)))))) [
         | true ↦ T_and (is_lt (bytes_cmp x e.0)) _ parts.0 (below_passing x es parts.1)
         | false ↦ below_passing x es parts.1
       ]
 
-  sorted_passing : (es : List Entry) → T (is_sorted bytes_cmp es) → T (is_sorted bytes_cmp (set.with_units (passing es)))
+  sorted_passing : (es : List Entry) → T (is_sorted bytes_cmp es) → T (is_sorted bytes_cmp (set.unit_entries (passing es)))
   sorted_passing [] h = tt
   sorted_passing (e ∷ es) h =
       let parts = and_T (below_all bytes_cmp e.0 es) (is_sorted bytes_cmp es) h in
-      elim (passes e) as (λ b. T (is_sorted bytes_cmp (set.with_units (map (λ (e : Entry). e.0) (cond b (e ∷ filter passes es) (filter passes es)))))) [
-        | true ↦ T_and (below_all bytes_cmp e.0 (set.with_units (passing es))) _ (below_passing e.0 es parts.0) (sorted_passing es parts.1)
+      elim (passes e) as (λ b. T (is_sorted bytes_cmp (set.unit_entries (map (λ (e : Entry). e.0) (cond b (e ∷ filter passes es) (filter passes es)))))) [
+        | true ↦ T_and (below_all bytes_cmp e.0 (set.unit_entries (passing es))) _ (below_passing e.0 es parts.0) (sorted_passing es parts.1)
         | false ↦ sorted_passing es parts.1
       ]
 
@@ -137,12 +137,12 @@ module _ (passes : Entry → Bool) where
   among_files name files = among_passing name (map'.entries files) (map'.entries_sorted files) ∙ ap (passes_at name) (sym (map'.get-entries files name))
 
   names_again : (names : List (List ℕ)) (name : List ℕ) → set.contains (set.from_list names) name ≡ list_any (eq_by_cmp bytes_cmp name) names
-  names_again names name = ap is_some (map'.get-from_entries nat_list_cmp_total (set.with_units names) name) ∙ in_units names
+  names_again names name = ap is_some (map'.get-from_entries nat_list_cmp_total (set.unit_entries names) name) ∙ in_units names
     where
-      in_units : (ns : List (List ℕ)) → is_some (find bytes_cmp name (set.with_units ns)) ≡ list_any (eq_by_cmp bytes_cmp name) ns
+      in_units : (ns : List (List ℕ)) → is_some (find bytes_cmp name (set.unit_entries ns)) ≡ list_any (eq_by_cmp bytes_cmp name) ns
       in_units [] = refl
       in_units (n ∷ ns) =
-          elim (eq_by_cmp bytes_cmp name n) as (λ b. is_some (cond b (Some tt) (find bytes_cmp name (set.with_units ns))) ≡ (b || list_any (eq_by_cmp bytes_cmp name) ns)) [ true ↦ refl | false ↦ in_units ns ]
+          elim (eq_by_cmp bytes_cmp name n) as (λ b. is_some (cond b (Some tt) (find bytes_cmp name (set.unit_entries ns))) ≡ (b || list_any (eq_by_cmp bytes_cmp name) ns)) [ true ↦ refl | false ↦ in_units ns ]
 
   module _ (p : Paths) (f : Files) (q : Paths) (g : Files) (apart : AreShards p f q g) where
     either : (name : List ℕ) (x y : Option (List ℕ)) → map'.get f name ≡ x → map'.get g name ≡ y → passes_at name (option_or x y) ≡ (passes_at name x || passes_at name y)
@@ -202,5 +202,5 @@ module _ (p : Paths) (f : Files) (q : Paths) (g : Files) (apart : AreShards p f 
       ∙ passing_joined (λ (e : Entry). true) p f q g apart
       ∙ (λ i. by_name (names (all_pass (map'.entries f) i) ++ names (all_pass (map'.entries g) i)))
 
-  pub names_joined : (bytes : List ℕ) (holds : Holds bytes (join_paths p q) (join_files q f g)) → holds.names ≡ by_name (map'.keys f ++ map'.keys g)
+  pub names_joined : (bytes : List ℕ) (holds : HoldsContent bytes (join_paths p q) (join_files q f g)) → holds.names ≡ by_name (map'.keys f ++ map'.keys g)
   names_joined bytes holds = sym (held_names bytes (join_paths p q) (join_files q f g) holds) ∙ keys_joined

@@ -6,7 +6,7 @@ use Rattle.cs_trigram.specs.Text.{first_broken, too_many, skip, none_skipped, te
 use Rattle.cs_trigram.specs.declared.limits.Limits.{Limits}
 use Rattle.cs_trigram.specs.declared.scan.Reason.{Reason}
 use Rattle.cs_trigram.proofs.SetLemmas.{ascends_set}
-use Rattle.cs_trigram.proofs.TextLemmas.{option_or-none, tri_below}
+use Rattle.cs_trigram.proofs.RuleLemmas.{option_or-none, tri_below}
 
 -- the set of a scan is one of an index
 rises : (ns : List ℕ) → Rises ns → Ascends ns

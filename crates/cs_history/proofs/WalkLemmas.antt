@@ -6,12 +6,13 @@ use Rattle.cs_tree.specs.PathSet.{Paths}
 use Rattle.cs_index.specs.Image.{IsString}
 use Rattle.std.proofs.lemmas.Bool.{true≢false, cases_Bool, and_parts, or_cases, or_parts, not-true, eqb-false, both_ways}
 use Rattle.std.proofs.lemmas.List.{drop_at}
-use Rattle.std.specs.Prelude.{IsUtf8}
+use Rattle.std.specs.Prelude.{IsUtf8, bytes_eq}
+use Rattle.std.specs.Path.{slash}
 use Rattle.std.specs.Cmp.Lexicographic.{bytes_decides}
 use Rattle.std.specs.List.{AllByRecursion, list_any, list_all}
 use Rattle.std.specs.FinMap as map
 use Rattle.cs_tree.specs.PathSet as set
-use Rattle.cs_tree.specs.Cover.{slash, same, covers, is_covered}
+use Rattle.cs_tree.specs.Cover.{covers, is_covered}
 use Rattle.cs_tree.specs.Snapshot.{Snapshot, Item, folder, file, cut, other, bad, item_at}
 use Rattle.cs_tree.specs.Clean.{elements, longest_path}
 use Rattle.cs_tree.specs.Reached.{elements_under, leads, reaches, is_reached, is_left_out, files_reached, read_item}
@@ -21,7 +22,8 @@ use Rattle.cs_tree.proofs.Found.{get-found, found_under}
 use Rattle.cs_trigram.specs.Text.{text_trigrams}
 use Rattle.cs_trigram.specs.declared.limits.Limits.{Limits}
 use Rattle.cs_merge.specs.Content.{IsContent}
-use Rattle.cs_history.proofs.PathLemmas.{NoNul, IsPart, part_joined, part_empty, text_from_parts}
+use Rattle.cs_index.proofs.SectionStringLemmas.{NoNul}
+use Rattle.cs_history.proofs.PathElementLemmas.{IsPart, part_joined, part_empty, text_from_parts}
 use Rattle.cs_history.proofs.TextLemmas.{text_set}
 
 -- ---- strings
@@ -45,15 +47,15 @@ no_zero (b ∷ name) h =
 
 name_part : (name : List ℕ) → is_element name ≡ true → IsUtf8 name → IsPart name
 name_part name h utf8 =
-    let parts = and_parts (not (same name [])) (not (list_any (λ b. eqb b slash) name) && not (list_any (λ b. eqb b 0) name)) h in
+    let parts = and_parts (not (bytes_eq name [])) (not (list_any (λ b. eqb b slash) name) && not (list_any (λ b. eqb b 0) name)) h in
     let more = and_parts (not (list_any (λ b. eqb b slash) name)) (not (list_any (λ b. eqb b 0) name)) parts.1 in
     record { no_nul = no_zero name (not-true _ more.1); utf8 = utf8 }
 
-listed_part : (names : List (List ℕ)) (name : List ℕ) → list_all is_element names ≡ true → AllByRecursion IsUtf8 names → list_any (λ listed. same listed name) names ≡ true → IsPart name
+listed_part : (names : List (List ℕ)) (name : List ℕ) → list_all is_element names ≡ true → AllByRecursion IsUtf8 names → list_any (λ listed. bytes_eq listed name) names ≡ true → IsPart name
 listed_part [] name h utf8 there = absurd (true≢false (sym there))
 listed_part (x ∷ names) name h utf8 there =
     let parts = and_parts (is_element x) (list_all is_element names) h in
-    elim (or_cases (same x name) (list_any (λ listed. same listed name) names) there) [
+    elim (or_cases (bytes_eq x name) (list_any (λ listed. bytes_eq listed name) names) there) [
       | inl here ↦ subst IsPart ((bytes_decides x name).0 here) (name_part x parts.0 utf8.0)
       | inr later ↦ listed_part names name parts.1 utf8.1 later
     ]
@@ -76,19 +78,19 @@ leads_parts tree at (name ∷ names) is h =
     (lists_part (item_at tree at) name (is at) c.0, leads_parts tree (child at name) names is c.1)
 
 -- the rest of a name after a path and a slash, and of a name under the root
-rest_part : (path name rest : List ℕ) (tree : Snapshot) → IsTree tree → leads tree path (elements_under path name) ≡ true → same path name ≡ false → name ≡ path ++ slash ∷ rest → same path (slash ∷ []) ≡ false → IsPart rest
+rest_part : (path name rest : List ℕ) (tree : Snapshot) → IsTree tree → leads tree path (elements_under path name) ≡ true → bytes_eq path name ≡ false → name ≡ path ++ slash ∷ rest → bytes_eq path (slash ∷ []) ≡ false → IsPart rest
 rest_part path name rest tree is h apart e inner =
     let under : elements_under path name ≡ elements rest =
-    ap (λ t. cond t [] (elements (drop (cond (same path (slash ∷ [])) 1 (length path + 1)) name))) apart
+    ap (λ t. cond t [] (elements (drop (cond (bytes_eq path (slash ∷ [])) 1 (length path + 1)) name))) apart
     ∙ ap (λ t. elements (drop (cond t 1 (length path + 1)) name)) inner
     ∙ ap (λ n. elements (drop (length path + 1) n)) (e ∙ sym (append_assoc path (slash ∷ []) rest))
     ∙ ap elements (drop_at (path ++ slash ∷ []) rest (length path + 1) (length-append path (slash ∷ []))) in
     text_from_parts rest (leads_parts tree path (elements rest) is (subst (λ es. leads tree path es ≡ true) under h))
 
-root_part : (path name rest : List ℕ) (tree : Snapshot) → IsTree tree → leads tree path (elements_under path name) ≡ true → same path name ≡ false → name ≡ slash ∷ rest → same path (slash ∷ []) ≡ true → IsPart rest
+root_part : (path name rest : List ℕ) (tree : Snapshot) → IsTree tree → leads tree path (elements_under path name) ≡ true → bytes_eq path name ≡ false → name ≡ slash ∷ rest → bytes_eq path (slash ∷ []) ≡ true → IsPart rest
 root_part path name rest tree is h apart e outer =
     let under : elements_under path name ≡ elements rest =
-    ap (λ t. cond t [] (elements (drop (cond (same path (slash ∷ [])) 1 (length path + 1)) name))) apart
+    ap (λ t. cond t [] (elements (drop (cond (bytes_eq path (slash ∷ [])) 1 (length path + 1)) name))) apart
     ∙ ap (λ t. elements (drop (cond t 1 (length path + 1)) name)) outer
     ∙ ap (λ n. elements (drop 1 n)) e in
     text_from_parts rest (leads_parts tree path (elements rest) is (subst (λ es. leads tree path es ≡ true) under h))
@@ -97,7 +99,7 @@ reached_string : (tree : Snapshot) (path name : List ℕ) → IsTree tree → Is
 reached_string tree path name is text h =
     let a = and_parts (covers path name) _ h in
     let b = and_parts (not (is_left_out (last_element path))) (leads tree path (elements_under path name)) a.1 in
-    elim (cases_Bool (same path name)) [
+    elim (cases_Bool (bytes_eq path name)) [
       | inl here ↦ subst IsString ((bytes_decides path name).0 here) text
       | inr apart ↦ by_covers b.1 apart (covers_says path name a.0)
     ]
@@ -106,14 +108,14 @@ reached_string tree path name is text h =
     longer [] rest e = cc
     longer (x ∷ front) rest e = cc
 
-    by_root : leads tree path (elements_under path name) ≡ true → same path name ≡ false → (rest : List ℕ) → same path (slash ∷ []) ≡ true → name ≡ slash ∷ rest → IsString name
+    by_root : leads tree path (elements_under path name) ≡ true → bytes_eq path name ≡ false → (rest : List ℕ) → bytes_eq path (slash ∷ []) ≡ true → name ≡ slash ∷ rest → IsString name
     by_root h apart rest outer e = subst IsString (sym e) (part_string (slash ∷ rest) (longer [] rest) (part_joined [] rest part_empty (root_part path name rest tree is h apart e outer)))
 
-    by_covers : leads tree path (elements_under path name) ≡ true → same path name ≡ false → Covers path name → IsString name
-    by_covers h apart (itself e) = absurd (both_ways (same path name) apart ((bytes_decides path name).1 e))
+    by_covers : leads tree path (elements_under path name) ≡ true → bytes_eq path name ≡ false → Covers path name → IsString name
+    by_covers h apart (itself e) = absurd (both_ways (bytes_eq path name) apart ((bytes_decides path name).1 e))
     by_covers h apart (root rest e f) = by_root h apart rest ((bytes_decides path (slash ∷ [])).1 e) f
     by_covers h apart (below rest e) =
-        elim (cases_Bool (same path (slash ∷ []))) [
+        elim (cases_Bool (bytes_eq path (slash ∷ []))) [
           | inl outer ↦ by_root h apart (slash ∷ rest) outer (e ∙ ap (λ p. p ++ slash ∷ rest) ((bytes_decides path (slash ∷ [])).0 outer))
           | inr inner ↦ subst IsString (sym e) (part_string (path ++ slash ∷ rest) (longer path rest) (part_joined path rest (string_part path text) (rest_part path name rest tree is h apart e inner)))
         ]

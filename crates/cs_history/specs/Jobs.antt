@@ -1,11 +1,12 @@
 -- What jobs and their replies make of a history.
--- docs/PROMISES.md, "Histories"; the comment of the command cindex.
+-- docs/PROMISES.md, "Histories"; the comment of Go's command cindex.
 use Rattle.std.specs.Prelude.{◌≡◌, ℕ, Bool, true, false, nat_eq, if◌then◌else◌, List, [], ◌∷◌, None, map, string_bytes, length}
+use Rattle.std.specs.Path.{slash}
 use Rattle.cs_tree.specs.PathSet.{Paths}
 use Rattle.std.specs.List.{AllByRecursion}
 use Rattle.cs_tree.specs.PathSet as set
 use Rattle.cs_tree.specs.Snapshot.{Snapshot}
-use Rattle.cs_tree.specs.Cover.{begins, slash}
+use Rattle.cs_tree.specs.Cover.{begins}
 use Rattle.cs_tree.specs.Clean.{clean_path}
 use Rattle.cs_tree.specs.Cleaning.{clean_fault}
 use Rattle.cs_history.specs.History.{History, nothing, ◌⊳◌, Visit}

@@ -17,11 +17,12 @@ pub mod SearchHeadline
 pub mod Premises
 pub mod History
 pub mod WellFormed
-pub mod Begun
+pub mod Beginning
 pub mod Jobs
 pub mod JobIndex
 pub mod FileTrigrams
 pub mod Meeting
 pub mod Left
+pub mod JobKinds
 pub mod Replies
 pub mod Shards

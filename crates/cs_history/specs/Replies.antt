@@ -1,12 +1,13 @@
 -- Why a job is refused, where the index is the one that some earlier jobs left.
 -- docs/PROMISES.md, "Refusals of cindex".
-use Rattle.std.specs.Prelude.{◌≡◌, ◌≢◌, ◌<◌, ◌≤◌, ◌^◌, ◌⊎◌, ◌↔◌, ◌&&◌, ℕ, true, false, if◌then◌else◌, List, [], ◌∷◌, length, take, get_or, Option, Some, None, string_bytes}
-use Rattle.std.specs.List.{AllByRecursion}
+use Rattle.std.specs.Prelude.{◌≡◌, ◌≢◌, ◌≤◌, ◌^◌, ◌⊎◌, ◌↔◌, ℕ, true, false, if◌then◌else◌, List, [], ◌∷◌, length, position, Option, Some, None, is_some, string_bytes}
+use Rattle.cs_tree.specs.Cleaning.{clean_fault}
 use Rattle.cs_tree.specs.Snapshot.{Snapshot}
 use Rattle.cs_index.specs.declared.fault.IndexFault.{IndexFault}
 use Rattle.cs_history.specs.History.{History, nothing, index_of}
 use Rattle.cs_history.specs.JobIndex.{visit_index}
-use Rattle.cs_history.specs.Jobs.{given_texts, has_no_path, IsTaken, visit_of, after_done, after}
+use Rattle.cs_history.specs.Jobs.{given_texts, has_no_path, visit_of, after_done, after}
+use Rattle.cs_history.specs.JobKinds.{Walks}
 use Rattle.cs_words.specs.declared.jobs.IndexJob.{IndexJob}
 use Rattle.cs_words.specs.declared.fault.CindexFault.TheVariants.{NoIndex, BadIndex, Unsorted, TooLarge, BadPath}
 use Rattle.cs_words.specs.declared.jobs.Reply.{Reply}
@@ -18,21 +19,19 @@ use Rattle.cs_words.specs.declared.jobs.Reply.TheVariants.{Done, Refused}
 abbrev pub NeedsIndex : IndexJob → Type 0
 NeedsIndex job = (job.list ≡ true) ⊎ ((job.reset ≡ false) × (has_no_path job ≡ true))
 
--- the path at the place is the first one that cleaning refuses
+-- the place of the first text that cleaning refuses
+abbrev pub first_bad : List ℕ → List (List ℕ) → Option ℕ
+first_bad folder given_texts = position (λ text. is_some (clean_fault folder text)) given_texts
+
+-- the path at the place is the first one that cleaning refuses; `-list` ignores them
 pub record IsFirstBad (job : IndexJob) (place : ℕ) : Type 0 where
-  pub walks : job.list ≡ false
-  pub within : place < length (given_texts job)
-  pub refused : (d : List ℕ) → IsTaken (string_bytes job.cwd) (get_or (given_texts job) place d) → ⊥
-  pub taken : AllByRecursion (IsTaken (string_bytes job.cwd)) (take place (given_texts job))
+  pub unlisted : job.list ≡ false
+  pub first : first_bad (string_bytes job.cwd) (given_texts job) ≡ Some place
 
 -- the index of what the job finds, alone
 abbrev pub own_index : History → IndexJob → Snapshot → List ℕ
 own_index before job tree =
     visit_index (visit_of job tree) (if job.reset then nothing else before)
-
--- the job walks: it is neither `-list` nor a `-reset` without paths
-abbrev pub Walks : IndexJob → Type 0
-Walks job = (job.list ≡ false) × ((job.reset && has_no_path job) ≡ false)
 
 -- 32 bits do not count the bytes of an index
 abbrev pub IsLong : Option (List ℕ) → Type 0

@@ -2,20 +2,16 @@
 --
 --     Where every indexed file still reads as it was indexed, csearch prints exactly what cgrep prints
 --     over the indexed files in name order.
-use Rattle.std.specs.Prelude.{◌≡◌, ℕ, Bool, List, [], ◌∷◌, Option, Some, filter}
+use Rattle.std.specs.Prelude.{ℕ, Bool, List, [], ◌∷◌, Option, filter}
 use Rattle.std.specs.FinMap as map'
 use Rattle.cs_tree.specs.Snapshot.{Snapshot}
-use Rattle.cs_history.specs.FileTrigrams.{file_trigrams}
+use Rattle.cs_history.specs.FileTrigrams.{ReadAsIndexed}
 use Rattle.cs_history.specs.History.{History, handed_in, files_of}
 use Rattle.cs_history.specs.Premises.{snapshot_told, Premises}
 
 -- the indexed names, in their order
 abbrev pub indexed_names : History → List (List ℕ)
 indexed_names history = map'.keys (files_of history)
-
--- every indexed file still reads as it was indexed: at its name stands a text with the trigrams that are kept
-abbrev pub StillReads : History → Snapshot → Type 0
-StillReads history tree = (name trigrams : List ℕ) → map'.get (files_of history) name ≡ Some trigrams → file_trigrams tree name ≡ Some trigrams
 
 -- the index is one that a job built, and not just the one that was handed in, whose names may stand in another order
 abbrev pub IsByJobs : History → Type 0
@@ -26,7 +22,7 @@ IsByJobs history = Unit {0}
 pub record SearchPremises (tree : Option Snapshot) (index : Option (List ℕ)) (earlier : History) : Type 0 where
   pub jobs_left : Premises (tree ∷ []) index earlier
   pub by_jobs : IsByJobs earlier
-  pub still_reads : StillReads earlier (snapshot_told tree)
+  pub still_reads : ReadAsIndexed (snapshot_told tree) (map'.entries (files_of earlier))
 
 -- `searched` is what cgrep prints over some names in a tree, with a pattern and a style: on its output, on that of
 -- errors, and whether some line matched. `chosen` is whether `-f` takes a name, and `Prints` says that the search put

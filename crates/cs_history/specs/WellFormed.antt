@@ -29,14 +29,18 @@ pub record IsVisit (visit : Visit) : Type 0 where
   pub tree_is : IsTree visit.tree
   pub given_are : AreClean visit.given
 
--- An index that a history may begin with, whoever wrote it: the bytes spell these parts, each entry has its
--- list, each path is as cleaning gives it, and the names are distinct and lie under the paths.
+-- an index that can be joined to another one: each list is whole, and its names are distinct and lie under its paths
+pub record IsJoinable (parts : Parts) : Type 0 where
+  pub whole : are_whole parts ≡ true
+  pub distinct : are_distinct parts.names ≡ true
+  pub covered : list_all (is_covered (paths_in parts)) parts.names ≡ true
+
+-- An index that a history may begin with, whoever wrote it: the bytes spell these parts, each path is as cleaning
+-- gives it, and it can be joined to another one.
 pub record IsBeginning (bytes : List ℕ) (parts : Parts) : Type 0 where
   pub spelled : SpellsParts bytes parts
-  pub whole : are_whole parts ≡ true
   pub settled : list_all is_settled parts.paths ≡ true
-  pub distinct : are_distinct parts.names ≡ true
-  pub under : list_all (is_covered (paths_in parts)) parts.names ≡ true
+  pub joinable : IsJoinable parts
 
 abbrev pub IsHistory : History → Type 0
 IsHistory nothing = Unit {0}

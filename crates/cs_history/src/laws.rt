@@ -15,18 +15,18 @@ ghost use Rattle.cs_index.specs.OpenedParts.{Parts, paths_in, files_in};
 ghost use Rattle.cs_trigram.specs.Text.{text_trigrams, limits};
 ghost use Rattle.cs_merge.specs.Join.{join_files, join_paths};
 ghost use Rattle.cs_merge.specs.Joinable.{joined_index};
-ghost use Rattle.cs_merge.specs.Content.{IsContent, LieUnder, Holds};
+ghost use Rattle.cs_merge.specs.Content.{IsContent, LieUnder, HoldsContent};
 ghost use Rattle.cs_history.specs.History.{History, nothing, handed_in, ◌⊳◌, Visit, kept_files, walked_paths, paths_of, files_of, index_of};
 ghost use Rattle.cs_history.specs.JobIndex.{files_found, tree_index, visit_index};
-ghost use Rattle.cs_history.specs.FileTrigrams.{file_trigrams};
+ghost use Rattle.cs_history.specs.FileTrigrams.{file_trigrams, ReadAsIndexed};
 ghost use Rattle.cs_history.specs.WellFormed.{AreClean, IsBeginning, IsHistory};
-ghost use Rattle.cs_history.specs.Begun.{HasBeginning};
+ghost use Rattle.cs_history.specs.Beginning.{HasBeginning};
 ghost use Rattle.cs_history.specs.Left.{HasLeft};
 ghost use Rattle.cs_history.specs.Jobs.{given_paths, has_no_path, AreTaken, IsFitting, after, history_after};
 ghost use Rattle.cs_history.specs.Premises.{snapshot_told, Premises};
 ghost use Rattle.cs_history.specs.Replies.{NeedsIndex, IsFirstBad, IsRightReply, AreRightReplies};
 ghost use Rattle.cs_history.specs.Headline.{Indexes};
-ghost use Rattle.cs_history.specs.SearchHeadline.{IsByJobs, indexed_names, StillReads};
+ghost use Rattle.cs_history.specs.SearchHeadline.{IsByJobs, indexed_names};
 ghost use Rattle.cs_history.specs.Shards.{LieBeside, AreShards, files_of_both, by_name, searched_names};
 ghost use Rattle.cs_trigram.specs.declared.queries.Query.{Query};
 ghost use Rattle.cs_words.specs.declared.jobs.IndexJob.{IndexJob};
@@ -77,7 +77,7 @@ pub fn merging_gives_the_next_index()
         IsHistory (visit ⊳ before) → IsByJobs before →
         index_of before ≡ Some old → length old < 2 ^ 32 →
         newer ≡ visit_index visit before → length newer < 2 ^ 32 →
-        ((p q : Paths) (f g : Files) → Holds old p f → Holds newer q g →
+        ((p q : Paths) (f g : Files) → HoldsContent old p f → HoldsContent newer q g →
         bytes ≡ image (join_paths p q) (join_files q f g)) →
         Some bytes ≡ index_of (visit ⊳ before) }
     ensures opened { (before : History) (visit : Visit) (old newer bytes : List ℕ) →
@@ -165,9 +165,9 @@ pub fn histories_have_content()
 /// An index that some jobs left holds their paths and files, and nothing else.
 pub fn indexes_tell_their_content()
     ensures held { (history : History) (bytes : List ℕ) → HasLeft history bytes →
-        IsByJobs history → Holds bytes (paths_of history) (files_of history) }
+        IsByJobs history → HoldsContent bytes (paths_of history) (files_of history) }
     ensures once { (history : History) (bytes : List ℕ) (paths : Paths) (files : Files) →
-        HasLeft history bytes → IsByJobs history → Holds bytes paths files →
+        HasLeft history bytes → IsByJobs history → HoldsContent bytes paths files →
         (paths_of history ≡ paths) × (files_of history ≡ files) }
 {}
 
@@ -175,11 +175,12 @@ pub fn indexes_tell_their_content()
 /// say.
 pub fn still_reading_agrees()
     ensures names { (history : History) (bytes : List ℕ) (paths : Paths) (files : Files) →
-        HasLeft history bytes → IsByJobs history → (holds : Holds bytes paths files) →
+        HasLeft history bytes → IsByJobs history → (holds : HoldsContent bytes paths files) →
         indexed_names history ≡ holds.names }
     ensures sets { (history : History) (bytes : List ℕ) (paths : Paths) (files : Files)
-        (tree : Snapshot) → HasLeft history bytes → IsByJobs history → StillReads history tree →
-        (holds : Holds bytes paths files) (id : ℕ) (d : List ℕ) → id < length holds.names →
+        (tree : Snapshot) → HasLeft history bytes → IsByJobs history →
+        ReadAsIndexed tree (map'.entries (files_of history)) →
+        (holds : HoldsContent bytes paths files) (id : ℕ) (d : List ℕ) → id < length holds.names →
         file_trigrams tree (slice_index_or holds.names id d) ≡ Some (set_at id holds.lists) }
 {}
 
@@ -245,7 +246,7 @@ pub fn shards_join_by_name()
     ensures once { (p q : Paths) (f g : Files) (name : List ℕ) → AreShards p f q g →
         map'.contains_key f name ≡ true → map'.contains_key g name ≡ false }
     ensures names { (p q : Paths) (f g : Files) (bytes : List ℕ) → AreShards p f q g →
-        (holds : Holds bytes (join_paths p q) (join_files q f g)) →
+        (holds : HoldsContent bytes (join_paths p q) (join_files q f g)) →
         holds.names ≡ by_name (map'.keys f ++ map'.keys g) }
     ensures searched { (p q : Paths) (f g : Files) (query : Query) (keeps : List ℕ → Bool) →
         AreShards p f q g → searched_names query keeps (join_files q f g) ≡

@@ -10,7 +10,7 @@ use Rattle.cs_trigram.specs.Trigram.{has, Ascends}
 use Rattle.cs_trigram.specs.declared.queries.Query.{Query}
 use Rattle.cs_trigram.specs.declared.queries.Query.TheVariants.{And, Or}
 use Rattle.cs_index.specs.Answerable.{asks_for}
-use Rattle.cs_index.proofs.AskedLemmas.{asks-And, asks-Or}
+use Rattle.cs_index.proofs.QueryTrigramLemmas.{asks-And, asks-Or}
 
 -- a query of members asks for what some member asks for
 pub asks_members : (query : Query) (members : Vec Query Global) (g : ℕ) → (query ≡ And members) ⊎ (query ≡ Or members) → asks_for query g ≡ list_any (λ q. asks_for q g) members.items

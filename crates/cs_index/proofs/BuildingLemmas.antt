@@ -1,6 +1,7 @@
 -- What a builder holds, and one name more.
-use Rattle.std.proofs.Common.{◌≡◌, ℕ, ◌+◌, ◌<◌, ◌≤◌, ◌^◌, Bool, true, ◌&&◌, List, [], ◌∷◌, ◌++◌, length, Option, refl, sym, ap, subst, ◌∙◌, arith}
+use Rattle.std.proofs.Common.{◌≡◌, ℕ, ◌+◌, ◌<◌, ◌≤◌, ◌^◌, true, List, [], ◌∷◌, ◌++◌, length, refl, sym, ap, subst, ◌∙◌, arith}
 use Rattle.cs_tree.specs.NameOrder.{bytes_cmp}
+use Rattle.cs_tree.specs.NamesAscending.{are_ascending}
 use Rattle.cs_index.specs.Rising.{RiseWithin, IsPosting, next_after}
 use Rattle.cs_index.specs.PostingLists.{entries_of}
 use Rattle.cs_trigram.specs.TrigramSets.{IsTrigramSet}
@@ -9,12 +10,10 @@ use Rattle.std.proofs.lemmas.List.{length_push}
 use Rattle.std.specs.List.{AllByRecursion}
 use Rattle.std.specs.Option.{option_map_or}
 use Rattle.std.specs.Ordering.{is_lt}
-use Rattle.std.specs.FinMap as map'
 use Rattle.cs_index.specs.Image.{Entry, Posting, image_of, names_of, IsString}
 use Rattle.cs_index.specs.Indexable.{IsIndexable}
-use Rattle.cs_index.specs.Built.{Built, IsBuilt, with_name, is_above}
+use Rattle.cs_index.specs.Built.{Built, IsBuilt, with_entry, is_above}
 use Rattle.cs_index.proofs.StringLemmas.{last_of, last_is}
-use Rattle.cs_tree.proofs.BeforeLemmas.{before_chain}
 
 pub names_entries : (first : ℕ) (names : List (List ℕ)) (ps : List Posting) → names_of (entries_of first names ps) ≡ names
 names_entries first [] ps = refl
@@ -22,35 +21,16 @@ names_entries first (n ∷ names) ps = ap (λ rest. n ∷ rest) (names_entries (
 
 -- ---- names in order
 
-abbrev below_all : List ℕ → List Entry → Bool
-below_all name [] = true
-below_all name (e ∷ es) = is_lt (bytes_cmp name e.0) && below_all name es
+-- names to which one is put that stands above the last
+ascends_last : (names : List (List ℕ)) (name : List ℕ) → are_ascending names ≡ true → option_map_or (λ last. is_lt (bytes_cmp last name)) (last_of names) true ≡ true → are_ascending (names ++ name ∷ []) ≡ true
+ascends_last [] name up above = refl
+ascends_last (one ∷ []) name up above = and_from (is_lt (bytes_cmp one name)) true above refl
+ascends_last (one ∷ two ∷ names) name up above =
+    let both = and_parts (is_lt (bytes_cmp one two)) (are_ascending (two ∷ names)) up in
+    and_from (is_lt (bytes_cmp one two)) (are_ascending (two ∷ names ++ name ∷ [])) both.0 (ascends_last (two ∷ names) name both.1 above)
 
-record Sorted (entry first : Entry) (es : List Entry) : Type 0 where
-  sorted : map'.is_sorted bytes_cmp ((first ∷ es) ++ entry ∷ []) ≡ true
-  above : is_lt (bytes_cmp first.0 entry.0) ≡ true
-
-below_push : (name : List ℕ) (es : List Entry) (entry : Entry) → below_all name es ≡ true → is_lt (bytes_cmp name entry.0) ≡ true → below_all name (es ++ entry ∷ []) ≡ true
-below_push name [] entry h g = ap (λ b. b && true) g
-below_push name (e ∷ es) entry h g =
-    let both = and_parts (is_lt (bytes_cmp name e.0)) (below_all name es) h in
-    and_from (is_lt (bytes_cmp name e.0)) (below_all name (es ++ entry ∷ [])) both.0 (below_push name es entry both.1 g)
-
-sorted_push : (entry first : Entry) (es : List Entry) → map'.is_sorted bytes_cmp (first ∷ es) ≡ true → option_map_or (λ last. is_lt (bytes_cmp last entry.0)) (last_of (names_of (first ∷ es))) true ≡ true → Sorted entry first es
-sorted_push entry first [] up h = record { sorted = ap (λ b. (b && true) && true) h; above = h }
-sorted_push entry first (e ∷ es) up h =
-    let parts = and_parts (below_all first.0 (e ∷ es)) (map'.is_sorted bytes_cmp (e ∷ es)) up in
-    let rest = sorted_push entry e es parts.1 h in
-    let before = and_parts (is_lt (bytes_cmp first.0 e.0)) (below_all first.0 es) parts.0 in
-    let above = before_chain first.0 e.0 entry.0 before.0 rest.above in
-    record {
-      sorted = and_from (below_all first.0 ((e ∷ es) ++ entry ∷ [])) (map'.is_sorted bytes_cmp ((e ∷ es) ++ entry ∷ [])) (below_push first.0 (e ∷ es) entry parts.0 above) rest.sorted;
-      above = above;
-    }
-
-ascend_push : (es : List Entry) (entry : Entry) → map'.is_sorted bytes_cmp es ≡ true → is_above (names_of es) entry.0 ≡ true → map'.is_sorted bytes_cmp (es ++ entry ∷ []) ≡ true
-ascend_push [] entry up h = refl
-ascend_push (e ∷ es) entry up h = (sorted_push entry e es up (ap (λ (o : Option (List ℕ)). option_map_or (λ last. is_lt (bytes_cmp last entry.0)) o true) (sym (last_is (names_of (e ∷ es)))) ∙ h)).sorted
+pub ascends_push : (names : List (List ℕ)) (name : List ℕ) → are_ascending names ≡ true → is_above names name ≡ true → are_ascending (names ++ name ∷ []) ≡ true
+ascends_push names name up above = ascends_last names name up (ap (λ o. option_map_or (λ last. is_lt (bytes_cmp last name)) o true) (sym (last_is names)) ∙ above)
 
 -- ---- one name more
 
@@ -62,14 +42,14 @@ pub names_push : (es : List Entry) (entry : Entry) → names_of (es ++ entry ∷
 names_push [] entry = refl
 names_push (e ∷ es) entry = ap (λ rest. e.0 ∷ rest) (names_push es entry)
 
-pub built_added : (built : Built) (name trigrams : List ℕ) → IsBuilt built → IsString name → is_above (names_of built.entries) name ≡ true → IsTrigramSet trigrams → length built.entries < 1073741824 → IsBuilt (with_name built name trigrams)
+pub built_added : (built : Built) (name trigrams : List ℕ) → IsBuilt built → IsString name → is_above (names_of built.entries) name ≡ true → IsTrigramSet trigrams → length built.entries < 1073741824 → IsBuilt (with_entry built name trigrams)
 built_added built name trigrams is text above set bound =
     let more : length (built.entries ++ (name, trigrams) ∷ []) ≡ length built.entries + 1 = length_push built.entries (name, trigrams) in
     record {
       paths = is.paths;
       each_path = is.each_path;
       each_name = subst (AllByRecursion IsString) (sym (names_push built.entries (name, trigrams))) (all_push IsString (names_of built.entries) name is.each_name text);
-      ascend = ascend_push built.entries (name, trigrams) is.ascend above;
+      ascend = ap are_ascending (names_push built.entries (name, trigrams)) ∙ ascends_push (names_of built.entries) name is.ascend above;
       sets = all_push (λ (entry : Entry). IsTrigramSet entry.1) built.entries (name, trigrams) is.sets set;
       bound = omega (arith, more, bound);
     }

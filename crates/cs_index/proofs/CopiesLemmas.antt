@@ -19,8 +19,8 @@ use Rattle.cs_index.specs.Copies.{AreBelow, AreCopiedEntries, HasCopy, IsCopied,
 use Rattle.cs_index.proofs.CopyLemmas.{copy_read}
 use Rattle.cs_index.proofs.ListReadLemmas.{Small, trigram_small}
 use Rattle.cs_index.proofs.OpenedLemmas.{entries_spelled}
-use Rattle.cs_index.proofs.PartsLemmas.{entries_fit}
-use Rattle.cs_index.proofs.PlaceLemmas.{number_small}
+use Rattle.cs_index.proofs.OpenedPartsLemmas.{entries_fit}
+use Rattle.cs_index.proofs.BytePlaceLemmas.{number_small}
 use Rattle.cs_index.proofs.BuildingLemmas.{all_push}
 
 -- ---- parts of parts

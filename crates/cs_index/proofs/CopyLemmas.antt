@@ -1,8 +1,7 @@
 -- A list that is read in bytes of its own.
 use Rattle.std.proofs.Common.{◌≡◌, ℕ, zero, suc, ◌+◌, ◌-◌, ◌*◌, ◌≤◌, ◌^◌, true, false, cond, ◌&&◌, eqb, ltb, List, [], ◌∷◌, ◌++◌, length, take, drop, Option, Some, None, refl, sym, ap, subst, ◌∙◌, arith, length-drop, append_assoc}
 use Rattle.std.proofs.lemmas.List.{drop-drop, take-append-drop}
-use Rattle.std.specs.Prelude.{option_map, option_and_then}
-use Rattle.cs_tree.specs.Cover.{same}
+use Rattle.std.specs.Prelude.{option_map, option_and_then, bytes_eq}
 use Rattle.cs_index.specs.Image.{ListEntry, three_bytes}
 use Rattle.cs_index.specs.PostingLists.{Ids, after_delta, below_limit, damage, is_zero, onto, read_ids, read_list, read_varint, varint_at}
 use Rattle.cs_index.specs.Copies.{IsCopy, endless, piece_of}
@@ -89,8 +88,8 @@ module _ (later : List ℕ) where
 
 -- what is read where a piece lies, of the list that the piece was cut of
 piece_read : (name_count count g : ℕ) (list later : List ℕ) → 4 ≤ length list → (room : ℕ) → room ≡ 8 + 5 * count
-    → cond (same (take 3 ((take room list ++ endless) ++ later)) (three_bytes g)) (read_ids name_count count 0 (drop 3 ((take room list ++ endless) ++ later))) damage
-    ≡ cond (same (take 3 list) (three_bytes g)) (read_ids name_count count 0 (drop 3 list)) damage
+    → cond (bytes_eq (take 3 ((take room list ++ endless) ++ later)) (three_bytes g)) (read_ids name_count count 0 (drop 3 ((take room list ++ endless) ++ later))) damage
+    ≡ cond (bytes_eq (take 3 list) (three_bytes g)) (read_ids name_count count 0 (drop 3 list)) damage
 piece_read name_count count g [] later h room is = absurd (omega (arith, h))
 piece_read name_count count g (a ∷ []) later h room is = absurd (omega (arith, h))
 piece_read name_count count g (a ∷ b ∷ []) later h room is = absurd (omega (arith, h))
@@ -98,7 +97,7 @@ piece_read name_count count g (a ∷ b ∷ c ∷ rest) later h zero is = absurd 
 piece_read name_count count g (a ∷ b ∷ c ∷ rest) later h (suc zero) is = absurd (omega (arith, is))
 piece_read name_count count g (a ∷ b ∷ c ∷ rest) later h (suc (suc zero)) is = absurd (omega (arith, is))
 piece_read name_count count g (a ∷ b ∷ c ∷ rest) later h (suc (suc (suc room))) is =
-    ap (λ r. cond (same (a ∷ b ∷ c ∷ []) (three_bytes g)) r damage)
+    ap (λ r. cond (bytes_eq (a ∷ b ∷ c ∷ []) (three_bytes g)) r damage)
     (ap (read_ids name_count count 0) (append_assoc (take room rest) endless later) ∙ ids_alike later name_count count 0 room rest (omega (arith, is)))
 
 -- what is read of an entry is read of its copy
@@ -110,7 +109,7 @@ copy_read section postings name_count e copy within is =
     sym (take-append-drop (length piece) (drop copy.offset postings)) ∙ ap (λ front. front ++ later) is.piece in
     let three : (at : ℕ) (bytes : List ℕ) → drop (at + 3) bytes ≡ drop 3 (drop at bytes) = λ at bytes. sym (drop-drop 3 at bytes) in
     let long = length-drop e.offset section in
-    (λ i. cond (same (take 3 (drop copy.offset postings)) (three_bytes (is.trigram i))) (read_ids name_count (is.count i) 0 (three copy.offset postings i)) damage)
-    ∙ (λ i. cond (same (take 3 (there i)) (three_bytes e.trigram)) (read_ids name_count e.count 0 (drop 3 (there i))) damage)
+    (λ i. cond (bytes_eq (take 3 (drop copy.offset postings)) (three_bytes (is.trigram i))) (read_ids name_count (is.count i) 0 (three copy.offset postings i)) damage)
+    ∙ (λ i. cond (bytes_eq (take 3 (there i)) (three_bytes e.trigram)) (read_ids name_count e.count 0 (drop 3 (there i))) damage)
     ∙ piece_read name_count e.count e.trigram (drop e.offset section) later (omega (arith, long, within)) (8 + 5 * e.count) refl
-    ∙ ap (λ bytes. cond (same (take 3 (drop e.offset section)) (three_bytes e.trigram)) (read_ids name_count e.count 0 bytes) damage) (sym (three e.offset section))
+    ∙ ap (λ bytes. cond (bytes_eq (take 3 (drop e.offset section)) (three_bytes e.trigram)) (read_ids name_count e.count 0 bytes) damage) (sym (three e.offset section))

@@ -1,9 +1,9 @@
 -- Numbers and entries, one after the other.
+use Rattle.std.specs.Prelude.{bytes_eq}
 use Rattle.std.proofs.Common.{◌≡◌, ◌≢◌, ℕ, zero, suc, ◌+◌, ◌-◌, ◌*◌, ◌/◌, ◌<◌, ◌≤◌, true, false, ◌&&◌, eqb, ltb, cond, List, [], ◌∷◌, length, map, Some, None, refl, sym, ap, subst, ◌∙◌, inl, inr, arith, slice_get}
 use Rattle.cs_index.specs.Postings.{entry_of}
 use Rattle.std.proofs.lemmas.Bool.{and_parts, eq-eqb, ne_eqb, ltb-true, cases_order}
 use Rattle.std.proofs.lemmas.List.{length_push}
-use Rattle.cs_tree.specs.Cover.{same}
 use Rattle.cs_index.specs.Image.{with_nul, starts_from}
 use Rattle.cs_index.specs.Opening.{has_starts, number_at, trigram_at, numbers_from, entry_at, entries_from, entries_in, rises}
 use Rattle.std.proofs.Math.Bool.{and-false, and-true}
@@ -12,19 +12,19 @@ use Rattle.std.proofs.Math.Bool.{and-false, and-true}
 
 pub offsets_short : (bytes : List ℕ) (at offset : ℕ) (name : List ℕ) (names : List (List ℕ)) → at ≤ length bytes → length bytes - at < 8 → has_starts bytes at offset (name ∷ names) ≡ false
 offsets_short bytes at offset name names within h =
-    ap (λ b. b && same (numbers_from bytes at (length (name ∷ names))) (starts_from offset (map with_nul (name ∷ names)))) (ne_eqb (length bytes) (at + 4 * (length (name ∷ names) + 1)) (λ e. absurd (omega (arith, e, within, h))))
+    ap (λ b. b && bytes_eq (numbers_from bytes at (length (name ∷ names))) (starts_from offset (map with_nul (name ∷ names)))) (ne_eqb (length bytes) (at + 4 * (length (name ∷ names) + 1)) (λ e. absurd (omega (arith, e, within, h))))
 
 pub offsets_wrong : (bytes : List ℕ) (at offset : ℕ) (name : List ℕ) (names : List (List ℕ)) → number_at bytes at ≢ offset → has_starts bytes at offset (name ∷ names) ≡ false
 offsets_wrong bytes at offset name names apart =
-    ap (λ b. eqb (length bytes) (at + 4 * (length (name ∷ names) + 1)) && (b && same (numbers_from bytes (at + 4) (length names)) (starts_from (offset + length (with_nul name)) (map with_nul names)))) (ne_eqb (number_at bytes at) offset apart)
+    ap (λ b. eqb (length bytes) (at + 4 * (length (name ∷ names) + 1)) && (b && bytes_eq (numbers_from bytes (at + 4) (length names)) (starts_from (offset + length (with_nul name)) (map with_nul names)))) (ne_eqb (number_at bytes at) offset apart)
     ∙ and-false (eqb (length bytes) (at + 4 * (length (name ∷ names) + 1)))
 
 pub offsets_step : (bytes : List ℕ) (at offset later : ℕ) (name : List ℕ) (names : List (List ℕ)) → number_at bytes at ≡ offset → later ≡ offset + (length name + 1) → has_starts bytes at offset (name ∷ names) ≡ has_starts bytes (at + 4) later names
 offsets_step bytes at offset later name names is more =
     let next : offset + length (with_nul name) ≡ later = omega (arith, more, length_push name 0) in
     let long : at + 4 * (length (name ∷ names) + 1) ≡ at + 4 + 4 * (length names + 1) = omega arith in
-    ap (λ b. eqb (length bytes) (at + 4 * (length (name ∷ names) + 1)) && (b && same (numbers_from bytes (at + 4) (length names)) (starts_from (offset + length (with_nul name)) (map with_nul names)))) (eq-eqb (number_at bytes at) offset is)
-    ∙ (λ i. eqb (length bytes) (long i) && same (numbers_from bytes (at + 4) (length names)) (starts_from (next i) (map with_nul names)))
+    ap (λ b. eqb (length bytes) (at + 4 * (length (name ∷ names) + 1)) && (b && bytes_eq (numbers_from bytes (at + 4) (length names)) (starts_from (offset + length (with_nul name)) (map with_nul names)))) (eq-eqb (number_at bytes at) offset is)
+    ∙ (λ i. eqb (length bytes) (long i) && bytes_eq (numbers_from bytes (at + 4) (length names)) (starts_from (next i) (map with_nul names)))
 
 pub offsets_end : (bytes : List ℕ) (at offset : ℕ) → at ≤ length bytes → has_starts bytes at offset [] ≡ eqb (length bytes - at) 4
 offsets_end bytes at offset within =

@@ -2,19 +2,19 @@
 use Rattle.std.proofs.Common.{◌≡◌, ℕ, ◌-◌, ◌<◌, ◌^◌, Bool, true, false, not, cond, ◌&&◌, ◌||◌, eqb, ltb, leb, List, [], ◌∷◌, ◌++◌, length, map, take, drop, Result, Ok, Err, refl, sym, ap, subst, ◌∙◌, ◌⊎◌, inl, inr, arith, length-append}
 use Rattle.std.proofs.lemmas.Bool.{true≢false, and_parts, and_from, leb-true, le-leb, ltb-true, lt-ltb, false_from_ne_true}
 use Rattle.std.proofs.lemmas.List.{take_at, drop_at, take-append-drop}
-use Rattle.std.specs.List.{starts_with, ends_with}
+use Rattle.std.specs.List.{starts_with, ends_with, concat}
 use Rattle.std.specs.Cmp.Lexicographic.{bytes_decides}
 use Rattle.cs_tree.specs.ByteList.{AreBytes}
-use Rattle.cs_index.specs.Image.{concat, with_nul, Sections, magic, trailer_magic, ListEntry}
-use Rattle.cs_index.specs.Opening.{cut_before, cut_of, entries_in, has_trailer, is_list_index, is_name_index, is_section, opening, parts_of, read_cut, read_sections, texts_of}
+use Rattle.cs_index.specs.Image.{with_nul, Sections, magic, trailer_magic, ListEntry}
+use Rattle.cs_index.specs.Opening.{is_names_section, cut_before, cut_of, entries_in, has_trailer, is_list_index, is_name_index, is_section, opening, parts_of, read_cut, read_sections, texts_of}
 use Rattle.cs_index.specs.OpenedParts.{Parts}
-use Rattle.cs_index.specs.Failing.{HasMagic, HasTrailer, AreLaid, ArePaths, AreNames, HavePaths, HaveNames, Fails}
-use Rattle.cs_index.specs.Spelling.{AreEntries, AreOffsets}
+use Rattle.cs_index.specs.Failing.{HasMagic, HasTrailer, ArePaths, AreNames, HavePaths, HaveNames, Fails}
+use Rattle.cs_index.specs.Spelling.{AreLaid, AreEntries, AreOffsets}
 use Rattle.cs_index.specs.declared.fault.IndexFault.{IndexFault}
 use Rattle.cs_index.specs.declared.fault.IndexFault.TheVariants.{BadMagic, BadTrailer, BadOffsets, BadPaths, BadNames, BadNameIndex, BadListIndex, BadList, Memory}
 use Rattle.cs_index.proofs.OnceLemmas.{lengths, names_tail}
 use Rattle.cs_index.proofs.ListReadLemmas.{Small, small_bytes}
-use Rattle.cs_index.proofs.TextLemmas.{formed_spelled, section_read, section_spelled, texts_spelled}
+use Rattle.cs_index.proofs.SectionStringLemmas.{formed_spelled, section_read, section_spelled, texts_spelled}
 use Rattle.cs_index.proofs.OpenLemmas.{cut_ended, no_magic, no_trailer}
 use Rattle.cs_index.proofs.OpenedLemmas.{cut_spelled, cut_from, names_read, offsets_read, list_index_read, name_index_spelled, list_index_spelled}
 
@@ -68,15 +68,12 @@ paths_tested paths section are = ap (is_section (0 ∷ [])) are.1 ∙ section_sp
 paths_there : (section : List ℕ) → is_section (0 ∷ []) section ≡ true → ArePaths (texts_of section) section
 paths_there section h = section_read (0 ∷ []) section h
 
-abbrev are_names : List ℕ → Bool
-are_names section = is_section (0 ∷ []) section || is_section [] section
-
-names_tested : (names : List (List ℕ)) (section : List ℕ) → AreNames names section → are_names section ≡ true
+names_tested : (names : List (List ℕ)) (section : List ℕ) → AreNames names section → is_names_section section ≡ true
 names_tested names section are =
     let tail = names_tail section names are in
-    ap are_names tail.1.1 ∙ formed_spelled names tail.0 tail.1.0 tail.2
+    ap is_names_section tail.1.1 ∙ formed_spelled names tail.0 tail.1.0 tail.2
 
-names_there : (section : List ℕ) → are_names section ≡ true → AreNames (texts_of section) section
+names_there : (section : List ℕ) → is_names_section section ≡ true → AreNames (texts_of section) section
 names_there section h = names_read section h
 
 texts_are : (names : List (List ℕ)) (section : List ℕ) → AreNames names section → texts_of section ≡ names
@@ -138,16 +135,16 @@ module _ (bytes : List ℕ) (s : Sections) (small : Small bytes) (is : cut_of by
   abbrev with_paths : is_section (0 ∷ []) s.paths ≡ true → HavePaths bytes
   with_paths h = record { sections = s; are_laid = laid; paths = texts_of s.paths; are_paths = paths_there s.paths h }
 
-  abbrev with_names : is_section (0 ∷ []) s.paths ≡ true → are_names s.names ≡ true → HaveNames bytes
+  abbrev with_names : is_section (0 ∷ []) s.paths ≡ true → is_names_section s.names ≡ true → HaveNames bytes
   with_names h k = record { above = with_paths h; names = texts_of s.names; are_names = names_there s.names k }
 
-  bound : are_names s.names ≡ true → length (concat (map with_nul (texts_of s.names))) < 2 ^ 32
+  bound : is_names_section s.names ≡ true → length (concat (map with_nul (texts_of s.names))) < 2 ^ 32
   bound k = few_bytes (texts_of s.names) s.names (names_there s.names k) (short_names bytes s laid)
 
   fails_sections : (fault : IndexFault) → read_sections s ≡ Err fault → Fails bytes fault
   fails_sections fault h = elim (failed (is_section (0 ∷ []) s.paths) BadPaths fault _ h) [
     | inl first ↦ subst (Fails bytes) first.1 (s, laid, λ paths are. true≢false (sym (paths_tested paths s.paths are) ∙ first.0))
-    | inr paths ↦ elim (failed (are_names s.names) BadNames fault _ paths.1) [
+    | inr paths ↦ elim (failed (is_names_section s.names) BadNames fault _ paths.1) [
       | inl second ↦ subst (Fails bytes) second.1 (with_paths paths.0, λ names are. true≢false (sym (names_tested names s.names are) ∙ second.0))
       | inr names ↦ elim (failed (is_name_index s.name_index (texts_of s.names)) BadNameIndex fault _ names.1) [
         | inl third ↦ subst (Fails bytes) third.1 (with_names paths.0 names.0, λ are. true≢false (sym (offsets_tested (texts_of s.names) s.name_index (bound names.0) are) ∙ third.0))
@@ -202,19 +199,19 @@ module _ (bytes : List ℕ) (small : Small bytes) (s : Sections) (are : AreLaid 
   from_offsets = cond (not (is_name_index s.name_index (texts_of s.names))) (Err BadNameIndex) from_lists
 
   abbrev from_names : Result Parts IndexFault
-  from_names = cond (not (are_names s.names)) (Err BadNames) from_offsets
+  from_names = cond (not (is_names_section s.names)) (Err BadNames) from_offsets
 
   past_paths : (paths : List (List ℕ)) → ArePaths paths s.paths → read_sections s ≡ from_names
   past_paths paths there = goes_on (is_section (0 ∷ []) s.paths) BadPaths from_names (paths_tested paths s.paths there)
 
   past_names : (paths names : List (List ℕ)) → ArePaths paths s.paths → AreNames names s.names → read_sections s ≡ from_offsets
-  past_names paths names there named = past_paths paths there ∙ goes_on (are_names s.names) BadNames from_offsets (names_tested names s.names named)
+  past_names paths names there named = past_paths paths there ∙ goes_on (is_names_section s.names) BadNames from_offsets (names_tested names s.names named)
 
   no_paths : ((paths : List (List ℕ)) → ¬ (ArePaths paths s.paths)) → opening bytes ≡ Err BadPaths
   no_paths none = opens_as ∙ fails_here (is_section (0 ∷ []) s.paths) BadPaths from_names (false_from_ne_true _ (λ t. none (texts_of s.paths) (paths_there s.paths t)))
 
   no_names : (paths : List (List ℕ)) → ArePaths paths s.paths → ((names : List (List ℕ)) → ¬ (AreNames names s.names)) → opening bytes ≡ Err BadNames
-  no_names paths there none = opens_as ∙ past_paths paths there ∙ fails_here (are_names s.names) BadNames from_offsets (false_from_ne_true _ (λ t. none (texts_of s.names) (names_there s.names t)))
+  no_names paths there none = opens_as ∙ past_paths paths there ∙ fails_here (is_names_section s.names) BadNames from_offsets (false_from_ne_true _ (λ t. none (texts_of s.names) (names_there s.names t)))
 
   module _ (paths names : List (List ℕ)) (there : ArePaths paths s.paths) (named : AreNames names s.names) where
     same_names : texts_of s.names ≡ names

@@ -1,5 +1,6 @@
 -- Lists that were gathered trigram by trigram are those of the names.
 use Rattle.std.proofs.Common.{◌≡◌, ℕ, zero, suc, ◌+◌, ◌<◌, ◌≤◌, true, false, cond, ◌||◌, eqb, List, [], ◌∷◌, length, map, get_or, refl, sym, ap, subst, ◌∙◌, ◌⊎◌, inl, inr, arith}
+use Rattle.cs_index.specs.Gathering.{keys}
 use Rattle.cs_index.specs.Rising.{RiseWithin, IsPosting, ArePostings}
 use Rattle.cs_index.specs.PostingLists.{set_at, entries_of}
 use Rattle.cs_trigram.specs.Trigram.{has, Ascends}
@@ -12,9 +13,6 @@ use Rattle.cs_index.proofs.SpellingLemmas.{ids_rise}
 use Rattle.cs_index.proofs.TransposeLemmas.{id_has}
 use Rattle.cs_trigram.proofs.SetLemmas.{ascends_tail, ascends_head, ascends_set, has-set_of_numbers, has-append, below_none, ascends_same}
 use Rattle.cs_index.proofs.SiftLemmas.{rise_ascends}
-
-abbrev keys : List Posting → List ℕ
-keys ps = map (λ (p : Posting). p.0) ps
 
 -- a list stands among others
 abbrev Among : Posting → List Posting → Type 0

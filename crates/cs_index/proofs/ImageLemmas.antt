@@ -1,16 +1,20 @@
 -- The image of lists that are in order is that of their set and their map.
-use Rattle.std.proofs.Common.{◌≡◌, ℕ, Bool, true, false, List, sym, ap, ◌∙◌}
+use Rattle.std.proofs.Common.{◌≡◌, ℕ, Bool, true, false, List, [], ◌∷◌, refl, sym, ap, ◌∙◌}
 use Rattle.cs_tree.specs.NameOrder.{bytes_cmp}
+use Rattle.cs_tree.specs.NamesAscending.{are_ascending}
+use Rattle.cs_tree.proofs.BeforeLemmas.{before_chain}
 use Rattle.std.specs.Prelude.{T}
-use Rattle.std.proofs.lemmas.Bool.{true≢false, and_parts}
+use Rattle.std.proofs.lemmas.Bool.{true≢false, and_parts, and_from}
 use Rattle.std.specs.List.{list_all}
 use Rattle.std.specs.FinMap as map'
+use Rattle.std.specs.FinMap.Entries.{below_all}
+use Rattle.std.specs.Ordering.{is_lt}
 use Rattle.cs_tree.specs.PathSet as set'
 use Rattle.cs_tree.proofs.ReduceLemmas.{items-from_list}
 use Rattle.cs_tree.proofs.Sets.{entries_in_order}
-use Rattle.cs_index.specs.Image.{Entry, image, image_of}
-use Rattle.cs_index.specs.Built.{Built, IsBuilt, are_paths, are_reduced, is_storable, paths_of, files_of}
-use Rattle.cs_index.proofs.PathLemmas.{reduced_up, strictly}
+use Rattle.cs_index.specs.Image.{Entry, image, image_of, names_of}
+use Rattle.cs_index.specs.Built.{Built, IsBuilt, are_paths, are_reduced, is_storable, path_set, file_map}
+use Rattle.cs_index.proofs.PathOrderLemmas.{reduced_up, strictly, tail_up}
 
 pub true_T : (b : Bool) → b ≡ true → T b
 true_T true h = tt
@@ -23,5 +27,23 @@ image_in_order paths entries h up =
     ap (λ ps. image_of ps entries) (sym (items-from_list paths (strictly paths (reduced_up paths reduced))))
     ∙ ap (image_of (set'.items (set'.from_list paths))) (sym (entries_in_order entries (true_T _ up)))
 
-pub image_built : (built : Built) → IsBuilt built → image_of built.paths built.entries ≡ image (paths_of built) (files_of built)
-image_built built is = image_in_order built.paths built.entries is.paths is.ascend
+-- ---- entries whose names ascend are in the order of a map
+
+below_more : (name next : List ℕ) (names : List (List ℕ)) → is_lt (bytes_cmp name next) ≡ true → are_ascending (next ∷ names) ≡ true → are_ascending (name ∷ names) ≡ true
+below_more name next [] less up = refl
+below_more name next (other ∷ names) less up =
+    let both = and_parts (is_lt (bytes_cmp next other)) (are_ascending (other ∷ names)) up in
+    and_from (is_lt (bytes_cmp name other)) (are_ascending (other ∷ names)) (before_chain name next other less both.0) both.1
+
+below_named : (name : List ℕ) (es : List Entry) → are_ascending (name ∷ names_of es) ≡ true → below_all bytes_cmp name es ≡ true
+below_named name [] up = refl
+below_named name (e ∷ es) up =
+    let both = and_parts (is_lt (bytes_cmp name e.0)) (are_ascending (e.0 ∷ names_of es)) up in
+    and_from (is_lt (bytes_cmp name e.0)) (below_all bytes_cmp name es) both.0 (below_named name es (below_more name e.0 (names_of es) both.0 both.1))
+
+pub sorted_named : (es : List Entry) → are_ascending (names_of es) ≡ true → map'.is_sorted bytes_cmp es ≡ true
+sorted_named [] up = refl
+sorted_named (e ∷ es) up = and_from (below_all bytes_cmp e.0 es) (map'.is_sorted bytes_cmp es) (below_named e.0 es up) (sorted_named es (tail_up e.0 (names_of es) up))
+
+pub image_built : (built : Built) → IsBuilt built → image_of built.paths built.entries ≡ image (path_set built) (file_map built)
+image_built built is = image_in_order built.paths built.entries is.paths (sorted_named built.entries is.ascend)

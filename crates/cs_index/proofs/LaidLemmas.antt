@@ -5,11 +5,12 @@ use Rattle.cs_trigram.proofs.SetLemmas.{Above, ascends_cons, ascends_tail, ascen
 use Rattle.std.proofs.lemmas.Bool.{true≢false, cases_Bool, cond_both, eq-eqb, ne_eqb}
 use Rattle.std.proofs.lemmas.List.{append-nil, length_push, length-map}
 use Rattle.std.specs.Prelude.{filter}
-use Rattle.std.specs.List.{AllByRecursion}
-use Rattle.cs_index.specs.Image.{Entry, Posting, IsString, image_of, layout, postings_of, sections_of, with_nul, concat, starts_from, four_bytes, name_offsets}
+use Rattle.std.specs.List.{AllByRecursion, concat}
+use Rattle.cs_index.specs.Image.{Entry, Posting, IsString, image_of, layout, postings_of, sections_of, with_nul, starts_from, four_bytes, name_offsets}
 use Rattle.cs_index.specs.Rising.{next_after, ArePostings, IsPosting}
 use Rattle.cs_index.specs.Gathering.{keys, lists_of, ordered_lists}
-use Rattle.cs_index.specs.Laid.{ids_of, with_id, Laid, IsLaid, IsLastList, entries_laid, with_laid_name, with_laid_id, with_list, with_posting, with_postings, AllBelow}
+use Rattle.cs_index.specs.Laid.{ids_of, with_id, Laid, entries_laid, with_laid_name, with_laid_id, with_list, AllBelow}
+use Rattle.cs_index.specs.LaidLists.{IsLaid, IsLastList, with_posting, with_postings}
 use Rattle.cs_index.specs.Indexable.{IsIndexable}
 use Rattle.cs_index.specs.PostingLists.{entries_of, set_at}
 use Rattle.cs_index.proofs.BuildingLemmas.{names_entries}
@@ -17,7 +18,7 @@ use Rattle.cs_index.proofs.BuiltLemmas.{each_gathered}
 use Rattle.cs_index.proofs.GatheredLemmas.{length-entries_of, postings_gathered}
 use Rattle.cs_index.proofs.StringLemmas.{all_texts, length-starts_from}
 use Rattle.cs_index.proofs.OnceLemmas.{lengths}
-use Rattle.cs_index.proofs.PlaceLemmas.{length-fours}
+use Rattle.cs_index.proofs.BytePlaceLemmas.{length-fours}
 
 -- ---- one name more
 
@@ -189,14 +190,14 @@ names_within paths names lists =
     let count = length-starts_from 0 (map with_nul names) ∙ length-map names with_nul in
     omega (arith, l.whole, l.laid, parts, offsets, count)
 
-pub few_names : (paths names : List (List ℕ)) (lists : List Posting) →
+pub names_bound : (paths names : List (List ℕ)) (lists : List Posting) →
     length (layout (sections_of paths names lists)) < 2 ^ 32 → length names < 2 ^ 31
-few_names paths names lists short = let within = names_within paths names lists in omega (arith, within, short)
+names_bound paths names lists short = let within = names_within paths names lists in omega (arith, within, short)
 
 pub laid_indexable : (laid : Laid) → IsLaid laid → length (image_of laid.paths (entries_laid laid)) < 2 ^ 32 →
     IsIndexable laid.paths (entries_laid laid)
 laid_indexable laid is short =
-    let bound : length laid.names < 2 ^ 31 = few_names laid.paths laid.names laid.lists
+    let bound : length laid.names < 2 ^ 31 = names_bound laid.paths laid.names laid.lists
     (subst (λ (bytes : List ℕ). length bytes < 2 ^ 32) (sym (laid_image laid is)) short) in
     let many : length (entries_laid laid) ≡ length laid.names = length-entries_of 0 laid.names laid.lists in
     record {

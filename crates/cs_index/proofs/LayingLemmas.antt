@@ -2,8 +2,8 @@
 use Rattle.std.proofs.Common.{◌≡◌, ℕ, ◌+◌, ◌-◌, ◌<◌, ◌≤◌, List, [], ◌∷◌, ◌++◌, length, map, refl, sym, ap, ◌∙◌, arith, append_assoc, length-append}
 use Rattle.std.proofs.lemmas.List.{append-nil, length_push}
 use Rattle.std.specs.Prelude.{flat_map}
-use Rattle.std.specs.List.{AllByRecursion}
-use Rattle.cs_index.specs.Image.{closing_list, four_bytes, concat, entry_bytes, starts_from, Sections, in_order, magic, sections_of, strings_section, trailer, trailer_magic, layout, list_entries, posting_list, with_nul, ListEntry, Posting}
+use Rattle.std.specs.List.{AllByRecursion, concat}
+use Rattle.cs_index.specs.Image.{closing_list, four_bytes, entry_bytes, starts_from, Sections, in_order, magic, sections_of, strings_section, trailer, trailer_magic, layout, list_entries, posting_list, with_nul, ListEntry, Posting}
 use Rattle.cs_index.specs.Laying.{entry_from, front_of}
 
 pub starts_below : (limit at : ℕ) (pieces : List (List ℕ)) → at + length (concat pieces) < limit →

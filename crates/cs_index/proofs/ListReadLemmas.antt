@@ -1,4 +1,5 @@
 -- The list at an entry.
+use Rattle.std.specs.Prelude.{bytes_eq}
 use Rattle.std.proofs.Common.{◌≡◌, ◌≢◌, ℕ, zero, suc, ◌+◌, ◌<◌, ◌≤◌, ◌^◌, cond, List, [], ◌∷◌, length, take, drop, get_or, refl, sym, ap, subst, ◌∙◌, inl, inr, arith, drop-cons, length-drop, length-take}
 use Rattle.cs_index.specs.PostingLists.{damage, read_ids, read_list}
 use Rattle.cs_tree.specs.ByteList.{AreBytes}
@@ -7,11 +8,10 @@ use Rattle.std.proofs.lemmas.Nat.{be_bytes_4}
 use Rattle.std.proofs.lemmas.List.{get_or_past}
 use Rattle.std.proofs.lemmas.List.Elements.{All-get_or}
 use Rattle.std.specs.Cmp.Lexicographic.{bytes_decides}
-use Rattle.cs_tree.specs.Cover.{same}
 use Rattle.cs_index.specs.Image.{three_bytes, ListEntry}
 use Rattle.cs_index.specs.Opening.{entry_at, number_at, trigram_at}
 use Rattle.cs_index.proofs.OnceLemmas.{three_once}
-use Rattle.cs_index.proofs.ReadingLemmas.{not_longer}
+use Rattle.cs_index.proofs.SectionReadLemmas.{not_longer}
 
 -- what stands at each place is a byte; beyond the end it is 0
 abbrev pub Small : List ℕ → Type 0
@@ -51,12 +51,12 @@ pub list_short : (postings list_index : List ℕ) (at name_count : ℕ) → leng
 list_short postings list_index at name_count h =
     let e : ListEntry = entry_at list_index at in
     let cut : length (take 3 (drop e.offset postings)) < 3 = let l = length-drop e.offset postings in let m = length-take 3 (drop e.offset postings) in omega (arith, h, l, m) in
-    sym (ap (λ b. cond b (read_ids name_count e.count 0 (drop (e.offset + 3) postings)) damage) (false_from_ne_true (same (take 3 (drop e.offset postings)) (three_bytes e.trigram)) (λ t. let long = not_longer (take 3 (drop e.offset postings)) (three_bytes e.trigram) t in omega (arith, cut, long))))
+    sym (ap (λ b. cond b (read_ids name_count e.count 0 (drop (e.offset + 3) postings)) damage) (false_from_ne_true (bytes_eq (take 3 (drop e.offset postings)) (three_bytes e.trigram)) (λ t. let long = not_longer (take 3 (drop e.offset postings)) (three_bytes e.trigram) t in omega (arith, cut, long))))
 
 pub list_other : (postings list_index : List ℕ) (at name_count : ℕ) → number_at list_index (at + 7) + 3 ≤ length postings → Small postings → Small list_index → trigram_at postings (number_at list_index (at + 7)) ≢ trigram_at list_index at → damage ≡ read_list postings name_count (entry_at list_index at)
 list_other postings list_index at name_count h small small' apart =
     let e : ListEntry = entry_at list_index at in
-    sym (ap (λ b. cond b (read_ids name_count e.count 0 (drop (e.offset + 3) postings)) damage) (false_from_ne_true (same (take 3 (drop e.offset postings)) (three_bytes e.trigram)) (λ t.
+    sym (ap (λ b. cond b (read_ids name_count e.count 0 (drop (e.offset + 3) postings)) damage) (false_from_ne_true (bytes_eq (take 3 (drop e.offset postings)) (three_bytes e.trigram)) (λ t.
     apart (three_once (trigram_at postings e.offset) e.trigram (trigram_small postings e.offset small) (trigram_small list_index at small') (three_of postings e.offset h small ∙ (bytes_decides (take 3 (drop e.offset postings)) (three_bytes e.trigram)).0 t)))))
 
 pub list_there : (postings list_index : List ℕ) (at name_count : ℕ) → number_at list_index (at + 7) + 3 ≤ length postings → Small postings → trigram_at postings (number_at list_index (at + 7)) ≡ trigram_at list_index at → read_ids name_count (number_at list_index (at + 3)) 0 (drop (number_at list_index (at + 7) + 3) postings) ≡ read_list postings name_count (entry_at list_index at)

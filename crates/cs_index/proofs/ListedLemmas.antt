@@ -4,11 +4,10 @@ use Rattle.cs_index.specs.Rising.{RiseWithin}
 use Rattle.cs_index.specs.PostingLists.{damage, read_ids}
 use Rattle.cs_index.specs.WholeLists.{IsList}
 use Rattle.std.proofs.lemmas.List.{drop_at, drop-drop}
-use Rattle.std.specs.Prelude.{flat_map}
-use Rattle.std.specs.List.{AllByRecursion, AllZip}
+use Rattle.std.specs.Prelude.{flat_map, bytes_eq}
+use Rattle.std.specs.List.{AllByRecursion, AllZip, concat}
 use Rattle.std.specs.Cmp.Lexicographic.{bytes_decides}
-use Rattle.cs_tree.specs.Cover.{same}
-use Rattle.cs_index.specs.Image.{three_bytes, varint, concat, Posting, posting_list, deltas_from, ListEntry, list_entries, Entry, ids_from, postings_of, trigrams_of, closing_list}
+use Rattle.cs_index.specs.Image.{three_bytes, varint, Posting, posting_list, deltas_from, ListEntry, list_entries, Entry, ids_from, postings_of, trigrams_of, closing_list}
 use Rattle.cs_index.proofs.VarintLemmas.{ids_read}
 use Rattle.cs_index.proofs.SpellingLemmas.{ids_rise}
 
@@ -18,7 +17,7 @@ one_list front rest p name_count bound up =
     let at : drop (length front) section ≡ posting_list p ++ rest = drop_at front (posting_list p ++ rest) (length front) refl in
     let after : drop (length front + 3) section ≡ (flat_map varint (deltas_from 0 p.1) ++ 0 ∷ []) ++ rest = sym (drop-drop 3 (length front) section) ∙ ap (drop 3) at in
     let after' : drop (length front + 3) section ≡ flat_map varint (deltas_from 0 p.1) ++ 0 ∷ rest = after ∙ append_assoc (flat_map varint (deltas_from 0 p.1)) (0 ∷ []) rest in
-    ap (λ bytes. cond (same (take 3 bytes) (three_bytes p.0)) (read_ids name_count (length p.1) 0 (drop (length front + 3) section)) damage) at
+    ap (λ bytes. cond (bytes_eq (take 3 bytes) (three_bytes p.0)) (read_ids name_count (length p.1) 0 (drop (length front + 3) section)) damage) at
     ∙ ap (λ b. cond b (read_ids name_count (length p.1) 0 (drop (length front + 3) section)) damage) ((bytes_decides (three_bytes p.0) (three_bytes p.0)).1 refl)
     ∙ ap (read_ids name_count (length p.1) 0) after'
     ∙ ids_read name_count 0 p.1 rest bound up

@@ -4,9 +4,9 @@ use Rattle.std.proofs.lemmas.List.{take_at, drop_at, append_cancel_left, append-
 use Rattle.std.proofs.lemmas.Nat.{from_be_bytes-to_be_bytes_4}
 use Rattle.std.specs.Prelude.{flat_map}
 use Rattle.std.specs.Int.{from_be_bytes, w32}
-use Rattle.std.specs.List.{AllByRecursion}
-use Rattle.cs_index.specs.Image.{three_bytes, four_bytes, concat, with_nul, starts_from, Sections, in_order, trailer, trailer_magic, magic, layout, ListEntry, entry_bytes, IsString}
-use Rattle.cs_index.specs.Spelling.{AreStrings, IsEntry, Spells}
+use Rattle.std.specs.List.{AllByRecursion, concat}
+use Rattle.cs_index.specs.Image.{three_bytes, four_bytes, with_nul, starts_from, Sections, in_order, trailer, trailer_magic, magic, layout, ListEntry, entry_bytes, IsString}
+use Rattle.cs_index.specs.Spelling.{AreLaid, AreStrings, IsEntry, Spells}
 
 pub apart : (a b c d : List ℕ) → length a ≡ length c → a ++ b ≡ c ++ d → (a ≡ c) × (b ≡ d)
 apart a b c d l e = (
@@ -130,6 +130,11 @@ sections_once s t f g e =
     let five : s.list_index ≡ t.list_index = sym (append-nil s.list_index) ∙ four.1 ∙ append-nil t.list_index in
     λ i. record { paths = one.0 i; names = two.0 i; postings = three.0 i; name_index = four.0 i; list_index = five i }
 
+-- bytes are the sections of one layout
+pub laid_once : (bytes : List ℕ) (s t : Sections) → AreLaid bytes s → AreLaid bytes t → s ≡ t
+laid_once bytes s t here there =
+    sections_once s t (subst (λ b. length b < 2 ^ 32) here.laid here.short) (subst (λ b. length b < 2 ^ 32) there.laid there.short) (sym here.laid ∙ there.laid)
+
 -- a section of names with one NUL more, or without
 pub names_tail : (section : List ℕ) (names : List (List ℕ)) → AreStrings (0 ∷ []) names section ⊎ AreStrings [] names section → (closing : List ℕ) × AreStrings closing names section × IsTail closing
 names_tail section names (inl are) = (0 ∷ [], are, inr refl)
@@ -137,7 +142,7 @@ names_tail section names (inr are) = ([], are, inl refl)
 
 pub spelled_once : (bytes : List ℕ) (p q n m : List (List ℕ)) (d e : List ListEntry) → Spells bytes p n d → Spells bytes q m e → (p ≡ q) × (n ≡ m) × (d ≡ e)
 spelled_once bytes p q n m d e g h =
-    let s = sections_once g.sections h.sections (subst (λ b. length b < 2 ^ 32) g.laid g.short) (subst (λ b. length b < 2 ^ 32) h.laid h.short) (sym g.laid ∙ h.laid) in
+    let s = laid_once bytes g.sections h.sections g.are_laid h.are_laid in
     let a = names_tail g.sections.names n g.names_are in
     let b = names_tail h.sections.names m h.names_are in (
       strings_once p q (0 ∷ []) (0 ∷ []) g.paths_are.0 h.paths_are.0 (inr refl) (inr refl) (sym g.paths_are.1 ∙ ap (λ (t : Sections). t.paths) s ∙ h.paths_are.1),

@@ -3,11 +3,10 @@ use Rattle.std.proofs.Common.{◌≡◌, ℕ, ◌+◌, ◌-◌, ◌*◌, ◌/◌
 use Rattle.cs_index.specs.SectionsRead.{IsRead}
 use Rattle.cs_index.specs.PostingLists.{Ids, read_list}
 use Rattle.std.proofs.lemmas.Bool.{and_parts, eqb-true}
-use Rattle.std.specs.Prelude.{option_map, nat_eq, Result, if◌then◌else◌}
+use Rattle.std.specs.Prelude.{option_map, nat_eq, Result, if◌then◌else◌, bytes_eq}
 use Rattle.cs_index.specs.declared.fault.IndexFault.{IndexFault}
 use Rattle.std.specs.List.{list_all, starts_with}
 use Rattle.cs_index.specs.declared.fault.IndexFault.TheVariants.{BadMagic, BadTrailer}
-use Rattle.cs_tree.specs.Cover.{same}
 use Rattle.cs_index.specs.Image.{magic, Sections, ListEntry, starts_from, with_nul}
 use Rattle.cs_index.specs.Opening.{is_name_index, is_list_index, is_entry, rises, entries_in, entry_at, trigram_at, parts_of, texts_of, has_trailer, cut_of, cut_before, numbers_from}
 use Rattle.cs_index.specs.OpenedParts.{Parts, ids_read}
@@ -32,7 +31,7 @@ cut_there bytes h g = ap (λ b. cond (not b) (Err BadMagic) (cut_ended bytes)) h
 pub offsets_long : (bytes : List ℕ) (names : List (List ℕ)) → is_name_index bytes names ≡ true → length bytes ≡ 4 * (length names + 1)
 unfolding is_name_index
 offsets_long bytes names h =
-    let both = and_parts (eqb (length bytes) (0 + 4 * (length names + 1))) (same (numbers_from bytes 0 (length names)) (starts_from 0 (map with_nul names))) h in
+    let both = and_parts (eqb (length bytes) (0 + 4 * (length names + 1))) (bytes_eq (numbers_from bytes 0 (length names)) (starts_from 0 (map with_nul names))) h in
     let long = eqb-true (length bytes) (0 + 4 * (length names + 1)) both.0 in
     omega (arith, long)
 
@@ -42,7 +41,7 @@ entries_rise room bytes h =
     (and_parts (rises (entries_in bytes)) (list_all (is_entry room) (entries_in bytes)) (and_parts (eqb (length bytes % 11) 0) (rises (entries_in bytes) && list_all (is_entry room) (entries_in bytes)) h).1).0
 
 pub few_read : (s : Sections) → IsRead s → length (texts_of s.names) < 2 ^ 31
-few_read s is = let long = offsets_long s.name_index (texts_of s.names) is.name_index in omega (arith, long, is.few_names)
+few_read s is = let long = offsets_long s.name_index (texts_of s.names) is.read.offsets in omega (arith, long, is.names_bound)
 
 pub list_given : (s : Sections) (now : Parts) (place name_count g : ℕ) → parts_of s ≡ now → place < length s.list_index / 11 → name_count ≡ length now.names → g ≡ trigram_at s.list_index (11 * place) → ◌≡◌ {A = Option (ℕ × Ids)} (Some (g, read_list s.postings name_count (entry_at s.list_index (11 * place)))) (option_map (λ (e : ListEntry). (e.trigram, ids_read now e)) (slice_get now.entries place))
 list_given s now place name_count g is h count tri =

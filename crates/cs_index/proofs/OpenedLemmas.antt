@@ -6,21 +6,20 @@ use Rattle.cs_trigram.specs.Trigram.{Ascends}
 use Rattle.std.proofs.lemmas.Bool.{or_cases, or_left, or_right, and_parts, and_from, cases_lt, eqb-true, eq-eqb, leb-true, le-leb, ltb-true, lt-ltb}
 use Rattle.std.proofs.lemmas.List.{take_at, drop_at, append-nil, drop_all, length-map}
 use Rattle.std.proofs.lemmas.List.Folds.{drop_split}
-use Rattle.std.specs.Prelude.{flat_map, slice_range}
-use Rattle.std.specs.List.{AllByRecursion, list_all, starts_with, ends_with}
+use Rattle.std.specs.Prelude.{flat_map, slice_range, bytes_eq}
+use Rattle.std.specs.List.{AllByRecursion, list_all, starts_with, ends_with, concat}
 use Rattle.std.specs.Cmp.Lexicographic.{bytes_decides}
-use Rattle.cs_tree.specs.Cover.{same}
 use Rattle.cs_index.specs.declared.fault.IndexFault.{IndexFault}
 use Rattle.cs_index.specs.declared.fault.IndexFault.TheVariants.{BadMagic, BadTrailer, BadOffsets, BadPaths, BadNames, BadNameIndex, BadListIndex}
-use Rattle.cs_index.specs.Image.{four_bytes, concat, with_nul, starts_from, in_order, Sections, magic, trailer, trailer_magic, layout, ListEntry, entry_bytes, name_offsets}
+use Rattle.cs_index.specs.Image.{four_bytes, with_nul, starts_from, in_order, Sections, magic, trailer, trailer_magic, layout, ListEntry, entry_bytes, name_offsets}
 use Rattle.cs_index.proofs.OpenLemmas.{cut_ended, cut_there, offsets_long}
 use Rattle.cs_index.specs.Opening.{are_starts, cut_at, cut_before, cut_of, entries_from, entries_in, entry_at, has_trailer, is_entry, is_list_index, is_name_index, is_section, number_at, numbers_from, opening, parts_of, read_cut, read_sections, rises, texts_of}
 use Rattle.cs_index.specs.OpenedParts.{Parts}
 use Rattle.cs_index.proofs.OnceLemmas.{lengths, names_tail, small_trigram, starts_fit}
-use Rattle.cs_index.proofs.PlaceLemmas.{Fits, entries_back, entries_laid, length-entries, length-fours, number_small, numbers_back, numbers_laid, slice_laid, slice_small}
+use Rattle.cs_index.proofs.BytePlaceLemmas.{Fits, entries_back, entries_laid, length-entries, length-fours, number_small, numbers_back, numbers_laid, slice_laid, slice_small}
 use Rattle.cs_index.proofs.ListReadLemmas.{Small, small_bytes, trigram_small}
 use Rattle.cs_index.proofs.StringLemmas.{length-starts_from}
-use Rattle.cs_index.proofs.TextLemmas.{formed_spelled, section_read, section_spelled, texts_spelled}
+use Rattle.cs_index.proofs.SectionStringLemmas.{formed_spelled, section_read, section_spelled, texts_spelled}
 
 -- ---- sections that are laid out are cut
 
@@ -128,7 +127,7 @@ name_index_spelled names last four short =
     let count : length starts ≡ length names = length-starts_from 0 (map with_nul names) ∙ length-map names with_nul in
     let numbers : numbers_from bytes 0 (length names) ≡ starts = ap (numbers_from bytes 0) (sym count) ∙ numbers_laid [] starts last (starts_small 0 names (omega (arith, short))) in
     let long : length bytes ≡ 0 + 4 * (length names + 1) = let a = length-append (flat_map four_bytes starts) last in let b = length-fours starts in omega (arith, a, b, four, count) in
-    and_from (eqb (length bytes) (0 + 4 * (length names + 1))) (same (numbers_from bytes 0 (length names)) starts) (eq-eqb (length bytes) (0 + 4 * (length names + 1)) long) ((bytes_decides (numbers_from bytes 0 (length names)) starts).1 numbers)
+    and_from (eqb (length bytes) (0 + 4 * (length names + 1))) (bytes_eq (numbers_from bytes 0 (length names)) starts) (eq-eqb (length bytes) (0 + 4 * (length names + 1)) long) ((bytes_decides (numbers_from bytes 0 (length names)) starts).1 numbers)
 
 entries_fit : (postings : List ℕ) (es : List ListEntry) → AllByRecursion (IsEntry postings) es → AllByRecursion Fits es
 entries_fit postings [] all = tt
@@ -194,8 +193,9 @@ unfolding opening
 opens_spelled bytes parts h =
     let spelled = h.spelled in
     let s : Sections = spelled.sections in
-    let short : length (layout s) < 2 ^ 32 = subst (λ (bs : List ℕ). length bs < 2 ^ 32) spelled.laid spelled.short in
-    let cut : cut_of bytes ≡ Ok s = ap cut_of spelled.laid ∙ cut_spelled s short in
+    let are = spelled.are_laid in
+    let short : length (layout s) < 2 ^ 32 = subst (λ (bs : List ℕ). length bs < 2 ^ 32) are.laid are.short in
+    let cut : cut_of bytes ≡ Ok s = ap cut_of are.laid ∙ cut_spelled s short in
     let l = lengths s in
     ap read_cut cut ∙ opens_sections s parts h.postings spelled.paths_are spelled.names_are spelled.name_index_is spelled.list_index_is (omega (arith, l.whole, l.laid, short))
 
@@ -326,7 +326,7 @@ unfolding is_name_index
 offsets_read bytes names small h =
     let starts : List ℕ = starts_from 0 (map with_nul names) in
     let long = offsets_long bytes names h in
-    let both = and_parts (eqb (length bytes) (0 + 4 * (length names + 1))) (same (numbers_from bytes 0 (length names)) starts) h in
+    let both = and_parts (eqb (length bytes) (0 + 4 * (length names + 1))) (bytes_eq (numbers_from bytes 0 (length names)) starts) h in
     let numbers : numbers_from bytes 0 (length names) ≡ starts = (bytes_decides (numbers_from bytes 0 (length names)) starts).0 both.1 in
     let at : 0 + 4 * length names ≡ 4 * length names = omega arith in (
       drop (4 * length names) bytes,
@@ -393,8 +393,7 @@ spells_parts bytes s parts cut pass =
     subst (SpellsParts bytes) pass.are (record {
       spelled = record {
         sections = s;
-        laid = cut.laid;
-        short = cut.short;
+        are_laid = record { laid = cut.laid; short = cut.short };
         paths_are = section_read (0 ∷ []) s.paths pass.paths;
         names_are = names_read s.names pass.names;
         name_index_is = offsets_read s.name_index (texts_of s.names) cut.name_index pass.name_index;

@@ -9,9 +9,9 @@ use Rattle.cs_trigram.proofs.SetLemmas.{ascends-short}
 use Rattle.cs_index.specs.Answerable.{asks_for}
 use Rattle.cs_index.specs.Image.{ListEntry}
 use Rattle.cs_index.specs.Opening.{entries_in, is_entry, is_list_index, parts_of, texts_of}
-use Rattle.cs_index.specs.SectionsRead.{IsRead}
+use Rattle.cs_index.specs.SectionsRead.{AreHeld, IsRead}
 use Rattle.cs_index.specs.Spelling.{IsEntry}
-use Rattle.cs_index.specs.Starts.{AreRead, with_lists}
+use Rattle.cs_index.specs.Starts.{with_lists}
 use Rattle.cs_index.specs.Stored.{StoredParts, LiesBefore, whole_of}
 use Rattle.cs_index.specs.Restriction.{AnswersAs}
 use Rattle.cs_index.specs.Copies.{AreCopiedEntries, HasCopy}
@@ -19,8 +19,8 @@ use Rattle.cs_index.proofs.CopiesLemmas.{copies_read}
 use Rattle.cs_index.proofs.OpenedLemmas.{list_index_spelled}
 use Rattle.cs_index.proofs.OnceLemmas.{small_trigram}
 use Rattle.cs_index.proofs.OpenLemmas.{entries_rise}
-use Rattle.cs_index.proofs.PartsLemmas.{entries_fit}
-use Rattle.cs_index.proofs.PlaceLemmas.{length-entries}
+use Rattle.cs_index.proofs.OpenedPartsLemmas.{entries_fit}
+use Rattle.cs_index.proofs.BytePlaceLemmas.{length-entries}
 use Rattle.cs_index.proofs.RestrictionLemmas.{answers_as}
 
 small_trigrams : (postings : List ℕ) (es : List ListEntry) → AllByRecursion (IsEntry postings) es → AllByRecursion (λ g. g < 2 ^ 24) (map (λ (e : ListEntry). e.trigram) es)
@@ -38,17 +38,14 @@ few_entries postings (e ∷ es) all up =
     let long = length-trigrams es in
     omega (arith, short, long)
 
-module _ (p n i l list_index postings : List ℕ) (start room : ℕ) (read : AreRead p n i l room) (are : AreCopiedEntries list_index postings) where
+module _ (p n i l list_index postings : List ℕ) (start room : ℕ) (held_is : AreHeld p n i l room) (are : AreCopiedEntries list_index postings) where
   entries_are : is_list_index (length postings) list_index ≡ true
   entries_are = list_index_spelled postings list_index (entries_in list_index) are.entries
 
-  pub made_read : length i < 2 ^ 32 → IsRead (with_lists p n i list_index postings)
-  made_read bound = record {
-    paths = read.each_path;
-    names = read.each_name;
-    name_index = read.offsets;
-    list_index = entries_are;
-    few_names = bound;
+  pub made_read : IsRead (with_lists p n i list_index postings)
+  made_read = record {
+    read = record { each_path = held_is.read.each_path; each_name = held_is.read.each_name; offsets = held_is.read.offsets; entries = entries_are };
+    names_bound = held_is.names_bound;
     few_lists = let a = ap length are.entries.2 in let b = length-entries (entries_in list_index) in let d = few_entries postings (entries_in list_index) are.entries.0 are.entries.1 in omega (arith, a, b, d);
   }
 
@@ -60,8 +57,8 @@ module _ (p n i l list_index postings : List ℕ) (start room : ℕ) (read : Are
   answers query bytes copies within =
       let d = length-drop start bytes in
       let long : length (part_of bytes start room) ≡ room = length-take-le room (drop start bytes) (omega (arith, d, within)) in
-      let fit : list_all (λ (e : ListEntry). is_entry (length (part_of bytes start room)) e) (entries_in l) ≡ true = ap (λ k. list_all (λ (e : ListEntry). is_entry k e) (entries_in l)) long ∙ entries_fit room l read.entries in
-      answers_as (whole_of bytes held) (parts_of (with_lists p n i list_index postings)) (entries_rise room l read.entries) (entries_rise (length postings) list_index entries_are) query refl refl
+      let fit : list_all (λ (e : ListEntry). is_entry (length (part_of bytes start room)) e) (entries_in l) ≡ true = ap (λ k. list_all (λ (e : ListEntry). is_entry k e) (entries_in l)) long ∙ entries_fit room l held_is.read.entries in
+      answers_as (whole_of bytes held) (parts_of (with_lists p n i list_index postings)) (entries_rise room l held_is.read.entries) (entries_rise (length postings) list_index entries_are) query refl refl
       (λ g asks. copies_read (whole_of bytes held) (parts_of (with_lists p n i list_index postings)) g refl fit (copies g asks))
 
   pub answers_held : (query : Query) (bytes : List ℕ) (now : StoredParts) → held ≡ now → ((g : ℕ) → asks_for query g ≡ true → HasCopy (part_of bytes now.start now.room) now.entries postings (entries_in list_index) g) → LiesBefore now (length bytes)

@@ -13,7 +13,7 @@ use Rattle.cs_index.specs.Candidates.{meets}
 use Rattle.cs_index.specs.Answerable.{asks_for, is_answerable}
 use Rattle.cs_index.specs.Postings.{read_for}
 use Rattle.cs_index.specs.Restriction.{AnswersAs, ReadAlike}
-use Rattle.cs_index.proofs.AskedLemmas.{asks-And, asks-Or, asks-Tri, holds-All, holds-And, holds-Nothing, holds-Or, holds-Tri, set_is, candidates_are, answerable-All, answerable-And, answerable-Nothing, answerable-Or, answerable-Tri}
+use Rattle.cs_index.proofs.QueryTrigramLemmas.{asks-And, asks-Or, asks-Tri, holds-All, holds-And, holds-Nothing, holds-Or, holds-Tri, set_is, candidates_are, answerable-All, answerable-And, answerable-Nothing, answerable-Or, answerable-Tri}
 
 module _ (whole part : Parts) (up : rises whole.entries ≡ true) (up' : rises part.entries ≡ true) where
   -- the query is answered alike, by each name and of each list

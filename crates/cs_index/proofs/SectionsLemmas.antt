@@ -4,18 +4,19 @@ use Rattle.cs_trigram.specs.Trigram.{has, Ascends}
 use Rattle.cs_trigram.proofs.SetLemmas.{Above, ascends_tail, ascends_head}
 use Rattle.std.proofs.lemmas.Bool.{cases_Bool, eqb-true, eq-eqb, ne_eqb, or_parts}
 use Rattle.std.proofs.lemmas.List.{append-nil, length-map, length_push}
-use Rattle.std.specs.List.{AllByRecursion}
+use Rattle.std.specs.List.{AllByRecursion, concat}
 use Rattle.std.specs.Option.{option_map_or}
 use Rattle.cs_index.specs.declared.writing.sections.Sections.TheInside.{Inside}
 use Rattle.std.specs.Prelude.{Result, IfOk, flat_map}
 use Rattle.cs_index.specs.declared.fault.BuildFault.{BuildFault}
 use Rattle.cs_index.specs.Indexable.{IsIndexable}
-use Rattle.cs_index.specs.Image.{Posting, ListEntry, concat, four_bytes, image_of, layout, list_entries, posting_list, sections_of, three_bytes, varint, deltas_from}
+use Rattle.cs_index.specs.Image.{Posting, ListEntry, four_bytes, image_of, layout, list_entries, posting_list, sections_of, three_bytes, varint, deltas_from}
 use Rattle.cs_index.specs.IdStream.{stream_of, ids_in, IsStream}
 use Rattle.cs_index.specs.Rising.{ids_onward, most_ids, next_after, IsPosting, RiseWithin}
 use Rattle.cs_index.specs.Gathering.{keys}
-use Rattle.cs_index.specs.Laid.{ids_of, with_id, Laid, IsLaid, entries_laid, last_ids, with_laid_id, with_last_id, with_last_ids, with_posting, AllBelow}
-use Rattle.cs_index.specs.Laying.{front_of, ids_at, lists_at, IsFresh, IsOpen, IsSections, hand_of, bytes_of, lists_of_fields, last_trigram_of, laid_of}
+use Rattle.cs_index.specs.Laid.{ids_of, with_id, Laid, entries_laid, last_ids, with_laid_id, with_last_id, with_last_ids, AllBelow}
+use Rattle.cs_index.specs.LaidLists.{IsLaid, with_posting}
+use Rattle.cs_index.specs.Laying.{front_of, ids_at, lists_at, IsFresh, IsOpen, IsSections, hand_of, bytes_at_close, lists_of_fields, last_trigram_of, laid_of}
 use Rattle.cs_index.proofs.StreamLemmas.{decoded-stream_of, stream_from, written_push, next_push, rise_push, rise_length, rise_append}
 use Rattle.cs_index.proofs.StretchLemmas.{onward_from, onward_last, onward_stream}
 use Rattle.cs_index.proofs.ListedLemmas.{lists_are}
@@ -147,10 +148,10 @@ of_last (p ∷ ps) g ids h = ap (λ b. cond b p.1 (ids_of (ps ++ (g, ids) ∷ []
 -- ---- the fields
 
 abbrev closed_of : Inside → List Posting
-closed_of s = lists_at (bytes_of s) s.entries.items
+closed_of s = lists_at (bytes_at_close s) s.entries.items
 
 abbrev ids_at_hand : Inside → List ℕ
-ids_at_hand s = ids_at (bytes_of s) (hand_of s)
+ids_at_hand s = ids_at (bytes_at_close s) (hand_of s)
 
 abbrev IsOpenAs : Inside → List Posting → List ℕ → Type 0
 IsOpenAs s closed ids = IsOpen (front_of s.paths s.names) s.out.items s.entries.items (hand_of s) s.next closed ids
@@ -756,7 +757,7 @@ pub ended_some : (s : Inside) (now : Laid) (bytes : List ℕ) (entries : List Li
     Ended s now bytes entries
 ended_some s now bytes entries view is some written pushed =
     ended s now bytes entries view is
-    ((λ i. lists_at (written i) (pushed i)) ∙ lists_push (bytes_of s) s.entries.items (hand_of s)
+    ((λ i. lists_at (written i) (pushed i)) ∙ lists_push (bytes_at_close s) s.entries.items (hand_of s)
     ∙ sym (some_lists s some))
     (written ∙ closed_at front s.out.items (closed_of s) s.trigram (ids_at_hand s) held.written
     ∙ ap (λ bs. front ++ bs) (sym (concat_push (closed_of s) last))

@@ -172,7 +172,7 @@ all_above id (y ∷ ys) h up =
     further [] a = tt
     further (k ∷ ks) a = omega (arith, a, h)
 
--- Where a sieve has come to: the first id that is not below one.
+-- Where a sifter has come to: the first id that is not below one.
 pub record Reached (ids : List ℕ) (at place id : ℕ) : Type 0 where
   pub after : at ≤ place
   pub within : place ≤ length ids
@@ -184,7 +184,7 @@ skip_from ids at place id r up =
     let there : drop (place - at) (drop at ids) ≡ drop place ids = drop-drop (place - at) at ids ∙ ap (λ n. drop n ids) (let z : at + (place - at) ≡ place = omega (arith, r.after) in z) in
     subst (Skipped id (drop at ids)) there (skip_to id (drop at ids) (place - at) (omega (arith, l, r.within)) (λ k h. subst (λ n. n < id) (sym (get_or-drop at ids k 0)) (r.below (at + k) (omega arith) (omega (arith, h)))) up)
 
--- what the sieve then has
+-- what the sifter then has
 pub record Passed (id : ℕ) (kept left kept' left' : List ℕ) : Type 0 where
   pub kept_is : kept' ≡ cond (has left id) (kept ++ id ∷ []) kept
   pub left_is : left' ≡ filter (λ x. ltb id x) left
@@ -224,7 +224,7 @@ pass_by ids kept at place id r over up =
     above_rest (inr (inl less)) = subst (Above id) (sym (drop-cons ids place 0 less)) (over less)
     above_rest (inr (inr more)) = absurd (omega (arith, more, r.within))
 
--- the sieve and what both have, after one id more
+-- the sifter and what both have, after one id more
 pub sift_on : (all left rest kept kept' left' : List ℕ) (id : ℕ) → all ≡ kept ++ filter (has (id ∷ rest)) left → Ascends (id ∷ rest) → Ascends left → kept' ≡ cond (has left id) (kept ++ id ∷ []) kept → left' ≡ filter (λ x. ltb id x) left → all ≡ kept' ++ filter (has rest) left'
 sift_on all left rest kept kept' left' id so_far up up' is is' =
     let more : List ℕ = filter (has rest) (filter (λ x. ltb id x) left) in

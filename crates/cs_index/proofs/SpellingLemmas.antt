@@ -4,8 +4,8 @@ use Rattle.cs_index.specs.Rising.{RiseWithin}
 use Rattle.cs_trigram.specs.Trigram.{has, Ascends}
 use Rattle.std.proofs.lemmas.Bool.{cond_both}
 use Rattle.std.specs.Prelude.{flat_map}
-use Rattle.std.specs.List.{AllByRecursion}
-use Rattle.cs_index.specs.Image.{four_bytes, concat, with_nul, Entry, ids_from, Posting, posting_list, postings_of, trigrams_of, closing_list, ListEntry, list_entries, Sections, sections_of, names_of, image_of}
+use Rattle.std.specs.List.{AllByRecursion, concat}
+use Rattle.cs_index.specs.Image.{four_bytes, with_nul, Entry, ids_from, Posting, posting_list, postings_of, trigrams_of, closing_list, ListEntry, list_entries, Sections, sections_of, names_of, image_of}
 use Rattle.cs_index.specs.Spelling.{IsEntry, Spells}
 use Rattle.cs_index.specs.Indexable.{IsIndexable}
 use Rattle.cs_trigram.proofs.SetLemmas.{ascends_set, all_set}
@@ -78,8 +78,7 @@ image_spelled paths entries h =
     let whole : 0 + length (concat (map posting_list (postings_of entries))) + 4 ≡ length s.postings = let l = length-append (concat (map posting_list (postings_of entries))) closing_list in omega (arith, l) in
     record {
       sections = s;
-      laid = refl;
-      short = h.short;
+      are_laid = record { laid = refl; short = h.short };
       paths_are = (h.each_path, refl);
       names_are = inl (h.each_name, refl);
       name_index_is = (four_bytes (length (concat (map with_nul (names_of entries)))), refl, refl);

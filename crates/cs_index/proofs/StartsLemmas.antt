@@ -9,7 +9,7 @@ use Rattle.std.specs.Int.{from_be_bytes, w32}
 use Rattle.cs_tree.specs.Store.{part_of}
 use Rattle.cs_index.specs.declared.fault.IndexFault.{IndexFault}
 use Rattle.cs_index.specs.declared.fault.IndexFault.TheVariants.{BadMagic, BadTrailer, BadOffsets}
-use Rattle.cs_index.specs.declared.reading.starts.Starts.{Starts}
+use Rattle.cs_index.specs.declared.reading.starts.SectionStarts.{SectionStarts}
 use Rattle.cs_index.specs.Image.{magic, trailer_magic}
 use Rattle.cs_index.specs.Opening.{are_starts, cut_at, cut_before, cut_of, has_trailer, number_at}
 use Rattle.cs_index.specs.Starts.{AreDisordered, AreGiven, IsCutAt, is_tail, sections_at}
@@ -85,7 +85,7 @@ module _ (bytes head tail : List ℕ) (len : ℕ) (ends : AreEnds bytes head tai
   disordered : (a b c d e at : ℕ) → are_starts a b c d e at ≡ false → cut_at bytes a b c d e at ≡ Err BadOffsets
   disordered a b c d e at h = ap (λ t. cond t (Ok (record { paths = take (b - a) (drop a bytes); names = take (c - b) (drop b bytes); postings = take (d - c) (drop c bytes); name_index = take (e - d) (drop d bytes); list_index = take (at - e) (drop e bytes) })) (Err BadOffsets)) h
 
-  pub starts_cut : (answer : Result Starts IndexFault) → starts_with nat_eq head magic ≡ true → is_tail tail len ≡ true → 52 ≤ len → IfOk answer (AreGiven tail (len - 36)) → IfErr answer (AreDisordered tail (len - 36)) → IsCutAt bytes answer
+  pub starts_cut : (answer : Result SectionStarts IndexFault) → starts_with nat_eq head magic ≡ true → is_tail tail len ≡ true → 52 ≤ len → IfOk answer (AreGiven tail (len - 36)) → IfErr answer (AreDisordered tail (len - 36)) → IsCutAt bytes answer
   starts_cut (Ok s) h g enough given wrong =
       let cut = cut_there bytes (magic_at_head ∙ h) (trailer_at_tail ∙ g) in
       let ordered : cut_at bytes s.paths s.names s.postings s.name_index s.list_index (len - 36) ≡ Ok (record (sections_at bytes s) { list_index = take (len - 36 - s.list_index) (drop s.list_index bytes) }) =

@@ -5,10 +5,11 @@ use Rattle.std.specs.Prelude.{IfSome, IfOk, slice_range}
 use Rattle.cs_tree.specs.Store.{part_of}
 use Rattle.cs_index.specs.declared.fault.IndexFault.{IndexFault}
 use Rattle.cs_index.specs.declared.fault.IndexFault.TheVariants.{BadPaths, BadNames, BadNameIndex, BadListIndex}
-use Rattle.cs_index.specs.declared.reading.starts.Starts.{Starts}
+use Rattle.cs_index.specs.declared.reading.starts.SectionStarts.{SectionStarts}
 use Rattle.cs_index.specs.Opening.{cut_of, entries_in, is_list_index, opening, parts_of, read_cut, read_sections, texts_of}
-use Rattle.cs_index.specs.Starts.{AreInOrder, AreRead, sections_at, with_lists}
-use Rattle.cs_index.specs.Stored.{StoredParts, LiesBefore, OpensAs, SectionsOpenAs, whole_of}
+use Rattle.cs_index.specs.SectionsRead.{AreRead}
+use Rattle.cs_index.specs.Starts.{AreInOrder, sections_at, with_lists, SectionsOpenAs}
+use Rattle.cs_index.specs.Stored.{StoredParts, LiesBefore, OpensAs, whole_of}
 use Rattle.cs_index.proofs.OpenedLemmas.{rise_from}
 
 -- ---- what a store tells, while it tells the same
@@ -37,13 +38,13 @@ tested p n i l lists room long is =
     λ t. cond (not (is.each_path t)) (Err BadPaths) (cond (not (is.each_name t)) (Err BadNames) (cond (not (is.offsets t)) (Err BadNameIndex) (cond (not (entries t)) (Err BadListIndex) (Ok (parts_of (with_lists p n i l lists))))))
 
 -- The sections but the lists are those of the bytes.
-pub record Were (s : Starts) (p n i l bytes : List ℕ) : Type 0 where
+pub record Were (s : SectionStarts) (p n i l bytes : List ℕ) : Type 0 where
   pub paths : p ≡ part_of bytes s.paths (s.names - s.paths)
   pub names : n ≡ part_of bytes s.names (s.postings - s.names)
   pub name_index : i ≡ part_of bytes s.name_index (s.list_index - s.name_index)
   pub list_index : l ≡ part_of bytes s.list_index (s.trailer - s.list_index)
 
-module _ (s : Starts) (order : AreInOrder s) (p n i l bytes : List ℕ) (within : s.trailer ≤ length bytes) (were : Were s p n i l bytes) where
+module _ (s : SectionStarts) (order : AreInOrder s) (p n i l bytes : List ℕ) (within : s.trailer ≤ length bytes) (were : Were s p n i l bytes) where
   abbrev lists : List ℕ
   lists = slice_range bytes s.postings s.name_index
 
@@ -67,7 +68,7 @@ module _ (s : Starts) (order : AreInOrder s) (p n i l bytes : List ℕ) (within 
 
 -- ---- the four sections, one after another
 
-pub were_told : (s : Starts) (p n i l : List ℕ) (t1 t2 t3 t4 : Option (List ℕ)) → t2 ≡ t1 → t3 ≡ t2 → t4 ≡ t3
+pub were_told : (s : SectionStarts) (p n i l : List ℕ) (t1 t2 t3 t4 : Option (List ℕ)) → t2 ≡ t1 → t3 ≡ t2 → t4 ≡ t3
     → IfSome t1 (λ b. p ≡ part_of b s.paths (s.names - s.paths)) → IfSome t2 (λ b. n ≡ part_of b s.names (s.postings - s.names))
     → IfSome t3 (λ b. i ≡ part_of b s.name_index (s.list_index - s.name_index)) → IfSome t4 (λ b. l ≡ part_of b s.list_index (s.trailer - s.list_index))
     → IfSome t1 (Were s p n i l)
@@ -77,7 +78,7 @@ were_told s p n i l t1 t2 t3 t4 e2 e3 e4 a b c d =
 
 -- ---- the whole
 
-pub opened : (bytes : List ℕ) (s : Starts) (answer : Result StoredParts IndexFault) → cut_of bytes ≡ Ok (sections_at bytes s) → s.trailer ≤ length bytes → SectionsOpenAs bytes (sections_at bytes s) answer → IfOk answer (λ held. LiesBefore held s.trailer) → OpensAs bytes answer
+pub opened : (bytes : List ℕ) (s : SectionStarts) (answer : Result StoredParts IndexFault) → cut_of bytes ≡ Ok (sections_at bytes s) → s.trailer ≤ length bytes → SectionsOpenAs bytes (sections_at bytes s) answer → IfOk answer (λ held. LiesBefore held s.trailer) → OpensAs bytes answer
 unfolding opening
 opened bytes s (Ok held) cut within read before = (ap read_cut cut ∙ read, omega (arith, within, before))
 opened bytes s (Err fault) cut within read before = ap read_cut cut ∙ read

@@ -9,7 +9,7 @@ use Rattle.cs_index.specs.Image.{varint, varint_within, deltas_from}
 use Rattle.cs_index.specs.IdStream.{ids_in, stream_of, IsStream}
 use Rattle.cs_index.specs.Rising.{ids_onward, most_ids, next_after, RiseWithin}
 use Rattle.cs_index.specs.PostingLists.{Ids, read_ids, read_varint, after_delta, onto, damage}
-use Rattle.cs_index.specs.ListRest.{left_of}
+use Rattle.cs_index.specs.ListRest.{ids_left}
 use Rattle.cs_index.proofs.StreamLemmas.{rise_length, short_varint, stream_from, stream_more}
 use Rattle.cs_index.proofs.VarintLemmas.{varint_read}
 
@@ -215,12 +215,12 @@ two_at (first ∷ second ∷ rest) two are large some small = two_bytes first se
 -- ---- ids that are passed
 
 pub passed : (ended : Bool) (name_count left next last len on : ℕ) (bytes rest ids : List ℕ) (now : Ids) →
-    left_of ended name_count left next bytes ≡ now → ended ≡ false → next ≡ last + 1 → name_count < 2 ^ 31 →
+    ids_left ended name_count left next bytes ≡ now → ended ≡ false → next ≡ last + 1 → name_count < 2 ^ 31 →
     RiseWithin most_ids 0 ids → next + on ≤ name_count → len ≡ length ids → len ≤ left → on ≡ next_after 0 ids →
     bytes ≡ stream_of ids ++ rest →
-    now ≡ before (ids_onward (last + 1) ids) (left_of ended name_count (left - len) (next + on) rest)
+    now ≡ before (ids_onward (last + 1) ids) (ids_left ended name_count (left - len) (next + on) rest)
 passed ended name_count left next last len on bytes rest ids now view off at bound up within count fits go is =
     sym view
-    ∙ ap (λ b. left_of b name_count left next bytes) off
+    ∙ ap (λ b. ids_left b name_count left next bytes) off
     ∙ left_front name_count next left bytes rest ids bound up (omega (arith, within, go)) (omega (arith, fits, count)) is
-    ∙ (λ i. before (ids_onward (at i) ids) (left_of (sym off i) name_count (left - sym count i) (next + sym go i) rest))
+    ∙ (λ i. before (ids_onward (at i) ids) (ids_left (sym off i) name_count (left - sym count i) (next + sym go i) rest))

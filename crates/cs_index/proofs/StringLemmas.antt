@@ -1,14 +1,13 @@
 -- Strings in a row, and one more.
 use Rattle.std.proofs.Common.{◌≡◌, ℕ, zero, suc, ◌+◌, ◌-◌, ◌<◌, true, ltb, eqb, not, List, [], ◌∷◌, ◌++◌, length, map, take, drop, Option, Some, None, refl, sym, ap, subst, ◌∙◌, arith, append_assoc, length-append, slice_get}
-use Rattle.cs_tree.specs.Pieces.{onto_first}
 use Rattle.std.proofs.lemmas.List.{take_at, drop_at, append-nil, length_push, length-map}
 use Rattle.std.proofs.lemmas.Bool.{true≢false, and_parts, ltb-true}
 use Rattle.std.specs.Prelude.{IsUtf8}
-use Rattle.std.specs.List.{AllByRecursion, list_all}
-use Rattle.cs_index.specs.Image.{concat, with_nul, starts_from, IsString}
+use Rattle.std.specs.List.{AllByRecursion, list_all, onto_first, concat}
+use Rattle.cs_index.specs.Image.{with_nul, starts_from, IsString}
 use Rattle.cs_index.specs.Built.{is_storable}
 use Rattle.cs_index.specs.Strings.{texts_in}
-use Rattle.cs_index.specs.StringStarts.{AreStrings}
+use Rattle.cs_index.specs.StringStarts.{AreStringStarts}
 
 -- a text and its NUL stand in front
 pub front_text : (text rest : List ℕ) → AllByRecursion (λ b. 0 < b) text → texts_in (with_nul text ++ rest) ≡ text ∷ texts_in rest
@@ -25,7 +24,7 @@ pub texts_back : (texts : List (List ℕ)) → AllByRecursion IsString texts →
 texts_back [] all = no_texts
 texts_back (text ∷ texts) all = front_text text (concat (map with_nul texts)) all.0.1 ∙ ap (λ rest. text ∷ rest) (texts_back texts all.1)
 
-pub strings_from : (texts : List (List ℕ)) → AllByRecursion IsString texts → AreStrings (concat (map with_nul texts)) (starts_from 0 (map with_nul texts))
+pub strings_from : (texts : List (List ℕ)) → AllByRecursion IsString texts → AreStringStarts (concat (map with_nul texts)) (starts_from 0 (map with_nul texts))
 strings_from texts all =
     let is : texts ≡ texts_in (concat (map with_nul texts)) = sym (texts_back texts all) in
     record {
@@ -50,10 +49,10 @@ all_texts [] text all is = (is, tt)
 all_texts (t ∷ texts) text all is = (all.0, all_texts texts text all.1 is)
 
 pub record Grown (bytes starts text : List ℕ) : Type 0 where
-  pub are : AreStrings ((bytes ++ text) ++ 0 ∷ []) (starts ++ length bytes ∷ [])
+  pub are : AreStringStarts ((bytes ++ text) ++ 0 ∷ []) (starts ++ length bytes ∷ [])
   pub texts : texts_in ((bytes ++ text) ++ 0 ∷ []) ≡ texts_in bytes ++ text ∷ []
 
-pub strings_push : (bytes starts text : List ℕ) → AreStrings bytes starts → IsString text → Grown bytes starts text
+pub strings_push : (bytes starts text : List ℕ) → AreStringStarts bytes starts → IsString text → Grown bytes starts text
 strings_push bytes starts text are is =
     let texts : List (List ℕ) = texts_in bytes in
     let all : AllByRecursion IsString (texts ++ text ∷ []) = all_texts texts text are.each is in
@@ -64,7 +63,7 @@ strings_push bytes starts text are is =
     ∙ ap (λ n. starts_from 0 (map with_nul texts) ++ n ∷ []) (ap length are.written ∙ (let z : length (concat (map with_nul texts)) ≡ 0 + length (concat (map with_nul texts)) = omega arith in z))
     ∙ sym (starts_push 0 texts text) in
     record {
-      are = subst (λ bs. AreStrings bs (starts ++ length bytes ∷ [])) (sym whole) (subst (AreStrings (concat (map with_nul (texts ++ text ∷ [])))) (sym starts_are) (strings_from (texts ++ text ∷ []) all));
+      are = subst (λ bs. AreStringStarts bs (starts ++ length bytes ∷ [])) (sym whole) (subst (AreStringStarts (concat (map with_nul (texts ++ text ∷ [])))) (sym starts_are) (strings_from (texts ++ text ∷ []) all));
       texts = ap texts_in whole ∙ texts_back (texts ++ text ∷ []) all;
     }
 
@@ -83,7 +82,7 @@ pub length-starts_from : (at : ℕ) (pieces : List (List ℕ)) → length (start
 length-starts_from at [] = refl
 length-starts_from at (p ∷ pieces) = ap suc (length-starts_from (at + length p) pieces)
 
-pub count_texts : (bytes starts : List ℕ) → AreStrings bytes starts → length starts ≡ length (texts_in bytes)
+pub count_texts : (bytes starts : List ℕ) → AreStringStarts bytes starts → length starts ≡ length (texts_in bytes)
 count_texts bytes starts are = ap length are.starts_are ∙ length-starts_from 0 (map with_nul (texts_in bytes)) ∙ length-map (texts_in bytes) with_nul
 
 -- ---- the last text
@@ -122,7 +121,7 @@ pub record LastText (bytes : List ℕ) (start : ℕ) : Type 0 where
   pub within : start < length bytes
   pub text : slice_get (texts_in bytes) (length (texts_in bytes) - 1) ≡ Some (take (length bytes - 1 - start) (drop start bytes))
 
-pub last_text : (bytes starts : List ℕ) (start : ℕ) → AreStrings bytes starts → slice_get starts (length starts - 1) ≡ Some start → LastText bytes start
+pub last_text : (bytes starts : List ℕ) (start : ℕ) → AreStringStarts bytes starts → slice_get starts (length starts - 1) ≡ Some start → LastText bytes start
 last_text bytes starts start are e =
     let last = last_from [] (texts_in bytes) start (ap last_of (sym are.starts_are) ∙ sym (last_is starts) ∙ e) in
     record {
@@ -130,7 +129,7 @@ last_text bytes starts start are e =
       text = last_is (texts_in bytes) ∙ last.text ∙ ap (λ (bs : List ℕ). Some (take (length bs - 1 - start) (drop start bs))) (sym are.written);
     }
 
-pub no_text : (bytes starts : List ℕ) → AreStrings bytes starts → slice_get starts (length starts - 1) ≡ None → slice_get (texts_in bytes) (length (texts_in bytes) - 1) ≡ None
+pub no_text : (bytes starts : List ℕ) → AreStringStarts bytes starts → slice_get starts (length starts - 1) ≡ None → slice_get (texts_in bytes) (length (texts_in bytes) - 1) ≡ None
 no_text bytes starts are e = none (texts_in bytes) (ap last_of (sym are.starts_are) ∙ sym (last_is starts) ∙ e)
   where
     none : (texts : List (List ℕ)) → last_of (starts_from 0 (map with_nul texts)) ≡ None → slice_get texts (length texts - 1) ≡ None

@@ -1,6 +1,6 @@
 -- What is written of paths and entries opens as them.
 use Rattle.std.proofs.Common.{◌≡◌, ℕ, zero, suc, ◌+◌, ◌<◌, true, ◌&&◌, List, [], ◌∷◌, length, map, get_or, Ok, refl, ap, ◌∙◌, arith}
-use Rattle.cs_index.specs.Roundtrip.{parts_written, Has}
+use Rattle.cs_index.specs.Roundtrip.{parts_written, IsIndexWith}
 use Rattle.cs_index.specs.PostingLists.{read_list, set_at, entries_of}
 use Rattle.cs_index.specs.WholeLists.{IsList}
 use Rattle.cs_trigram.specs.Trigram.{Ascends}
@@ -52,7 +52,7 @@ set_ascends [] k d h all = absurd (omega (arith, h))
 set_ascends (entry ∷ entries) zero d h all = all.0
 set_ascends (entry ∷ entries) (suc k) d h all = set_ascends entries k d (omega (arith, h)) all.1
 
-pub image_has : (paths : List (List ℕ)) (entries : List Entry) → IsIndexable paths entries → Has (parts_written paths entries) paths entries
+pub image_has : (paths : List (List ℕ)) (entries : List Entry) → IsIndexable paths entries → IsIndexWith (parts_written paths entries) paths entries
 unfolding parts_written AreSets
 image_has paths entries h =
     let parts : Parts = parts_written paths entries in

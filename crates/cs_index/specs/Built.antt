@@ -3,6 +3,7 @@
 use Rattle.std.specs.Prelude.{◌≡◌, ℕ, ◌-◌, ◌≤◌, Bool, true, false, not, ◌&&◌, nat_eq, nat_lt, List, [], ◌∷◌, ◌++◌, length, slice_get}
 use Rattle.cs_tree.specs.PathSet.{Paths}
 use Rattle.cs_tree.specs.NameOrder.{bytes_cmp}
+use Rattle.cs_tree.specs.NamesAscending.{are_ascending}
 use Rattle.cs_trigram.specs.TrigramSets.{IsTrigramSet}
 use Rattle.std.specs.Option.{option_map_or}
 use Rattle.std.specs.List.{list_all, AllByRecursion}
@@ -18,8 +19,8 @@ pub record Built : Type 0 where
   pub entries : List Entry
 
 -- with one more name
-abbrev pub with_name : Built → List ℕ → List ℕ → Built
-with_name built name trigrams = record { paths = built.paths; entries = built.entries ++ (name, trigrams) ∷ [] }
+abbrev pub with_entry : Built → List ℕ → List ℕ → Built
+with_entry built name trigrams = record { paths = built.paths; entries = built.entries ++ (name, trigrams) ∷ [] }
 
 -- the text is not empty and has no NUL
 abbrev pub is_storable : List ℕ → Bool
@@ -38,7 +39,7 @@ abbrev pub are_reduced : List (List ℕ) → Bool
 are_reduced [] = true
 are_reduced (path ∷ paths) = list_all (is_before path) paths && are_reduced paths
 
--- more names than these an index does not have
+-- so many names a builder takes at most
 abbrev pub most_names : ℕ
 most_names = 1073741824
 
@@ -55,18 +56,17 @@ abbrev pub are_paths : List (List ℕ) → Bool
 are_paths paths = list_all is_storable paths && are_reduced paths
 
 -- the set of the paths, and the map from names to their trigrams
-abbrev pub paths_of : Built → Paths
-paths_of built = set'.from_list built.paths
+abbrev pub path_set : Built → Paths
+path_set built = set'.from_list built.paths
 
-abbrev pub files_of : Built → Files
-files_of built = map'.from_entries built.entries
+abbrev pub file_map : Built → Files
+file_map built = map'.from_entries built.entries
 
 -- What is true of whatever a builder holds.
 pub record IsBuilt (built : Built) : Type 0 where
   pub paths : are_paths built.paths ≡ true
   pub each_path : AllByRecursion IsString built.paths
   pub each_name : AllByRecursion IsString (names_of built.entries)
-  -- names strictly ascend
-  pub ascend : map'.is_sorted bytes_cmp built.entries ≡ true
+  pub ascend : are_ascending (names_of built.entries) ≡ true
   pub sets : AllByRecursion (λ (entry : Entry). IsTrigramSet entry.1) built.entries
   pub bound : length built.entries ≤ most_names

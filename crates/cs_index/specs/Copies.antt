@@ -2,6 +2,7 @@
 use Rattle.std.specs.Prelude.{◌≡◌, ◌≤◌, ◌<◌, ◌^◌, ℕ, ◌+◌, ◌*◌, List, [], ◌∷◌, ◌++◌, length, Option, Some, None}
 use Rattle.std.specs.List.{AllByRecursion}
 use Rattle.cs_trigram.specs.Trigram.{closing_trigram}
+use Rattle.cs_trigram.specs.TrigramSets.{trigram_count}
 use Rattle.cs_tree.specs.Store.{part_of}
 use Rattle.cs_index.specs.Image.{ListEntry}
 use Rattle.cs_index.specs.Opening.{entries_in}
@@ -45,7 +46,7 @@ AreBelow copies g = AllByRecursion (λ (e : ListEntry). e.trigram < g) copies
 -- The entry of a trigram has this count and this offset, in a section of so many bytes.
 pub record IsFound (bound : ℕ) (entries : List ListEntry) (g count offset : ℕ) : Type 0 where
   pub found : entry_of entries g ≡ Some (record { trigram = g; count = count; offset = offset })
-  pub small : g < 2 ^ 24
+  pub small : g < trigram_count
   pub short : count < 2 ^ 32
   pub closing : g ≡ closing_trigram → count ≡ 0
   pub room : offset + 4 ≤ bound

@@ -1,8 +1,8 @@
 -- Why bytes do not open: the first thing of an index that they do not have.
 -- docs/FORMAT.md, "The index as it is read".
 use Rattle.std.specs.Prelude.{◌≡◌, ℕ, ◌<◌, ◌≤◌, ◌^◌, ◌⊎◌, List, [], ◌∷◌, ◌++◌, length}
-use Rattle.cs_index.specs.Image.{Sections, magic, trailer_magic, layout, ListEntry}
-use Rattle.cs_index.specs.Spelling.{AreEntries, AreOffsets, AreStrings}
+use Rattle.cs_index.specs.Image.{Sections, magic, trailer_magic, ListEntry}
+use Rattle.cs_index.specs.Spelling.{AreEntries, AreLaid, AreOffsets, AreStrings}
 use Rattle.cs_index.specs.declared.fault.IndexFault.{IndexFault}
 use Rattle.cs_index.specs.declared.fault.IndexFault.TheVariants.{BadMagic, BadTrailer, BadOffsets, BadPaths, BadNames, BadNameIndex, BadListIndex, BadList, Memory}
 
@@ -14,11 +14,6 @@ pub record HasTrailer (bytes : List ℕ) : Type 0 where
   pub front : List ℕ
   pub ends : bytes ≡ front ++ trailer_magic
   pub room : 52 ≤ length bytes
-  pub short : length bytes < 2 ^ 32
-
--- the bytes are these sections, laid out
-pub record AreLaid (bytes : List ℕ) (s : Sections) : Type 0 where
-  pub laid : bytes ≡ layout s
   pub short : length bytes < 2 ^ 32
 
 -- strings, and one NUL behind them

@@ -1,12 +1,10 @@
 -- What `Sections` lays out as an index: paths, names, and lists of ids.
 -- docs/FORMAT.md, "The index as it is written".
-use Rattle.std.specs.Prelude.{◌≡◌, ℕ, ◌<◌, ◌≤◌, nat_eq, if◌then◌else◌, List, [], ◌∷◌, ◌++◌, length, Option, None, Some}
+use Rattle.std.specs.Prelude.{ℕ, ◌<◌, nat_eq, if◌then◌else◌, List, [], ◌∷◌, ◌++◌, Option, Some}
 use Rattle.std.specs.List.{AllByRecursion}
 use Rattle.std.specs.Option.{option_map_or}
-use Rattle.cs_trigram.specs.Trigram.{closing_trigram}
-use Rattle.cs_index.specs.Image.{Entry, Posting, IsString}
+use Rattle.cs_index.specs.Image.{Entry, Posting}
 use Rattle.cs_index.specs.PostingLists.{entries_of}
-use Rattle.cs_index.specs.Rising.{ArePostings, most_ids}
 
 -- The paths, the names, each list that was given an id, and the trigram of the list that was begun last.
 pub record Laid : Type 0 where
@@ -56,27 +54,6 @@ abbrev pub with_last_ids : Laid → List ℕ → Laid
 with_last_ids laid [] = laid
 with_last_ids laid (id ∷ ids) = with_last_ids (with_last_id laid id) ids
 
--- with one more list, begun and given its ids
-abbrev pub with_posting : Laid → Posting → Laid
-with_posting laid p = record { paths = laid.paths; names = laid.names; lists = laid.lists ++ p ∷ []; last_trigram = Some p.0 }
-
-abbrev pub with_postings : Laid → List Posting → Laid
-with_postings laid [] = laid
-with_postings laid (p ∷ ps) = with_postings (with_posting laid p) ps
-
 -- the trigrams of all lists are below this one
 abbrev pub AllBelow : List Posting → ℕ → Type 0
 AllBelow lists trigram = AllByRecursion (λ (p : Posting). p.0 < trigram) lists
-
--- the list that was begun last comes after all lists but its own
-abbrev pub IsLastList : List Posting → Option ℕ → Type 0
-IsLastList lists None = lists ≡ []
-IsLastList lists (Some trigram) = (trigram < closing_trigram) × AllByRecursion (λ (p : Posting). p.0 ≤ trigram) lists
-
--- What is true of whatever is laid out.
-pub record IsLaid (laid : Laid) : Type 0 where
-  pub each_path : AllByRecursion IsString laid.paths
-  pub each_name : AllByRecursion IsString laid.names
-  pub bound : length laid.names ≤ most_ids
-  pub postings : ArePostings (length laid.names) laid.lists
-  pub last : IsLastList laid.lists laid.last_trigram

@@ -1,13 +1,15 @@
 -- What the fields of `Sections` hold.
 use Rattle.std.specs.Prelude.{◌≡◌, ◌≢◌, ℕ, ◌+◌, ◌-◌, nat_eq, List, [], ◌∷◌, ◌++◌, length, map, Option, None, Some, if◌then◌else◌}
+use Rattle.std.specs.List.{concat}
 use Rattle.std.specs.Option.{option_map_or}
 use Rattle.cs_index.specs.declared.writing.sections.Sections.TheInside.{Inside}
-use Rattle.cs_index.specs.Image.{Posting, ListEntry, concat, list_entries, magic, posting_list, strings_section, three_bytes}
+use Rattle.cs_index.specs.Image.{Posting, ListEntry, list_entries, magic, posting_list, strings_section, three_bytes}
 use Rattle.cs_index.specs.IdStream.{stream_of}
 use Rattle.cs_index.specs.Rising.{most_ids, next_after}
 use Rattle.cs_index.specs.PostingLists.{read_list}
 use Rattle.cs_index.specs.OpenedParts.{whole_ids}
-use Rattle.cs_index.specs.Laid.{Laid, IsLaid, AllBelow}
+use Rattle.cs_index.specs.Laid.{Laid, AllBelow}
+use Rattle.cs_index.specs.LaidLists.{IsLaid}
 
 -- what lies in front of the lists: the magic, the paths and the names
 abbrev pub front_of : List (List ℕ) → List (List ℕ) → List ℕ
@@ -39,14 +41,14 @@ abbrev pub hand_of : Inside → ListEntry
 hand_of s = record { trigram = s.trigram; count = s.count; offset = s.start }
 
 -- the bytes once the list at hand is closed
-abbrev pub bytes_of : Inside → List ℕ
-bytes_of s = s.out.items ++ 0 ∷ []
+abbrev pub bytes_at_close : Inside → List ℕ
+bytes_at_close s = s.out.items ++ 0 ∷ []
 
 -- no list was given an id, or these are closed and that at hand is open
 abbrev pub lists_of_fields : Inside → List Posting
 lists_of_fields s =
     if nat_eq s.count 0 then []
-    else lists_at (bytes_of s) s.entries.items ++ (s.trigram, ids_at (bytes_of s) (hand_of s)) ∷ []
+    else lists_at (bytes_at_close s) s.entries.items ++ (s.trigram, ids_at (bytes_at_close s) (hand_of s)) ∷ []
 
 -- the list that was begun last has no id yet, or is the list at hand
 abbrev pub last_trigram_of : Inside → Option ℕ
@@ -67,4 +69,4 @@ pub record IsSections (s : Inside) : Type 0 where
   pub unlaid : s.count ≡ 0 → s.entries.items ≡ []
   pub opened : s.count ≢ 0 →
       IsOpen (front_of s.paths s.names) s.out.items s.entries.items (hand_of s) s.next
-      (lists_at (bytes_of s) s.entries.items) (ids_at (bytes_of s) (hand_of s))
+      (lists_at (bytes_at_close s) s.entries.items) (ids_at (bytes_at_close s) (hand_of s))

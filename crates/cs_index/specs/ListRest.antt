@@ -3,8 +3,8 @@ use Rattle.std.specs.Prelude.{ℕ, ◌<◌, ◌≤◌, Bool, true, List, [], if�
 use Rattle.cs_index.specs.PostingLists.{Ids, read_ids}
 use Rattle.cs_index.specs.Rising.{most_ids}
 
-abbrev pub left_of : Bool → ℕ → ℕ → ℕ → List ℕ → Ids
-left_of ended name_count left next bytes = if ended then record { ids = []; whole = true } else read_ids name_count left next bytes
+abbrev pub ids_left : Bool → ℕ → ℕ → ℕ → List ℕ → Ids
+ids_left ended name_count left next bytes = if ended then record { ids = []; whole = true } else read_ids name_count left next bytes
 
 pub record IsLeft (name_count next : ℕ) : Type 0 where
   pub within : next ≤ name_count

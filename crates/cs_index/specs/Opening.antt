@@ -1,14 +1,13 @@
 -- An index as it is read: which bytes open, and which fault the others have.
 -- docs/FORMAT.md, "The index as it is read".
-use Rattle.std.specs.Prelude.{ℕ, zero, suc, ◌+◌, ◌-◌, ◌*◌, ◌/◌, ◌%◌, Bool, true, not, ◌&&◌, ◌||◌, nat_eq, nat_le, nat_lt, List, [], ◌∷◌, ◌++◌, length, map, slice_index, slice_range, if◌then◌else◌, Result, Ok, Err, ◌^◌}
+use Rattle.std.specs.Prelude.{ℕ, zero, suc, ◌+◌, ◌-◌, ◌*◌, ◌/◌, ◌%◌, Bool, true, not, ◌&&◌, ◌||◌, nat_eq, nat_le, nat_lt, List, [], ◌∷◌, ◌++◌, length, map, slice_index, slice_range, if◌then◌else◌, Result, Ok, Err, ◌^◌, bytes_eq}
 use Rattle.cs_trigram.specs.Trigram.{closing_trigram}
-use Rattle.std.specs.List.{list_all, starts_with, ends_with}
+use Rattle.std.specs.List.{list_all, starts_with, ends_with, before_first, concat}
 use Rattle.std.specs.Str.{is_utf8}
 use Rattle.std.specs.Int.{from_be_bytes, w32}
-use Rattle.cs_tree.specs.Cover.{same}
 use Rattle.cs_index.specs.declared.fault.IndexFault.{IndexFault}
 use Rattle.cs_index.specs.declared.fault.IndexFault.TheVariants.{BadMagic, BadTrailer, BadOffsets, BadPaths, BadNames, BadNameIndex, BadListIndex}
-use Rattle.cs_index.specs.Image.{concat, with_nul, starts_from, Sections, magic, trailer_magic, ListEntry}
+use Rattle.cs_index.specs.Image.{with_nul, starts_from, Sections, magic, trailer_magic, ListEntry}
 use Rattle.cs_index.specs.Strings.{texts_in}
 use Rattle.cs_index.specs.OpenedParts.{Parts}
 
@@ -28,19 +27,13 @@ numbers_from bytes at (suc count) = number_at bytes at ∷ numbers_from bytes (a
 
 -- ---- strings
 
--- texts up to the first empty one
-abbrev pub before_empty : List (List ℕ) → List (List ℕ)
-before_empty [] = []
-before_empty ([] ∷ texts) = []
-before_empty ((b ∷ text) ∷ texts) = (b ∷ text) ∷ before_empty texts
-
--- the strings of a section
+-- the strings of a section: its texts up to the first empty one
 unfoldable pub texts_of : List ℕ → List (List ℕ)
-texts_of section = before_empty (texts_in section)
+texts_of section = before_first (λ text. bytes_eq text []) (texts_in section)
 
 -- the section is its strings, each one UTF-8 and ended by a NUL, and then just these bytes
 unfoldable pub is_section : List ℕ → List ℕ → Bool
-is_section closing section = same section (concat (map with_nul (texts_of section)) ++ closing) && list_all is_utf8 (texts_of section)
+is_section closing section = bytes_eq section (concat (map with_nul (texts_of section)) ++ closing) && list_all is_utf8 (texts_of section)
 
 -- strings, and at most one NUL behind them
 abbrev pub is_names_section : List ℕ → Bool
@@ -101,7 +94,7 @@ cut_of bytes =
 
 -- from a place on stand the numbers where names begin, and one number more
 abbrev pub has_starts : List ℕ → ℕ → ℕ → List (List ℕ) → Bool
-has_starts bytes at offset names = nat_eq (length bytes) (at + 4 * (length names + 1)) && same (numbers_from bytes at (length names)) (starts_from offset (map with_nul names))
+has_starts bytes at offset names = nat_eq (length bytes) (at + 4 * (length names + 1)) && bytes_eq (numbers_from bytes at (length names)) (starts_from offset (map with_nul names))
 
 unfoldable pub is_name_index : List ℕ → List (List ℕ) → Bool
 is_name_index bytes names = has_starts bytes 0 0 names

@@ -1,27 +1,26 @@
 -- The ids of an index in the order of their names.
 -- docs/FORMAT.md, "The index as it is read".
 use Rattle.std.specs.Prelude.{◌≡◌, true, false, ℕ, List, length, map, Option, Some, None, IsPermutation}
-use Rattle.std.specs.Borrow.{Bor}
 use Rattle.std.specs.List.{range_with_len, zip}
 use Rattle.cs_tree.specs.Folders.{are_distinct}
 use Rattle.cs_tree.specs.NamesAscending.{are_ascending}
 
 -- A name with its id.
-abbrev pub Named : Type 0
-Named = List ℕ × ℕ
+abbrev pub NameWithId : Type 0
+NameWithId = List ℕ × ℕ
 
-abbrev pub name_in : Named → List ℕ
+abbrev pub name_in : NameWithId → List ℕ
 name_in named = named.0
 
-abbrev pub id_in : Named → ℕ
+abbrev pub id_in : NameWithId → ℕ
 id_in named = named.1
 
-abbrev pub with_ids : List (List ℕ) → List Named
+abbrev pub with_ids : List (List ℕ) → List NameWithId
 with_ids names = zip names (range_with_len 0 (length names))
 
 -- The names with their ids can be put in an order in which each name is below the next; their ids are then these.
 pub record IsOrder (names : List (List ℕ)) (ids : List ℕ) : Type 0 where
-  pub named : List Named
+  pub named : List NameWithId
   pub moved : IsPermutation (with_ids names) named
   pub ascend : are_ascending (map name_in named) ≡ true
   pub have : map id_in named ≡ ids
@@ -30,6 +29,3 @@ pub record IsOrder (names : List (List ℕ)) (ids : List ℕ) : Type 0 where
 abbrev pub IsOrderOf : List (List ℕ) → Option (List ℕ) → Type 0
 IsOrderOf names (Some ids) = IsOrder names ids
 IsOrderOf names None = are_distinct names ≡ false
-
-abbrev pub lent_names : List (Bor (List ℕ) × ℕ) → List Named
-lent_names named = map (λ n. (n.0.now, n.1)) named

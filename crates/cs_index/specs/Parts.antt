@@ -12,6 +12,6 @@ use Rattle.cs_index.specs.OpenedParts.{Parts}
 pub record AreParts (parts : Parts) : Type 0 where
   pub each_path : AllByRecursion IsString parts.paths
   pub each_name : AllByRecursion IsString parts.names
-  pub few_names : length parts.names < most_names
+  pub names_bound : length parts.names < most_names
   pub rise : rises parts.entries ≡ true
   pub fit : list_all (λ e. is_entry (length parts.postings) e) parts.entries ≡ true

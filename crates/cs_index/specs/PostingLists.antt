@@ -1,8 +1,8 @@
 -- Posting lists as they are read: the ids of a list up to its first damage, and the sets of the names that they give.
 -- docs/FORMAT.md, "The index as it is read".
-use Rattle.std.specs.Prelude.{ℕ, zero, suc, ◌+◌, ◌-◌, ◌*◌, ◌^◌, Bool, false, nat_eq, nat_lt, ◌&&◌, if◌then◌else◌, List, [], ◌∷◌, map, take, drop, Option, Some, None, option_map, option_and_then, filter}
+use Rattle.std.specs.Prelude.{ℕ, zero, suc, ◌+◌, ◌-◌, ◌*◌, ◌^◌, Bool, false, nat_eq, nat_lt, ◌&&◌, if◌then◌else◌, List, [], ◌∷◌, map, take, drop, Option, Some, None, option_map, option_and_then, filter, bytes_eq}
+use Rattle.std.specs.Option.{option_map_or}
 use Rattle.cs_trigram.specs.Trigram.{has}
-use Rattle.cs_tree.specs.Cover.{same}
 use Rattle.cs_index.specs.Image.{three_bytes, ListEntry, Entry, Posting}
 
 -- the number at the front, in at most `room` bytes, and what follows it
@@ -30,8 +30,7 @@ abbrev pub onto : ℕ → Ids → Ids
 onto id rest = record { ids = id ∷ rest.ids; whole = rest.whole }
 
 abbrev pub is_zero : Option (ℕ × List ℕ) → Bool
-is_zero None = false
-is_zero (Some found) = nat_eq found.0 0
+is_zero found = option_map_or (λ (number : ℕ × List ℕ). nat_eq number.0 0) found false
 
 -- no delta, a delta of zero, or an id that no name has, is damage
 abbrev pub after_delta : ℕ → ℕ → (ℕ → List ℕ → Ids) → Option (ℕ × List ℕ) → Ids
@@ -46,7 +45,7 @@ read_ids name_count (suc count) next bytes = after_delta name_count next (read_i
 -- the list at an entry: its trigram, and then the ids
 abbrev pub read_list : List ℕ → ℕ → ListEntry → Ids
 read_list postings name_count e =
-    if same (take 3 (drop e.offset postings)) (three_bytes e.trigram) then read_ids name_count e.count 0 (drop (e.offset + 3) postings) else damage
+    if bytes_eq (take 3 (drop e.offset postings)) (three_bytes e.trigram) then read_ids name_count e.count 0 (drop (e.offset + 3) postings) else damage
 
 -- the trigrams whose list has the id
 abbrev pub set_at : ℕ → List Posting → List ℕ

@@ -4,7 +4,7 @@ use Rattle.cs_trigram.specs.Trigram.{Ascends}
 use Rattle.std.specs.List.{AllByRecursion}
 use Rattle.cs_index.specs.Image.{Posting}
 
--- each id is below this number: no index that fits has more names
+-- each id is below this number: an index that fits 32 bits has fewer names
 abbrev pub most_ids : ℕ
 most_ids = 2147483648
 

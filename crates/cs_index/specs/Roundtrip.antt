@@ -16,7 +16,7 @@ parts_written paths entries = record {
 }
 
 -- An index has these paths and entries, and each of its lists is whole.
-pub record Has (parts : Parts) (paths : List (List ℕ)) (entries : List Entry) : Type 0 where
+pub record IsIndexWith (parts : Parts) (paths : List (List ℕ)) (entries : List Entry) : Type 0 where
   pub has_paths : parts.paths ≡ paths
   pub has_names : parts.names ≡ names_of entries
   pub has_lists : lists_in parts ≡ postings_of entries

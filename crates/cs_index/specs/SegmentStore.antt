@@ -9,5 +9,5 @@ use Rattle.cs_index.specs.Segments.{with_segments, AreSortedKeys, SegmentKeys}
 abbrev pub stored_lists : Inside → List Posting
 stored_lists s = with_segments [] s.segments.items
 
-abbrev pub IsStore : Inside → Type 0
-IsStore s = AllByRecursion (λ (segment : SegmentKeys). AreSortedKeys segment.keys) s.segments.items
+abbrev pub IsSegmentStore : Inside → Type 0
+IsSegmentStore s = AllByRecursion (λ (segment : SegmentKeys). AreSortedKeys segment.keys) s.segments.items

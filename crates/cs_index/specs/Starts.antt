@@ -1,14 +1,15 @@
 -- What functions inside the opening of a stored index promise each other.
-use Rattle.std.specs.Prelude.{◌≡◌, ◌≤◌, ◌<◌, ◌^◌, ◌&&◌, nat_eq, nat_le, nat_lt, ℕ, Bool, true, false, List, [], ◌∷◌, length, slice_range, Result, Ok, Err}
+use Rattle.std.specs.Prelude.{◌≡◌, ◌≤◌, ◌<◌, ◌^◌, ◌&&◌, nat_eq, nat_le, nat_lt, ℕ, Bool, true, false, List, length, slice_range, Result, Ok, Err}
 use Rattle.cs_index.specs.declared.fault.IndexFault.{IndexFault}
 use Rattle.cs_index.specs.declared.fault.IndexFault.TheVariants.{BadOffsets}
-use Rattle.cs_index.specs.declared.reading.starts.Starts.{Starts}
+use Rattle.cs_index.specs.declared.reading.starts.SectionStarts.{SectionStarts}
 use Rattle.std.specs.List.{ends_with}
 use Rattle.cs_index.specs.Image.{Sections, trailer_magic}
-use Rattle.cs_index.specs.Opening.{are_starts, cut_of, number_at, texts_of, is_section, is_names_section, is_name_index, is_list_index}
+use Rattle.cs_index.specs.Opening.{are_starts, cut_of, number_at, read_sections}
+use Rattle.cs_index.specs.Stored.{StoredParts, whole_of}
 
 -- the sections that begin there
-abbrev pub sections_at : List ℕ → Starts → Sections
+abbrev pub sections_at : List ℕ → SectionStarts → Sections
 sections_at bytes s = record {
   paths = slice_range bytes s.paths s.names;
   names = slice_range bytes s.names s.postings;
@@ -22,12 +23,12 @@ abbrev pub is_tail : List ℕ → ℕ → Bool
 is_tail tail len = nat_le 52 len && (nat_lt len (2 ^ 32) && (nat_le 36 (length tail) && ends_with nat_eq tail trailer_magic))
 
 -- Places in their order.
-pub record AreInOrder (s : Starts) : Type 0 where
+pub record AreInOrder (s : SectionStarts) : Type 0 where
   pub order : are_starts s.paths s.names s.postings s.name_index s.list_index s.trailer ≡ true
   pub short : s.trailer < 2 ^ 32
 
 -- The places that a trailer gives, which begins at a place itself.
-pub record AreGiven (trailer : List ℕ) (at : ℕ) (s : Starts) : Type 0 where
+pub record AreGiven (trailer : List ℕ) (at : ℕ) (s : SectionStarts) : Type 0 where
   pub paths : s.paths ≡ number_at trailer 0
   pub names : s.names ≡ number_at trailer 4
   pub postings : s.postings ≡ number_at trailer 8
@@ -42,7 +43,7 @@ pub record AreDisordered (trailer : List ℕ) (at : ℕ) (fault : IndexFault) : 
   pub disorder : are_starts (number_at trailer 0) (number_at trailer 4) (number_at trailer 8) (number_at trailer 12) (number_at trailer 16) at ≡ false
 
 -- Bytes are cut there, or not cut for that fault.
-abbrev pub IsCutAt : List ℕ → Result Starts IndexFault → Type 0
+abbrev pub IsCutAt : List ℕ → Result SectionStarts IndexFault → Type 0
 IsCutAt bytes (Ok s) = (cut_of bytes ≡ Ok (sections_at bytes s)) × (s.trailer ≤ length bytes)
 IsCutAt bytes (Err fault) = cut_of bytes ≡ Err fault
 
@@ -50,9 +51,7 @@ IsCutAt bytes (Err fault) = cut_of bytes ≡ Err fault
 abbrev pub with_lists : List ℕ → List ℕ → List ℕ → List ℕ → List ℕ → Sections
 with_lists paths names name_index list_index postings = record { paths = paths; names = names; postings = postings; name_index = name_index; list_index = list_index }
 
--- Sections that were read, but for the lists, of which the length is known.
-pub record AreRead (paths names name_index list_index : List ℕ) (room : ℕ) : Type 0 where
-  pub each_path : is_section (0 ∷ []) paths ≡ true
-  pub each_name : is_names_section names ≡ true
-  pub offsets : is_name_index name_index (texts_of names) ≡ true
-  pub entries : is_list_index room list_index ≡ true
+-- Sections of bytes are read as that index, or have that fault.
+abbrev pub SectionsOpenAs : List ℕ → Sections → Result StoredParts IndexFault → Type 0
+SectionsOpenAs bytes sections (Ok held) = read_sections sections ≡ Ok (whole_of bytes held)
+SectionsOpenAs bytes sections (Err fault) = read_sections sections ≡ Err fault

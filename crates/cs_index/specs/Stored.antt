@@ -3,8 +3,8 @@
 use Rattle.std.specs.Prelude.{◌≡◌, ◌≤◌, ℕ, ◌+◌, List, length, Result, Ok, Err}
 use Rattle.cs_tree.specs.Store.{part_of}
 use Rattle.cs_index.specs.declared.fault.IndexFault.{IndexFault}
-use Rattle.cs_index.specs.Image.{ListEntry, Sections}
-use Rattle.cs_index.specs.Opening.{opening, read_sections}
+use Rattle.cs_index.specs.Image.{ListEntry}
+use Rattle.cs_index.specs.Opening.{opening}
 use Rattle.cs_index.specs.OpenedParts.{Parts}
 
 -- Paths, names and entries; where the section of the lists begins, and how long it is.
@@ -22,11 +22,6 @@ whole_of bytes held = record { paths = held.paths; names = held.names; entries =
 -- the lists end at this place or before it
 abbrev pub LiesBefore : StoredParts → ℕ → Type 0
 LiesBefore held end = held.start + held.room ≤ end
-
--- Sections of bytes are read as that index, or have that fault.
-abbrev pub SectionsOpenAs : List ℕ → Sections → Result StoredParts IndexFault → Type 0
-SectionsOpenAs bytes sections (Ok held) = read_sections sections ≡ Ok (whole_of bytes held)
-SectionsOpenAs bytes sections (Err fault) = read_sections sections ≡ Err fault
 
 -- Bytes open as that index, or have that fault.
 abbrev pub OpensAs : List ℕ → Result StoredParts IndexFault → Type 0

@@ -29,7 +29,7 @@ pub enum BuildFault {
 impl From<AllocError> for BuildFault {
     ghost from_gives = { λ _ fault. fault ≡ Memory };
 
-    fn from(_refused: AllocError) -> Self {
+    fn from(_refused: AllocError) -> BuildFault {
         BuildFault::Memory
     }
 }
@@ -72,7 +72,7 @@ impl From<AllocError> for IndexFault {
 
     ghost from_gives = { λ _ fault. fault ≡ Memory };
 
-    fn from(_refused: AllocError) -> Self {
+    fn from(_refused: AllocError) -> IndexFault {
         IndexFault::Memory
     }
 }
@@ -83,7 +83,7 @@ impl<T: Drop> From<AllocFailed<T>> for IndexFault {
 
     ghost from_gives = { λ _ fault. fault ≡ Memory };
 
-    fn from(_refused: AllocFailed<T>) -> Self {
+    fn from(_refused: AllocFailed<T>) -> IndexFault {
         IndexFault::Memory
     }
 }

@@ -1,17 +1,17 @@
 // The reader: an index is opened and asked where its bytes lie.
 
-mod asked;
 mod bytes;
 mod candidates;
 mod copying;
 mod cutting;
 mod entries;
+mod id_marks;
 mod index;
-mod marks;
+mod intersection;
 mod order;
 mod postings;
+mod query_trigrams;
 mod restriction;
-mod sieve;
 mod starts;
 mod stored;
 mod texts;

@@ -29,7 +29,7 @@ impl<'a> Model for Stretch<'a> {
 
 impl<'a> Stretch<'a> {
     /// Of no id.
-    pub(crate) fn none() -> Self
+    pub(crate) fn none() -> Stretch<'a>
         ensures { result ≡ [] }
     {
         Stretch {
@@ -40,7 +40,7 @@ impl<'a> Stretch<'a> {
     }
 
     /// Of ids at the front of the bytes, at most so many of them, each below a number; and what follows.
-    pub(crate) fn front(bytes: &'a [u8], most: u32, room: u32) -> (Self, &'a [u8])
+    pub(crate) fn front(bytes: &'a [u8], most: u32, room: u32) -> (Stretch<'a>, &'a [u8])
         requires { room ≤ most_ids }
         ensures bytes { bytes.now ≡ stream_of result.0 ++ result.1.now }
         ensures bound { length result.0 ≤ most }

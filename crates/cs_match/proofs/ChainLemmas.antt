@@ -7,8 +7,8 @@ use Rattle.std.proofs.lemmas.Bool.{eqb-true, cases_lt}
 use Rattle.cs_tree.specs.ByteList.{AreBytes}
 use Rattle.cs_match.specs.Lines.{newline, ended_lines}
 use Rattle.cs_match.specs.LineParts.{IsPart}
-use Rattle.cs_match.specs.Passed.{ArePassed}
-use Rattle.cs_match.specs.Skipping.{AreWhole, NoneFound}
+use Rattle.cs_match.specs.Passed.{AreLinesBetween, ArePassed}
+use Rattle.cs_match.specs.Skipping.{AreWholeLines, NoneFound}
 use Rattle.cs_match.specs.Chains.{row_after, first_noisy, IsQuiet, Absorbs, ShowsLines}
 use Rattle.cs_match.proofs.LinesLemmas.{ended_lines-part, ended_lines-line, IsPart-append}
 use Rattle.cs_match.proofs.WholeLemmas.{whole_between, none_between, whole_line, ended_line}
@@ -141,33 +141,39 @@ module _ (finds : List ℕ → Bool) (cells : List ℕ) (fits : (at : ℕ) → F
   unfolding row_after
   none_in_quiet text bytes quiet = none_behind text [] tt (All-nil IsByte) bytes quiet
 
+-- lines and the lines behind them
+pub lines_append : (block : List ℕ) (from middle to : ℕ) → AreLinesBetween block from middle → AreLinesBetween block middle to → AreLinesBetween block from to
+lines_append block from middle to p q = record {
+  low = omega (arith, p.low, q.low);
+  high = q.high;
+  whole = whole_between block from middle to p.low q.low p.whole q.whole;
+}
+
+-- a line and its newline
+pub one_line : (block : List ℕ) (at end : ℕ) → at ≤ end → end < length block → drop end block ≡ newline ∷ drop (end + 1) block → AreLinesBetween block at (end + 1)
+one_line block at end low high here = record { low = omega arith; high = omega arith; whole = whole_line block at end low here }
+
 -- what is passed in nothing, and in two steps
 module _ (IsKind : (List ℕ → Bool) → Type 0) (block : List ℕ) where
   pub passed_none : (from : ℕ) → from ≤ length block → ArePassed IsKind block from from
-  unfolding AreWhole ended_lines
+  unfolding AreWholeLines ended_lines
   passed_none from within =
       let none : 0 ≡ from - from = omega arith in
       record {
-        low = omega arith;
-        high = within;
-        whole = subst (λ n. AreWhole (take n (drop from block))) none tt;
+        lines = record { low = omega arith; high = within; whole = subst (λ n. AreWholeLines (take n (drop from block))) none tt };
         none = λ finds is. subst (λ n. NoneFound finds (ended_lines (take n (drop from block)))) none (All-nil (λ line. finds line ≡ false));
       }
 
   pub passed_append : (from middle to : ℕ) → ArePassed IsKind block from middle → ArePassed IsKind block middle to → ArePassed IsKind block from to
   passed_append from middle to p q = record {
-    low = omega (arith, p.low, q.low);
-    high = q.high;
-    whole = whole_between block from middle to p.low q.low p.whole q.whole;
-    none = λ finds is. none_between finds block from middle to p.low q.low p.whole (p.none finds is) (q.none finds is);
+    lines = lines_append block from middle to p.lines q.lines;
+    none = λ finds is. none_between finds block from middle to p.lines.low q.lines.low p.lines.whole (p.none finds is) (q.none finds is);
   }
 
   -- a line in which nothing is found
   pub passed_line : (at end : ℕ) → at ≤ end → end < length block → IsPart (take (end - at) (drop at block)) → drop end block ≡ newline ∷ drop (end + 1) block → ((finds : List ℕ → Bool) → IsKind finds → finds (take (end - at) (drop at block)) ≡ false) → ArePassed IsKind block at (end + 1)
   passed_line at end low high part here miss = record {
-    low = omega arith;
-    high = omega arith;
-    whole = whole_line block at end low here;
+    lines = one_line block at end low high here;
     none = λ finds is.
         subst (NoneFound finds) (sym (ended_line block at end low part here))
         (All-cons (λ line. finds line ≡ false) (take (end - at) (drop at block)) [] (miss finds is) (All-nil (λ line. finds line ≡ false)));
@@ -177,13 +183,11 @@ module _ (IsKind : (List ℕ → Bool) → Type 0) (block : List ℕ) where
   pub passed_within : (from end to : ℕ) → from ≤ end → end ≤ length block → ArePassed IsKind (take (end - from) (drop from block)) 0 to → ArePassed IsKind block from (from + to)
   passed_within from end to low high p =
       let part = take (end - from) (drop from block) in
-      let size : to ≤ end - from = omega (arith, p.high, length-take (end - from) (drop from block)) in
+      let size : to ≤ end - from = omega (arith, p.lines.high, length-take (end - from) (drop from block)) in
       let is : take (to - 0) part ≡ take (from + to - from) (drop from block) =
       ap (λ n. take n part) (zero_less to) ∙ take-take to (end - from) (drop from block) size ∙ ap (λ n. take n (drop from block)) (back from to) in
       record {
-        low = omega arith;
-        high = omega (arith, size, low, high);
-        whole = subst AreWhole is p.whole;
+        lines = record { low = omega arith; high = omega (arith, size, low, high); whole = subst AreWholeLines is p.lines.whole };
         none = λ finds kind. subst (λ text. NoneFound finds (ended_lines text)) is (p.none finds kind);
       }
     where
@@ -202,17 +206,17 @@ module _ (block : List ℕ) where
   -- each part is whole lines
   abbrev AreCuts : ℕ → List ℕ → Type 0
   AreCuts from [] = Unit {0}
-  AreCuts from (to ∷ ends) = ((from ≤ to) × (to ≤ length block) × AreWhole (take (to - from) (drop from block))) × AreCuts to ends
+  AreCuts from (to ∷ ends) = ((from ≤ to) × (to ≤ length block) × AreWholeLines (take (to - from) (drop from block))) × AreCuts to ends
 
 module _ (cells block : List ℕ) (fits : (at : ℕ) → Fits w16 (get_or cells at 0)) (bytes : (at : ℕ) → Fits w8 (get_or block at 0)) where
   abbrev AreQuiet : ℕ → ℕ → Type 0
   AreQuiet from to = ArePassed (λ finds. ShowsLines finds cells) block from to
 
-  quiet_part : (from to : ℕ) → from ≤ to → to ≤ length block → AreWhole (take (to - from) (drop from block)) → IsQuiet cells (take (to - from) (drop from block)) → AreQuiet from to
+  quiet_part : (from to : ℕ) → from ≤ to → to ≤ length block → AreWholeLines (take (to - from) (drop from block)) → IsQuiet cells (take (to - from) (drop from block)) → AreQuiet from to
   quiet_part from to low high whole quiet =
       let part = take (to - from) (drop from block) in
       let bytes_in : AreBytes part = All-take IsByte (to - from) (drop from block) (All-drop IsByte from block (All-from_get_or IsByte block 0 (λ i _. omega (arith, bytes i)))) in
-      record { low = low; high = high; whole = whole; none = λ finds tells. none_in_quiet finds cells fits tells part bytes_in quiet }
+      record { lines = record { low = low; high = high; whole = whole }; none = λ finds tells. none_in_quiet finds cells fits tells part bytes_in quiet }
 
   -- the first n of the parts are quiet
   pub passed_parts : (from : ℕ) (ends : List ℕ) (n : ℕ) → from ≤ length block → AreCuts block from ends → n ≤ length ends → ((k : ℕ) → k < n → get_or (map (row_after cells 0) (parts block from ends)) k 0 < first_noisy) → AreQuiet from (get_or (from ∷ ends) n 0)
@@ -227,14 +231,12 @@ module _ (cells block : List ℕ) (fits : (at : ℕ) → Fits w16 (get_or cells 
   bytes_in_block n from = All-take IsByte n (drop from block) (All-drop IsByte from block (All-from_get_or IsByte block 0 (λ i _. omega (arith, bytes i))))
 
   -- whole lines at the front of a text over which a run is quiet
-  pub passed_front : (from n m : ℕ) → from + n ≤ length block → m ≤ n → AreWhole (take m (drop from block)) → IsQuiet cells (take n (drop from block)) → AreQuiet from (from + m)
+  pub passed_front : (from n m : ℕ) → from + n ≤ length block → m ≤ n → AreWholeLines (take m (drop from block)) → IsQuiet cells (take n (drop from block)) → AreQuiet from (from + m)
   passed_front from n m within most whole quiet =
       let rest = drop from block in
       let same : m ≡ from + m - from = omega arith in
       record {
-        low = omega arith;
-        high = omega (arith, within, most);
-        whole = subst (λ k. AreWhole (take k rest)) same whole;
+        lines = record { low = omega arith; high = omega (arith, within, most); whole = subst (λ k. AreWholeLines (take k rest)) same whole };
         none = λ finds tells.
             let front : IsQuiet cells (take m rest) = subst (IsQuiet cells) (take-take m n rest most) (quiet_in_front cells (λ at _. omega (arith, fits at)) tells.absorbs (take n rest) m (bytes_in_block n from) quiet) in
             subst (λ k. NoneFound finds (ended_lines (take k rest))) same (none_in_quiet finds cells fits tells (take m rest) (bytes_in_block m from) front);

@@ -12,12 +12,12 @@ use Rattle.cs_match.specs.declared.counting.Count.{Count}
 use Rattle.cs_match.specs.Lines.{newline, ended_lines}
 use Rattle.cs_match.specs.LineParts.{IsPart}
 use Rattle.cs_match.specs.Passed.{ArePassed}
-use Rattle.cs_match.specs.Skipping.{AreWhole}
+use Rattle.cs_match.specs.Skipping.{AreWholeLines}
 use Rattle.cs_match.specs.Chains.{row_after, found_row, unknown_row, first_noisy}
-use Rattle.cs_match.specs.Counting.{nothing_counted, count_in_row, count_onward, count_after, CountsLines, AreCounted}
-use Rattle.cs_match.proofs.ChainLemmas.{IsByte, after_append, small_row}
+use Rattle.cs_match.specs.Counting.{nothing_counted, count_in_row, count_onward, count_through, CountsLines, CountsHits}
+use Rattle.cs_match.proofs.ChainLemmas.{IsByte, after_append, small_row, lines_append, one_line}
 use Rattle.cs_match.proofs.LinesLemmas.{ended_lines-part, ended_lines-line, IsPart-append}
-use Rattle.cs_match.proofs.WholeLemmas.{between_by, whole_between, whole_line, ended_line, ended_lines-whole}
+use Rattle.cs_match.proofs.WholeLemmas.{between_by, ended_line, ended_lines-whole}
 
 -- behind a newline at which a line is counted, and else
 abbrev counted_if : Bool → ℕ → ℕ → Count
@@ -25,51 +25,51 @@ counted_if t row hits = if t then record { row = 0; hits = hits + 1 } else recor
 
 module _ (cells : List ℕ) where
   -- a front and then the rest
-  count_append : (from : Count) (xs ys : List ℕ) → count_after cells from (xs ++ ys) ≡ count_after cells (count_after cells from xs) ys
-  unfolding count_after
+  count_append : (from : Count) (xs ys : List ℕ) → count_through cells from (xs ++ ys) ≡ count_through cells (count_through cells from xs) ys
+  unfolding count_through
   count_append from [] ys = refl
   count_append from (x ∷ xs) ys = count_append (count_onward cells from x) xs ys
 
-  count_parts : (from : Count) (n : ℕ) (text : List ℕ) → count_after cells (count_after cells from (take n text)) (drop n text) ≡ count_after cells from text
-  unfolding count_after
+  count_parts : (from : Count) (n : ℕ) (text : List ℕ) → count_through cells (count_through cells from (take n text)) (drop n text) ≡ count_through cells from text
+  unfolding count_through
   count_parts from zero text = refl
   count_parts from (suc n) [] = refl
   count_parts from (suc n) (b ∷ text) = count_parts (count_onward cells from b) n text
 
-  pub count_all : (from : Count) (text : List ℕ) → count_after cells from (take (length text) text) ≡ count_after cells from text
-  unfolding count_after
+  pub count_all : (from : Count) (text : List ℕ) → count_through cells from (take (length text) text) ≡ count_through cells from text
+  unfolding count_through
   count_all from [] = refl
   count_all from (b ∷ text) = count_all (count_onward cells from b) text
 
   -- a count, and what a run over the rest comes to
-  pub count_rest : (count end : Count) (i n : ℕ) (text : List ℕ) → end ≡ count_after cells count (take (length text - n) (drop n text)) → count ≡ count_after cells nothing_counted (take i text) → i ≡ n → end ≡ count_after cells nothing_counted text
+  pub count_rest : (count end : Count) (i n : ℕ) (text : List ℕ) → end ≡ count_through cells count (take (length text - n) (drop n text)) → count ≡ count_through cells nothing_counted (take i text) → i ≡ n → end ≡ count_through cells nothing_counted text
   count_rest count end i n text is from same =
-      is ∙ ap (count_after cells count) (take_rest text n)
-      ∙ ap (λ c. count_after cells c (drop n text)) (from ∙ ap (λ k. count_after cells nothing_counted (take k text)) same)
+      is ∙ ap (count_through cells count) (take_rest text n)
+      ∙ ap (λ c. count_through cells c (drop n text)) (from ∙ ap (λ k. count_through cells nothing_counted (take k text)) same)
       ∙ count_parts nothing_counted n text
 
   -- one byte more
-  pub count_more : (from : Count) (text : List ℕ) (i : ℕ) → i < length text → count_after cells from (take (i + 1) text) ≡ count_onward cells (count_after cells from (take i text)) (get_or text i 0)
-  unfolding count_after
-  count_more from text i l = ap (count_after cells from) (take_more text i 0 l) ∙ count_append from (take i text) (get_or text i 0 ∷ [])
+  pub count_more : (from : Count) (text : List ℕ) (i : ℕ) → i < length text → count_through cells from (take (i + 1) text) ≡ count_onward cells (count_through cells from (take i text)) (get_or text i 0)
+  unfolding count_through
+  count_more from text i l = ap (count_through cells from) (take_more text i 0 l) ∙ count_append from (take i text) (get_or text i 0 ∷ [])
 
-  pub count_next : (from count next : Count) (text : List ℕ) (i byte : ℕ) → count ≡ count_after cells from (take i text) → byte ≡ get_or text i 0 → i < length text → next ≡ count_onward cells count byte → next ≡ count_after cells from (take (i + 1) text)
+  pub count_next : (from count next : Count) (text : List ℕ) (i byte : ℕ) → count ≡ count_through cells from (take i text) → byte ≡ get_or text i 0 → i < length text → next ≡ count_onward cells count byte → next ≡ count_through cells from (take (i + 1) text)
   count_next from count next text i byte is here l made =
-      made ∙ ap (λ c. count_onward cells c byte) is ∙ ap (count_onward cells (count_after cells from (take i text))) here ∙ sym (count_more from text i l)
+      made ∙ ap (λ c. count_onward cells c byte) is ∙ ap (count_onward cells (count_through cells from (take i text))) here ∙ sym (count_more from text i l)
 
   -- each byte counts one line at most
   count_by_one : (t : Bool) (row hits : ℕ) → (counted_if t row hits).hits ≤ hits + 1
   count_by_one true row hits = omega arith
   count_by_one false row hits = omega arith
 
-  pub count_few : (from : Count) (text : List ℕ) → (count_after cells from text).hits ≤ from.hits + length text
-  unfolding count_after
+  pub count_few : (from : Count) (text : List ℕ) → (count_through cells from text).hits ≤ from.hits + length text
+  unfolding count_through
   count_few from [] = omega arith
   count_few from (b ∷ text) =
       let row = get_or cells (bit_or from.row b) 0 in
       omega (arith, count_few (count_onward cells from b) text, count_by_one (nat_eq b newline && nat_eq row found_row) row from.hits)
 
-  pub count_few_in : (count : Count) (text : List ℕ) (i : ℕ) → count ≡ count_after cells nothing_counted (take i text) → count.hits ≤ i
+  pub count_few_in : (count : Count) (text : List ℕ) (i : ℕ) → count ≡ count_through cells nothing_counted (take i text) → count.hits ≤ i
   count_few_in count text i is =
       omega (arith, ap (λ (c : Count). c.hits) is, count_few nothing_counted (take i text), length-take i text)
 
@@ -79,15 +79,15 @@ count_cons finds line lines t e = sum_by-cons (λ l. cond (finds l) 1 0) line li
 
 module _ (finds : List ℕ → Bool) (cells : List ℕ) (fits : (at : ℕ) → Fits w16 (get_or cells at 0)) (given : CountsLines finds cells) where
   -- nothing leads out of the row of which nothing is known
-  lost : (hits : ℕ) (text : List ℕ) → AreBytes text → (count_after cells (record { row = unknown_row; hits = hits }) text).row ≡ unknown_row
-  unfolding count_after
+  lost : (hits : ℕ) (text : List ℕ) → AreBytes text → (count_through cells (record { row = unknown_row; hits = hits }) text).row ≡ unknown_row
+  unfolding count_through
   lost hits [] bytes = refl
   lost hits (b ∷ text) bytes =
       let byte : b < 256 = All-head IsByte b text bytes in
       let here : get_or cells (bit_or unknown_row b) 0 ≡ unknown_row = given.stays (bit_or unknown_row b) (omega (arith, le_or_l unknown_row b)) (or_of_16 unknown_row b (omega arith) (omega arith)) in
       let next : count_in_row unknown_row b hits ≡ record { row = unknown_row; hits = hits } = same_row (nat_eq b newline) in
-      ap (λ row. (count_after cells (count_in_row row b hits) text).row) here
-      ∙ ap (λ c. (count_after cells c text).row) next
+      ap (λ row. (count_through cells (count_in_row row b hits) text).row) here
+      ∙ ap (λ c. (count_through cells c text).row) next
       ∙ lost hits text (All-tail IsByte b text bytes)
     where
       same_row : (t : Bool) → counted_if (t && nat_eq unknown_row found_row) unknown_row hits ≡ record { row = unknown_row; hits = hits }
@@ -96,7 +96,7 @@ module _ (finds : List ℕ → Bool) (cells : List ℕ) (fits : (at : ℕ) → F
 
   -- what a run that goes on from this count comes to, where it ends in a set of places
   abbrev Counts : List ℕ → ℕ → List (List ℕ) → Count → Type 0
-  Counts text hits lines from = (count_after cells from text).row < first_noisy → (count_after cells from text).hits ≡ hits + count_by finds lines
+  Counts text hits lines from = (count_through cells from text).row < first_noisy → (count_through cells from text).hits ≡ hits + count_by finds lines
 
   one_more : (part : List ℕ) (b : ℕ) → row_after cells 0 (part ++ b ∷ []) ≡ get_or cells (bit_or (row_after cells 0 part) b) 0
   unfolding row_after
@@ -117,7 +117,7 @@ module _ (finds : List ℕ → Bool) (cells : List ℕ) (fits : (at : ℕ) → F
 
   -- the newline of a line
   line : (b : ℕ) (text part : List ℕ) (hits : ℕ) → IsPart part → AreBytes part → AreBytes text → b ≡ newline → ((n : ℕ) → Counts text n (ended_lines text) (record { row = 0; hits = n })) → Counts (b ∷ text) hits (ended_lines (part ++ b ∷ text)) (record { row = row_after cells 0 part; hits = hits })
-  unfolding row_after count_after
+  unfolding row_after count_through
   line b text part hits p low more e behind =
       let at = bit_or (row_after cells 0 part) b in
       let row = get_or cells at 0 in
@@ -142,7 +142,7 @@ module _ (finds : List ℕ → Bool) (cells : List ℕ) (fits : (at : ℕ) → F
 
   -- the lines of a text, where a part of the first line was gone over before
   counts_behind : (text part : List ℕ) (hits : ℕ) → IsPart part → AreBytes part → AreBytes text → Counts text hits (ended_lines (part ++ text)) (record { row = row_after cells 0 part; hits = hits })
-  unfolding row_after count_after
+  unfolding row_after count_through
   counts_behind [] part hits p low bytes =
       let none : ended_lines (part ++ []) ≡ [] = ap ended_lines (append-nil part) ∙ ended_lines-part part p in
       subst (λ lines. Counts [] hits lines (record { row = row_after cells 0 part; hits = hits })) (sym none) (λ ends. omega arith)
@@ -159,8 +159,8 @@ module _ (finds : List ℕ → Bool) (cells : List ℕ) (fits : (at : ℕ) → F
             (counts_behind text (part ++ b ∷ []) hits (IsPart-append part (b ∷ []) p (e, tt)) (All-append IsByte part (b ∷ []) low byte) more))
       ] refl
 
-  pub counts : (text : List ℕ) → AreBytes text → (count_after cells nothing_counted text).row < first_noisy → (count_after cells nothing_counted text).hits ≡ count_by finds (ended_lines text)
-  unfolding row_after count_after
+  pub counts : (text : List ℕ) → AreBytes text → (count_through cells nothing_counted text).row < first_noisy → (count_through cells nothing_counted text).hits ≡ count_by finds (ended_lines text)
+  unfolding row_after count_through
   counts text bytes ends = omega (arith, counts_behind text [] 0 tt (All-nil IsByte) bytes ends)
 
 none_counted : (finds : List ℕ → Bool) (lines : List (List ℕ)) → AllByRecursion (λ line. finds line ≡ false) lines → count_by finds lines ≡ 0
@@ -170,35 +170,29 @@ none_counted finds (l ∷ lines) none = omega (arith, count_cons finds l lines f
 -- what is counted in nothing, and in two steps
 module _ (IsKind : (List ℕ → Bool) → Type 0) (block : List ℕ) where
   -- lines in which nothing is found
-  pub counted_passed : (from to : ℕ) → ArePassed IsKind block from to → AreCounted IsKind block from to 0
+  pub counted_passed : (from to : ℕ) → ArePassed IsKind block from to → CountsHits IsKind block from to 0
   counted_passed from to p = record {
-    low = p.low;
-    high = p.high;
-    whole = p.whole;
+    lines = p.lines;
     bound = omega arith;
     count = λ finds is. sym (none_counted finds (ended_lines (take (to - from) (drop from block))) (recursion_from_All (λ line. finds line ≡ false) (ended_lines (take (to - from) (drop from block))) (p.none finds is)));
   }
 
-  pub counted_append : (from middle to m n : ℕ) → AreCounted IsKind block from middle m → AreCounted IsKind block middle to n → AreCounted IsKind block from to (m + n)
+  pub counted_append : (from middle to m n : ℕ) → CountsHits IsKind block from middle m → CountsHits IsKind block middle to n → CountsHits IsKind block from to (m + n)
   counted_append from middle to m n p q =
       let a = take (middle - from) (drop from block) in
       let b = take (to - middle) (drop middle block) in
       record {
-        low = omega (arith, p.low, q.low);
-        high = q.high;
-        whole = whole_between block from middle to p.low q.low p.whole q.whole;
-        bound = omega (arith, p.low, p.bound, q.low, q.bound);
+        lines = lines_append block from middle to p.lines q.lines;
+        bound = omega (arith, p.lines.low, p.bound, q.lines.low, q.bound);
         count = λ finds is.
-            let all : count_by finds (ended_lines (take (to - from) (drop from block))) ≡ count_by finds (ended_lines a) + count_by finds (ended_lines b) = ap (λ text. count_by finds (ended_lines text)) (between_by block from middle to p.low q.low) ∙ ap (count_by finds) (ended_lines-whole b a p.whole) ∙ sum_by-append (λ l. cond (finds l) 1 0) (ended_lines a) (ended_lines b) in
+            let all : count_by finds (ended_lines (take (to - from) (drop from block))) ≡ count_by finds (ended_lines a) + count_by finds (ended_lines b) = ap (λ text. count_by finds (ended_lines text)) (between_by block from middle to p.lines.low q.lines.low) ∙ ap (count_by finds) (ended_lines-whole b a p.lines.whole) ∙ sum_by-append (λ l. cond (finds l) 1 0) (ended_lines a) (ended_lines b) in
             omega (arith, all, p.count finds is, q.count finds is);
       }
 
   -- a line, of which it is known whether something is found in it
-  pub counted_line : (at end : ℕ) (found : Bool) → at ≤ end → end < length block → IsPart (take (end - at) (drop at block)) → drop end block ≡ newline ∷ drop (end + 1) block → ((finds : List ℕ → Bool) → IsKind finds → finds (take (end - at) (drop at block)) ≡ found) → AreCounted IsKind block at (end + 1) (cond found 1 0)
+  pub counted_line : (at end : ℕ) (found : Bool) → at ≤ end → end < length block → IsPart (take (end - at) (drop at block)) → drop end block ≡ newline ∷ drop (end + 1) block → ((finds : List ℕ → Bool) → IsKind finds → finds (take (end - at) (drop at block)) ≡ found) → CountsHits IsKind block at (end + 1) (cond found 1 0)
   counted_line at end found low high part here tells = record {
-    low = omega arith;
-    high = omega arith;
-    whole = whole_line block at end low here;
+    lines = one_line block at end low high here;
     bound = small found;
     count = λ finds is.
         sym (ap (count_by finds) (ended_line block at end low part here)
@@ -211,14 +205,12 @@ module _ (IsKind : (List ℕ → Bool) → Type 0) (block : List ℕ) where
 
 module _ (cells block : List ℕ) (fits : (at : ℕ) → Fits w16 (get_or cells at 0)) (bytes : (at : ℕ) → Fits w8 (get_or block at 0)) where
   -- a part over which a counting run ends in a set of places
-  pub counted_part : (from to : ℕ) (count : Count) → from ≤ to → to ≤ length block → AreWhole (take (to - from) (drop from block)) → count ≡ count_after cells nothing_counted (take (to - from) (drop from block)) → count.row < first_noisy → AreCounted (λ finds. CountsLines finds cells) block from to count.hits
+  pub counted_part : (from to : ℕ) (count : Count) → from ≤ to → to ≤ length block → AreWholeLines (take (to - from) (drop from block)) → count ≡ count_through cells nothing_counted (take (to - from) (drop from block)) → count.row < first_noisy → CountsHits (λ finds. CountsLines finds cells) block from to count.hits
   counted_part from to count low high whole is ends =
       let part = take (to - from) (drop from block) in
       let bytes_in : AreBytes part = All-take IsByte (to - from) (drop from block) (All-drop IsByte from block (All-from_get_or IsByte block 0 (λ i _. omega (arith, bytes i)))) in
       record {
-        low = low;
-        high = high;
-        whole = whole;
+        lines = record { low = low; high = high; whole = whole };
         bound = omega (arith, ap (λ (c : Count). c.hits) is, count_few cells nothing_counted part, length-take (to - from) (drop from block));
         count = λ finds tells. ap (λ (c : Count). c.hits) is ∙ counts finds cells fits tells part bytes_in (subst (λ (c : Count). c.row < first_noisy) is ends);
       }

@@ -1,6 +1,7 @@
 -- Worked rows of the definitions, computed.
 use Rattle.std.proofs.Common.{◌≡◌, ◌+◌, true, false, [], ◌∷◌, refl, ◌∙◌, ap, arith, codes}
 use Rattle.std.specs.Prelude.{None, slice_index}
+use mathlib.Core.Bool.{xor}
 use Rattle.cs_sieve.specs.declared.window.Window.{Window}
 use Rattle.cs_syntax.specs.Matching.{Tree, one_of, cat, rep, none, more, word_edge, line_end, member}
 use Rattle.cs_syntax.specs.Lowering.{utf8_tree}
@@ -9,7 +10,7 @@ use Rattle.cs_match.specs.Lines.{lines, ended_lines}
 use Rattle.cs_match.specs.Marks.{marks_of, shift_and, meet}
 use Rattle.cs_match.specs.Places.{places, repeats, round_ends}
 use Rattle.cs_match.specs.Shifts.{lasts_by}
-use Rattle.cs_match.specs.Skipping.{AreWhole}
+use Rattle.cs_match.specs.Skipping.{AreWholeLines}
 use Rattle.cs_match.specs.Standings.{standing, is_left_before}
 use Rattle.cs_match.specs.Table.{blank_cell}
 use Rattle.cs_match.specs.Chains.{row_after}
@@ -65,8 +66,8 @@ repeats_that_nest :
 repeats_that_nest = (refl, refl, refl)
 
 -- a line with its newline is whole, and so is an empty one
-whole_of_two : AreWhole (97 ∷ 10 ∷ 10 ∷ [])
-unfolding AreWhole
+whole_of_two : AreWholeLines (97 ∷ 10 ∷ 10 ∷ [])
+unfolding AreWholeLines
 whole_of_two = refl
 
 -- by the bytes 1 and 0: from row 0 to row 2, and from there to row 5
@@ -86,9 +87,11 @@ edge_at_the_end : is_left_before word_edge (standing word_edge (97 ∷ [])) 10 �
 edge_at_the_end = refl
 
 edge_before_a_dash : is_left_before word_edge (standing word_edge (97 ∷ [])) 45 ≡ true
+unfolding xor
 edge_before_a_dash = refl
 
 no_edge_in_a_word : is_left_before word_edge (standing word_edge (97 ∷ [])) 98 ≡ false
+unfolding xor
 no_edge_in_a_word = refl
 
 -- `$` can be left before the newline alone

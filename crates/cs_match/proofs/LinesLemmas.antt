@@ -1,12 +1,94 @@
 -- Lines of a text that comes in pieces.
-use Rattle.std.proofs.Common.{◌≡◌, ℕ, suc, ◌+◌, ◌<◌, ◌≤◌, Bool, true, false, cond, nat_eq, List, [], ◌∷◌, ◌++◌, length, get_or, refl, sym, ap, ◌∙◌, arith}
-use Rattle.std.specs.List.{count_by}
+use Rattle.std.proofs.Common.{◌≡◌, ℕ, suc, ◌+◌, ◌-◌, ◌<◌, ◌≤◌, ◌⊎◌, inl, inr, Bool, true, false, not, cond, nat_eq, List, [], ◌∷◌, ◌++◌, length, drop, reverse, get_or, refl, sym, ap, ap₂, subst, ◌∙◌, arith}
+use Rattle.std.specs.List.{count_by, onto_first, prefix_len, suffix_len}
+use Rattle.std.proofs.lemmas.Bool.{eq-eqb, ne_eqb}
+use Rattle.std.proofs.lemmas.List.{length-reverse, reverse-append}
+use Rattle.std.proofs.lemmas.List.Folds.{prefix_len-append}
 use Rattle.std.proofs.lemmas.List.Sums.{sum_by-append}
 use Rattle.std.proofs.lemmas.List.Recursion.{is_count_by}
-use Rattle.cs_tree.specs.Pieces.{onto_first}
 use Rattle.cs_match.specs.Lines.{newline, lines, ended_lines, with_byte_in_line}
 use Rattle.cs_match.specs.LineParts.{IsPart}
-use Rattle.cs_match.specs.LastPart.{last_part, unless_ended, last_line}
+use Rattle.cs_match.specs.LastPart.{last_part, last_line}
+
+-- ---- what stands after the last newline, byte by byte from the front on
+
+-- the byte before the rest, where no line has ended in it
+abbrev pub unless_ended : ℕ → List (List ℕ) → List ℕ → List ℕ
+unless_ended b [] rest = b ∷ rest
+unless_ended b (line ∷ lines) rest = rest
+
+abbrev is_other : ℕ → Bool
+is_other b = not (nat_eq b newline)
+
+-- how many bytes stand after the last newline, with one more at the front
+suffix_len-cons : (x : ℕ) (a : List ℕ) → suffix_len is_other (x ∷ a) ≡ cond (nat_eq (suffix_len is_other a) (length a)) (length a + cond (is_other x) 1 0) (suffix_len is_other a)
+suffix_len-cons x a =
+    ap (prefix_len is_other) (reverse-append (x ∷ []) a)
+    ∙ prefix_len-append is_other (reverse a) (x ∷ [])
+    ∙ ap (λ n. cond (nat_eq (suffix_len is_other a) n) (n + cond (is_other x) 1 0) (suffix_len is_other a)) (length-reverse a)
+
+-- either no line has ended, and all is left, or some have
+abbrev IsEnded : List ℕ → Type 0
+IsEnded a = ((suffix_len is_other a ≡ length a) × (ended_lines a ≡ [])) ⊎ ((suffix_len is_other a < length a) × (line : List ℕ) × (more : List (List ℕ)) × (ended_lines a ≡ line ∷ more))
+
+ended_by_byte : (x : ℕ) (a : List ℕ) (t : Bool) → nat_eq x newline ≡ t → IsEnded a → IsEnded (x ∷ a)
+unfolding ended_lines
+ended_by_byte x a true e (inl (all, none)) =
+    let n : suffix_len is_other (x ∷ a) ≡ length a + 0 = suffix_len-cons x a ∙ rw (eq-eqb (suffix_len is_other a) (length a) all, e) refl in
+    inr (omega (arith, n), [], ended_lines a, rw e refl)
+ended_by_byte x a false e (inl (all, none)) =
+    let n : suffix_len is_other (x ∷ a) ≡ length a + 1 = suffix_len-cons x a ∙ rw (eq-eqb (suffix_len is_other a) (length a) all, e) refl in
+    inl (omega (arith, n), rw (e, none) refl)
+ended_by_byte x a t e (inr (less, line, more, is)) =
+    let n : suffix_len is_other (x ∷ a) ≡ suffix_len is_other a = suffix_len-cons x a ∙ rw (ne_eqb (suffix_len is_other a) (length a) (λ same. omega (arith, same, less))) refl in
+    let h = by t e in
+    inr (omega (arith, n, less), h.0, h.1, h.2)
+  where
+    by : (t : Bool) → nat_eq x newline ≡ t → (first : List ℕ) × (rest : List (List ℕ)) × (ended_lines (x ∷ a) ≡ first ∷ rest)
+    by true e = ([], ended_lines a, rw e refl)
+    by false e = (x ∷ line, more, rw (e, is) refl)
+
+is_ended : (a : List ℕ) → IsEnded a
+unfolding ended_lines
+is_ended [] = inl (refl, refl)
+is_ended (x ∷ a) = ended_by_byte x a (nat_eq x newline) refl (is_ended a)
+
+-- the last part, where so many bytes stand after the last newline
+left_of : (x : ℕ) (a : List ℕ) (n : ℕ) → suffix_len is_other (x ∷ a) ≡ n → last_part (x ∷ a) ≡ drop (length (x ∷ a) - n) (x ∷ a)
+unfolding last_part
+left_of x a n is = ap (λ k. drop (length (x ∷ a) - k) (x ∷ a)) is
+
+all_left : (a : List ℕ) → suffix_len is_other a ≡ length a → last_part a ≡ a
+unfolding last_part
+all_left a all =
+    let none : length a - suffix_len is_other a ≡ 0 = omega (arith, all) in
+    ap (λ k. drop k a) none
+
+some_left : (a : List ℕ) → last_part a ≡ drop (length a - suffix_len is_other a) a
+unfolding last_part
+some_left a = refl
+
+where_ended : (x : ℕ) (a : List ℕ) (t : Bool) (line : List ℕ) (more : List (List ℕ)) → ended_lines a ≡ line ∷ more → cond t (last_part a) (unless_ended x (ended_lines a) (last_part a)) ≡ last_part a
+where_ended x a true line more is = refl
+where_ended x a false line more is = ap (λ ls. unless_ended x ls (last_part a)) is
+
+last_part_by : (x : ℕ) (a : List ℕ) (t : Bool) → nat_eq x newline ≡ t → IsEnded a → last_part (x ∷ a) ≡ cond t (last_part a) (unless_ended x (ended_lines a) (last_part a))
+last_part_by x a true e (inl (all, none)) =
+    let n : suffix_len is_other (x ∷ a) ≡ length a + 0 = suffix_len-cons x a ∙ rw (eq-eqb (suffix_len is_other a) (length a) all, e) refl in
+    let one : length (x ∷ a) - (length a + 0) ≡ 1 = omega arith in
+    left_of x a (length a + 0) n ∙ ap (λ k. drop k (x ∷ a)) one ∙ sym (all_left a all)
+last_part_by x a false e (inl (all, none)) =
+    let n : suffix_len is_other (x ∷ a) ≡ length a + 1 = suffix_len-cons x a ∙ rw (eq-eqb (suffix_len is_other a) (length a) all, e) refl in
+    let no : length (x ∷ a) - (length a + 1) ≡ 0 = omega arith in
+    left_of x a (length a + 1) n ∙ ap (λ k. drop k (x ∷ a)) no ∙ sym (ap₂ (unless_ended x) none (all_left a all))
+last_part_by x a t e (inr (less, line, more, is)) =
+    let n : suffix_len is_other (x ∷ a) ≡ suffix_len is_other a = suffix_len-cons x a ∙ rw (ne_eqb (suffix_len is_other a) (length a) (λ same. omega (arith, same, less))) refl in
+    let one : length (x ∷ a) - suffix_len is_other a ≡ suc (length a - suffix_len is_other a) = omega (arith, less) in
+    left_of x a (suffix_len is_other a) n ∙ ap (λ k. drop k (x ∷ a)) one ∙ sym (some_left a) ∙ sym (where_ended x a t line more is)
+
+-- with one byte more at the front
+pub last_part-cons : (x : ℕ) (a : List ℕ) → last_part (x ∷ a) ≡ cond (nat_eq x newline) (last_part a) (unless_ended x (ended_lines a) (last_part a))
+last_part-cons x a = last_part_by x a (nat_eq x newline) refl (is_ended a)
 
 module _ (x : ℕ) (b : List ℕ) where
   ended-step : (t : Bool) → nat_eq x newline ≡ t → (ls : List (List ℕ)) (rest : List ℕ) (whole : List (List ℕ)) → whole ≡ ls ++ ended_lines (rest ++ b) → cond t ([] ∷ whole) (with_byte_in_line x whole) ≡ cond t ([] ∷ ls) (with_byte_in_line x ls) ++ ended_lines (cond t rest (unless_ended x ls rest) ++ b)
@@ -18,19 +100,24 @@ module _ (x : ℕ) (b : List ℕ) where
   last_part-step : (t : Bool) → nat_eq x newline ≡ t → (ls : List (List ℕ)) (rest : List ℕ) (whole : List (List ℕ)) (left : List ℕ) → whole ≡ ls ++ ended_lines (rest ++ b) → left ≡ last_part (rest ++ b) → cond t left (unless_ended x whole left) ≡ last_part (cond t rest (unless_ended x ls rest) ++ b)
   unfolding last_part
   last_part-step true e ls rest whole left h k = k
-  last_part-step false e [] rest whole left h k = rw (e, h, k) refl
+  last_part-step false e [] rest whole left h k = ap₂ (unless_ended x) h k ∙ sym (last_part-cons x (rest ++ b) ∙ rw e refl)
   last_part-step false e (l ∷ ls) rest whole left h k = rw h k
 
 -- the lines of a text and more, from its lines and its rest
 pub ended_lines-append : (a b : List ℕ) → ended_lines (a ++ b) ≡ ended_lines a ++ ended_lines (last_part a ++ b)
 unfolding ended_lines last_part
 ended_lines-append [] b = refl
-ended_lines-append (x ∷ a) b = ended-step x b (nat_eq x newline) refl (ended_lines a) (last_part a) (ended_lines (a ++ b)) (ended_lines-append a b)
+ended_lines-append (x ∷ a) b =
+    ended-step x b (nat_eq x newline) refl (ended_lines a) (last_part a) (ended_lines (a ++ b)) (ended_lines-append a b)
+    ∙ ap (λ rest. ended_lines (x ∷ a) ++ ended_lines (rest ++ b)) (sym (last_part-cons x a))
 
 pub last_part-append : (a b : List ℕ) → last_part (a ++ b) ≡ last_part (last_part a ++ b)
 unfolding ended_lines last_part
 last_part-append [] b = refl
-last_part-append (x ∷ a) b = last_part-step x b (nat_eq x newline) refl (ended_lines a) (last_part a) (ended_lines (a ++ b)) (last_part (a ++ b)) (ended_lines-append a b) (last_part-append a b)
+last_part-append (x ∷ a) b =
+    last_part-cons x (a ++ b)
+    ∙ last_part-step x b (nat_eq x newline) refl (ended_lines a) (last_part a) (ended_lines (a ++ b)) (last_part (a ++ b)) (ended_lines-append a b) (last_part-append a b)
+    ∙ ap (λ rest. last_part (rest ++ b)) (sym (last_part-cons x a))
 
 -- a text that ends in a newline, or is empty, has its lines before those of what follows it
 pub ended_lines-cut : (a b : List ℕ) → last_part a ≡ [] → ended_lines (a ++ b) ≡ ended_lines a ++ ended_lines b
@@ -45,7 +132,7 @@ ended_lines-part (x ∷ part) p = rw (p.0, ended_lines-part part p.1) refl
 pub last_part-part : (part : List ℕ) → IsPart part → last_part part ≡ part
 unfolding last_part
 last_part-part [] p = refl
-last_part-part (x ∷ part) p = rw (p.0, ended_lines-part part p.1, last_part-part part p.1) refl
+last_part-part (x ∷ part) p = last_part-cons x part ∙ rw (p.0, ended_lines-part part p.1, last_part-part part p.1) refl
 
 -- a part, a newline, and more
 pub ended_lines-line : (part more : List ℕ) → IsPart part → ended_lines (part ++ newline ∷ more) ≡ part ∷ ended_lines more
@@ -55,8 +142,8 @@ ended_lines-line (x ∷ part) more p = rw (p.0, ended_lines-line part more p.1) 
 
 pub last_part-line : (part more : List ℕ) → IsPart part → last_part (part ++ newline ∷ more) ≡ last_part more
 unfolding last_part
-last_part-line [] more p = refl
-last_part-line (x ∷ part) more p = rw (p.0, ended_lines-line part more p.1, last_part-line part more p.1) refl
+last_part-line [] more p = last_part-cons newline more
+last_part-line (x ∷ part) more p = last_part-cons x (part ++ newline ∷ more) ∙ rw (p.0, ended_lines-line part more p.1, last_part-line part more p.1) refl
 
 lines-step : (x : ℕ) (ls : List (List ℕ)) (rest : List ℕ) → onto_first x (ls ++ last_line rest) ≡ with_byte_in_line x ls ++ last_line (unless_ended x ls rest)
 lines-step x [] [] = refl
@@ -71,7 +158,9 @@ lines-both x false ls all rest h = rw h (lines-step x ls rest)
 pub lines-split : (a : List ℕ) → lines a ≡ ended_lines a ++ last_line (last_part a)
 unfolding lines ended_lines last_part
 lines-split [] = refl
-lines-split (x ∷ a) = lines-both x (nat_eq x newline) (ended_lines a) (lines a) (last_part a) (lines-split a)
+lines-split (x ∷ a) =
+    lines-both x (nat_eq x newline) (ended_lines a) (lines a) (last_part a) (lines-split a)
+    ∙ ap (λ rest. ended_lines (x ∷ a) ++ last_line rest) (sym (last_part-cons x a))
 
 -- what follows a newline has no newline
 part-step : (x : ℕ) (t : Bool) → nat_eq x newline ≡ t → (ls : List (List ℕ)) (rest : List ℕ) → IsPart rest → IsPart (cond t rest (unless_ended x ls rest))
@@ -82,7 +171,7 @@ part-step x false e (l ∷ ls) rest p = p
 pub IsPart-last_part : (a : List ℕ) → IsPart (last_part a)
 unfolding last_part
 IsPart-last_part [] = tt
-IsPart-last_part (x ∷ a) = part-step x (nat_eq x newline) refl (ended_lines a) (last_part a) (IsPart-last_part a)
+IsPart-last_part (x ∷ a) = subst IsPart (sym (last_part-cons x a)) (part-step x (nat_eq x newline) refl (ended_lines a) (last_part a) (IsPart-last_part a))
 
 -- each line that has ended took a byte at least
 count-step : (x : ℕ) (t : Bool) (ls : List (List ℕ)) (rest : List ℕ) (n : ℕ) → length ls + length rest ≤ n → length (cond t ([] ∷ ls) (with_byte_in_line x ls)) + length (cond t rest (unless_ended x ls rest)) ≤ n + 1
@@ -93,7 +182,7 @@ count-step x false (l ∷ ls) rest n h = omega arith
 pub lines_within : (a : List ℕ) → length (ended_lines a) + length (last_part a) ≤ length a
 unfolding ended_lines last_part
 lines_within [] = omega arith
-lines_within (x ∷ a) = let h = count-step x (nat_eq x newline) (ended_lines a) (last_part a) (length a) (lines_within a) in omega arith
+lines_within (x ∷ a) = let h = count-step x (nat_eq x newline) (ended_lines a) (last_part a) (length a) (lines_within a) in omega (arith, ap (λ (l : List ℕ). length l) (last_part-cons x a))
 
 -- as many lines have ended as there are newlines
 abbrev pub is_newline : ℕ → Bool

@@ -6,7 +6,7 @@ use Rattle.std.proofs.lemmas.Bool.{cases_lt, cond-false}
 use Rattle.std.proofs.lemmas.Bool.Decides.{nat_tests}
 use Rattle.cs_syntax.specs.ByteSet.{set_of}
 use Rattle.cs_syntax.specs.Ranges.{is_in_ranges}
-use Rattle.cs_syntax.specs.Lowering.{part, parts, with_last_byte, forms, forms_within, wide_forms, all_wide_forms, ascii_forms, utf8_tree, any_of}
+use Rattle.cs_syntax.specs.Lowering.{range_part, range_parts, with_last_byte, forms, forms_within, wide_forms, all_wide_forms, ascii_forms, utf8_tree, any_of}
 use Rattle.cs_syntax.specs.Matching.{Tree, Trees, one_of, none, more}
 use Rattle.cs_syntax.specs.TreeList.{append}
 use Rattle.cs_match.specs.Places.{places, places_of, repeats, repeats_of, IsLooped, AreLooped}
@@ -28,7 +28,7 @@ last_looped front h (p ∷ ps) = ((h (p.0 / 64) (p.1 / 64), (tt, tt)), last_loop
 
 forms_looped : (lead k low high : ℕ) → IsLooped (forms lead k low high)
 forms_looped lead zero low high = tt
-forms_looped lead (suc k) low high = any_looped _ (last_looped (forms lead k) (forms_looped lead k) (parts low high))
+forms_looped lead (suc k) low high = any_looped _ (last_looped (forms lead k) (forms_looped lead k) (range_parts low high))
 
 chosen_looped : (b : Bool) (t : Tree) → IsLooped t → AreLooped (if b then more t none else none)
 chosen_looped true t h = (h, tt)
@@ -67,7 +67,7 @@ last_repeats front h (p ∷ ps) = omega (arith, h (p.0 / 64) (p.1 / 64), last_re
 
 forms_repeats : (lead k low high : ℕ) → repeats (forms lead k low high) ≡ 0
 forms_repeats lead zero low high = refl
-forms_repeats lead (suc k) low high = any_repeats _ ∙ last_repeats (forms lead k) (forms_repeats lead k) (parts low high)
+forms_repeats lead (suc k) low high = any_repeats _ ∙ last_repeats (forms lead k) (forms_repeats lead k) (range_parts low high)
 
 chosen_repeats : (b : Bool) (t : Tree) → repeats t ≡ 0 → repeats_of (if b then more t none else none) ≡ 0
 chosen_repeats true t h = omega arith
@@ -107,39 +107,39 @@ last_places front [] qs = omega arith
 last_places front (p ∷ ps) qs = omega (arith, last_places front ps qs)
 
 part_places : (front : ℕ → ℕ → Tree) (most a b : ℕ) → (a < b → places (front (a / 64) ((b - 1) / 64)) ≤ most) →
-    places_of (with_last_byte front (part a b)) ≤ most + 1
+    places_of (with_last_byte front (range_part a b)) ≤ most + 1
 part_places front most a b h = by (nat_lt a b) refl
   where
     by : (x : Bool) → nat_lt a b ≡ x → places_of (with_last_byte front (if x then (a, b - 1) ∷ [] else [])) ≤ most + 1
     by true e = let lt : a < b = grind (arith, nat_tests) in omega (arith, h lt)
     by false e = omega arith
 
-part_none : (a b : ℕ) → b ≤ a → part a b ≡ []
+part_none : (a b : ℕ) → b ≤ a → range_part a b ≡ []
 part_none a b le = let e : nat_lt a b ≡ false = grind (arith, nat_tests) in cond-false (nat_lt a b) _ _ e
 
 -- a number alone is one part
-parts_one : (n : ℕ) (front : ℕ → ℕ → Tree) (most : ℕ) → places (front (n / 64) (n / 64)) ≤ most → places_of (with_last_byte front (parts n n)) ≤ most + 1
+parts_one : (n : ℕ) (front : ℕ → ℕ → Tree) (most : ℕ) → places (front (n / 64) (n / 64)) ≤ most → places_of (with_last_byte front (range_parts n n)) ≤ most + 1
 parts_one n front most h = by (nat_le ((n + 63) / 64 * 64) ((n + 1) / 64 * 64)) refl
   where
-    here : (a b : ℕ) → n ≤ a → b ≤ n + 1 → places_of (with_last_byte front (part a b)) ≤ most + 1
+    here : (a b : ℕ) → n ≤ a → b ≤ n + 1 → places_of (with_last_byte front (range_part a b)) ≤ most + 1
     here a b from to =
         part_places front most a b (λ lt.
         let first : a ≡ n = omega arith in
         let last : b - 1 ≡ n = omega arith in
         subst (λ (m : ℕ). m ≤ most) (ap₂ (λ (x y : ℕ). places (front (x / 64) (y / 64))) (sym first) (sym last)) h)
 
-    nowhere : (a b : ℕ) → b ≤ a → places_of (with_last_byte front (part a b)) ≡ 0
+    nowhere : (a b : ℕ) → b ≤ a → places_of (with_last_byte front (range_part a b)) ≡ 0
     nowhere a b le = ap (λ ps. places_of (with_last_byte front ps)) (part_none a b le)
 
     by : (x : Bool) → nat_le ((n + 63) / 64 * 64) ((n + 1) / 64 * 64) ≡ x →
-        places_of (with_last_byte front (if x then part n ((n + 63) / 64 * 64) ++ (part ((n + 63) / 64 * 64) ((n + 1) / 64 * 64) ++ part ((n + 1) / 64 * 64) (n + 1)) else part n (n + 1))) ≤ most + 1
+        places_of (with_last_byte front (if x then range_part n ((n + 63) / 64 * 64) ++ (range_part ((n + 63) / 64 * 64) ((n + 1) / 64 * 64) ++ range_part ((n + 1) / 64 * 64) (n + 1)) else range_part n (n + 1))) ≤ most + 1
     by true e =
         let first = (n + 63) / 64 * 64 in
         let end = (n + 1) / 64 * 64 in
         let le : first ≤ end = grind (arith, nat_tests) in
         let middle = nowhere first end (omega arith) in
-        let sum = last_places front (part n first) (part first end ++ part end (n + 1)) in
-        let rest = last_places front (part first end) (part end (n + 1)) in
+        let sum = last_places front (range_part n first) (range_part first end ++ range_part end (n + 1)) in
+        let rest = last_places front (range_part first end) (range_part end (n + 1)) in
         elim (cases_lt n first) [
           | inl before ↦ omega (arith, sum, rest, middle, here n first (omega arith) (omega arith), nowhere end (n + 1) (omega arith))
           | inr at ↦ omega (arith, sum, rest, middle, nowhere n first at, here end (n + 1) (omega arith) (omega arith))
@@ -149,7 +149,7 @@ parts_one n front most h = by (nat_le ((n + 63) / 64 * 64) ((n + 1) / 64 * 64)) 
 number_places : (lead k n : ℕ) → places (forms lead k n n) ≤ k + 1
 number_places lead zero n = omega arith
 number_places lead (suc k) n =
-    omega (arith, any_places (with_last_byte (forms lead k) (parts n n)), parts_one n (forms lead k) (k + 1) (number_places lead k (n / 64)))
+    omega (arith, any_places (with_last_byte (forms lead k) (range_parts n n)), parts_one n (forms lead k) (k + 1) (number_places lead k (n / 64)))
 
 -- how many places the forms of numbers have at most, with k bytes behind the first
 abbrev pub most_places : ℕ → ℕ
@@ -157,7 +157,7 @@ most_places zero = 1
 most_places (suc k) = 2 * (k + 2) + (most_places k + 1)
 
 -- a part in one block of numbers
-block_places : (lead k a b : ℕ) → a / 64 ≡ (b - 1) / 64 → places_of (with_last_byte (forms lead k) (part a b)) ≤ k + 2
+block_places : (lead k a b : ℕ) → a / 64 ≡ (b - 1) / 64 → places_of (with_last_byte (forms lead k) (range_part a b)) ≤ k + 2
 block_places lead k a b one =
     omega (
       arith,
@@ -165,32 +165,32 @@ block_places lead k a b one =
     )
 
 parts_places : (lead k low high : ℕ) → ((a b : ℕ) → a ≤ b → places (forms lead k a b) ≤ most_places k) → low ≤ high →
-    places_of (with_last_byte (forms lead k) (parts low high)) ≤ 2 * (k + 2) + (most_places k + 1)
+    places_of (with_last_byte (forms lead k) (range_parts low high)) ≤ 2 * (k + 2) + (most_places k + 1)
 parts_places lead k low high each order = by (nat_le ((low + 63) / 64 * 64) ((high + 1) / 64 * 64)) refl
   where
     by : (x : Bool) → nat_le ((low + 63) / 64 * 64) ((high + 1) / 64 * 64) ≡ x →
-        places_of (with_last_byte (forms lead k) (if x then part low ((low + 63) / 64 * 64) ++ (part ((low + 63) / 64 * 64) ((high + 1) / 64 * 64) ++ part ((high + 1) / 64 * 64) (high + 1)) else part low (high + 1)))
+        places_of (with_last_byte (forms lead k) (if x then range_part low ((low + 63) / 64 * 64) ++ (range_part ((low + 63) / 64 * 64) ((high + 1) / 64 * 64) ++ range_part ((high + 1) / 64 * 64) (high + 1)) else range_part low (high + 1)))
         ≤ 2 * (k + 2) + (most_places k + 1)
     by true e =
         let first = (low + 63) / 64 * 64 in
         let end = (high + 1) / 64 * 64 in
         omega (
           arith,
-          last_places (forms lead k) (part low first) (part first end ++ part end (high + 1)),
-          last_places (forms lead k) (part first end) (part end (high + 1)),
+          last_places (forms lead k) (range_part low first) (range_part first end ++ range_part end (high + 1)),
+          last_places (forms lead k) (range_part first end) (range_part end (high + 1)),
           head first refl,
           part_places (forms lead k) (most_places k) first end (λ lt. each (first / 64) ((end - 1) / 64) (omega arith)),
           tail end refl,
         )
       where
-        head : (first : ℕ) → first ≡ (low + 63) / 64 * 64 → places_of (with_last_byte (forms lead k) (part low first)) ≤ k + 2
+        head : (first : ℕ) → first ≡ (low + 63) / 64 * 64 → places_of (with_last_byte (forms lead k) (range_part low first)) ≤ k + 2
         head first is =
             elim (cases_lt low first) [
               | inl before ↦ block_places lead k low first (omega arith)
               | inr at ↦ omega (arith, ap (λ ps. places_of (with_last_byte (forms lead k) ps)) (part_none low first at))
             ]
 
-        tail : (end : ℕ) → end ≡ (high + 1) / 64 * 64 → places_of (with_last_byte (forms lead k) (part end (high + 1))) ≤ k + 2
+        tail : (end : ℕ) → end ≡ (high + 1) / 64 * 64 → places_of (with_last_byte (forms lead k) (range_part end (high + 1))) ≤ k + 2
         tail end is =
             elim (cases_lt end (high + 1)) [
               | inl before ↦ block_places lead k end (high + 1) (omega arith)
@@ -203,7 +203,7 @@ parts_places lead k low high each order = by (nat_le ((low + 63) / 64 * 64) ((hi
 forms_places : (lead k low high : ℕ) → low ≤ high → places (forms lead k low high) ≤ most_places k
 forms_places lead zero low high order = omega arith
 forms_places lead (suc k) low high order =
-    omega (arith, any_places (with_last_byte (forms lead k) (parts low high)), parts_places lead k low high (forms_places lead k) order)
+    omega (arith, any_places (with_last_byte (forms lead k) (range_parts low high)), parts_places lead k low high (forms_places lead k) order)
 
 within_places : (from to lead k : ℕ) (run : ℕ × ℕ) → places_of (forms_within from to lead k run) ≤ most_places k
 within_places from to lead k run = by (nat_le (max run.0 from) (min run.1 to)) refl

@@ -12,7 +12,7 @@ use Rattle.cs_syntax.specs.Node.{tree_of}
 use Rattle.cs_syntax.specs.declared.node.Node.{Node}
 use Rattle.cs_syntax.specs.declared.node.Node.TheVariants.{Empty, LineStart, LineEnd, WordEdge, NotWordEdge}
 use Rattle.cs_syntax.proofs.NodeLemmas.{tree_of-Empty, tree_of-LineStart, tree_of-LineEnd, tree_of-WordEdge, tree_of-NotWordEdge}
-use Rattle.cs_match.specs.Needle.{Has, IsNeeded, EndsAt}
+use Rattle.cs_match.specs.Needle.{LineHas, IsNeeded, EndsAt}
 use Rattle.cs_match.specs.Runs.{run_from, run_of, Follow}
 use Rattle.cs_match.specs.declared.runs.Runs.{Runs}
 
@@ -76,7 +76,7 @@ module _ (s : List ℕ) where
         },
       )
 
-  ends_has : (w : List ℕ) (i : ℕ) → EndsAt s w i → Has s w
+  ends_has : (w : List ℕ) (i : ℕ) → EndsAt s w i → LineHas s w
   ends_has w i h = (h.0, h.2)
 
   ends_same : (v w : List ℕ) (i j : ℕ) → v ≡ w → i ≡ j → EndsAt s v i → EndsAt s w j
@@ -104,16 +104,16 @@ follow_byte set b old new only bytes start best = record {
       let is : run_from from old ++ b ∷ [] ≡ run_from (max from new.start) new =
       sym (drop-append-le from old.bytes.items (b ∷ []) high) ∙ ap (drop from) (sym bytes) ∙ ap (λ n. run_from n new) to in
       ends_same line _ _ j j is refl (ends_more line (run_from from old) b i j ends h.0 (only.1 _ h.1) h.2);
-  best = λ line i j h ends has. subst (Has line) (sym best) has;
+  best = λ line i j h ends has. subst (LineHas line) (sym best) has;
 }
 
 abbrev pub IsKept : Runs → Runs → Type 0
 IsKept old new = (new.best.items ≡ old.best.items) ⊎ (new.best.items ≡ run_of old)
 
-kept : (old new : Runs) → IsKept old new → (line : List ℕ) (i : ℕ) → EndsAt line (run_of old) i → Has line old.best.items → Has line new.best.items
+kept : (old new : Runs) → IsKept old new → (line : List ℕ) (i : ℕ) → EndsAt line (run_of old) i → LineHas line old.best.items → LineHas line new.best.items
 kept old new best line i ends has = elim best [
-  | inl same ↦ subst (Has line) (sym same) has
-  | inr run ↦ subst (Has line) (sym run) (ends_has line (run_of old) i ends)
+  | inl same ↦ subst (LineHas line) (sym same) has
+  | inr run ↦ subst (LineHas line) (sym run) (ends_has line (run_of old) i ends)
 ]
 
 -- the run ends, and nothing is known of what is taken
@@ -176,7 +176,7 @@ needed t first next last bytes best f k line found =
     let i = found.0 in
     let empty_run : [] ≡ run_of first = sym (drop_of_length-le first.bytes.items {i = first.start} (omega (arith, ap length bytes))) in
     let start : EndsAt line (run_of first) i = ends_same line _ _ i i empty_run refl (ends_empty line i (omega (arith, found.2, found.3))) in
-    let none_yet : Has line first.best.items = subst (Has line) (sym best) (0, record { fits = omega arith; reads = λ j lt. absurd (omega arith) }) in
+    let none_yet : LineHas line first.best.items = subst (LineHas line) (sym best) (0, record { fits = omega arith; reads = λ j lt. absurd (omega arith) }) in
     kept next last k line found.1 (run_ends _ first next f line i found.1 found.4 start) (f.best line i found.1 found.4 start none_yet)
 
 -- the same of a tree that is known by another name

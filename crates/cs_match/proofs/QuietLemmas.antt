@@ -14,12 +14,10 @@ use Rattle.cs_match.specs.Standings.{start, next_standing, standing_through, sta
 use Rattle.cs_match.specs.Table.{IsRow, found, next, IsCell, unknown, known, AreRows, AreCells}
 use Rattle.cs_match.specs.Chains.{row_after, found_row, unknown_row, first_noisy, Absorbs, ShowsLines}
 use Rattle.cs_match.specs.Counting.{CountsLines}
+use Rattle.cs_match.proofs.ChainLemmas.{IsByte}
 use Rattle.cs_match.proofs.TableLemmas.{cell_place, row_stays}
 use Rattle.cs_match.proofs.StandingLemmas.{left_in_line, left_at_end}
 use Rattle.cs_match.proofs.MarksLemmas.{found_where_left}
-
-abbrev IsByte : ℕ → Type 0
-IsByte b = b < 256
 
 -- the tree cannot be left before any byte of the line, nor at its end
 abbrev NeverLeft : Tree → Standing → List ℕ → Type 0

@@ -1,13 +1,14 @@
 -- The standing after a front of a line tells what stands around its end, and has its marks.
 use Rattle.std.proofs.Common.{◌≡◌, ℕ, zero, suc, ◌+◌, ◌-◌, ◌<◌, ◌≤◌, Bool, true, false, List, [], ◌∷◌, ◌++◌, take, length, refl, sym, ◌∙◌, ap, arith, inl, inr}
 use Rattle.std.specs.Prelude.{slice_index, nat_eq, ◌≢◌}
+use mathlib.Core.Bool.{xor}
 use Rattle.std.proofs.lemmas.List.{take_more, take_all, length-replicate}
 use Rattle.std.proofs.lemmas.Bool.{lt-ltb, le-ltb, le-leb, eq-eqb, ne_eqb, cases_eq}
 use Rattle.cs_match.proofs.MarksLemmas.{length-step, length-marks}
-use Rattle.cs_syntax.specs.Matching.{Tree, is_word, differ, word_before, word_after, at_word_edge}
+use Rattle.cs_syntax.specs.Matching.{Tree, is_word, word_before, word_after, at_word_edge}
 use Rattle.cs_match.specs.declared.standing.Standing.{Standing}
 use Rattle.cs_match.specs.Places.{around, places, exits, marks, exit_at}
-use Rattle.cs_match.specs.Standings.{start, ahead, at_end, next_standing, standing_through, standing, standing_beyond, is_left_before}
+use Rattle.cs_match.specs.Standings.{start, ahead, around_end, next_standing, standing_through, standing, standing_beyond, is_left_before}
 
 standing_through-append : (t : Tree) (n : Standing) (xs ys : List ℕ) → standing_through t n (xs ++ ys) ≡ standing_through t (standing_through t n xs) ys
 standing_through-append t n [] ys = refl
@@ -21,9 +22,10 @@ length-standing_beyond t n b =
       | inr other ↦ rw (ne_eqb b 10 other) (length-step t true n.marks (ahead n b) b)
     ]
 
-differ-false : (b : Bool) → differ b false ≡ b
-differ-false true = refl
-differ-false false = refl
+xor-false : (b : Bool) → xor b false ≡ b
+unfolding xor
+xor-false true = refl
+xor-false false = refl
 
 module _ (t : Tree) (s : List ℕ) where
   -- what a run has come to at place i, said of the whole line
@@ -80,13 +82,13 @@ module _ (t : Tree) (s : List ℕ) where
   pub left_in_line : (i : ℕ) → i < length s → slice_index s i ≢ 10 → is_left_before t (standing t (take i s)) (slice_index s i) ≡ exit_at s t (λ _. true) i
   left_in_line i lt other = rw (ne_eqb (slice_index s i) 10 other) (left_ahead i lt)
 
-  end_is : at_end (at_place (length s)) ≡ around s (length s)
+  end_is : around_end (at_place (length s)) ≡ around s (length s)
   unfolding at_word_edge word_after
-  end_is = rw (eq-eqb (length s) (length s) refl, le-ltb (length s) (length s) (omega arith), differ-false (word_before s (length s))) refl
+  end_is = rw (eq-eqb (length s) (length s) refl, le-ltb (length s) (length s) (omega arith), xor-false (word_before s (length s))) refl
 
-  pub left_by_end : exits t true (standing t s).marks (at_end (standing t s)) ≡ exit_at s t (λ _. true) (length s)
+  pub left_by_end : exits t true (standing t s).marks (around_end (standing t s)) ≡ exit_at s t (λ _. true) (length s)
   left_by_end =
-      ap (λ n. exits t true n.marks (at_end n)) (ap (standing t) (sym (take_all (length s) s (omega arith))) ∙ standing_is (length s) (omega arith))
+      ap (λ n. exits t true n.marks (around_end n)) (ap (standing t) (sym (take_all (length s) s (omega arith))) ∙ standing_is (length s) (omega arith))
       ∙ ap (λ a. exits t true (marks s t (λ _. true) (length s)) a) end_is
 
   pub left_at_end : is_left_before t (standing t s) 10 ≡ exit_at s t (λ _. true) (length s)

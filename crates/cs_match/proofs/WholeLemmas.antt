@@ -4,46 +4,46 @@ use Rattle.std.proofs.lemmas.Bool.{false≢true, eqb-true}
 use Rattle.std.proofs.Math.Seq.{take-add}
 use Rattle.std.proofs.lemmas.List.{drop-drop, take_rest}
 use Rattle.std.proofs.lemmas.List.Elements.{All-append}
-use Rattle.cs_match.proofs.LinesLemmas.{ended_lines-line}
+use Rattle.cs_match.proofs.LinesLemmas.{ended_lines-line, unless_ended, last_part-cons}
 use Rattle.cs_match.specs.Lines.{newline, ended_lines, with_byte_in_line}
 use Rattle.cs_match.specs.LineParts.{IsPart}
-use Rattle.cs_match.specs.Skipping.{AreWhole, NoneFound}
-use Rattle.cs_match.specs.LastPart.{last_part, unless_ended}
+use Rattle.cs_match.specs.Skipping.{AreWholeLines, NoneFound}
+use Rattle.cs_match.specs.LastPart.{last_part}
 
 -- what ends in a newline is whole
-pub whole_ended : (part : List ℕ) → AreWhole (part ++ newline ∷ [])
-unfolding AreWhole
+pub whole_ended : (part : List ℕ) → AreWholeLines (part ++ newline ∷ [])
+unfolding AreWholeLines
 whole_ended [] = refl
 whole_ended (b ∷ []) = refl
 whole_ended (b ∷ c ∷ part) = whole_ended (c ∷ part)
 
-pub whole_append : (a b : List ℕ) → AreWhole a → AreWhole b → AreWhole (a ++ b)
-unfolding AreWhole
+pub whole_append : (a b : List ℕ) → AreWholeLines a → AreWholeLines b → AreWholeLines (a ++ b)
+unfolding AreWholeLines
 whole_append [] b p q = q
 whole_append (x ∷ []) [] p q = p
 whole_append (x ∷ []) (y ∷ b) p q = q
 whole_append (x ∷ y ∷ a) b p q = whole_append (y ∷ a) b p q
 
-pub whole_tail : (b : ℕ) (text : List ℕ) → AreWhole (b ∷ text) → AreWhole text
-unfolding AreWhole
+pub whole_tail : (b : ℕ) (text : List ℕ) → AreWholeLines (b ∷ text) → AreWholeLines text
+unfolding AreWholeLines
 whole_tail b [] p = tt
 whole_tail b (c ∷ text) p = p
 
-pub whole_drop : (n : ℕ) (text : List ℕ) → AreWhole text → AreWhole (drop n text)
+pub whole_drop : (n : ℕ) (text : List ℕ) → AreWholeLines text → AreWholeLines (drop n text)
 whole_drop zero text p = p
 whole_drop (suc n) [] p = p
 whole_drop (suc n) (b ∷ text) p = whole_drop n text (whole_tail b text p)
 
 -- a part that is whole is empty
-pub whole_part : (b : ℕ) (text : List ℕ) → AreWhole (b ∷ text) → IsPart (b ∷ text) → ⊥
-unfolding AreWhole
+pub whole_part : (b : ℕ) (text : List ℕ) → AreWholeLines (b ∷ text) → IsPart (b ∷ text) → ⊥
+unfolding AreWholeLines
 whole_part b [] w p = false≢true (sym (subst (λ c. nat_eq c newline ≡ false) w p.0))
 whole_part b (c ∷ text) w p = whole_part c text w p.1
 
 -- the lines of whole lines and more
 module _ (ys : List ℕ) where
-  first_line : (b : ℕ) (text : List ℕ) → AreWhole (b ∷ text) → (line : List ℕ) × (rest : List (List ℕ)) × (ended_lines (b ∷ text) ≡ line ∷ rest)
-  unfolding ended_lines AreWhole
+  first_line : (b : ℕ) (text : List ℕ) → AreWholeLines (b ∷ text) → (line : List ℕ) × (rest : List (List ℕ)) × (ended_lines (b ∷ text) ≡ line ∷ rest)
+  unfolding ended_lines AreWholeLines
   first_line b [] w = ([], [], rw w refl)
   first_line b (c ∷ text) w =
       let h = first_line c text w in
@@ -56,8 +56,8 @@ module _ (ys : List ℕ) where
   one_more b true ls all more line rest e h = ap (λ (w : List (List ℕ)). [] ∷ w) h
   one_more b false ls all more line rest e h = rw (h, e) refl
 
-  pub ended_lines-whole : (xs : List ℕ) → AreWhole xs → ended_lines (xs ++ ys) ≡ ended_lines xs ++ ended_lines ys
-  unfolding ended_lines AreWhole
+  pub ended_lines-whole : (xs : List ℕ) → AreWholeLines xs → ended_lines (xs ++ ys) ≡ ended_lines xs ++ ended_lines ys
+  unfolding ended_lines AreWholeLines
   ended_lines-whole [] w = refl
   ended_lines-whole (b ∷ []) w = rw w refl
   ended_lines-whole (b ∷ c ∷ xs) w =
@@ -74,25 +74,26 @@ ends_it : (b : ℕ) (t : Bool) → nat_eq b newline ≡ t → cond t [] (b ∷ [
 ends_it b true is e = eqb-true b newline is
 ends_it b false is e = cc
 
-no_part_of_whole : (text : List ℕ) → AreWhole text → last_part text ≡ []
-unfolding last_part ended_lines AreWhole
+no_part_of_whole : (text : List ℕ) → AreWholeLines text → last_part text ≡ []
+unfolding last_part ended_lines AreWholeLines
 no_part_of_whole [] w = refl
-no_part_of_whole (b ∷ []) w = rw w refl
+no_part_of_whole (b ∷ []) w = last_part-cons b [] ∙ rw w refl
 no_part_of_whole (b ∷ c ∷ text) w =
     let h = first_line [] c text w in
     let rest : last_part (c ∷ text) ≡ [] = no_part_of_whole (c ∷ text) w in
-    elim (nat_eq b newline) as (λ t. cond t (last_part (c ∷ text)) (unless_ended b (ended_lines (c ∷ text)) (last_part (c ∷ text))) ≡ []) [
+    last_part-cons b (c ∷ text)
+    ∙ elim (nat_eq b newline) as (λ t. cond t (last_part (c ∷ text)) (unless_ended b (ended_lines (c ∷ text)) (last_part (c ∷ text))) ≡ []) [
       | true ↦ rest
       | false ↦ ap (λ ls. unless_ended b ls (last_part (c ∷ text))) h.2 ∙ rest
     ]
 
-whole_has_no_part : (text : List ℕ) → last_part text ≡ [] → AreWhole text
-unfolding last_part ended_lines AreWhole
+whole_has_no_part : (text : List ℕ) → last_part text ≡ [] → AreWholeLines text
+unfolding last_part ended_lines AreWholeLines
 whole_has_no_part [] e = tt
-whole_has_no_part (b ∷ []) e = ends_it b (nat_eq b newline) refl e
-whole_has_no_part (b ∷ c ∷ text) e = whole_has_no_part (c ∷ text) (ended_by b (nat_eq b newline) (ended_lines (c ∷ text)) (last_part (c ∷ text)) e)
+whole_has_no_part (b ∷ []) e = ends_it b (nat_eq b newline) refl (sym (last_part-cons b []) ∙ e)
+whole_has_no_part (b ∷ c ∷ text) e = whole_has_no_part (c ∷ text) (ended_by b (nat_eq b newline) (ended_lines (c ∷ text)) (last_part (c ∷ text)) (sym (last_part-cons b (c ∷ text)) ∙ e))
 
-pub whole_is_ended : (text : List ℕ) → AreWhole text ↔ last_part text ≡ []
+pub whole_is_ended : (text : List ℕ) → AreWholeLines text ↔ last_part text ≡ []
 whole_is_ended text = (no_part_of_whole text, whole_has_no_part text)
 
 -- from one place to another, by way of a third
@@ -104,11 +105,11 @@ between_by block from middle to low high =
     ∙ take-add (middle - from) (to - middle) (drop from block)
     ∙ ap (λ rest. take (middle - from) (drop from block) ++ take (to - middle) rest) (drop-drop (middle - from) from block ∙ ap (λ i. drop i block) at)
 
-pub whole_between : (block : List ℕ) (from middle to : ℕ) → from ≤ middle → middle ≤ to → AreWhole (take (middle - from) (drop from block)) → AreWhole (take (to - middle) (drop middle block)) → AreWhole (take (to - from) (drop from block))
+pub whole_between : (block : List ℕ) (from middle to : ℕ) → from ≤ middle → middle ≤ to → AreWholeLines (take (middle - from) (drop from block)) → AreWholeLines (take (to - middle) (drop middle block)) → AreWholeLines (take (to - from) (drop from block))
 whole_between block from middle to low high p q =
-    subst AreWhole (sym (between_by block from middle to low high)) (whole_append (take (middle - from) (drop from block)) (take (to - middle) (drop middle block)) p q)
+    subst AreWholeLines (sym (between_by block from middle to low high)) (whole_append (take (middle - from) (drop from block)) (take (to - middle) (drop middle block)) p q)
 
-pub none_between : (finds : List ℕ → Bool) (block : List ℕ) (from middle to : ℕ) → from ≤ middle → middle ≤ to → AreWhole (take (middle - from) (drop from block)) → NoneFound finds (ended_lines (take (middle - from) (drop from block))) → NoneFound finds (ended_lines (take (to - middle) (drop middle block))) → NoneFound finds (ended_lines (take (to - from) (drop from block)))
+pub none_between : (finds : List ℕ → Bool) (block : List ℕ) (from middle to : ℕ) → from ≤ middle → middle ≤ to → AreWholeLines (take (middle - from) (drop from block)) → NoneFound finds (ended_lines (take (middle - from) (drop from block))) → NoneFound finds (ended_lines (take (to - middle) (drop middle block))) → NoneFound finds (ended_lines (take (to - from) (drop from block)))
 none_between finds block from middle to low high whole p q =
     let a = take (middle - from) (drop from block) in
     let b = take (to - middle) (drop middle block) in
@@ -124,9 +125,9 @@ line_between block from at low here =
     ∙ ap (λ n. take (at - from) (drop from block) ++ take n (drop at block)) one
     ∙ ap (λ rest. take (at - from) (drop from block) ++ take 1 rest) here
 
-pub whole_line : (block : List ℕ) (from at : ℕ) → from ≤ at → drop at block ≡ newline ∷ drop (at + 1) block → AreWhole (take (at + 1 - from) (drop from block))
+pub whole_line : (block : List ℕ) (from at : ℕ) → from ≤ at → drop at block ≡ newline ∷ drop (at + 1) block → AreWholeLines (take (at + 1 - from) (drop from block))
 whole_line block from at low here =
-    subst AreWhole (sym (line_between block from at low here)) (whole_ended (take (at - from) (drop from block)))
+    subst AreWholeLines (sym (line_between block from at low here)) (whole_ended (take (at - from) (drop from block)))
 
 pub ended_line : (block : List ℕ) (from at : ℕ) → from ≤ at → IsPart (take (at - from) (drop from block)) → drop at block ≡ newline ∷ drop (at + 1) block → ended_lines (take (at + 1 - from) (drop from block)) ≡ take (at - from) (drop from block) ∷ []
 unfolding ended_lines
@@ -134,18 +135,18 @@ ended_line block from at low part here =
     ap ended_lines (line_between block from at low here) ∙ ended_lines-line (take (at - from) (drop from block)) [] part
 
 -- whole lines end where they end
-pub whole_rest : (block : List ℕ) (from : ℕ) → AreWhole (drop from block) → AreWhole (take (length block - from) (drop from block))
-whole_rest block from whole = subst AreWhole (sym (take_rest block from)) whole
+pub whole_rest : (block : List ℕ) (from : ℕ) → AreWholeLines (drop from block) → AreWholeLines (take (length block - from) (drop from block))
+whole_rest block from whole = subst AreWholeLines (sym (take_rest block from)) whole
 
-pub whole_from : (block : List ℕ) (from to : ℕ) → from ≤ to → AreWhole (drop from block) → AreWhole (drop to block)
+pub whole_from : (block : List ℕ) (from to : ℕ) → from ≤ to → AreWholeLines (drop from block) → AreWholeLines (drop to block)
 whole_from block from to low whole =
     let at : from + (to - from) ≡ to = omega arith in
-    subst AreWhole (drop-drop (to - from) from block ∙ ap (λ i. drop i block) at) (whole_drop (to - from) (drop from block) whole)
+    subst AreWholeLines (drop-drop (to - from) from block ∙ ap (λ i. drop i block) at) (whole_drop (to - from) (drop from block) whole)
 
 -- whole lines that are not empty have a newline
-pub whole_has_newline : (block : List ℕ) (from : ℕ) → from < length block → AreWhole (drop from block) → IsPart (drop from block) → ⊥
+pub whole_has_newline : (block : List ℕ) (from : ℕ) → from < length block → AreWholeLines (drop from block) → IsPart (drop from block) → ⊥
 whole_has_newline block from low whole part = none_of (drop from block) (omega (arith, length-drop from block)) whole part
   where
-    none_of : (text : List ℕ) → 0 < length text → AreWhole text → IsPart text → ⊥
+    none_of : (text : List ℕ) → 0 < length text → AreWholeLines text → IsPart text → ⊥
     none_of [] low whole part = omega arith
     none_of (b ∷ text) low whole part = whole_part b text whole part

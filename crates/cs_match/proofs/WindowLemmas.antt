@@ -10,7 +10,7 @@ use Rattle.cs_syntax.specs.Node.{tree_of}
 use Rattle.cs_syntax.specs.declared.node.Node.{Node}
 use Rattle.cs_syntax.specs.declared.node.Node.TheVariants.{Empty, LineStart, LineEnd, WordEdge, NotWordEdge}
 use Rattle.cs_sieve.specs.declared.window.Window.{Window}
-use Rattle.cs_match.specs.NeededWindows.{HasOne, HasChosen, EndAt}
+use Rattle.cs_match.specs.NeededWindows.{HasOne, HasChosen, SetsEndAt}
 use Rattle.cs_match.specs.Trails.{sets_from, sets_at_hand, TrailsFollow}
 use Rattle.cs_match.specs.declared.trail.Trail.{Trail}
 use Rattle.cs_match.proofs.NeedleLemmas.{within, first_round, last_round, still}
@@ -29,7 +29,7 @@ module _ (line : List ℕ) (xs ys : List Window) where
 
 module _ (line : List ℕ) where
   -- the window of the last three sets
-  pub last_stands : (run : List (List Bool)) (j at : ℕ) (w : Window) → EndAt line run j → at + 3 ≡ length run →
+  pub last_stands : (run : List (List Bool)) (j at : ℕ) (w : Window) → SetsEndAt line run j → at + 3 ≡ length run →
       w.first ≡ get_or run at w.first → w.second ≡ get_or run (at + 1) w.second → w.third ≡ get_or run (at + 2) w.third → HasOne (w ∷ []) line
   last_stands run j at w e long first second third =
       let place = e.start + at in
@@ -50,10 +50,10 @@ module _ (line : List ℕ) where
         ),
       )
 
-  ends_empty : (i : ℕ) → i ≤ length line → EndAt line [] i
+  ends_empty : (i : ℕ) → i ≤ length line → SetsEndAt line [] i
   ends_empty i le = record { within = le; start = i; long = omega arith; each = λ k d lt. absurd (omega arith) }
 
-  ends_more : (sets : List (List Bool)) (set : List Bool) (i j : ℕ) → EndAt line sets i → i < length line → member set (slice_index line i) ≡ true → j ≡ suc i → EndAt line (sets ++ set ∷ []) j
+  ends_more : (sets : List (List Bool)) (set : List Bool) (i j : ℕ) → SetsEndAt line sets i → i < length line → member set (slice_index line i) ≡ true → j ≡ suc i → SetsEndAt line (sets ++ set ∷ []) j
   ends_more sets set i j e lt is next =
       let long : length (sets ++ set ∷ []) ≡ suc (length sets) = omega (arith, length-append sets (set ∷ [])) in
       record {
@@ -70,8 +70,8 @@ module _ (line : List ℕ) where
         ];
       }
 
-  ends_same : (v w : List (List Bool)) (i : ℕ) → v ≡ w → EndAt line v i → EndAt line w i
-  ends_same v w i same h = subst (λ u. EndAt line u i) same h
+  ends_same : (v w : List (List Bool)) (i : ℕ) → v ≡ w → SetsEndAt line v i → SetsEndAt line w i
+  ends_same v w i same h = subst (λ u. SetsEndAt line u i) same h
 
 -- nothing is taken
 pub follow_none : (T : List ℕ → ℕ → ℕ → Type 0) → ((line : List ℕ) (i j : ℕ) → T line i j → i ≡ j) → (trail : Trail) → TrailsFollow T trail trail
@@ -80,13 +80,13 @@ follow_none T still trail = record {
   grows = omega arith;
   ends = λ from low high line i j h ends.
       let to : from ≡ max from trail.start = omega arith in
-      subst (EndAt line (sets_from (max from trail.start) trail)) (still line i j h) (ends_same line _ _ i (ap (λ n. sets_from n trail) to) ends);
+      subst (SetsEndAt line (sets_from (max from trail.start) trail)) (still line i j h) (ends_same line _ _ i (ap (λ n. sets_from n trail) to) ends);
   best = λ line i j h ends has. has;
 }
 
 -- a set more
 pub follow_set : (set : List Bool) (old new : Trail) → new.sets.items ≡ old.sets.items ++ set ∷ [] → new.start ≡ old.start →
-    ((line : List ℕ) (j : ℕ) → EndAt line (sets_at_hand new) j → HasChosen line old.best → HasChosen line new.best) →
+    ((line : List ℕ) (j : ℕ) → SetsEndAt line (sets_at_hand new) j → HasChosen line old.best → HasChosen line new.best) →
     TrailsFollow (λ line i j. Takes line (one_of set) i j) old new
 follow_set set old new sets start best = record {
   rises = omega (arith, start);
@@ -98,7 +98,7 @@ follow_set set old new sets start best = record {
 }
   where
     ends : (from : ℕ) → old.start ≤ from → from ≤ length old.sets.items → (line : List ℕ) (i j : ℕ) → Takes line (one_of set) i j →
-        EndAt line (sets_from from old) i → EndAt line (sets_from (max from new.start) new) j
+        SetsEndAt line (sets_from from old) i → SetsEndAt line (sets_from (max from new.start) new) j
     ends from low high line i j h e =
         let to : from ≡ max from new.start = omega (arith, start) in
         let is : sets_from from old ++ set ∷ [] ≡ sets_from (max from new.start) new =
@@ -120,7 +120,7 @@ follow_cut t old new sets start best = record {
 }
 
 -- the run at hand ends where the tree's part ends
-run_ends : (T : List ℕ → ℕ → ℕ → Type 0) (old new : Trail) → TrailsFollow T old new → (line : List ℕ) (i j : ℕ) → T line i j → EndAt line (sets_at_hand old) i → EndAt line (sets_at_hand new) j
+run_ends : (T : List ℕ → ℕ → ℕ → Type 0) (old new : Trail) → TrailsFollow T old new → (line : List ℕ) (i j : ℕ) → T line i j → SetsEndAt line (sets_at_hand old) i → SetsEndAt line (sets_at_hand new) j
 run_ends T old new f line i j h e =
     let to : max old.start new.start ≡ new.start = omega (arith, f.rises) in
     ends_same line _ _ j (ap (λ n. sets_from n new) to) (f.ends old.start (omega arith) (omega (arith, old.within)) line i j h e)

@@ -10,7 +10,7 @@ use Rattle.cs_sieve.specs.declared.window.Window.{Window}
 use Rattle.cs_sieve.specs.Stands.{Stands}
 use Rattle.cs_syntax.specs.Matching.{Tree, Found, member}
 use Rattle.cs_match.specs.Finding.{Decides}
-use Rattle.cs_match.specs.Skipping.{AreWhole, NoneFound}
+use Rattle.cs_match.specs.Skipping.{AreWholeLines, NoneFound}
 
 -- what stands at places of a text: behind more bytes, and before more bytes, it still stands
 pub record IsPlaced (Stands : List ℕ → ℕ → Type 0) : Type 0 where
@@ -112,29 +112,29 @@ module _ (Stands : List ℕ → ℕ → Type 0) (placed : IsPlaced Stands) where
       none k (omega (arith, long)) (subst (λ (xs : List ℕ). Stands xs k) whole (placed.front (take n text) (drop n text) k h)))
 
 -- what ends in a newline is whole
-whole_ended : (part : List ℕ) → AreWhole (part ++ newline ∷ [])
-unfolding AreWhole
+whole_ended : (part : List ℕ) → AreWholeLines (part ++ newline ∷ [])
+unfolding AreWholeLines
 whole_ended [] = refl
 whole_ended (b ∷ []) = refl
 whole_ended (b ∷ c ∷ part) = whole_ended (c ∷ part)
 
-pub whole_to : (text : List ℕ) (at : ℕ) → at < length text → nat_eq (get_or text at 0) newline ≡ true → AreWhole (take (at + 1) text)
+pub whole_to : (text : List ℕ) (at : ℕ) → at < length text → nat_eq (get_or text at 0) newline ≡ true → AreWholeLines (take (at + 1) text)
 whole_to text at low is =
     let last : take (at + 1) text ≡ take at text ++ newline ∷ [] = take_more text at 0 low ∙ ap (λ b. take at text ++ b ∷ []) (eqb-true _ _ is) in
-    subst AreWhole (sym last) (whole_ended (take at text))
+    subst AreWholeLines (sym last) (whole_ended (take at text))
 
-whole_tail : (b : ℕ) (text : List ℕ) → AreWhole (b ∷ text) → AreWhole text
-unfolding AreWhole
+whole_tail : (b : ℕ) (text : List ℕ) → AreWholeLines (b ∷ text) → AreWholeLines text
+unfolding AreWholeLines
 whole_tail b [] p = tt
 whole_tail b (c ∷ text) p = p
 
-pub whole_drop : (n : ℕ) (text : List ℕ) → AreWhole text → AreWhole (drop n text)
+pub whole_drop : (n : ℕ) (text : List ℕ) → AreWholeLines text → AreWholeLines (drop n text)
 whole_drop zero text p = p
 whole_drop (suc n) [] p = p
 whole_drop (suc n) (b ∷ text) p = whole_drop n text (whole_tail b text p)
 
-pub whole_none : AreWhole []
-unfolding AreWhole
+pub whole_none : AreWholeLines []
+unfolding AreWholeLines
 whole_none = tt
 
 -- what stands in each line in which a tree finds something stands in none of these: nothing is found in them

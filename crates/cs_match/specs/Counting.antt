@@ -1,11 +1,11 @@
 -- Counting runs over a table of cells: as other runs (`Chains`), but a line in which something is found is
 -- counted at its newline, and the run goes on at the start of the next.
-use Rattle.std.specs.Prelude.{ℕ, ◌≡◌, ◌+◌, ◌-◌, ◌<◌, ◌≤◌, ◌⊎◌, Bool, true, ◌&&◌, List, [], ◌∷◌, ◌++◌, nat_eq, if◌then◌else◌, length, take, drop, count_by, slice_index, bit_or}
+use Rattle.std.specs.Prelude.{ℕ, ◌≡◌, ◌+◌, ◌-◌, ◌<◌, ◌≤◌, ◌⊎◌, Bool, true, ◌&&◌, List, [], ◌∷◌, ◌++◌, nat_eq, if◌then◌else◌, slice_range, count_by, slice_index, bit_or}
 use Rattle.cs_tree.specs.ByteList.{AreBytes}
 use Rattle.cs_match.specs.declared.counting.Count.{Count}
 use Rattle.cs_match.specs.Lines.{newline, ended_lines}
 use Rattle.cs_match.specs.LineParts.{IsPart}
-use Rattle.cs_match.specs.Skipping.{AreWhole}
+use Rattle.cs_match.specs.Passed.{AreLinesBetween}
 use Rattle.cs_match.specs.Chains.{row_after, found_row, unknown_row, first_noisy, ShowsLines}
 
 -- at the start of a line
@@ -23,9 +23,9 @@ abbrev pub count_onward : List ℕ → Count → ℕ → Count
 count_onward cells from b = count_in_row (slice_index cells (bit_or from.row b)) b from.hits
 
 -- what a counting run over the text comes to
-unfoldable pub count_after : List ℕ → Count → List ℕ → Count
-count_after cells from [] = from
-count_after cells from (b ∷ text) = count_after cells (count_onward cells from b) text
+unfoldable pub count_through : List ℕ → Count → List ℕ → Count
+count_through cells from [] = from
+count_through cells from (b ∷ text) = count_through cells (count_onward cells from b) text
 
 -- The cells tell of a line where nothing is found in it, and where something is. Each leads to a set of
 -- places or to one of the two rows that are none, and nothing leads out of the row of which nothing is known.
@@ -41,10 +41,8 @@ pub record CountsLines (finds : List ℕ → Bool) (cells : List ℕ) : Type 0 w
 
 -- The block's bytes from one place to another are whole lines, and in so many of them a test of the kind
 -- finds something.
-pub record AreCounted (IsKind : (List ℕ → Bool) → Type 0) (block : List ℕ) (from to hits : ℕ) : Type 0 where
-  pub low : from ≤ to
-  pub high : to ≤ length block
-  pub whole : AreWhole (take (to - from) (drop from block))
+pub record CountsHits (IsKind : (List ℕ → Bool) → Type 0) (block : List ℕ) (from to hits : ℕ) : Type 0 where
+  pub lines : AreLinesBetween block from to
   pub bound : hits ≤ to - from
   pub count : (finds : List ℕ → Bool) → IsKind finds →
-      hits ≡ count_by finds (ended_lines (take (to - from) (drop from block)))
+      hits ≡ count_by finds (ended_lines (slice_range block from to))

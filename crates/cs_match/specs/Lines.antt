@@ -1,7 +1,7 @@
 -- The lines of a text. A line ends at a newline, or at the end of the text, and does not have its newline.
 -- docs/PATTERNS.md, "Lines". (std's `lines` takes a carriage return off the end of a line; here it stays.)
 use Rattle.std.specs.Prelude.{ℕ, nat_eq, if◌then◌else◌, List, [], ◌∷◌}
-use Rattle.cs_tree.specs.Pieces.{onto_first}
+use Rattle.std.specs.List.{onto_first}
 
 abbrev pub newline : ℕ
 newline = 10

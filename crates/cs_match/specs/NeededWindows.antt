@@ -23,7 +23,7 @@ abbrev pub HasChosen : List ℕ → Option Choice → Type 0
 HasChosen line choice = IfSome choice (λ c. HasOne c.windows.items line)
 
 -- neighbouring bytes of the line, each of which is in its set, end at the place
-pub record EndAt (line : List ℕ) (sets : List (List Bool)) (place : ℕ) : Type 0 where
+pub record SetsEndAt (line : List ℕ) (sets : List (List Bool)) (place : ℕ) : Type 0 where
   pub within : place ≤ length line
   pub start : ℕ
   pub long : start + length sets ≡ place

@@ -5,12 +5,12 @@ use Rattle.cs_syntax.specs.Matching.{Tree, Found}
 use Rattle.memchr.specs.Find.{OccursAt}
 
 -- the word stands somewhere in the line
-abbrev pub Has : List ℕ → List ℕ → Type 0
-Has line word = (at : ℕ) × OccursAt line word at
+abbrev pub LineHas : List ℕ → List ℕ → Type 0
+LineHas line word = (at : ℕ) × OccursAt line word at
 
 -- each line in which the tree finds something has the word
 abbrev pub IsNeeded : Tree → List ℕ → Type 0
-IsNeeded tree word = (line : List ℕ) → Found tree line → Has line word
+IsNeeded tree word = (line : List ℕ) → Found tree line → LineHas line word
 
 -- the word stands in the line, and ends at the place
 abbrev pub EndsAt : List ℕ → List ℕ → ℕ → Type 0
@@ -18,4 +18,4 @@ EndsAt line word place = (at : ℕ) × (at + length word ≡ place) × OccursAt 
 
 -- none of the lines has the word
 abbrev pub AreWithout : List ℕ → List (List ℕ) → Type 0
-AreWithout word lines = All (λ line. ¬ Has line word) lines
+AreWithout word lines = All (λ line. ¬ LineHas line word) lines

@@ -16,7 +16,7 @@ tree_in table = tree_of table.root.now
 
 -- the repeats of the tree are loops, its shifts, the rows and the cells are right, and there is room for a
 -- run
-pub record IsRight (t : Table) : Type 0 where
+pub record IsConsistent (t : Table) : Type 0 where
   pub looped : IsLooped (tree_in t)
   pub shifts : IfSome t.shifts (λ shifts. AreShifts (tree_in t) shifts.now)
   pub rows : table.AreRows (tree_in t) t.rows.items t.used
@@ -26,7 +26,7 @@ pub record IsRight (t : Table) : Type 0 where
 
 -- the table is right, and its tree needs the word
 pub record HasNeedle (t : Table) (word : List ℕ) : Type 0 where
-  pub right : IsRight t
+  pub right : IsConsistent t
   pub needed : IsNeeded (tree_in t) word
 
 -- the standing of the row with this number

@@ -1,7 +1,7 @@
 -- Runs: what is known of the bytes before a place of a line, as a tree's sequence is gone through from left
 -- to right.
 use Rattle.std.specs.Prelude.{ℕ, ◌≤◌, List, length, drop, max}
-use Rattle.cs_match.specs.Needle.{Has, EndsAt}
+use Rattle.cs_match.specs.Needle.{LineHas, EndsAt}
 use Rattle.cs_match.specs.declared.runs.Runs.{Runs}
 
 -- the bytes from a place on
@@ -22,4 +22,4 @@ pub record Follow (Takes : List ℕ → ℕ → ℕ → Type 0) (old new : Runs)
       (line : List ℕ) (i j : ℕ) → Takes line i j →
       EndsAt line (run_from from old) i → EndsAt line (run_from (max from new.start) new) j
   pub best : (line : List ℕ) (i j : ℕ) → Takes line i j → EndsAt line (run_of old) i →
-      Has line old.best.items → Has line new.best.items
+      LineHas line old.best.items → LineHas line new.best.items

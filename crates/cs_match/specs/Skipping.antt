@@ -3,10 +3,10 @@ use Rattle.std.specs.Prelude.{ℕ, ◌≡◌, Bool, false, List, [], ◌∷◌, 
 use Rattle.cs_match.specs.Lines.{newline}
 
 -- the text is whole lines: it is empty, or its last byte is a newline
-unfoldable pub AreWhole : List ℕ → Type 0
-AreWhole [] = Unit {0}
-AreWhole (b ∷ []) = b ≡ newline
-AreWhole (b ∷ c ∷ text) = AreWhole (c ∷ text)
+unfoldable pub AreWholeLines : List ℕ → Type 0
+AreWholeLines [] = Unit {0}
+AreWholeLines (b ∷ []) = b ≡ newline
+AreWholeLines (b ∷ c ∷ text) = AreWholeLines (c ∷ text)
 
 -- the test finds nothing in any of the lines
 abbrev pub NoneFound : (List ℕ → Bool) → List (List ℕ) → Type 0

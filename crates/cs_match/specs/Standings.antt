@@ -1,7 +1,8 @@
 -- Standings: what a run over a line has come to at a place of it. Where two runs have come to the same, they
 -- find the same in what follows.
 use Rattle.std.specs.Prelude.{ℕ, Bool, true, false, List, [], ◌∷◌, replicate, nat_eq, if◌then◌else◌}
-use Rattle.cs_syntax.specs.Matching.{Tree, is_word, differ}
+use Rattle.std.specs.Bool.{xor}
+use Rattle.cs_syntax.specs.Matching.{Tree, is_word}
 use Rattle.cs_match.specs.declared.around.Around.{Around}
 use Rattle.cs_match.specs.declared.standing.Standing.{Standing}
 use Rattle.cs_match.specs.Lines.{newline}
@@ -13,11 +14,11 @@ start n = record { marks = replicate n false; first = true; word = false }
 
 -- what stands around a place in a line, with the byte b behind it
 abbrev pub ahead : Standing → ℕ → Around
-ahead standing b = record { first = standing.first; last = false; edge = differ standing.word (is_word b) }
+ahead standing b = record { first = standing.first; last = false; edge = xor standing.word (is_word b) }
 
 -- what stands around the end of a line
-abbrev pub at_end : Standing → Around
-at_end standing = record { first = standing.first; last = true; edge = standing.word }
+abbrev pub around_end : Standing → Around
+around_end standing = record { first = standing.first; last = true; edge = standing.word }
 
 -- the standing after the byte b of the line
 abbrev pub next_standing : Tree → Standing → ℕ → Standing
@@ -35,7 +36,7 @@ standing t line = standing_through t (start (places t)) line
 
 -- what stands around the place before the byte b, where the newline is the end of the line
 abbrev pub before : Standing → ℕ → Around
-before standing b = if nat_eq b newline then at_end standing else ahead standing b
+before standing b = if nat_eq b newline then around_end standing else ahead standing b
 
 -- the standing after the byte b, where the newline ends the line, and the next line starts
 abbrev pub standing_beyond : Tree → Standing → ℕ → Standing

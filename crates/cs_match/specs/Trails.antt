@@ -1,7 +1,7 @@
 -- Trails: what is known of the bytes before a place of a line, as a tree's sequence is gone through from left
 -- to right.
 use Rattle.std.specs.Prelude.{ℕ, ◌≤◌, Bool, List, length, drop, max}
-use Rattle.cs_match.specs.NeededWindows.{EndAt, HasChosen}
+use Rattle.cs_match.specs.NeededWindows.{SetsEndAt, HasChosen}
 use Rattle.cs_match.specs.declared.trail.Trail.{Trail}
 
 -- the sets from a place on
@@ -20,6 +20,6 @@ pub record TrailsFollow (Takes : List ℕ → ℕ → ℕ → Type 0) (old new :
   pub grows : length old.sets.items ≤ length new.sets.items
   pub ends : (from : ℕ) → old.start ≤ from → from ≤ length old.sets.items →
       (line : List ℕ) (i j : ℕ) → Takes line i j →
-      EndAt line (sets_from from old) i → EndAt line (sets_from (max from new.start) new) j
-  pub best : (line : List ℕ) (i j : ℕ) → Takes line i j → EndAt line (sets_at_hand old) i →
+      SetsEndAt line (sets_from from old) i → SetsEndAt line (sets_from (max from new.start) new) j
+  pub best : (line : List ℕ) (i j : ℕ) → Takes line i j → SetsEndAt line (sets_at_hand old) i →
       HasChosen line old.best → HasChosen line new.best

@@ -1,10 +1,10 @@
 // Chains: runs over a table of cells, six side by side, that pass lines in which nothing is found. They know nothing
 // of patterns. `specs/Chains.antt` says what a run comes to, and what a table has to tell.
-ghost use Rattle.std.specs.Prelude.{◌≡◌, ◌≤◌, ◌<◌, ◌+◌, ◌-◌, ◌∷◌, ℕ, Bool, List, [], map, true, length, slice_index, take, drop};
-ghost use Rattle.cs_match.specs.Lines.{newline, ended_lines};
+ghost use Rattle.std.specs.Prelude.{◌≡◌, ◌≤◌, ◌<◌, ◌+◌, ◌∷◌, ℕ, [], map, true, length, slice_range, slice_index, take, drop};
+ghost use Rattle.cs_match.specs.Lines.{newline};
 ghost use Rattle.cs_match.specs.LineParts.{IsPart};
 ghost use Rattle.cs_match.specs.Passed.{ArePassed};
-ghost use Rattle.cs_match.specs.Skipping.{AreWhole, NoneFound};
+ghost use Rattle.cs_match.specs.Skipping.{AreWholeLines};
 ghost use Rattle.cs_match.specs.Chains.{row_after, first_noisy, IsQuiet, ShowsLines};
 
 use crate::finding::whole_lines;
@@ -38,10 +38,10 @@ fn run(cells: &[u16], from: u16, text: &[u8]) -> u16
 /// The place of the first newline from a place on, in whole lines.
 pub(crate) fn line_end(block: &[u8], from: usize) -> usize
     requires within { from < length block.now }
-    requires whole { AreWhole (drop from block.now) }
+    requires whole { AreWholeLines (drop from block.now) }
     ensures low { from ≤ result }
     ensures high { result < length block.now }
-    ensures part { IsPart (take (result - from) (drop from block.now)) }
+    ensures part { IsPart (slice_range block.now from result) }
     ensures newline { drop result block.now ≡ newline ∷ drop (result + 1) block.now }
 {
     match memchr(b'\n', &block[from..]) {
@@ -54,12 +54,12 @@ pub(crate) fn line_end(block: &[u8], from: usize) -> usize
 /// end.
 pub(crate) fn cut(block: &[u8], from: usize) -> usize
     requires within { from ≤ length block.now }
-    requires whole { AreWhole (drop from block.now) }
+    requires whole { AreWholeLines (drop from block.now) }
     ensures low { from ≤ result }
     ensures high { result ≤ length block.now }
     ensures moves { from < length block.now → from < result }
-    ensures whole { AreWhole (take (result - from) (drop from block.now)) }
-    ensures rest { AreWhole (drop result block.now) }
+    ensures whole { AreWholeLines (slice_range block.now from result) }
+    ensures rest { AreWholeLines (drop result block.now) }
 {
     if block.len() - from <= PART {
         return block.len();
@@ -128,7 +128,7 @@ struct Passed {
 fn pass_group(cells: &[u16], block: &[u8], from: usize) -> Passed
     requires full { length cells.now ≡ 65536 }
     requires within { from ≤ length block.now }
-    requires whole { AreWhole (drop from block.now) }
+    requires whole { AreWholeLines (drop from block.now) }
     ensures passed { ArePassed (λ finds. ShowsLines finds cells.now) block.now from result.to }
     ensures moves { result.all ≡ true → from < length block.now → from < result.to }
 {
@@ -160,13 +160,9 @@ fn pass_group(cells: &[u16], block: &[u8], from: usize) -> Passed
 pub(crate) fn pass_quiet(cells: &[u16], block: &[u8], from: usize) -> usize
     requires full { length cells.now ≡ 65536 }
     requires within { from ≤ length block.now }
-    requires whole { AreWhole (drop from block.now) }
-    ensures low { from ≤ result }
-    ensures high { result ≤ length block.now }
-    ensures whole { AreWhole (take (result - from) (drop from block.now)) }
-    ensures rest { AreWhole (drop result block.now) }
-    ensures none { (finds : List ℕ → Bool) → ShowsLines finds cells.now →
-        NoneFound finds (ended_lines (take (result - from) (drop from block.now))) }
+    requires whole { AreWholeLines (drop from block.now) }
+    ensures passed { ArePassed (λ finds. ShowsLines finds cells.now) block.now from result }
+    ensures rest { AreWholeLines (drop result block.now) }
 {
     let mut at = from;
     'groups: while at < block.len() {

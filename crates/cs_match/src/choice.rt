@@ -1,6 +1,6 @@
 // Choices: lists of windows, some of which stands in each line that is looked for.
 ghost use Rattle.std.specs.Prelude.{◌≡◌, ◌++◌, ◌≤◌, ℕ, List, IfOk, OnOk, length, []};
-ghost use Rattle.cs_match.specs.NeededWindows.{EndAt, HasChosen};
+ghost use Rattle.cs_match.specs.NeededWindows.{SetsEndAt, HasChosen};
 
 use crate::rarity::window_share;
 use cs_sieve::Window;
@@ -25,16 +25,16 @@ impl Choice {
         }
     }
 
-    /// The window of the last three sets of a run, which have these weights, where it has as many
-    /// and the window's share is less than that.
+    /// The window of the last three sets of a run, which have these frequencies, where it has as
+    /// many and the window's share is less than that.
     pub(crate) fn last_of(
         alloc: Global,
         run: &[ByteSet],
-        weights: [u64; 3],
+        frequencies: [u64; 3],
         most: u64,
     ) -> Result<Option<Choice>, AllocError>
         ensures { IfOk result (λ choice. (line : List ℕ) (j : ℕ) →
-            EndAt line run.now j → HasChosen line choice) }
+            SetsEndAt line run.now j → HasChosen line choice) }
     {
         if run.len() < 3 {
             return Ok(None);
@@ -45,7 +45,7 @@ impl Choice {
             second: run[at + 1],
             third: run[at + 2],
         };
-        let share = window_share(&window, weights);
+        let share = window_share(&window, frequencies);
         if share >= most {
             return Ok(None);
         }

@@ -1,4 +1,4 @@
-// Counted repeats, written out.
+// Counted repeats written out, and sets of characters lowered.
 ghost use Rattle.std.specs.Prelude.{◌≡◌, IfOk, OnOk, None};
 ghost use Rattle.cs_syntax.specs.Matching.{rep};
 ghost use Rattle.cs_syntax.specs.Node.{tree_of};
@@ -80,7 +80,7 @@ fn write_out_all(alloc: Global, parts: &[Node]) -> Result<Vec<Node>, AllocError>
 }
 
 #[cycle(write_out)]
-#[tactic(auto, using(crate::proofs::CopiesLemmas::pushed_copy, cs_syntax::proofs::TreeListLemmas::append_none))]
+#[tactic(auto, using(crate::proofs::WrittenOutLemmas::pushed_copy, cs_syntax::proofs::TreeListLemmas::append_none))]
 fn add_copies(
     alloc: Global,
     node: &Node,
@@ -98,7 +98,7 @@ fn add_copies(
 }
 
 #[cycle(write_out)]
-#[tactic(auto, using(crate::proofs::CopiesLemmas::pushed_copy, cs_syntax::proofs::TreeListLemmas::append_none))]
+#[tactic(auto, using(crate::proofs::WrittenOutLemmas::pushed_copy, cs_syntax::proofs::TreeListLemmas::append_none))]
 fn add_optional(
     alloc: Global,
     node: &Node,

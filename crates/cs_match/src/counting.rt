@@ -1,8 +1,8 @@
 // Counting chains: runs over a table of cells, four side by side, that count the lines in which something is found. They
 // know nothing of patterns. `specs/Counting.antt` says what such a run comes to, and what a table has to tell.
 ghost use Rattle.std.specs.Prelude.{◌≡◌, ◌≤◌, ◌<◌, ◌+◌, ◌-◌, ◌^◌, ℕ, Bool, List, IfSome, length, take, drop};
-ghost use Rattle.cs_match.specs.Skipping.{AreWhole};
-ghost use Rattle.cs_match.specs.Counting.{count_onward, count_after, nothing_counted, CountsLines, AreCounted};
+ghost use Rattle.cs_match.specs.Skipping.{AreWholeLines};
+ghost use Rattle.cs_match.specs.Counting.{count_onward, count_through, nothing_counted, CountsLines, CountsHits};
 
 use crate::chains::{FIRST_NOISY, FOUND, cut};
 
@@ -38,7 +38,7 @@ fn step(cells: &[u16], from: Count, byte: u8) -> Count
 fn run(cells: &[u16], from: Count, text: &[u8]) -> Count
     requires full { length cells.now ≡ 65536 }
     requires room { from.hits + length text.now < 2 ^ 64 }
-    ensures { result ≡ count_after cells.now from text.now }
+    ensures { result ≡ count_through cells.now from text.now }
 {
     let mut count = from;
     for byte in text {
@@ -50,10 +50,10 @@ fn run(cells: &[u16], from: Count, text: &[u8]) -> Count
 /// What the counting runs over four texts come to, side by side, each from the start of a line.
 fn four(cells: &[u16], a: &[u8], b: &[u8], c: &[u8], d: &[u8]) -> (Count, Count, Count, Count)
     requires { length cells.now ≡ 65536 }
-    ensures first { result.0 ≡ count_after cells.now nothing_counted a.now }
-    ensures second { result.1 ≡ count_after cells.now nothing_counted b.now }
-    ensures third { result.2 ≡ count_after cells.now nothing_counted c.now }
-    ensures fourth { result.3 ≡ count_after cells.now nothing_counted d.now }
+    ensures first { result.0 ≡ count_through cells.now nothing_counted a.now }
+    ensures second { result.1 ≡ count_through cells.now nothing_counted b.now }
+    ensures third { result.2 ≡ count_through cells.now nothing_counted c.now }
+    ensures fourth { result.3 ≡ count_through cells.now nothing_counted d.now }
 {
     let n = a.len().min(b.len()).min(c.len()).min(d.len());
     let mut s = Count { row: 0, hits: 0 };
@@ -84,11 +84,11 @@ pub(crate) struct Group {
 pub(crate) fn count_group(cells: &[u16], block: &[u8], from: usize) -> Group
     requires full { length cells.now ≡ 65536 }
     requires within { from ≤ length block.now }
-    requires whole { AreWhole (drop from block.now) }
+    requires whole { AreWholeLines (drop from block.now) }
     ensures high { result.to ≤ length block.now }
     ensures moves { from < length block.now → from < result.to }
     ensures counted { IfSome result.hits
-        (λ hits. AreCounted (λ finds. CountsLines finds cells.now) block.now from result.to hits) }
+        (λ hits. CountsHits (λ finds. CountsLines finds cells.now) block.now from result.to hits) }
 {
     let a = cut(block, from);
     let b = cut(block, a);

@@ -1,11 +1,11 @@
 // Matchers: programs with what their runs remember.
-ghost use Rattle.std.specs.Prelude.{◌≡◌, ◌≤◌, ◌<◌, ◌-◌, ◌↔◌, ℕ, Bool, List, IsTrue, IfOk, IfSome, length, take, drop, count_by};
+ghost use Rattle.std.specs.Prelude.{◌≡◌, ◌≤◌, ◌<◌, ◌-◌, ◌↔◌, ℕ, Bool, List, IsTrue, IfOk, IfSome, length, slice_range, drop, count_by};
 ghost use Rattle.cs_syntax.specs.Matching.{Found};
 ghost use Rattle.cs_match.specs.Finding.{Decides};
 ghost use Rattle.cs_match.specs.Lines.{ended_lines};
 ghost use Rattle.cs_match.specs.Passed.{ArePassed};
-ghost use Rattle.cs_match.specs.Skipping.{AreWhole, NoneFound};
-ghost use Rattle.cs_match.specs.Counting.{AreCounted};
+ghost use Rattle.cs_match.specs.Skipping.{AreWholeLines, NoneFound};
+ghost use Rattle.cs_match.specs.Counting.{CountsHits};
 
 use crate::chains::{GROUP, cut, line_end, pass_quiet, pass_run};
 use crate::counting::count_group;
@@ -62,7 +62,7 @@ pub struct Matcher<'a> {
 
 /// Lines that were counted: up to which place, and in how many of them something is found.
 #[derive(Clone, Copy)]
-pub(crate) struct Counted {
+pub(crate) struct CountedLines {
     to: usize,
     hits: u64,
 }
@@ -130,12 +130,12 @@ impl<'a> Matcher<'a> {
     /// A line's start from `from` on, such that nothing is found in the lines before it. The block is whole lines.
     pub fn skip(&mut self, block: &[u8], from: usize) -> usize
         requires within { from ≤ length block.now }
-        requires whole { AreWhole (drop from block.now) }
+        requires whole { AreWholeLines (drop from block.now) }
         ensures low { from ≤ result }
         ensures high { result ≤ length block.now }
-        ensures whole { AreWhole (take (result - from) (drop from block.now)) }
+        ensures whole { AreWholeLines (slice_range block.now from result) }
         ensures none { (finds : List ℕ → Bool) → Decides finds self.old →
-            NoneFound finds (ended_lines (take (result - from) (drop from block.now))) }
+            NoneFound finds (ended_lines (slice_range block.now from result)) }
         ensures same { self.new ≡ self.old }
     {
         if !self.rests() {
@@ -163,7 +163,7 @@ impl<'a> Matcher<'a> {
 
     /// In how many lines of the block something is found. The block is whole lines.
     pub fn count(&mut self, block: &[u8]) -> u64
-        requires whole { AreWhole block.now }
+        requires whole { AreWholeLines block.now }
         ensures found { (finds : List ℕ → Bool) → Decides finds self.old →
             result ≡ count_by finds (ended_lines block.now) }
         ensures bound { result ≤ length (ended_lines block.now) }
@@ -180,10 +180,10 @@ impl<'a> Matcher<'a> {
     }
 
     /// Counts some lines in the way that is the faster one here.
-    fn count_some(&mut self, block: &[u8], from: usize) -> Counted
+    fn count_some(&mut self, block: &[u8], from: usize) -> CountedLines
         requires within { from < length block.now }
-        requires whole { AreWhole (drop from block.now) }
-        ensures counted { AreCounted (λ finds. Decides finds self.old)
+        requires whole { AreWholeLines (drop from block.now) }
+        ensures counted { CountsHits (λ finds. Decides finds self.old)
             block.now from result.to result.hits }
         ensures moves { from < result.to }
         ensures same { self.new ≡ self.old }
@@ -197,17 +197,17 @@ impl<'a> Matcher<'a> {
     }
 
     /// Passes lines in which nothing is found, and tests the one behind them.
-    fn count_next(&mut self, block: &[u8], from: usize) -> Counted
+    fn count_next(&mut self, block: &[u8], from: usize) -> CountedLines
         requires within { from < length block.now }
-        requires whole { AreWhole (drop from block.now) }
-        ensures counted { AreCounted (λ finds. Decides finds self.old)
+        requires whole { AreWholeLines (drop from block.now) }
+        ensures counted { CountsHits (λ finds. Decides finds self.old)
             block.now from result.to result.hits }
         ensures moves { from < result.to }
         ensures same { self.new ≡ self.old }
     {
         let at = self.skip(block, from);
         if at == block.len() {
-            return Counted { to: at, hits: 0 };
+            return CountedLines { to: at, hits: 0 };
         }
         let counted = self.count_lines(block, at, at + 1);
         self.note_hit(at - from, counted.hits);
@@ -215,27 +215,27 @@ impl<'a> Matcher<'a> {
     }
 
     /// Counts lines by runs side by side over the cells that are known, and where one is not, line by line.
-    fn count_group(&mut self, block: &[u8], from: usize) -> Counted
+    fn count_group(&mut self, block: &[u8], from: usize) -> CountedLines
         requires within { from < length block.now }
-        requires whole { AreWhole (drop from block.now) }
-        ensures counted { AreCounted (λ finds. Decides finds self.old)
+        requires whole { AreWholeLines (drop from block.now) }
+        ensures counted { CountsHits (λ finds. Decides finds self.old)
             block.now from result.to result.hits }
         ensures moves { from < result.to }
         ensures same { self.new ≡ self.old }
     {
         let group = count_group(&self.table.cells, block, from);
         match group.hits {
-            Some(hits) => Counted { to: group.to, hits },
+            Some(hits) => CountedLines { to: group.to, hits },
             None => self.count_lines(block, from, group.to),
         }
     }
 
     /// Counts lines one by one, up to the place `least` at least.
-    fn count_lines(&mut self, block: &[u8], from: usize, least: usize) -> Counted
+    fn count_lines(&mut self, block: &[u8], from: usize, least: usize) -> CountedLines
         requires low { from < least }
         requires high { least ≤ length block.now }
-        requires whole { AreWhole (drop from block.now) }
-        ensures counted { AreCounted (λ finds. Decides finds self.old)
+        requires whole { AreWholeLines (drop from block.now) }
+        ensures counted { CountsHits (λ finds. Decides finds self.old)
             block.now from result.to result.hits }
         ensures moves { from < result.to }
         ensures same { self.new ≡ self.old }
@@ -247,14 +247,14 @@ impl<'a> Matcher<'a> {
             hits += u64::from(self.is_match(&block[at..end]));
             at = end + 1;
         }
-        Counted { to: at, hits }
+        CountedLines { to: at, hits }
     }
 
     /// Passes the lines that do not have the needle, or none of the windows, where that is faster
     /// than the table.
     fn seek(&self, block: &[u8], from: usize) -> Option<usize>
         requires within { from ≤ length block.now }
-        requires whole { AreWhole (drop from block.now) }
+        requires whole { AreWholeLines (drop from block.now) }
         ensures { IfSome result (ArePassed (λ finds. Decides finds self.now) block.now from) }
     {
         if self.seeks {
@@ -269,7 +269,7 @@ impl<'a> Matcher<'a> {
     /// Passes parts by the cells that are known.
     fn pass_quiet(&self, block: &[u8], from: usize) -> usize
         requires within { from ≤ length block.now }
-        requires whole { AreWhole (drop from block.now) }
+        requires whole { AreWholeLines (drop from block.now) }
         ensures { ArePassed (λ finds. Decides finds self.now) block.now from result }
     {
         pass_quiet(&self.table.cells, block, from)
@@ -278,7 +278,7 @@ impl<'a> Matcher<'a> {
     /// Passes lines by one run over them, where that is worth its while.
     fn pass_run(&mut self, block: &[u8], from: usize) -> usize
         requires within { from ≤ length block.now }
-        requires whole { AreWhole (drop from block.now) }
+        requires whole { AreWholeLines (drop from block.now) }
         ensures passed { ArePassed (λ finds. Decides finds self.old) block.now from result }
         ensures same { self.new ≡ self.old }
     {
@@ -293,7 +293,7 @@ impl<'a> Matcher<'a> {
     /// Up to where one run passes lines by the cells that are known.
     fn run_to(&self, block: &[u8], from: usize) -> usize
         requires within { from ≤ length block.now }
-        requires whole { AreWhole (drop from block.now) }
+        requires whole { AreWholeLines (drop from block.now) }
         ensures { ArePassed (λ finds. Decides finds self.now) block.now from result }
     {
         pass_run(&self.table.cells, block, from)
@@ -301,7 +301,7 @@ impl<'a> Matcher<'a> {
 
     /// The start of the first line of a part in which something is found, or the part's end.
     fn first_hit(&mut self, part: &[u8]) -> usize
-        requires { AreWhole part.now }
+        requires { AreWholeLines part.now }
         ensures passed { ArePassed (λ finds. Decides finds self.old) part.now 0 result }
         ensures same { self.new ≡ self.old }
     {

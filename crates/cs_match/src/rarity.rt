@@ -3,7 +3,7 @@ use cs_sieve::Window;
 use cs_syntax::ByteSet;
 
 /// How often a byte stands in source text, of 10,000 bytes.
-fn weight(byte: u8) -> u64 {
+fn frequency(byte: u8) -> u64 {
     match byte {
         b' ' => 1500,
         b'e' | b't' => 550,
@@ -62,7 +62,7 @@ fn share_of_rarest(word: &[u8]) -> u64 {
     let mut second = 10000;
     let mut third = 10000;
     for byte in word {
-        let next = weight(*byte);
+        let next = frequency(*byte);
         if next < rarest {
             third = second;
             second = rarest;
@@ -89,21 +89,22 @@ pub(crate) fn is_worth(word: &[u8], has_windows: bool) -> bool {
 }
 
 /// How often a byte of the set stands in source text, of 10,000 bytes.
-pub(crate) fn set_weight(set: &ByteSet) -> u64 {
+pub(crate) fn set_frequency(set: &ByteSet) -> u64 {
     let mut sum = 0u64;
     for byte in 0..=255u8 {
         if set.contains(byte) {
-            sum = sum.saturating_add(weight(byte));
+            sum = sum.saturating_add(frequency(byte));
         }
     }
     sum.min(10000)
 }
 
-/// The share of the places of a text at which the window stands, whose sets have these weights, of 10^12.
-pub(crate) fn window_share(window: &Window, weights: [u64; 3]) -> u64 {
-    weights[0]
-        .saturating_mul(weights[1])
-        .saturating_mul(weights[2])
+/// The share of the places of a text at which the window stands, whose sets have these frequencies,
+/// of 10^12.
+pub(crate) fn window_share(window: &Window, frequencies: [u64; 3]) -> u64 {
+    frequencies[0]
+        .saturating_mul(frequencies[1])
+        .saturating_mul(frequencies[2])
         .saturating_add(common_share(window))
 }
 

@@ -12,8 +12,8 @@ use crate::walk;
 use cs_syntax::Node;
 use std::alloc::{AllocError, Global};
 
-/// So few places are soon walked over.
-const FEW: usize = 64;
+/// Over so small a number of places a walk is soon done.
+const SMALL: usize = 64;
 
 /// So many are laid out for each byte within milliseconds.
 const MOST: usize = 8192;
@@ -34,7 +34,7 @@ pub(crate) fn shifts_of(
 ) -> Result<Option<Shifts>, AllocError>
     ensures { IfOk result (λ shifts. IfSome shifts (AreShifts (tree_of root.now))) }
 {
-    if places <= FEW || places > MOST {
+    if places <= SMALL || places > MOST {
         return Ok(None);
     }
     let mut phrases = Phrases::new(alloc);

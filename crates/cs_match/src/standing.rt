@@ -4,7 +4,7 @@ ghost use Rattle.cs_syntax.specs.Matching.{Found};
 ghost use Rattle.cs_syntax.specs.Node.{tree_of};
 ghost use Rattle.cs_match.specs.Places.{places, repeats, exits, IsLooped};
 ghost use Rattle.cs_match.specs.Shifts.{AreShifts};
-ghost use Rattle.cs_match.specs.Standings.{start, ahead, at_end, next_standing, standing_beyond, is_left_before};
+ghost use Rattle.cs_match.specs.Standings.{start, ahead, around_end, next_standing, standing_beyond, is_left_before};
 
 use crate::around::{Around, is_word_byte};
 use crate::marks::Marks;
@@ -144,7 +144,7 @@ impl Standing {
     fn end(&mut self, root: &Node, shifts: Option<&Shifts>) -> bool
         requires shifts { IfSome shifts (λ shifts. AreShifts (tree_of root.now) shifts.now) }
         requires one_each { length self.old.marks ≡ places (tree_of root.now) }
-        ensures left { result ≡ exits (tree_of root.now) true self.old.marks (at_end self.old) }
+        ensures left { result ≡ exits (tree_of root.now) true self.old.marks (around_end self.old) }
         ensures moved { self.new ≡ start (places (tree_of root.now)) }
     {
         let here = Around {

@@ -8,7 +8,7 @@ ghost use Rattle.cs_match.specs.Shifts.{AreShifts};
 ghost use Rattle.cs_match.specs.Standings.{start, standing_beyond, is_left_before};
 ghost use Rattle.cs_match.specs.Table.{blank_cell};
 ghost use Rattle.cs_match.specs.declared.standing.Standing.{Standing};
-ghost use Rattle.cs_match.specs.Remembering.{IsRight, HasRow, LeadsIn, tree_in, standing_in, is_left_from, standing_after};
+ghost use Rattle.cs_match.specs.Remembering.{IsConsistent, HasRow, LeadsIn, tree_in, standing_in, is_left_from, standing_after};
 
 use crate::chains::FOUND;
 use crate::program::Program;
@@ -129,7 +129,7 @@ fn pass_from(
 impl<'a> Table<'a> {
     /// A table in which nothing is known but the row of a line's start.
     pub(crate) fn new(alloc: Global, program: &'a Program) -> Result<Table<'a>, AllocError>
-        ensures { IfOk result (λ table. (tree_in table ≡ program.now) × IsRight table) }
+        ensures { IfOk result (λ table. (tree_in table ≡ program.now) × IsConsistent table) }
     {
         let places = program.places();
         let rows = starts(alloc, places)?;
@@ -153,10 +153,10 @@ impl<'a> Table<'a> {
     /// What the number of a row leads to over the byte, where the newline is the end of the line.
     #[inline(always)]
     pub(crate) fn next(&mut self, from: u16, byte: u8) -> u16
-        requires right { IsRight self.old }
+        requires right { IsConsistent self.old }
         requires row { HasRow self.old from (standing_in self.old from) }
         ensures leads { LeadsIn self.new (standing_in self.old from) byte result }
-        ensures right { IsRight self.new }
+        ensures right { IsConsistent self.new }
         ensures same { tree_in self.new ≡ tree_in self.old }
     {
         let next = self.cells[(from | u16::from(byte)) as usize];
@@ -171,9 +171,9 @@ impl<'a> Table<'a> {
     #[cold]
     #[inline(never)]
     fn search(&mut self, line: &[u8]) -> bool
-        requires right { IsRight self.old }
+        requires right { IsConsistent self.old }
         ensures found { IsTrue result ↔ Found (tree_in self.old) line.now }
-        ensures right { IsRight self.new }
+        ensures right { IsConsistent self.new }
         ensures same { tree_in self.new ≡ tree_in self.old }
     {
         self.now
@@ -182,9 +182,9 @@ impl<'a> Table<'a> {
 
     /// Whether the tree takes some part of a line, by what is known as far as no newline stands in it.
     pub(crate) fn is_match(&mut self, line: &[u8]) -> bool
-        requires right { IsRight self.old }
+        requires right { IsConsistent self.old }
         ensures found { IsTrue result ↔ Found (tree_in self.old) line.now }
-        ensures right { IsRight self.new }
+        ensures right { IsConsistent self.new }
         ensures same { tree_in self.new ≡ tree_in self.old }
     {
         let mut at = 0;
@@ -205,10 +205,10 @@ impl<'a> Table<'a> {
     #[cold]
     #[inline(never)]
     fn fill(&mut self, from: u16, byte: u8) -> u16
-        requires right { IsRight self.old }
+        requires right { IsConsistent self.old }
         requires row { HasRow self.old from (standing_in self.old from) }
         ensures leads { LeadsIn self.new (standing_in self.old from) byte result }
-        ensures right { IsRight self.new }
+        ensures right { IsConsistent self.new }
         ensures same { tree_in self.new ≡ tree_in self.old }
     {
         if pass_from(
@@ -231,13 +231,13 @@ impl<'a> Table<'a> {
 
     /// The row of what a run has come to from a row over a byte of a line, before which the tree could not be left.
     fn next_row(&mut self, from: u16, byte: u8) -> u16
-        requires right { IsRight self.old }
+        requires right { IsConsistent self.old }
         requires row { HasRow self.old from (standing_in self.old from) }
         requires within { byte ≢ newline }
         requires stays { is_left_from self.old from byte ≡ false }
         requires now { self.old.now ≡ standing_after self.old from byte }
         ensures leads { LeadsIn self.new (standing_in self.old from) byte result }
-        ensures right { IsRight self.new }
+        ensures right { IsConsistent self.new }
         ensures same { tree_in self.new ≡ tree_in self.old }
     {
         let print = self.now.print();
@@ -258,11 +258,11 @@ impl<'a> Table<'a> {
 
     /// Writes what is known of a row and a byte.
     fn put(&mut self, from: u16, byte: u8, next: u16)
-        requires right { IsRight self.old }
+        requires right { IsConsistent self.old }
         requires row { HasRow self.old from (standing_in self.old from) }
         requires leads { LeadsIn self.old (standing_in self.old from) byte next }
         ensures leads { LeadsIn self.new (standing_in self.old from) byte next }
-        ensures right { IsRight self.new }
+        ensures right { IsConsistent self.new }
         ensures same { tree_in self.new ≡ tree_in self.old }
     {
         self.cells[(from | u16::from(byte)) as usize] = next;
@@ -270,12 +270,12 @@ impl<'a> Table<'a> {
 
     /// Adds a row for what a run has come to, and answers its number.
     fn add(&mut self, print: u32) -> u16
-        requires right { IsRight self.old }
+        requires right { IsConsistent self.old }
         requires room { self.old.used < 254 }
         ensures row { HasRow self.new result self.old.now }
         ensures kept { (number : ℕ) (standing : Standing) → HasRow self.old number standing
             → HasRow self.new number standing }
-        ensures right { IsRight self.new }
+        ensures right { IsConsistent self.new }
         ensures same { tree_in self.new ≡ tree_in self.old }
     {
         let row = self.used;
@@ -287,10 +287,10 @@ impl<'a> Table<'a> {
 
     /// Forgets each row but that of a line's start.
     fn empty(&mut self)
-        requires right { IsRight self.old }
+        requires right { IsConsistent self.old }
         ensures one { self.new.used ≡ 1 }
         ensures now { self.new.now ≡ self.old.now }
-        ensures right { IsRight self.new }
+        ensures right { IsConsistent self.new }
         ensures same { tree_in self.new ≡ tree_in self.old }
     {
         forget(&mut self.cells);

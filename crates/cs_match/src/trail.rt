@@ -1,9 +1,9 @@
 // Trails: the sets that a sequence takes one after another, as it is gone through from left to right.
 ghost use Rattle.std.specs.Prelude.{◌≡◌, ◌≤◌, ◌++◌, ◌∷◌, [], ℕ, List, None, OnOk, drop, max, vec_len};
-ghost use Rattle.cs_match.specs.NeededWindows.{EndAt, HasChosen};
+ghost use Rattle.cs_match.specs.NeededWindows.{SetsEndAt, HasChosen};
 
 use crate::choice::Choice;
-use crate::rarity::set_weight;
+use crate::rarity::set_frequency;
 use cs_syntax::ByteSet;
 use std::alloc::{AllocError, Global};
 
@@ -17,7 +17,7 @@ pub(crate) struct Trail {
     /// The best windows so far.
     pub(crate) best: Option<Choice>,
     /// How often the bytes of the last three sets stand in source text.
-    weights: [u64; 3],
+    frequencies: [u64; 3],
     ghost within: { start ≤ vec_len sets },
 }
 
@@ -31,7 +31,7 @@ impl Trail {
             sets: Vec::new(alloc),
             start: 0,
             best: None,
-            weights: [0; 3],
+            frequencies: [0; 3],
         }
     }
 
@@ -40,13 +40,13 @@ impl Trail {
         ensures sets { OnOk result (self.new.sets.items ≡ self.old.sets.items ++ set.now ∷ []) }
         ensures start { self.new.start ≡ self.old.start }
         ensures best { OnOk result ((line : List ℕ) (j : ℕ) →
-            EndAt line (drop self.new.start self.new.sets.items) j →
+            SetsEndAt line (drop self.new.start self.new.sets.items) j →
             HasChosen line self.old.best → HasChosen line self.new.best) }
     {
         self.sets.push(*set)?;
-        self.weights = [self.weights[1], self.weights[2], set_weight(set)];
+        self.frequencies = [self.frequencies[1], self.frequencies[2], set_frequency(set)];
         let most = share_of(&self.best);
-        let choice = Choice::last_of(alloc, &self.sets[self.start..], self.weights, most)?;
+        let choice = Choice::last_of(alloc, &self.sets[self.start..], self.frequencies, most)?;
         self.offer(choice);
         Ok(())
     }

@@ -79,53 +79,53 @@ const START: Cursor = Cursor {
 
 /// Where a tree can be left.
 #[derive(Clone, Copy, Drop)]
-struct Ends {
+struct WalkEnds {
     /// From a place of its own.
     left: bool,
     /// Where it is entered.
     nullable: bool,
 }
 
-impl Ends {
+impl WalkEnds {
     /// Of what has no places of its own.
-    fn within(nullable: bool) -> Ends
+    fn within(nullable: bool) -> WalkEnds
         ensures left { result.left ≡ false }
         ensures nullable { result.nullable ≡ nullable }
     {
-        Ends {
+        WalkEnds {
             left: false,
             nullable,
         }
     }
 
     /// Of two parts, one after the other.
-    fn then(self, next: Ends) -> Ends
+    fn then(self, next: WalkEnds) -> WalkEnds
         ensures left { result.left ≡ (next.left || (self.left && next.nullable)) }
         ensures nullable { result.nullable ≡ (self.nullable && next.nullable) }
     {
-        Ends {
+        WalkEnds {
             left: next.left || (self.left && next.nullable),
             nullable: self.nullable && next.nullable,
         }
     }
 
     /// Of two parts, one or the other.
-    fn or(self, other: Ends) -> Ends
+    fn or(self, other: WalkEnds) -> WalkEnds
         ensures left { result.left ≡ (self.left || other.left) }
         ensures nullable { result.nullable ≡ (self.nullable || other.nullable) }
     {
-        Ends {
+        WalkEnds {
             left: self.left || other.left,
             nullable: self.nullable || other.nullable,
         }
     }
 
     /// Of a loop of at least so many rounds.
-    fn repeated(self, least: u32) -> Ends
+    fn repeated(self, least: u32) -> WalkEnds
         ensures left { result.left ≡ self.left }
         ensures nullable { result.nullable ≡ (nat_eq least 0 || self.nullable) }
     {
-        Ends {
+        WalkEnds {
             left: self.left,
             nullable: least == 0 || self.nullable,
         }
@@ -175,7 +175,7 @@ fn note_loops(root: &Node, marks: &Marks, loops: &mut [bool], here: Around)
 
 /// Where the tree can be left here. Of each repeat in it that is noted too, as far as `loops` goes.
 #[cycle(leave)]
-fn leave(node: &Node, marks: &Marks, loops: &mut [bool], here: Around, at: &mut Cursor) -> Ends
+fn leave(node: &Node, marks: &Marks, loops: &mut [bool], here: Around, at: &mut Cursor) -> WalkEnds
     requires room { at.old.place + places (tree_of node.now) ≤ length marks.now }
     requires within { at.old.repeat ≤ length loops.old }
     ensures left { result.left ≡ leaves (tree_of node.now) (drop at.old.place marks.now) here }
@@ -187,12 +187,12 @@ fn leave(node: &Node, marks: &Marks, loops: &mut [bool], here: Around, at: &mut 
         ≡ min (length loops.old) (at.old.repeat + repeats (tree_of node.now)) }
 {
     match node {
-        Node::Empty => Ends::within(true),
+        Node::Empty => WalkEnds::within(true),
         // A program has none.
-        Node::Chars(_) => Ends::within(false),
+        Node::Chars(_) => WalkEnds::within(false),
         Node::Set(_) => {
             let left = get_mark(marks, at);
-            Ends {
+            WalkEnds {
                 left,
                 nullable: false,
             }
@@ -205,10 +205,10 @@ fn leave(node: &Node, marks: &Marks, loops: &mut [bool], here: Around, at: &mut 
             note(loops, own, ends.left);
             ends.repeated(*least)
         }
-        Node::LineStart => Ends::within(here.first),
-        Node::LineEnd => Ends::within(here.last),
-        Node::WordEdge => Ends::within(here.edge),
-        Node::NotWordEdge => Ends::within(!here.edge),
+        Node::LineStart => WalkEnds::within(here.first),
+        Node::LineEnd => WalkEnds::within(here.last),
+        Node::WordEdge => WalkEnds::within(here.edge),
+        Node::NotWordEdge => WalkEnds::within(!here.edge),
     }
 }
 
@@ -256,7 +256,7 @@ fn leave_all(
     loops: &mut [bool],
     here: Around,
     at: &mut Cursor,
-) -> Ends
+) -> WalkEnds
     requires room { at.old.place + places_of (trees_of parts.now) ≤ length marks.now }
     requires within { at.old.repeat ≤ length loops.old }
     ensures left { result.left
@@ -268,7 +268,7 @@ fn leave_all(
     ensures repeat { at.new.repeat
         ≡ min (length loops.old) (at.old.repeat + repeats_of (trees_of parts.now)) }
 {
-    let mut all = Ends::within(true);
+    let mut all = WalkEnds::within(true);
     for part in parts {
         let ends = leave(part, marks, loops, here, at);
         all = all.then(ends);
@@ -283,7 +283,7 @@ fn leave_some(
     loops: &mut [bool],
     here: Around,
     at: &mut Cursor,
-) -> Ends
+) -> WalkEnds
     requires room { at.old.place + places_of (trees_of parts.now) ≤ length marks.now }
     requires within { at.old.repeat ≤ length loops.old }
     ensures left { result.left
@@ -295,7 +295,7 @@ fn leave_some(
     ensures repeat { at.new.repeat
         ≡ min (length loops.old) (at.old.repeat + repeats_of (trees_of parts.now)) }
 {
-    let mut some = Ends::within(false);
+    let mut some = WalkEnds::within(false);
     for part in parts {
         let ends = leave(part, marks, loops, here, at);
         some = some.or(ends);

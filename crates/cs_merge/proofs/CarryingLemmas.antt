@@ -45,7 +45,7 @@ module _ (count trigram : ℕ) (older newer : NewIds) (are : AreRenumberings cou
   pub older_has : (id new : ℕ) → new_id older id ≡ Some new → has ids new ≡ has some id
   older_has id new h =
       both new
-      ∙ (λ i. has_renumbered older some id new are.older_once h i || has_no_renumbered newer others new (λ other e. are.apart id other new h e) i)
+      ∙ (λ i. has_renumbered older some id new are.once.older_once h i || has_no_renumbered newer others new (λ other e. are.once.apart id other new h e) i)
       ∙ or_none (has some id)
     where
       or_none : (b : Bool) → (b || false) ≡ b
@@ -55,7 +55,7 @@ module _ (count trigram : ℕ) (older newer : NewIds) (are : AreRenumberings cou
   pub newer_has : (id new : ℕ) → new_id newer id ≡ Some new → has ids new ≡ has others id
   newer_has id new h =
       both new
-      ∙ (λ i. has_no_renumbered older some new (λ other e. are.apart other id new e h) i || has_renumbered newer others id new are.newer_once h i)
+      ∙ (λ i. has_no_renumbered older some new (λ other e. are.once.apart other id new e h) i || has_renumbered newer others id new are.once.newer_once h i)
 
   -- the sets once a list is laid, where those of the index itself have it too
   pub older_carried : (before after : List Posting) → ((id : ℕ) → set_at id after ≡ set_at id before ++ cond (has some id) (trigram ∷ []) []) → AreCarried older before given → AreCarried older after (given ++ list_of trigram ids)

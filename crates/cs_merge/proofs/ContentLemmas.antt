@@ -9,7 +9,7 @@ use Rattle.cs_trigram.specs.TrigramSets.{IsTrigramSet}
 use Rattle.std.proofs.lemmas.Bool.{cases_Bool}
 use Rattle.std.proofs.lemmas.List.{length-map}
 use Rattle.std.specs.Prelude.{T, slice_index_or, is_some}
-use Rattle.std.specs.List.{AllByRecursion, AllZip, list_any}
+use Rattle.std.specs.List.{AllByRecursion, AllZip, list_any, concat}
 use Rattle.std.specs.Ordering.{eq_by_cmp, is_lt, is_eq}
 use Rattle.std.specs.declared.cmp.Ordering.{Ordering}
 use Rattle.std.specs.declared.cmp.Ordering.TheVariants.{Less, Equal, Greater}
@@ -17,7 +17,7 @@ use Rattle.std.specs.FinMap.Entries.{below_all, is_sorted, find}
 use Rattle.std.specs.FinMap as map'
 use Rattle.cs_tree.specs.PathSet as set
 use Rattle.cs_tree.proofs.Sets.{tied_is, tied_same, same_set}
-use Rattle.cs_index.specs.Image.{Files, Entry, image, image_of, names_of, Posting, posting_list, postings_of, ListEntry, list_entries, concat, closing_list, Sections, sections_of, IsString}
+use Rattle.cs_index.specs.Image.{Files, Entry, image, image_of, names_of, Posting, posting_list, postings_of, ListEntry, list_entries, closing_list, Sections, sections_of, IsString}
 use Rattle.cs_index.specs.Spelling.{Spells}
 use Rattle.cs_index.specs.Indexable.{IsIndexable}
 use Rattle.cs_index.proofs.SpellingLemmas.{image_spelled}
@@ -112,8 +112,8 @@ many_names paths entries =
     let count : length (names_of entries) ≡ length entries = length-map entries (λ (entry : Entry). entry.0) in
     omega (arith, within, count)
 
-few_names : (paths : List (List ℕ)) (entries : List Entry) → length (image_of paths entries) < 2 ^ 32 → length entries < 2 ^ 31
-few_names paths entries short = let many = many_names paths entries in omega (arith, many, short)
+names_bound : (paths : List (List ℕ)) (entries : List Entry) → length (image_of paths entries) < 2 ^ 32 → length entries < 2 ^ 31
+names_bound paths entries short = let many = many_names paths entries in omega (arith, many, short)
 
 -- ---- content and image
 
@@ -122,7 +122,7 @@ indexable paths entries a b c short = record {
   each_path = a;
   each_name = all_keys IsString entries b;
   trigrams = all_seconds (λ (e : Entry). Ascends e.1) (λ (e : Entry). AllByRecursion (λ g. g < 16777215) e.1) entries c;
-  bound = few_names paths entries short;
+  bound = names_bound paths entries short;
   short = short;
 }
 

@@ -7,22 +7,22 @@ use Rattle.cs_index.specs.WholeLists.{IsList}
 use Rattle.cs_trigram.specs.Trigram.{has, Ascends}
 use Rattle.cs_trigram.specs.TrigramSets.{IsTrigramSet}
 use Rattle.std.proofs.lemmas.Bool.{true≢false, cases_Bool}
-use Rattle.std.specs.Prelude.{T, is_some, filter}
-use Rattle.std.specs.List.{AllByRecursion, AllZip}
+use Rattle.std.specs.Prelude.{T, is_some, filter, bytes_eq}
+use Rattle.std.specs.List.{AllByRecursion, AllZip, concat}
 use Rattle.std.specs.Cmp.Lexicographic.{nat_list_cmp_total}
 use Rattle.std.specs.Ordering.{eq_by_cmp}
 use Rattle.std.specs.FinMap as map'
 use Rattle.std.specs.FinMap.Entries.{is_sorted, find}
 use Rattle.cs_tree.specs.PathSet as set
-use Rattle.cs_tree.specs.Cover.{same}
 use Rattle.cs_tree.proofs.Sets.{tied_is, same_set, entries_in_order}
-use Rattle.cs_index.specs.Image.{Files, Entry, image, names_of, Posting, posting_list, postings_of, ListEntry, list_entries, concat, closing_list, Sections, sections_of, layout, three_bytes, IsString}
+use Rattle.cs_index.specs.Image.{Files, Entry, image, names_of, Posting, posting_list, postings_of, ListEntry, list_entries, closing_list, Sections, sections_of, layout, three_bytes, IsString}
 use Rattle.cs_index.specs.Spelling.{IsEntry}
-use Rattle.cs_index.proofs.OnceLemmas.{names_tail, sections_once, spelled_once}
+use Rattle.cs_index.proofs.OnceLemmas.{laid_once, names_tail, sections_once, spelled_once}
 use Rattle.cs_index.proofs.ListedLemmas.{image_lists}
-use Rattle.cs_merge.specs.Content.{IsContent, IsListOf, Holds}
+use Rattle.cs_merge.specs.Content.{IsContent, IsListOf, HoldsContent}
 use Rattle.cs_merge.proofs.ContentLemmas.{each_of_map, content_indexable, content_spelled, read_back, ascending_sets}
 use Rattle.cs_trigram.proofs.SetLemmas.{all_above, ascends_tail}
+use Rattle.cs_merge.proofs.FileOrderLemmas.{names_up, sorted_up, up_named, up_sorted}
 use Rattle.cs_index.proofs.BuildingLemmas.{names_entries}
 use Rattle.cs_tree.proofs.ReduceLemmas.{contains-from_list}
 
@@ -43,14 +43,14 @@ find_all {X} P (e ∷ es) name x all h =
 
 -- a member of a set that was made of a list is one of the list
 pub from_list_all : (P : List ℕ → Type 0) (paths : List (List ℕ)) → AllByRecursion P paths → (path : List ℕ) → set.contains (set.from_list paths) path ≡ true → P path
-from_list_all P paths all path member = among paths all (ap is_some (sym (map'.get-from_entries nat_list_cmp_total (set.with_units paths) path)) ∙ member)
+from_list_all P paths all path member = among paths all (ap is_some (sym (map'.get-from_entries nat_list_cmp_total (set.unit_entries paths) path)) ∙ member)
   where
-    among : (ps : List (List ℕ)) → AllByRecursion P ps → is_some (find bytes_cmp path (set.with_units ps)) ≡ true → P path
+    among : (ps : List (List ℕ)) → AllByRecursion P ps → is_some (find bytes_cmp path (set.unit_entries ps)) ≡ true → P path
     among [] all h = absurd (true≢false (sym h))
     among (p ∷ ps) all h =
         elim (cases_Bool (eq_by_cmp bytes_cmp path p)) [
           | inl here ↦ subst P (sym (tied_is path p here)) all.0
-          | inr apart ↦ among ps all.1 (sym (ap (λ t. is_some (cond t (Some tt) (find bytes_cmp path (set.with_units ps)))) apart) ∙ h)
+          | inr apart ↦ among ps all.1 (sym (ap (λ t. is_some (cond t (Some tt) (find bytes_cmp path (set.unit_entries ps)))) apart) ∙ h)
         ]
 
 -- a set is made of its items, and a map of its entries
@@ -76,13 +76,13 @@ length-names : (es : List Entry) → length (names_of es) ≡ length es
 length-names [] = refl
 length-names (e ∷ es) = ap suc (length-names es)
 
-pub content_held : (paths : Paths) (files : Files) → IsContent paths files → length (image paths files) < 2 ^ 32 → Holds (image paths files) paths files
+pub content_held : (paths : Paths) (files : Files) → IsContent paths files → length (image paths files) < 2 ^ 32 → HoldsContent (image paths files) paths files
 unfolding image
 content_held paths files content short =
     let es : List Entry = map'.entries files in
     let spells = content_spelled paths files content short in
     let back : entries_of 0 (names_of es) (postings_of es) ≡ es = read_back [] es (ascending_sets files content.sets_are) in
-    let laid : layout (sections_of (set.items paths) (names_of es) (postings_of es)) ≡ layout spells.sections = spells.laid in
+    let laid : layout (sections_of (set.items paths) (names_of es) (postings_of es)) ≡ layout spells.sections = spells.are_laid.laid in
     let sections = sections_once (sections_of (set.items paths) (names_of es) (postings_of es)) spells.sections short (subst (λ b. length b < 2 ^ 32) laid short) laid in
     let lists = lists_of (concat (map posting_list (postings_of es)) ++ closing_list) (length es) 0 (postings_of es) (image_lists es (content_indexable paths files content short).bound) in
     record {
@@ -92,7 +92,7 @@ content_held paths files content short =
       lists = postings_of es;
       spells = spells;
       each_list = subst (λ section. AllZip (IsListOf section (length (names_of es))) (list_entries 0 (postings_of es)) (postings_of es)) (ap (λ (s : Sections). s.postings) sections) (subst (λ n. AllZip (IsListOf (concat (map posting_list (postings_of es)) ++ closing_list) n) (list_entries 0 (postings_of es)) (postings_of es)) (sym (length-names es)) lists);
-      ascend = ap (is_sorted bytes_cmp) back ∙ is_true (is_sorted bytes_cmp es) (map'.entries_sorted files);
+      ascend = names_up 0 (names_of es) (postings_of es) (up_sorted (entries_of 0 (names_of es) (postings_of es)) (ap (is_sorted bytes_cmp) back ∙ is_true (is_sorted bytes_cmp es) (map'.entries_sorted files)));
       paths_are = set_of_items paths;
       files_are = map_of_entries files ∙ ap map'.from_entries (sym back);
     }
@@ -111,10 +111,10 @@ lists_same section name_count (e ∷ es) (p ∷ ps) (q ∷ qs) a b =
     let rest : ps ≡ qs = lists_same section name_count es ps qs a.1 b.1 in
     λ i. (trigram i, ids i) ∷ rest i
 
-pub held_once : (bytes : List ℕ) (p q : Paths) (f g : Files) → Holds bytes p f → Holds bytes q g → (p ≡ q) × (f ≡ g)
+pub held_once : (bytes : List ℕ) (p q : Paths) (f g : Files) → HoldsContent bytes p f → HoldsContent bytes q g → (p ≡ q) × (f ≡ g)
 held_once bytes p q f g a b =
     let once = spelled_once bytes a.path_list b.path_list a.names b.names a.entries b.entries a.spells b.spells in
-    let sections = sections_once a.spells.sections b.spells.sections (subst (λ bs. length bs < 2 ^ 32) a.spells.laid a.spells.short) (subst (λ bs. length bs < 2 ^ 32) b.spells.laid b.spells.short) (sym a.spells.laid ∙ b.spells.laid) in
+    let sections = laid_once bytes a.spells.sections b.spells.sections a.spells.are_laid b.spells.are_laid in
     let moved : AllZip (IsListOf a.spells.sections.postings (length a.names)) a.entries b.lists =
     subst (λ section. AllZip (IsListOf section (length a.names)) a.entries b.lists) (sym (ap (λ (s : Sections). s.postings) sections))
     (subst (λ names. AllZip (IsListOf b.spells.sections.postings (length names)) a.entries b.lists) (sym once.1)
@@ -133,8 +133,8 @@ Fits p = (p.0 < 16777215) ⊎ (p.1 ≡ [])
 no_ids : (section ids : List ℕ) (name_count : ℕ) (e : ListEntry) → e.count ≡ 0 → IsList section name_count e ids → ids ≡ []
 no_ids section ids name_count e none h = by_count e.count none (ap (λ r. r.ids) h)
   where
-    by_count : (count : ℕ) → count ≡ 0 → (cond (same (take 3 (drop e.offset section)) (three_bytes e.trigram)) (read_ids name_count count 0 (drop (e.offset + 3) section)) damage).ids ≡ ids → ids ≡ []
-    by_count zero z h = sym h ∙ elim (same (take 3 (drop e.offset section)) (three_bytes e.trigram)) as (λ t. (cond t (read_ids name_count 0 0 (drop (e.offset + 3) section)) damage).ids ≡ []) [ true ↦ refl | false ↦ refl ]
+    by_count : (count : ℕ) → count ≡ 0 → (cond (bytes_eq (take 3 (drop e.offset section)) (three_bytes e.trigram)) (read_ids name_count count 0 (drop (e.offset + 3) section)) damage).ids ≡ ids → ids ≡ []
+    by_count zero z h = sym h ∙ elim (bytes_eq (take 3 (drop e.offset section)) (three_bytes e.trigram)) as (λ t. (cond t (read_ids name_count 0 0 (drop (e.offset + 3) section)) damage).ids ≡ []) [ true ↦ refl | false ↦ refl ]
     by_count (suc count) z h = absurd (omega (arith, z))
 
 all_fit : (section : List ℕ) (name_count : ℕ) (es : List ListEntry) (ps : List Posting) → AllByRecursion (IsEntry section) es → AllZip (IsListOf section name_count) es ps → AllByRecursion Fits ps
@@ -195,7 +195,7 @@ pub all_files : (P : List ℕ → Type 0) (Q : List ℕ → Type 0) (first : ℕ
 all_files P Q first [] ps all sets = tt
 all_files P Q first (name ∷ names) ps all sets = ((all.0, sets first), all_files P Q (first + 1) names ps all.1 sets)
 
-pub held_content : (bytes : List ℕ) (paths : Paths) (files : Files) → Holds bytes paths files → IsContent paths files
+pub held_content : (bytes : List ℕ) (paths : Paths) (files : Files) → HoldsContent bytes paths files → IsContent paths files
 held_content bytes paths files h =
     let fit = all_fit h.spells.sections.postings (length h.names) h.entries h.lists h.spells.list_index_is.0 h.each_list in
     let up : Ascends (map (λ (p : Posting). p.0) h.lists) = subst Ascends (same_trigrams h.spells.sections.postings (length h.names) h.entries h.lists h.each_list) h.spells.list_index_is.1 in
@@ -208,10 +208,10 @@ held_content bytes paths files h =
       sets_are = λ name trigrams there. (each name trigrams there).1;
     }
 
-held_entries : (bytes : List ℕ) (paths : Paths) (files : Files) (h : Holds bytes paths files) → map'.entries files ≡ entries_of 0 h.names h.lists
-held_entries bytes paths files h = ap map'.entries h.files_are ∙ entries_in_order (entries_of 0 h.names h.lists) (subst T (sym h.ascend) tt)
+held_entries : (bytes : List ℕ) (paths : Paths) (files : Files) (h : HoldsContent bytes paths files) → map'.entries files ≡ entries_of 0 h.names h.lists
+held_entries bytes paths files h = ap map'.entries h.files_are ∙ entries_in_order (entries_of 0 h.names h.lists) (subst T (sym (sorted_up (entries_of 0 h.names h.lists) (up_named 0 h.names h.lists h.ascend))) tt)
 
-pub held_names : (bytes : List ℕ) (paths : Paths) (files : Files) (h : Holds bytes paths files) → map'.keys files ≡ h.names
+pub held_names : (bytes : List ℕ) (paths : Paths) (files : Files) (h : HoldsContent bytes paths files) → map'.keys files ≡ h.names
 held_names bytes paths files h = ap (map (λ (e : Entry). e.0)) (held_entries bytes paths files h) ∙ names_entries 0 h.names h.lists
 
 -- what holds of each entry holds of the name and the set with an id
@@ -220,7 +220,7 @@ at_id P first [] ps k d all within = absurd (omega (arith, within))
 at_id P first (name ∷ names) ps zero d all within = subst (λ n. P name (set_at n ps)) (let e : first ≡ first + 0 = omega arith in e) all.0
 at_id P first (name ∷ names) ps (suc k) d all within = subst (λ n. P (get_or names k d) (set_at n ps)) (let e : first + 1 + k ≡ first + suc k = omega arith in e) (at_id P (first + 1) names ps k d all.1 (omega (arith, within)))
 
-pub held_set : (bytes : List ℕ) (paths : Paths) (files : Files) (h : Holds bytes paths files) (id : ℕ) (d : List ℕ) → id < length h.names → map'.get files (get_or h.names id d) ≡ Some (set_at id h.lists)
+pub held_set : (bytes : List ℕ) (paths : Paths) (files : Files) (h : HoldsContent bytes paths files) (id : ℕ) (d : List ℕ) → id < length h.names → map'.get files (get_or h.names id d) ≡ Some (set_at id h.lists)
 held_set bytes paths files h id d within =
     let P = λ (name : List ℕ) (trigrams : List ℕ). map'.get files name ≡ Some trigrams in
     let all = subst (AllByRecursion (λ (e : Entry). P e.0 e.1)) (held_entries bytes paths files h) (each_of_map P files (λ name trigrams there. there)) in

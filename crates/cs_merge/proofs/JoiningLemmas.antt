@@ -8,7 +8,7 @@ use Rattle.cs_index.specs.declared.fault.IndexFault.TheVariants.{BadList}
 use Rattle.cs_merge.specs.declared.fault.MergeFault.{MergeFault}
 use Rattle.cs_merge.specs.declared.fault.MergeFault.TheVariants.{Unsorted, Uncovered, Index, TooLarge, Memory}
 use Rattle.cs_merge.specs.Joinable.{are_covered, both_ascend, both_distinct, both_whole, joined_index, AreJoinable, AreTested}
-use Rattle.cs_merge.specs.JoinOutcome.{IsWithin, IsBuildFault, long as too_long, memory}
+use Rattle.cs_merge.specs.JoinOutcome.{IsIndexWithin, IsBuildFault, long as too_long, memory}
 use Rattle.cs_merge.specs.Joining.{IsJoined, IsJoinFault, unsorted, uncovered as outside, damaged, long, refused}
 
 -- ---- what is answered
@@ -17,8 +17,8 @@ module _ (old newer : Parts) (most : ℕ) where
   abbrev pub Says : Result (Vec ℕ Global) MergeFault → Type 0
   Says answer = MatchResult answer (λ index. IsJoined old newer most index.items) (λ fault. IsJoinFault old newer most fault)
 
-  pub built_says : (answer : Result (Vec ℕ Global) MergeFault) (index : List ℕ) → index ≡ joined_index old newer → AreTested old newer → are_whole old ≡ true → are_whole newer ≡ true → IfOk answer (λ bytes. IsWithin most index bytes.items) → IfErr answer (λ fault. IsBuildFault most index fault) → Says answer
-  built_says (Ok bytes) index is tested a b ok err = record { joinable = record { tested = tested; whole = and_from (are_whole old) (are_whole newer) a b }; are = ok.are ∙ is; short = ok.short }
+  pub built_says : (answer : Result (Vec ℕ Global) MergeFault) (index : List ℕ) → index ≡ joined_index old newer → AreTested old newer → are_whole old ≡ true → are_whole newer ≡ true → IfOk answer (λ bytes. IsIndexWithin most index bytes.items) → IfErr answer (λ fault. IsBuildFault most index fault) → Says answer
+  built_says (Ok bytes) index is tested a b ok err = record { joinable = record { tested = tested; whole = and_from (are_whole old) (are_whole newer) a b }; index = record { are = ok.are ∙ is; short = ok.short } }
   built_says (Err fault) index is tested a b ok err = by_fault err
     where
       by_fault : IsBuildFault most index fault → IsJoinFault old newer most fault
@@ -26,11 +26,11 @@ module _ (old newer : Parts) (most : ℕ) where
       by_fault (memory e) = refused e (λ up. tested)
 
   pub says_joined : (answer : Result (Vec ℕ Global) MergeFault) → Says answer → IfOk answer (λ index. index.items ≡ joined_index old newer)
-  says_joined (Ok index) h = h.are
+  says_joined (Ok index) h = h.index.are
   says_joined (Err fault) h = tt
 
   pub says_short : (answer : Result (Vec ℕ Global) MergeFault) → most + 1 ≡ 2 ^ 32 → Says answer → IfOk answer (λ index. length index.items < 2 ^ 32)
-  says_short (Ok index) e h = let short : length index.items ≤ most = h.short in omega (arith, short, e)
+  says_short (Ok index) e h = let short : length index.items ≤ most = h.index.short in omega (arith, short, e)
   says_short (Err fault) e h = tt
 
   pub says_sound : (answer : Result (Vec ℕ Global) MergeFault) → Says answer → IfOk answer (λ index. AreJoinable old newer)

@@ -1,22 +1,22 @@
-mod Examples
-pub mod JoinLemmas
 pub mod ContentLemmas
 pub mod HoldingLemmas
-pub mod ReadLemmas
-pub mod RenumberingLemmas
-pub mod RankedLemmas
-pub mod RunLemmas
-pub mod SortedLemmas
-pub mod CarryingLemmas
-pub mod NamingLemmas
-pub mod NewNamesLemmas
-pub mod LayingLemmas
-pub mod ListingLemmas
-pub mod PartLemmas
-pub mod PlaceLemmas
-pub mod SideBySideLemmas
-pub mod CoverLemmas
-pub mod OrderLemmas
-pub mod JoiningLemmas
-pub mod ReadyLemmas
+pub mod JoinLemmas
 pub mod OpeningLemmas
+pub mod RankedLemmas
+pub mod ReadyLemmas
+mod CarryingLemmas
+mod CoverLemmas
+mod Examples
+mod FileOrderLemmas
+mod IdRunLemmas
+mod JoiningLemmas
+mod LaidNamesLemmas
+mod ListPlaceLemmas
+mod ListingLemmas
+mod NamingLemmas
+mod NewNamesLemmas
+mod PartLemmas
+mod ReadLemmas
+mod RenumberingLemmas
+mod SideBySideLemmas
+mod SortedLemmas

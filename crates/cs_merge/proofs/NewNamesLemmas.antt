@@ -11,7 +11,6 @@ use Rattle.std.specs.Ordering.{eq_by_cmp}
 use Rattle.cs_tree.specs.Cover.{is_covered}
 use Rattle.cs_tree.specs.Folders.{are_distinct}
 use Rattle.cs_tree.specs.NameOrder.{bytes_cmp}
-use Rattle.cs_tree.specs.PathSet.{Paths}
 use Rattle.cs_tree.specs.PathSet as set
 use Rattle.cs_tree.proofs.Sets.{alike, tied_is, tied_same, entries_in_order}
 use Rattle.std.specs.Option.{option_or}
@@ -21,7 +20,7 @@ use Rattle.cs_index.specs.PostingLists.{set_at, entries_of}
 use Rattle.cs_merge.specs.Join.{join_files, join_paths}
 use Rattle.cs_merge.specs.Joinable.{are_covered, joined_index, AreTested}
 use Rattle.cs_merge.specs.Renumbering.{NewIds, AreCarried, IsOfOne, new, kept, AreRenumbered}
-use Rattle.cs_merge.proofs.OrderLemmas.{sorted_up, up_named}
+use Rattle.cs_merge.proofs.FileOrderLemmas.{sorted_up, up_named}
 use Rattle.cs_merge.proofs.JoinLemmas.{get-join_files}
 use Rattle.cs_merge.proofs.RankedLemmas.{AreOnce, ascending_once, distinct_once, once_rest}
 use Rattle.cs_index.proofs.ImageLemmas.{true_T}
@@ -108,7 +107,7 @@ module _ (older newer : Parts) (names : List (List ℕ)) (older_ids newer_ids : 
       (distinct_once older.names both.0, distinct_once newer.names both.1)
 
   named_once : AreOnce names
-  named_once = ascending_once names laid.named.ascend
+  named_once = ascending_once names laid.named.of_both.ascend
 
   -- what both have at a name
   abbrev both_have : List ℕ → Option (List ℕ)
@@ -122,9 +121,9 @@ module _ (older newer : Parts) (names : List (List ℕ)) (older_ids newer_ids : 
   found_newer id name there = by_new (get_or newer_ids id None) (slice_get-get_or newer_ids id None (let within = slice_get_within newer.names id name there in let all = laid.named.newer_long in omega (arith, within, all)))
     where
       by_new : (o : Option ℕ) → slice_get newer_ids id ≡ Some o → find bytes_cmp name (entries_of 0 names given) ≡ both_have name
-      by_new None is = absurd (true≢false (sym (laid.named.newer_placed id name None there is)))
+      by_new None is = absurd (true≢false (sym (laid.named.of_both.newer_placed id name None there is)))
       by_new (Some found) is =
-          let placed = laid.named.newer_placed id name (Some found) there is in
+          let placed = laid.named.of_both.newer_placed id name (Some found) there is in
           found_at names found name given named_once placed.1
           ∙ ap Some (laid.newer_sets id found (ap (option_and_then (λ (o : Option ℕ). o)) is))
           ∙ sym (ap (λ o. option_or o (cond (not (is_covered (paths_in newer) name)) (find bytes_cmp name (files_read older)) None)) (found_at newer.names id name (lists_in newer) onces.1 there))
@@ -133,16 +132,16 @@ module _ (older newer : Parts) (names : List (List ℕ)) (older_ids newer_ids : 
   found_older id name none stays there = by_new (get_or older_ids id None) (slice_get-get_or older_ids id None (let within = slice_get_within older.names id name there in let all = laid.named.older_long in omega (arith, within, all)))
     where
       by_new : (o : Option ℕ) → slice_get older_ids id ≡ Some o → find bytes_cmp name (entries_of 0 names given) ≡ both_have name
-      by_new None is = absurd (true≢false (sym (laid.named.older_placed id name None there is) ∙ stays))
+      by_new None is = absurd (true≢false (sym (laid.named.of_both.older_placed id name None there is) ∙ stays))
       by_new (Some found) is =
-          let placed = laid.named.older_placed id name (Some found) there is in
+          let placed = laid.named.of_both.older_placed id name (Some found) there is in
           found_at names found name given named_once placed.1
           ∙ ap Some (laid.older_sets id found (ap (option_and_then (λ (o : Option ℕ). o)) is))
           ∙ sym (old_has name false none stays ∙ found_at older.names id name (lists_in older) onces.0 there)
 
   -- a name of neither is not laid
   found_none : (name : List ℕ) → ((place : ℕ) → slice_get newer.names place ≡ Some name → ⊥) → ((id : ℕ) → slice_get older.names id ≡ Some name → is_covered (paths_in newer) name ≡ false → ⊥) → find bytes_cmp name (entries_of 0 names given) ≡ None
-  found_none name none absent = find_nowhere names 0 name given (λ place there. nowhere (laid.named.each_from place name there))
+  found_none name none absent = find_nowhere names 0 name given (λ place there. nowhere (laid.named.of_both.each_from place name there))
     where
       nowhere : IsOfOne (is_covered (paths_in newer)) older.names newer.names name → ⊥
       nowhere (new id there) = none id there
@@ -177,4 +176,4 @@ module _ (older newer : Parts) (names : List (List ℕ)) (older_ids newer_ids : 
   unfolding image
   laid_joined =
       ap (image_of (set.items (join_paths (paths_in older) (paths_in newer))))
-      (sym (entries_in_order (entries_of 0 names given) (true_T (is_sorted bytes_cmp (entries_of 0 names given)) (sorted_up (entries_of 0 names given) (up_named 0 names given laid.named.ascend)))) ∙ ap map'.entries laid_files)
+      (sym (entries_in_order (entries_of 0 names given) (true_T (is_sorted bytes_cmp (entries_of 0 names given)) (sorted_up (entries_of 0 names given) (up_named 0 names given laid.named.of_both.ascend)))) ∙ ap map'.entries laid_files)

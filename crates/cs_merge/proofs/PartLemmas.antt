@@ -13,7 +13,7 @@ use Rattle.std.specs.List.Sorted.{IsNonDecreasingBy, IsPermutation}
 use Rattle.cs_trigram.specs.Trigram.{has}
 use Rattle.cs_index.specs.Rising.{next_after, RiseWithin, ids_onward}
 use Rattle.cs_merge.specs.Renumbering.{NewIds, new_id, new_ids_of, AreMoved, AreOnce, IsOneToOne, MoveTogether, RiseUnder}
-use Rattle.cs_merge.specs.SideBySide.{lower_of, part_ids, parts_ids, without_number, AreGathered, AreIds, IsMove, IsStretchOf, IsStretchOfOne, of_older, Part}
+use Rattle.cs_merge.specs.SideBySide.{lower_of, part_ids, parts_ids, without_number, AreGathered, AreIds, IsMove, IsStretchOf, IsStretchOfOne, of_older, IdStretch}
 use Rattle.cs_merge.proofs.ListingLemmas.{has_both, next_below}
 use Rattle.cs_merge.proofs.SortedLemmas.{has_many, many, once_few, one}
 use Rattle.cs_index.proofs.StreamLemmas.{rise_append}
@@ -32,7 +32,7 @@ left_first id (other ∷ ids) there =
     let is : other ≡ id = same_Some other id there in
     ap (λ n. n ∷ ids) is ∙ ap (λ ns. id ∷ ns) (sym (ap (λ b. cond b ids (other ∷ ids)) (eq-eqb other id is)))
 
-parts_more : (parts : List Part) (part : Part) → parts_ids (parts ++ part ∷ []) ≡ parts_ids parts ++ part_ids part
+parts_more : (parts : List IdStretch) (part : IdStretch) → parts_ids (parts ++ part ∷ []) ≡ parts_ids parts ++ part_ids part
 parts_more [] part = none (part_ids part)
   where
     none : (ids : List ℕ) → ids ++ [] ≡ ids
@@ -51,7 +51,7 @@ module _ (id end : ℕ) (run left rest : List ℕ) (there : slice_get left 0 ≡
       let both = length-append (part_ids (id, run)) (without_number id rest) in
       omega (arith, long, both)
 
-  pub one_gathered : (new_ids : NewIds) (before now : List Part) (ids : List ℕ) → AreMoved new_ids id end → AreGathered new_ids before now ids left → AreGathered new_ids before (now ++ (id, run) ∷ []) ids (without_number id rest)
+  pub one_gathered : (new_ids : NewIds) (before now : List IdStretch) (ids : List ℕ) → AreMoved new_ids id end → AreGathered new_ids before now ids left → AreGathered new_ids before (now ++ (id, run) ∷ []) ids (without_number id rest)
   one_gathered new_ids before now ids moves so_far = record {
     more = so_far.more ++ (id, run) ∷ [];
     are = ap (λ parts. parts ++ (id, run) ∷ []) so_far.are ∙ append_assoc before so_far.more ((id, run) ∷ []);
@@ -63,7 +63,7 @@ module _ (id end : ℕ) (run left rest : List ℕ) (there : slice_get left 0 ≡
     each = all_push (IsMove new_ids) so_far.more (id, run) so_far.each record { end = end; moved = moves; below = is.below end refl };
   }
 
-pub all_gathered : (new_ids : NewIds) (before now : List Part) (ids left : List ℕ) → ((id : ℕ) → slice_get left 0 ≡ Some id → ⊥) → AreGathered new_ids before now ids left → AreGathered new_ids before now ids []
+pub all_gathered : (new_ids : NewIds) (before now : List IdStretch) (ids left : List ℕ) → ((id : ℕ) → slice_get left 0 ≡ Some id → ⊥) → AreGathered new_ids before now ids left → AreGathered new_ids before now ids []
 all_gathered new_ids before now ids [] none so_far = so_far
 all_gathered new_ids before now ids (id ∷ left) none so_far = absurd (none id refl)
 
@@ -128,7 +128,7 @@ module _ (new_ids : NewIds) where
 -- ---- no other id lies among those of a part
 
 -- The ids of a part rise, and are all of some ids that lie from its first one up to its last.
-pub record IsClosed (count : ℕ) (all : List ℕ) (part : Part) : Type 0 where
+pub record IsClosed (count : ℕ) (all : List ℕ) (part : IdStretch) : Type 0 where
   rises : RiseWithin count part.0 (part_ids part)
   alone : (n : ℕ) → has all n ≡ true → part.0 ≤ n → n < next_after part.0 (part_ids part) → has (part_ids part) n ≡ true
 
@@ -138,7 +138,7 @@ last_of next id (other ∷ ids) =
     let rest = last_of (id + 1) other ids in
     (rest.0, rest.1, ap (λ b. eqb id rest.0 || b) rest.2 ∙ or-true (eqb id rest.0))
 
-module _ (new_ids : NewIds) (once : IsOneToOne new_ids) (part : Part) (move : IsMove new_ids part) where
+module _ (new_ids : NewIds) (once : IsOneToOne new_ids) (part : IdStretch) (move : IsMove new_ids part) where
   -- a part is its first id alone, or ends where ids move together
   ends : ((n : ℕ) → part.0 ≤ n → n < next_after part.0 (part_ids part) → n ≡ part.0) ⊎ (next_after part.0 (part_ids part) ≤ move.end)
   ends = by_run part.1 move.below
@@ -208,7 +208,7 @@ module _ (new_ids : NewIds) (once : IsOneToOne new_ids) (part : Part) (move : Is
 -- ---- parts of both
 
 module _ (new_ids others : NewIds) (once : IsOneToOne new_ids) (apart : (id other new : ℕ) → new_id new_ids id ≡ Some new → new_id others other ≡ Some new → ⊥) (count : ℕ) (ids more all : List ℕ) (up : RiseUnder new_ids 0 ids) (more_up : RiseUnder others 0 more) (both : (n : ℕ) → has all n ≡ (has ids n || has more n)) (below : (n : ℕ) → has all n ≡ true → n < count) where
-  closed_one : (before after : List ℕ) (part : Part) → ids ≡ before ++ (part_ids part ++ after) → IsMove new_ids part → IsClosed count all part
+  closed_one : (before after : List ℕ) (part : IdStretch) → ids ≡ before ++ (part_ids part ++ after) → IsMove new_ids part → IsClosed count all part
   closed_one before after part is move = record {
     rises = part_rises new_ids once part move count first_up (λ n h. below n (both n ∙ ap (λ b. b || has more n) (among n h)));
     alone = λ n h from to. elim (or_cases (has ids n) (has more n) (sym (both n) ∙ h)) [
@@ -237,32 +237,32 @@ module _ (new_ids others : NewIds) (once : IsOneToOne new_ids) (apart : (id othe
             | inr end ↦ apart (move.moved.from + (n - part.0)) there.0 n (move.moved.each n from (omega (arith, to, end))) there.2
           ]
 
-  pub closed_each : (before : List ℕ) (parts : List Part) → ids ≡ before ++ parts_ids parts → AllByRecursion (IsMove new_ids) parts → AllByRecursion (IsClosed count all) parts
+  pub closed_each : (before : List ℕ) (parts : List IdStretch) → ids ≡ before ++ parts_ids parts → AllByRecursion (IsMove new_ids) parts → AllByRecursion (IsClosed count all) parts
   closed_each before [] is moves = tt
   closed_each before (part ∷ parts) is moves = (
     closed_one before (parts_ids parts) part is moves.0,
     closed_each (before ++ part_ids part) parts (is ∙ sym (append_assoc before (part_ids part) (parts_ids parts))) moves.1,
   )
 
-parts_both : (parts more : List Part) → parts_ids (parts ++ more) ≡ parts_ids parts ++ parts_ids more
+parts_both : (parts more : List IdStretch) → parts_ids (parts ++ more) ≡ parts_ids parts ++ parts_ids more
 parts_both [] more = refl
 parts_both (part ∷ parts) more =
     ap (λ ids. part_ids part ++ ids) (parts_both parts more) ∙ sym (append_assoc (part_ids part) (parts_ids parts) (parts_ids more))
 
 -- ---- parts put in order
 
-many_parts : (n : ℕ) (parts : List Part) → many n (parts_ids parts) ≡ sum_by (λ (part : Part). many n (part_ids part)) parts
+many_parts : (n : ℕ) (parts : List IdStretch) → many n (parts_ids parts) ≡ sum_by (λ (part : IdStretch). many n (part_ids part)) parts
 many_parts n [] = refl
 many_parts n (part ∷ parts) =
     sum_by-append (one n) (part_ids part) (parts_ids parts)
     ∙ ap (λ m. many n (part_ids part) + m) (many_parts n parts)
-    ∙ sym (sum_by-cons (λ (p : Part). many n (part_ids p)) part parts)
+    ∙ sym (sum_by-cons (λ (p : IdStretch). many n (part_ids p)) part parts)
 
 has_some : (ns : List ℕ) (n : ℕ) → has ns n ≡ true → 0 < many n ns
 has_some ns n h = ltb-true 0 (many n ns) (sym (has_many ns n) ∙ h)
 
-parts_rise : (count next : ℕ) (all : List ℕ) (parts : List Part) → IsNonDecreasingBy (λ (part : Part). part.0) parts → AllByRecursion (IsClosed count all) parts →
-    ((n : ℕ) → many n (parts_ids parts) ≤ 1) → ((n : ℕ) → has (parts_ids parts) n ≡ true → has all n ≡ true) → ((n : ℕ) (m : List Part) (run : List ℕ) → parts ≡ (n, run) ∷ m → next ≤ n) → RiseWithin count next (parts_ids parts)
+parts_rise : (count next : ℕ) (all : List ℕ) (parts : List IdStretch) → IsNonDecreasingBy (λ (part : IdStretch). part.0) parts → AllByRecursion (IsClosed count all) parts →
+    ((n : ℕ) → many n (parts_ids parts) ≤ 1) → ((n : ℕ) → has (parts_ids parts) n ≡ true → has all n ≡ true) → ((n : ℕ) (m : List IdStretch) (run : List ℕ) → parts ≡ (n, run) ∷ m → next ≤ n) → RiseWithin count next (parts_ids parts)
 parts_rise count next all [] up closed bound among from = tt
 parts_rise count next all (part ∷ parts) up closed bound among from =
     rise_append count next (part_ids part) (parts_ids parts) own
@@ -279,7 +279,7 @@ parts_rise count next all (part ∷ parts) up closed bound among from =
     own : RiseWithin count next (part_ids part)
     own = (from part.0 parts part.1 refl, first.1, first.2)
 
-    behind : (n : ℕ) (m : List Part) (run : List ℕ) (rest : List Part) → rest ≡ (n, run) ∷ m → IsNonDecreasingBy (λ (p : Part). p.0) (part ∷ rest) → ((k : ℕ) → many k (part_ids part ++ parts_ids rest) ≤ 1) →
+    behind : (n : ℕ) (m : List IdStretch) (run : List ℕ) (rest : List IdStretch) → rest ≡ (n, run) ∷ m → IsNonDecreasingBy (λ (p : IdStretch). p.0) (part ∷ rest) → ((k : ℕ) → many k (part_ids part ++ parts_ids rest) ≤ 1) →
         ((k : ℕ) → has (part_ids part ++ parts_ids rest) k ≡ true → has all k ≡ true) → next_after next (part_ids part) ≤ n
     behind n m run [] is up bound among = cc
     behind n m run ((k, ns) ∷ rest) is up bound among =
@@ -297,7 +297,7 @@ parts_rise count next all (part ∷ parts) up closed bound among from =
           | inr beyond ↦ omega (arith, same, beyond)
         ]
       where
-        first_of : List Part → ℕ
+        first_of : List IdStretch → ℕ
         first_of [] = 0
         first_of (p ∷ ps) = p.0
 
@@ -306,7 +306,7 @@ all_moved : {X : Type 0} (P : X → Type 0) (xs ys : List X) → IsPermutation x
 all_moved P xs ys moved_to all = recursion_from_All P ys (All-permutation P xs ys moved_to (All-from_recursion P xs all))
 
 -- what is gathered of both and put in order rises, and has the ids of both
-module _ (older_ids newer_ids : NewIds) (once : AreOnce older_ids newer_ids) (count : ℕ) (older newer : List ℕ) (older_up : RiseUnder older_ids 0 older) (newer_up : RiseUnder newer_ids 0 newer) (are : AreIds count (older ++ newer)) (before some all sorted : List Part) (begun : before ≡ []) (first : AreGathered older_ids before some older []) (then : AreGathered newer_ids some all newer []) (moved_to : IsPermutation all sorted) where
+module _ (older_ids newer_ids : NewIds) (once : AreOnce older_ids newer_ids) (count : ℕ) (older newer : List ℕ) (older_up : RiseUnder older_ids 0 older) (newer_up : RiseUnder newer_ids 0 newer) (are : AreIds count (older ++ newer)) (before some all sorted : List IdStretch) (begun : before ≡ []) (first : AreGathered older_ids before some older []) (then : AreGathered newer_ids some all newer []) (moved_to : IsPermutation all sorted) where
   older_are : older ≡ parts_ids first.more
   older_are = first.ids_are ∙ append-nil (parts_ids first.more)
 
@@ -332,12 +332,12 @@ module _ (older_ids newer_ids : NewIds) (once : AreOnce older_ids newer_ids) (co
       swap false false = refl
 
   as_many : (n : ℕ) → many n (parts_ids sorted) ≡ many n (older ++ newer)
-  as_many n = many_parts n sorted ∙ sum_by-IsPermutation (λ (part : Part). many n (part_ids part)) all sorted moved_to ∙ sym (many_parts n all) ∙ ap (many n) ids_of_all
+  as_many n = many_parts n sorted ∙ sum_by-IsPermutation (λ (part : IdStretch). many n (part_ids part)) all sorted moved_to ∙ sym (many_parts n all) ∙ ap (many n) ids_of_all
 
   pub has_parts : (n : ℕ) → has (parts_ids sorted) n ≡ has (older ++ newer) n
   has_parts n = has_many (parts_ids sorted) n ∙ ap (ltb 0) (as_many n) ∙ sym (has_many (older ++ newer) n)
 
-  pub sorted_parts_rise : IsNonDecreasingBy (λ (part : Part). part.0) sorted → RiseWithin count 0 (parts_ids sorted)
+  pub sorted_parts_rise : IsNonDecreasingBy (λ (part : IdStretch). part.0) sorted → RiseWithin count 0 (parts_ids sorted)
   sorted_parts_rise up =
       parts_rise count 0 (older ++ newer) sorted up (all_moved (IsClosed count (older ++ newer)) all sorted moved_to each_closed)
       (λ n. let bound = once_few (older ++ newer) n are.once in let same = as_many n in omega (arith, bound, same))
@@ -353,15 +353,15 @@ module _ (older_ids newer_ids : NewIds) (once : AreOnce older_ids newer_ids) (co
 
 -- ---- parts that are laid one by one
 
-pub some_ids : (parts : List Part) → eqb (length parts) 0 ≡ false → parts_ids parts ≡ [] → ⊥
+pub some_ids : (parts : List IdStretch) → eqb (length parts) 0 ≡ false → parts_ids parts ≡ [] → ⊥
 some_ids [] some none = true≢false some
 some_ids (part ∷ parts) some none = cc
 
-pub first_part : (parts : List Part) (place : ℕ) (part : Part) → place < length parts → part ≡ get_or parts place part → parts_ids (drop place parts) ≡ part_ids part ++ parts_ids (drop (place + 1) parts)
+pub first_part : (parts : List IdStretch) (place : ℕ) (part : IdStretch) → place < length parts → part ≡ get_or parts place part → parts_ids (drop place parts) ≡ part_ids part ++ parts_ids (drop (place + 1) parts)
 first_part parts place part h is = ap parts_ids (drop_more parts place part h) ∙ ap (λ p. part_ids p ++ parts_ids (drop (place + 1) parts)) (sym is)
 
 -- the ids that are left once a part's first one is laid, and the others of the part
-module _ (parts : List Part) (place : ℕ) (part : Part) (h : place < length parts) (is : part ≡ get_or parts place part) where
+module _ (parts : List IdStretch) (place : ℕ) (part : IdStretch) (h : place < length parts) (is : part ≡ get_or parts place part) where
   abbrev pub left : List ℕ
   left = parts_ids (drop place parts)
 

@@ -1,20 +1,23 @@
 -- Indexes in the order of their names.
-use Rattle.std.proofs.Common.{◌≡◌, ℕ, zero, suc, ◌+◌, ◌<◌, ◌≤◌, Bool, true, false, not, ◌||◌, List, [], ◌∷◌, length, map, get_or, refl, sym, ap, subst, ◌∙◌, inl, inr, Option, Some, None, arith, slice_get}
-use Rattle.std.proofs.lemmas.Bool.{true≢false, false_from_ne_true, and_parts, and_from, cases_Bool, cases_lt, not-true}
+use Rattle.std.proofs.Common.{◌≡◌, ℕ, zero, suc, ◌+◌, ◌<◌, ◌≤◌, Bool, true, false, not, ◌||◌, eqb, List, [], ◌∷◌, length, map, get_or, refl, sym, ap, subst, ◌∙◌, inl, inr, Option, Some, None, arith, slice_get}
+use Rattle.std.proofs.lemmas.Bool.{true≢false, false_from_ne_true, and_parts, and_from, cases_Bool, cases_lt, eqb-true, eq-eqb, not-true}
 use Rattle.std.proofs.lemmas.List.{length-map}
 use Rattle.std.proofs.lemmas.List.Sorted.{All-permutation, Contains-permutation, length_permutation}
 use Rattle.std.proofs.lemmas.Option.{slice_get_within, slice_get-get_or, same_Some}
 use Rattle.std.specs.Cmp.Lexicographic.{bytes_decides}
 use Rattle.std.specs.List.{All, Contains, range_with_len, zip}
-use Rattle.std.specs.Prelude.{option_map, slice_index, slice_index_or}
-use Rattle.cs_tree.specs.Cover.{is_among, same}
+use Rattle.std.specs.Prelude.{option_map, slice_index, slice_index_or, slice_set, bytes_eq}
+use Rattle.cs_tree.specs.Cover.{is_among}
 use Rattle.cs_tree.specs.Folders.{are_distinct}
 use Rattle.cs_tree.specs.NamesAscending.{are_ascending}
+use Rattle.cs_trigram.specs.Trigram.{has}
+use Rattle.cs_index.specs.Gathering.{AreDistinct}
 use Rattle.cs_index.specs.OpenedParts.{Parts}
-use Rattle.cs_index.specs.Order.{Named, id_in as id_of, name_in, with_ids, IsOrder}
+use Rattle.cs_index.specs.Order.{NameWithId, id_in as id_of, name_in, with_ids, IsOrder}
 use Rattle.cs_index.specs.Parts.{AreParts}
 use Rattle.cs_merge.specs.Ranked.{Ranked, id_at, id_at_place, names_by, names_in, IsRanked}
-use Rattle.cs_merge.specs.Renumbering.{NewIds, AreByRank, AreNamed, AreRenumbered, ArePut, IsOfOne, new, kept, IsOrdering, IsPlaced}
+use Rattle.cs_merge.specs.Renumbering.{NewIds, AreByRank, AreNamed, AreRenumbered, ArePut, IsOfOne, new, kept, IsPlaced}
+use Rattle.cs_merge.specs.SideBySide.{AreIds}
 use Rattle.cs_merge.proofs.RenumberingLemmas.{ascends_at, never_below}
 use Rattle.std.proofs.Math.Bool.{or-true}
 
@@ -30,7 +33,7 @@ get_map f (x ∷ xs) (suc k) = get_map f xs k
 among_place : (names : List (List ℕ)) (name : List ℕ) → is_among names name ≡ true → (place : ℕ) × (slice_get names place ≡ Some name)
 among_place [] name h = absurd (true≢false (sym h))
 among_place (one ∷ names) name h =
-    elim (cases_Bool (same one name)) [
+    elim (cases_Bool (bytes_eq one name)) [
       | inl here ↦ (0, ap Some ((bytes_decides one name).0 here))
       | inr apart ↦
           let rest = among_place names name (sym (ap (λ b. b || is_among names name) apart) ∙ h) in
@@ -41,7 +44,7 @@ place_among : (names : List (List ℕ)) (place : ℕ) (name : List ℕ) → slic
 place_among [] place name there = cc
 place_among (one ∷ names) zero name there =
     ap (λ b. b || is_among names name) ((bytes_decides one name).1 (same_Some one name there))
-place_among (one ∷ names) (suc place) name there = ap (λ b. same one name || b) (place_among names place name there) ∙ or-true (same one name)
+place_among (one ∷ names) (suc place) name there = ap (λ b. bytes_eq one name || b) (place_among names place name there) ∙ or-true (bytes_eq one name)
 
 -- each name stands at one place
 abbrev pub AreOnce : List (List ℕ) → Type 0
@@ -85,7 +88,7 @@ ascending_once names up place other name here there =
 -- ---- names with their ids, in order
 
 module _ (names : List (List ℕ)) where
-  abbrev Stands : Named → Type 0
+  abbrev Stands : NameWithId → Type 0
   Stands n = slice_get names n.1 ≡ Some n.0
 
   abbrev name_of : ℕ → List ℕ
@@ -94,15 +97,15 @@ module _ (names : List (List ℕ)) where
   name_is : (id : ℕ) (name : List ℕ) → slice_get names id ≡ Some name → name_of id ≡ name
   name_is id name there = same_Some (name_of id) name (sym (slice_get-get_or names id [] (slice_get_within names id name there)) ∙ there)
 
-  rest_stands : (n : Named) (ns : List Named) → All Stands (n ∷ ns) → All Stands ns
+  rest_stands : (n : NameWithId) (ns : List NameWithId) → All Stands (n ∷ ns) → All Stands ns
   rest_stands n ns all k d h = all (suc k) d (omega (arith, h))
 
-  names_of_ids : (ns : List Named) → All Stands ns → map name_of (map id_of ns) ≡ map name_in ns
+  names_of_ids : (ns : List NameWithId) → All Stands ns → map name_of (map id_of ns) ≡ map name_in ns
   names_of_ids [] all = refl
   names_of_ids (n ∷ ns) all =
       λ i. name_is n.1 n.0 (all 0 n (omega arith)) i ∷ names_of_ids ns (rest_stands n ns all) i
 
-  stands_at : (ns : List Named) (place id : ℕ) → All Stands ns → slice_get (map id_of ns) place ≡ Some id → Some (name_of id) ≡ slice_get names id
+  stands_at : (ns : List NameWithId) (place id : ℕ) → All Stands ns → slice_get (map id_of ns) place ≡ Some id → Some (name_of id) ≡ slice_get names id
   stands_at [] place id all there = cc
   stands_at (n ∷ ns) zero id all there =
       let here : slice_get names n.1 ≡ Some n.0 = all 0 n (omega arith) in
@@ -110,7 +113,7 @@ module _ (names : List (List ℕ)) where
       subst (λ k. Some (name_of k) ≡ slice_get names k) is (sym (slice_get-get_or names n.1 [] (slice_get_within names n.1 n.0 here)))
   stands_at (n ∷ ns) (suc place) id all there = stands_at ns place id (rest_stands n ns all) there
 
-with_at : (first : ℕ) (names : List (List ℕ)) (k : ℕ) (d : Named) → k < length names → slice_index_or (zip names (range_with_len first (length names))) k d ≡ (slice_index_or names k [], first + k)
+with_at : (first : ℕ) (names : List (List ℕ)) (k : ℕ) (d : NameWithId) → k < length names → slice_index_or (zip names (range_with_len first (length names))) k d ≡ (slice_index_or names k [], first + k)
 with_at first [] k d h = absurd (omega (arith, h))
 with_at first (name ∷ names) zero d h = ap (λ n. (name, n)) (let z : first ≡ first + 0 = omega arith in z)
 with_at first (name ∷ names) (suc k) d h =
@@ -148,7 +151,7 @@ module _ (parts : Parts) (are : AreParts parts) where
 
     each_placed : (id : ℕ) → id < length parts.names → (place : ℕ) × (place < length parts.names) × (slice_get ids place ≡ Some id)
     each_placed id h =
-        let n : Named = (slice_index_or parts.names id [], id) in
+        let n : NameWithId = (slice_index_or parts.names id [], id) in
         let at : slice_index_or (with_ids parts.names) id n ≡ n = with_at 0 parts.names id n h ∙ ap (λ m. (slice_index_or parts.names id [], m)) (let z : 0 + id ≡ id = omega arith in z) in
         let first : Contains (with_ids parts.names) n = (id, omega (arith, h, with_long 0 parts.names), at) in
         let found = Contains-permutation (with_ids parts.names) order.named n order.moved first in
@@ -198,6 +201,61 @@ module _ (ranked : Ranked) (is : IsRanked ranked) where
   pub ranked_distinct : are_distinct ranked.parts.names ≡ true
   ranked_distinct = once_distinct ranked.parts.names own_once
 
+-- ---- numbers by their places
+
+pub has_at : (ns : List ℕ) (place : ℕ) → place < length ns → has ns (slice_index ns place) ≡ true
+has_at [] place h = absurd (omega (arith, h))
+has_at (n ∷ ns) zero h = ap (λ b. b || has ns n) (eq-eqb n n refl)
+has_at (n ∷ ns) (suc place) h = ap (λ b. eqb n (slice_index ns place) || b) (has_at ns place (omega (arith, h))) ∙ or-true (eqb n (slice_index ns place))
+
+place_of_number : (ns : List ℕ) (n : ℕ) → has ns n ≡ true → (place : ℕ) × (place < length ns) × (slice_index ns place ≡ n)
+place_of_number [] n h = absurd (true≢false (sym h))
+place_of_number (m ∷ ns) n h =
+    elim (cases_Bool (eqb m n)) [
+      | inl is ↦ (0, omega arith, eqb-true m n is)
+      | inr differs ↦
+          let at = place_of_number ns n (sym (ap (λ b. b || has ns n) differs) ∙ h) in
+          let within = at.1 in
+          (suc at.0, omega (arith, within), at.2)
+    ]
+
+distinct_by_place : (ns : List ℕ) → ((low high : ℕ) → low < high → high < length ns → slice_index ns low ≡ slice_index ns high → ⊥) → AreDistinct ns
+distinct_by_place [] once = tt
+distinct_by_place (n ∷ ns) once = (
+  false_from_ne_true (has ns n) (λ h. let at = place_of_number ns n h in let within = at.1 in once 0 (suc at.0) (omega arith) (omega (arith, within)) (sym at.2)),
+  distinct_by_place ns (λ low high h within e. once (suc low) (suc high) (omega (arith, h)) (omega (arith, within)) e),
+)
+
+apart_by_place : (ns : List ℕ) (low high : ℕ) → AreDistinct ns → low < high → high < length ns → slice_index ns low ≡ slice_index ns high → ⊥
+apart_by_place [] low high once h within e = omega (arith, within)
+apart_by_place (n ∷ ns) low zero once h within e = omega (arith, h)
+apart_by_place (n ∷ ns) zero (suc high) once h within e = true≢false (sym (ap (has ns) e ∙ has_at ns high (omega (arith, within))) ∙ once.0)
+apart_by_place (n ∷ ns) (suc low) (suc high) once h within e = apart_by_place ns low high once.1 (omega (arith, h)) (omega (arith, within)) e
+
+get_set_same : {X : Type 0} (xs : List X) (i : ℕ) (x : X) → i < length xs → slice_get (slice_set xs i x) i ≡ Some x
+get_set_same [] i x h = absurd (omega (arith, h))
+get_set_same (y ∷ xs) zero x h = refl
+get_set_same (y ∷ xs) (suc i) x h = get_set_same xs i x (omega (arith, h))
+
+get_set_other : {X : Type 0} (xs : List X) (i j : ℕ) (x : X) → (j ≡ i → ⊥) → slice_get (slice_set xs i x) j ≡ slice_get xs j
+get_set_other [] zero j x apart = refl
+get_set_other [] (suc i) j x apart = refl
+get_set_other (y ∷ xs) zero zero x apart = absurd (apart refl)
+get_set_other (y ∷ xs) zero (suc j) x apart = refl
+get_set_other (y ∷ xs) (suc i) zero x apart = refl
+get_set_other (y ∷ xs) (suc i) (suc j) x apart = get_set_other xs i j x (λ e. apart (ap suc e))
+
+-- one place more has put what it has at its id
+pub put_more : (ids : List ℕ) (ranks new_ids : NewIds) (place : ℕ) (rank : Option ℕ) → AreDistinct ids → place < length ids → slice_index ids place < length new_ids → slice_get ranks place ≡ Some rank → ArePut ids ranks place new_ids → ArePut ids ranks (place + 1) (slice_set new_ids (slice_index ids place) rank)
+put_more ids ranks new_ids place rank once within below is put other h =
+    elim (cases_lt other place) [
+      | inl before ↦ get_set_other new_ids (slice_index ids place) (slice_index ids other) rank (λ e. apart_by_place ids other place once before within e) ∙ put other before
+      | inr from ↦
+          let same : place ≡ other = omega (arith, from, h) in
+          subst (λ n. slice_get (slice_set new_ids (slice_index ids place) rank) (slice_index ids n) ≡ slice_get ranks n) same
+          (get_set_same new_ids (slice_index ids place) rank below ∙ sym is)
+    ]
+
 module _ (parts : Parts) (ids : List ℕ) (is : IsRanked (record { parts = parts; order = Some ids })) where
   sorted : List (List ℕ)
   sorted = map (λ id. slice_index_or parts.names id []) ids
@@ -210,18 +268,19 @@ module _ (parts : Parts) (ids : List ℕ) (is : IsRanked (record { parts = parts
       sym (is.there place (slice_index ids place) (slice_get-get_or ids place 0 h))
       ∙ slice_get-get_or (names_by (record { parts = parts; order = Some ids })) place [] (let l = is.long in omega (arith, h, ids_long, l))
 
-  pub are_ordering : IsOrdering ids
+  pub are_ordering : AreIds (length ids) ids
   are_ordering = record {
-    below = λ place h.
-        let within = slice_get_within parts.names (slice_index ids place) (get_or (names_by (record { parts = parts; order = Some ids })) place []) (named_at place h) in
-        omega (arith, within, ids_long);
-    once = λ low high h within e.
+    below = λ id h.
+        let at = place_of_number ids id h in
+        let within = slice_get_within parts.names (slice_index ids at.0) (get_or (names_by (record { parts = parts; order = Some ids })) at.0 []) (named_at at.0 at.1) in
+        omega (arith, within, ids_long, at.2);
+    once = distinct_by_place ids (λ low high h within e.
         let low_in : low < length ids = omega (arith, h, within) in
         let name : List ℕ = get_or (names_by (record { parts = parts; order = Some ids })) high [] in
         let same = ascending_once (names_by (record { parts = parts; order = Some ids })) is.ascend low high name
         (is.there low (slice_index ids low) (slice_get-get_or ids low 0 low_in) ∙ ap (slice_get parts.names) e ∙ named_at high within)
         (is.there high (slice_index ids high) (slice_get-get_or ids high 0 within) ∙ named_at high within) in
-        omega (arith, h, same);
+        omega (arith, h, same));
   }
 
   pub put_by_rank : (ranks new_ids : NewIds) → length ranks ≡ length parts.names → length new_ids ≡ length ranks → ArePut ids ranks (length ids) new_ids → AreByRank (record { parts = parts; order = Some ids }) ranks new_ids
@@ -256,10 +315,12 @@ module _ (is_dropped : List ℕ → Bool) (older newer : Ranked) (older_is : IsR
 
   pub all_renumbered : length (names_by older) ≤ length ranks → length (names_by newer) ≤ length newer_ranks → AreByRank older ranks older_ids → AreByRank newer newer_ranks newer_ids → AreRenumbered is_dropped older.parts.names newer.parts.names names older_ids newer_ids
   all_renumbered all newer_all by newer_by = record {
+    of_both = record {
+      ascend = named.of_both.ascend;
+      older_placed = placed_of is_dropped older ranks older_ids older_is all by named.of_both.older_placed;
+      newer_placed = placed_of (λ name. false) newer newer_ranks newer_ids newer_is newer_all newer_by named.of_both.newer_placed;
+      each_from = λ place name there. of_own name (named.of_both.each_from place name there);
+    };
     older_long = long_of older ranks older_ids older_is named.older_within all by.long;
     newer_long = long_of newer newer_ranks newer_ids newer_is named.newer_within newer_all newer_by.long;
-    ascend = named.ascend;
-    older_placed = placed_of is_dropped older ranks older_ids older_is all by named.older_placed;
-    newer_placed = placed_of (λ name. false) newer newer_ranks newer_ids newer_is newer_all newer_by named.newer_placed;
-    each_from = λ place name there. of_own name (named.each_from place name there);
   }

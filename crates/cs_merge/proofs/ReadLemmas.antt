@@ -5,9 +5,8 @@ use Rattle.cs_index.specs.Rising.{RiseWithin}
 use Rattle.cs_index.specs.PostingLists.{Ids, damage, read_ids, set_at}
 use Rattle.cs_trigram.specs.Trigram.{has}
 use Rattle.std.proofs.lemmas.Bool.{and_parts, and_from}
-use Rattle.std.specs.Prelude.{filter}
+use Rattle.std.specs.Prelude.{filter, bytes_eq}
 use Rattle.std.specs.List.{list_all}
-use Rattle.cs_tree.specs.Cover.{same}
 use Rattle.cs_index.specs.declared.fault.IndexFault.{IndexFault}
 use Rattle.cs_index.specs.declared.fault.IndexFault.TheVariants.{BadList}
 use Rattle.cs_index.specs.Image.{ListEntry, Posting, three_bytes}
@@ -46,7 +45,7 @@ set_push id (p ∷ lists) trigram ids =
 
 pub list_rises : (parts : Parts) (entry : ListEntry) → RiseWithin (length parts.names) 0 (ids_read parts entry).ids
 list_rises parts entry =
-    elim (same (take 3 (drop entry.offset parts.postings)) (three_bytes entry.trigram)) as (λ b. RiseWithin (length parts.names) 0 (cond b (read_ids (length parts.names) entry.count 0 (drop (entry.offset + 3) parts.postings)) damage).ids) [
+    elim (bytes_eq (take 3 (drop entry.offset parts.postings)) (three_bytes entry.trigram)) as (λ b. RiseWithin (length parts.names) 0 (cond b (read_ids (length parts.names) entry.count 0 (drop (entry.offset + 3) parts.postings)) damage).ids) [
       | true ↦ read_rise (length parts.names) entry.count 0 (drop (entry.offset + 3) parts.postings)
       | false ↦ tt
     ]

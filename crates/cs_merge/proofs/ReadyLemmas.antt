@@ -4,7 +4,7 @@ use Rattle.cs_tree.specs.PathSet.{Paths}
 use Rattle.cs_tree.specs.NameOrder.{bytes_cmp}
 use Rattle.cs_index.specs.PostingLists.{damage, read_ids}
 use Rattle.std.proofs.lemmas.Bool.{true≢false, and_parts, and_from, or_cases, cases_Bool, ne_eqb, lt-ltb}
-use Rattle.std.specs.Prelude.{is_some}
+use Rattle.std.specs.Prelude.{is_some, bytes_eq}
 use Rattle.std.specs.FinMap as map'
 use Rattle.std.specs.FinMap.Entries.{below_all, is_sorted}
 use Rattle.std.specs.List.{AllByRecursion, list_all}
@@ -12,7 +12,7 @@ use Rattle.std.specs.Ordering.{is_lt, is_eq}
 use Rattle.std.specs.declared.cmp.Ordering.{Ordering}
 use Rattle.std.specs.declared.cmp.Ordering.TheVariants.{Less, Equal, Greater}
 use Rattle.cs_tree.specs.PathSet as set
-use Rattle.cs_tree.specs.Cover.{covers, least, same}
+use Rattle.cs_tree.specs.Cover.{covers, least}
 use Rattle.cs_tree.proofs.Least.{IsLeast, least_says}
 use Rattle.cs_tree.proofs.Sets.{contains-union, tied_same}
 use Rattle.cs_index.specs.Image.{ListEntry, three_bytes, IsString}
@@ -27,7 +27,7 @@ use Rattle.cs_merge.proofs.HoldingLemmas.{from_list_all, is_true}
 
 pub none_read : (parts : Parts) (e : ListEntry) → e.count ≡ 0 → (ids_read parts e).ids ≡ []
 none_read parts e h =
-    elim (same (take 3 (drop e.offset parts.postings)) (three_bytes e.trigram)) as (λ b. (cond b (read_ids (length parts.names) e.count 0 (drop (e.offset + 3) parts.postings)) damage).ids ≡ []) [
+    elim (bytes_eq (take 3 (drop e.offset parts.postings)) (three_bytes e.trigram)) as (λ b. (cond b (read_ids (length parts.names) e.count 0 (drop (e.offset + 3) parts.postings)) damage).ids ≡ []) [
       | true ↦ ap (λ n. (read_ids (length parts.names) n 0 (drop (e.offset + 3) parts.postings)).ids) h
       | false ↦ refl
     ]

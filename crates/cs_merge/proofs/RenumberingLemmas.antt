@@ -13,7 +13,7 @@ use Rattle.cs_trigram.specs.Trigram.{has}
 use Rattle.cs_index.specs.Rising.{RiseWithin}
 use Rattle.cs_merge.specs.Renumbering.{NewIds, new_id, new_ids_of, IsOneToOne, KeepsOrder, StayBelow, IsPlaced, ArePlaced}
 use Rattle.cs_tree.proofs.BeforeLemmas.{before_chain}
-use Rattle.cs_index.proofs.PathLemmas.{tail_up}
+use Rattle.cs_index.proofs.PathOrderLemmas.{tail_up}
 
 -- ---- items of lists
 

@@ -18,7 +18,7 @@ use Rattle.cs_merge.specs.Joinable.{both_whole}
 use Rattle.cs_merge.specs.Renumbering.{NewIds, new_ids_of, KeepsOrder, StayBelow, AreCarried, AreRenumberings}
 use Rattle.cs_merge.specs.SideBySide.{list_ids, lower_of, place_after, list_trigram, AreListed, IsGiven}
 use Rattle.cs_merge.proofs.CarryingLemmas.{all_below_more, newer_carried, older_carried}
-use Rattle.cs_merge.proofs.PlaceLemmas.{closing_has_none, damage_found, entry_trigram, ids_rise, is_lower, moves, moves_within, next_above, sets_grow, whole_so_far}
+use Rattle.cs_merge.proofs.ListPlaceLemmas.{closing_has_none, damage_found, entry_trigram, ids_rise, is_lower, moves, moves_within, next_above, sets_grow, whole_so_far}
 use Rattle.cs_merge.proofs.RenumberingLemmas.{rise_renumbered}
 
 -- ---- what is damaged

@@ -2,7 +2,6 @@
 -- docs/FORMAT.md, "The index as it is written" and "The index as it is read".
 use Rattle.std.specs.Prelude.{◌≡◌, ℕ, true, List, length, Some, Ok}
 use Rattle.cs_tree.specs.PathSet.{Paths}
-use Rattle.cs_tree.specs.NameOrder.{bytes_cmp}
 use Rattle.cs_tree.specs.NamesAscending.{are_ascending}
 use Rattle.cs_index.specs.PostingLists.{entries_of}
 use Rattle.cs_index.specs.WholeLists.{IsList}
@@ -40,14 +39,14 @@ IsListOf postings name_count entry list = (entry.trigram ≡ list.0) × IsList p
 
 -- The bytes hold these paths and files: they spell the paths, and names that strictly ascend, and each
 -- entry has its list. The set of a name is that of the trigrams whose list has its id.
-pub record Holds (bytes : List ℕ) (paths : Paths) (files : Files) : Type 0 where
+pub record HoldsContent (bytes : List ℕ) (paths : Paths) (files : Files) : Type 0 where
   pub path_list : List (List ℕ)
   pub names : List (List ℕ)
   pub entries : List ListEntry
   pub lists : List Posting
   pub spells : Spells bytes path_list names entries
   pub each_list : AllZip (IsListOf spells.sections.postings (length names)) entries lists
-  pub ascend : map.is_sorted bytes_cmp (entries_of 0 names lists) ≡ true
+  pub ascend : are_ascending names ≡ true
   pub paths_are : paths ≡ set.from_list path_list
   pub files_are : files ≡ map.from_entries (entries_of 0 names lists)
 

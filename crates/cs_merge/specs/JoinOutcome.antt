@@ -4,7 +4,7 @@ use Rattle.cs_merge.specs.declared.fault.MergeFault.{MergeFault}
 use Rattle.cs_merge.specs.declared.fault.MergeFault.TheVariants.{TooLarge, Memory}
 
 -- The bytes are those of an index, and no more than a number of them.
-pub record IsWithin (most : ℕ) (index bytes : List ℕ) : Type 0 where
+pub record IsIndexWithin (most : ℕ) (index bytes : List ℕ) : Type 0 where
   pub are : bytes ≡ index
   pub short : length bytes ≤ most
 

@@ -1,16 +1,16 @@
 -- What the joining of two indexes answers.
-use Rattle.std.specs.Prelude.{◌≡◌, ℕ, ◌<◌, ◌≤◌, true, false, List, length}
+use Rattle.std.specs.Prelude.{◌≡◌, ℕ, ◌<◌, true, false, List, length}
 use Rattle.cs_index.specs.OpenedParts.{Parts}
 use Rattle.cs_index.specs.declared.fault.IndexFault.TheVariants.{BadList}
 use Rattle.cs_merge.specs.declared.fault.MergeFault.{MergeFault}
 use Rattle.cs_merge.specs.declared.fault.MergeFault.TheVariants.{Unsorted, Uncovered, Index, TooLarge, Memory}
+use Rattle.cs_merge.specs.JoinOutcome.{IsIndexWithin}
 use Rattle.cs_merge.specs.Joinable.{are_covered, both_ascend, both_distinct, both_whole, joined_index, AreJoinable, AreTested}
 
 -- The bytes are the index of what both have, and no more than a number of them.
 pub record IsJoined (old newer : Parts) (most : ℕ) (bytes : List ℕ) : Type 0 where
   pub joinable : AreJoinable old newer
-  pub are : bytes ≡ joined_index old newer
-  pub short : length bytes ≤ most
+  pub index : IsIndexWithin most (joined_index old newer) bytes
 
 -- Why two indexes are not joined, each fault where all tests before it hold. Names that ascend are tested without memory.
 pub data IsJoinFault (old newer : Parts) (most : ℕ) (fault : MergeFault) : Type 0 where

@@ -76,9 +76,7 @@ pub record AreOnce (older newer : NewIds) : Type 0 where
 
 -- What lists of ids are renumbered by.
 pub record AreRenumberings (count : ℕ) (older newer : NewIds) : Type 0 where
-  pub older_once : IsOneToOne older
-  pub newer_once : IsOneToOne newer
-  pub apart : AreApart older newer
+  pub once : AreOnce older newer
   pub older_below : StayBelow count older
   pub newer_below : StayBelow count newer
 
@@ -108,26 +106,26 @@ pub data IsOfOne (is_dropped : List ℕ → Bool) (older newer : List (List ℕ)
   new : (id : ℕ) → slice_get newer id ≡ Some name → IsOfOne is_dropped older newer name
   kept : (id : ℕ) → slice_get older id ≡ Some name → is_dropped name ≡ false → IsOfOne is_dropped older newer name
 
--- The names of both in order, so far: those whose ids have new ids.
-pub record AreNamed (is_dropped : List ℕ →
+-- The names ascend, each is one of both, and the new ids are those of the names of both, as far as they go.
+pub record AreNamesOfBoth (is_dropped : List ℕ →
     Bool) (older newer names : List (List ℕ)) (older_ids newer_ids : NewIds) : Type 0 where
-  pub older_within : length older_ids ≤ length older
-  pub newer_within : length newer_ids ≤ length newer
-  pub bound : length names ≤ length older_ids + length newer_ids
   pub ascend : are_ascending names ≡ true
   pub older_placed : ArePlaced is_dropped older names older_ids
   pub newer_placed : ArePlaced (λ name. false) newer names newer_ids
   pub each_from : (place : ℕ) (name : List ℕ) → slice_get names place ≡ Some name → IsOfOne is_dropped older newer name
+
+-- The names of both in order, so far: those whose ids have new ids.
+pub record AreNamed (is_dropped : List ℕ →
+    Bool) (older newer names : List (List ℕ)) (older_ids newer_ids : NewIds) : Type 0 where
+  pub of_both : AreNamesOfBoth is_dropped older newer names older_ids newer_ids
+  pub older_within : length older_ids ≤ length older
+  pub newer_within : length newer_ids ≤ length newer
+  pub bound : length names ≤ length older_ids + length newer_ids
   -- what is left stands above them
   pub older_left : (place : ℕ) (name : List ℕ) → length older_ids ≤ place → slice_get older place ≡ Some name →
       is_dropped name ≡ false → is_above names name ≡ true
   pub newer_left : (place : ℕ) (name : List ℕ) → length newer_ids ≤ place → slice_get newer place ≡ Some name →
       is_above names name ≡ true
-
--- Numbers below their count, of which each stands once.
-pub record IsOrdering (ids : List ℕ) : Type 0 where
-  pub below : (place : ℕ) → place < length ids → slice_index ids place < length ids
-  pub once : (low high : ℕ) → low < high → high < length ids → slice_index ids low ≡ slice_index ids high → ⊥
 
 -- the first places have put what they have at their ids
 abbrev pub ArePut : List ℕ → NewIds → ℕ → NewIds → Type 0
@@ -142,12 +140,9 @@ pub record AreByRank (ranked : Ranked) (ranks new_ids : NewIds) : Type 0 where
 -- All names of both are named in order, and each id of both has its new one, or none.
 pub record AreRenumbered (is_dropped : List ℕ →
     Bool) (older newer names : List (List ℕ)) (older_ids newer_ids : NewIds) : Type 0 where
+  pub of_both : AreNamesOfBoth is_dropped older newer names older_ids newer_ids
   pub older_long : length older_ids ≡ length older
   pub newer_long : length newer_ids ≡ length newer
-  pub ascend : are_ascending names ≡ true
-  pub older_placed : ArePlaced is_dropped older names older_ids
-  pub newer_placed : ArePlaced (λ name. false) newer names newer_ids
-  pub each_from : (place : ℕ) (name : List ℕ) → slice_get names place ≡ Some name → IsOfOne is_dropped older newer name
 
 -- The names of both are laid so far, by their ranks, and no list.
 pub record IsNaming (older newer : Ranked) (before now : Laid) (older_ranks newer_ranks : NewIds) : Type 0 where

@@ -72,26 +72,26 @@ pub record IsGiven (trigram : ℕ) (before now : Laid) (older newer older_left n
   pub newer_rise : RiseWithin (length before.names) (next_after 0 given) newer_left
 
 -- An id, and those behind it, counted from it.
-abbrev pub Part : Type 0
-Part = ℕ × List ℕ
+abbrev pub IdStretch : Type 0
+IdStretch = ℕ × List ℕ
 
 -- its ids
-abbrev pub part_ids : Part → List ℕ
+abbrev pub part_ids : IdStretch → List ℕ
 part_ids part = part.0 ∷ ids_onward (part.0 + 1) part.1
 
-abbrev pub parts_ids : List Part → List ℕ
+abbrev pub parts_ids : List IdStretch → List ℕ
 parts_ids [] = []
 parts_ids (part ∷ parts) = part_ids part ++ parts_ids parts
 
 -- The ids of a part are among those of ids that move together.
-pub record IsMove (new_ids : NewIds) (part : Part) : Type 0 where
+pub record IsMove (new_ids : NewIds) (part : IdStretch) : Type 0 where
   pub end : ℕ
   pub moved : AreMoved new_ids part.0 end
   pub below : AllByRecursion (λ other. part.0 + 1 + other < end) part.1
 
 -- Parts behind others have the first of some ids, and those that are left follow.
-pub record AreGathered (new_ids : NewIds) (before now : List Part) (ids left : List ℕ) : Type 0 where
-  pub more : List Part
+pub record AreGathered (new_ids : NewIds) (before now : List IdStretch) (ids left : List ℕ) : Type 0 where
+  pub more : List IdStretch
   pub are : now ≡ before ++ more
   pub ids_are : ids ≡ parts_ids more ++ left
   pub each : AllByRecursion (IsMove new_ids) more

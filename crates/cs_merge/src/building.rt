@@ -3,7 +3,7 @@ ghost use Rattle.std.specs.Prelude.{◌≡◌, ◌⊎◌, ◌<◌, [], true, map
 ghost use Rattle.cs_index.specs.Built.{are_paths};
 ghost use Rattle.cs_index.specs.Image.{image_of};
 ghost use Rattle.cs_index.specs.Laid.{entries_laid};
-ghost use Rattle.cs_merge.specs.JoinOutcome.{IsBuildFault, IsWithin};
+ghost use Rattle.cs_merge.specs.JoinOutcome.{IsBuildFault, IsIndexWithin};
 
 use crate::fault::MergeFault;
 use cs_index::{BuildFault, Sections};
@@ -25,7 +25,7 @@ pub(crate) fn begin(alloc: Global, paths: &[String]) -> Result<Sections, MergeFa
 
 /// The index that was laid out, unless it has more than a number of bytes.
 pub(crate) fn finish(sections: Sections, most: u32) -> Result<Vec<u8>, MergeFault>
-    ensures ok { IfOk result (λ index. IsWithin most
+    ensures ok { IfOk result (λ index. IsIndexWithin most
         (image_of sections.paths (entries_laid sections)) index.items) }
     ensures fault { IfErr result (λ fault. IsBuildFault most
         (image_of sections.paths (entries_laid sections)) fault) }

@@ -6,7 +6,7 @@ ghost use Rattle.cs_merge.specs.Renumbering.{new_id as new_id', new_ids_of, new_
 ghost use Rattle.cs_merge.specs.SideBySide.{ids_after, new_of, IsStretchOf};
 ghost use Rattle.cs_index.specs.Postings.{nothing_read};
 
-use crate::runs::Runs;
+use crate::id_runs::IdRuns;
 use cs_index::{IndexFault, Postings, Stretch};
 use std::marker::Model;
 
@@ -17,7 +17,7 @@ pub(crate) struct Carried<'a, 'b> {
     first: Option<u32>,
     last: u32,
     rest: Postings<'a>,
-    runs: &'b Runs<'b>,
+    runs: &'b IdRuns<'b>,
 }
 
 impl<'a, 'b> Model for Carried<'a, 'b> {
@@ -38,7 +38,10 @@ impl<'a, 'b> Model for Carried<'a, 'b> {
 
 impl<'a, 'b> Carried<'a, 'b> {
     /// Of the ids of a list.
-    pub(crate) fn new(ids: Postings<'a>, runs: &'b Runs<'b>) -> Result<Self, IndexFault>
+    pub(crate) fn new(
+        ids: Postings<'a>,
+        runs: &'b IdRuns<'b>,
+    ) -> Result<Carried<'a, 'b>, IndexFault>
         ensures { MatchResult result (λ carried. carried ≡ new_ids_read runs.now ids.entry)
             (λ fault. (fault ≡ IndexFault.BadList) × (ids.entry.whole ≡ false)) }
     {
@@ -54,7 +57,7 @@ impl<'a, 'b> Carried<'a, 'b> {
     }
 
     /// Of no list.
-    pub(crate) fn none(runs: &'b Runs<'b>) -> Self
+    pub(crate) fn none(runs: &'b IdRuns<'b>) -> Carried<'a, 'b>
         ensures { result ≡ nothing_read }
     {
         Carried {
@@ -121,7 +124,7 @@ fn parts(next: Option<(u32, u32)>) -> (u32, Option<u32>)
 }
 
 /// The next one that is kept, and its new id. Ids that are dropped with others are passed as they are written.
-fn next_kept(ids: &mut Postings<'_>, runs: &Runs<'_>) -> Result<Option<(u32, u32)>, IndexFault>
+fn next_kept(ids: &mut Postings<'_>, runs: &IdRuns<'_>) -> Result<Option<(u32, u32)>, IndexFault>
     ensures ids { IfOk result (λ next.
         cons_option (new_of next) (new_ids_of runs.now ids.new.ids)
         ≡ new_ids_of runs.now ids.old.ids) }

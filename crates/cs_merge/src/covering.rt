@@ -19,21 +19,20 @@ pub(crate) struct Cover<'a> {
 }
 
 impl<'a> Model for Cover<'a> {
-    ghost use Rattle.std.specs.List.Sorted.{IsStrictlySortedBy};
-    ghost use Rattle.cs_tree.specs.NameOrder.{bytes_cmp};
+    ghost use Rattle.cs_tree.specs.NamesAscending.{are_ascending};
     ghost use Rattle.cs_tree.specs.PathParts.{texts};
-    ghost use Rattle.std.specs.Prelude.{ℕ, List};
+    ghost use Rattle.std.specs.Prelude.{◌≡◌, true, ℕ, List};
 
     ghost Value = { List (List ℕ) };
 
     ghost view = { λ s. texts s.paths.items };
 
-    ghost invariant = { λ s. IsStrictlySortedBy bytes_cmp (texts s.paths.items) };
+    ghost invariant = { λ s. are_ascending (texts s.paths.items) ≡ true };
 }
 
 impl<'a> Cover<'a> {
     /// Of the paths of an index.
-    pub(crate) fn new(alloc: Global, index: &Index<'a>) -> Result<Self, AllocError>
+    pub(crate) fn new(alloc: Global, index: &Index<'a>) -> Result<Cover<'a>, AllocError>
         ensures { IfOk result (λ cover. set.from_list cover ≡ paths_in index.now) }
     {
         let mut paths = Vec::new(alloc);

@@ -29,7 +29,7 @@ pub enum MergeFault {
 impl From<AllocError> for MergeFault {
     ghost from_gives = { λ _ fault. fault ≡ Memory };
 
-    fn from(_refused: AllocError) -> Self {
+    fn from(_refused: AllocError) -> MergeFault {
         MergeFault::Memory
     }
 }
@@ -37,7 +37,7 @@ impl From<AllocError> for MergeFault {
 impl<T: Drop> From<AllocFailed<T>> for MergeFault {
     ghost from_gives = { λ _ fault. fault ≡ Memory };
 
-    fn from(_refused: AllocFailed<T>) -> Self {
+    fn from(_refused: AllocFailed<T>) -> MergeFault {
         MergeFault::Memory
     }
 }
@@ -48,7 +48,7 @@ impl From<IndexFault> for MergeFault {
 
     ghost from_gives = { λ index fault. fault ≡ merge_fault_of index };
 
-    fn from(index: IndexFault) -> Self {
+    fn from(index: IndexFault) -> MergeFault {
         match index {
             IndexFault::Memory => MergeFault::Memory,
             _ => MergeFault::Index(index),

@@ -7,10 +7,10 @@ ghost use Rattle.cs_merge.specs.Joinable.{are_covered, both_ascend, both_distinc
 ghost use Rattle.cs_merge.specs.Joining.{IsJoined, IsJoinFault};
 ghost use Rattle.cs_merge.specs.Ranked.{IsRanked};
 
+use crate::both_lists::lay_lists;
 use crate::building::{begin, finish};
 use crate::covering::is_under;
 use crate::fault::MergeFault;
-use crate::listing::lay_lists;
 use crate::naming::lay_names;
 use crate::ranked::Ranked;
 use cs_index::{Index, IndexFault, Texts};

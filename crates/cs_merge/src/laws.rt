@@ -13,7 +13,7 @@ ghost use Rattle.cs_index.specs.OpenedParts.{Parts};
 ghost use Rattle.cs_index.specs.Spelling.{Spells};
 ghost use Rattle.cs_merge.specs.Join.{join_files, join_paths};
 ghost use Rattle.cs_merge.specs.Replacing.{IsCoveredBy};
-ghost use Rattle.cs_merge.specs.Content.{IsContent, LieUnder, Holds, HasContent, Opens};
+ghost use Rattle.cs_merge.specs.Content.{IsContent, LieUnder, HoldsContent, HasContent, Opens};
 
 /// At a name that the newer paths cover the join has what the newer index has.
 pub fn newer_wins()
@@ -60,25 +60,25 @@ pub fn images_hold_their_content()
         (list_entries 0 (postings_of (map.entries files))) }
     ensures held { (paths : Paths) (files : Files) → IsContent paths files →
         length (image paths files) < 2 ^ 32 →
-        Holds (image paths files) paths files }
+        HoldsContent (image paths files) paths files }
 {}
 
 /// Bytes hold one content alone, and it can be held.
 pub fn bytes_hold_one_content()
-    ensures once { (bytes : List ℕ) (p q : Paths) (f g : Files) → Holds bytes p f →
-        Holds bytes q g → (p ≡ q) × (f ≡ g) }
-    ensures content { (bytes : List ℕ) (paths : Paths) (files : Files) → Holds bytes paths files →
-        IsContent paths files }
+    ensures once { (bytes : List ℕ) (p q : Paths) (f g : Files) → HoldsContent bytes p f →
+        HoldsContent bytes q g → (p ≡ q) × (f ≡ g) }
+    ensures content { (bytes : List ℕ) (paths : Paths) (files : Files)
+        → HoldsContent bytes paths files → IsContent paths files }
 {}
 
 /// The names of an index are those of its files, in their order, and each file has the set of its
 /// name.
 pub fn names_have_their_sets()
     ensures names { (bytes : List ℕ) (paths : Paths) (files : Files)
-        (holds : Holds bytes paths files) →
+        (holds : HoldsContent bytes paths files) →
         map.keys files ≡ holds.names }
     ensures sets { (bytes : List ℕ) (paths : Paths) (files : Files)
-        (holds : Holds bytes paths files) (id : ℕ) (d : List ℕ) → id < length holds.names →
+        (holds : HoldsContent bytes paths files) (id : ℕ) (d : List ℕ) → id < length holds.names →
         map.get files (slice_index_or holds.names id d) ≡ Some (set_at id holds.lists) }
 {}
 
@@ -93,8 +93,8 @@ pub fn images_have_one_content()
 /// ascending and its lists whole.
 pub fn held_bytes_open()
     ensures exactly { (bytes : List ℕ) (paths : Paths) (files : Files) → AreBytes bytes →
-        Holds bytes paths files ↔ Opens bytes paths files }
+        HoldsContent bytes paths files ↔ Opens bytes paths files }
     ensures has { (bytes : List ℕ) (parts : Parts) (paths : Paths) (files : Files) →
         AreBytes bytes → opening bytes ≡ Ok parts →
-        Holds bytes paths files → HasContent parts paths files }
+        HoldsContent bytes paths files → HasContent parts paths files }
 {}

@@ -3,17 +3,17 @@
 //! of the caller's own.
 #![tactic(auto)]
 
+mod both_lists;
 mod building;
 mod carrying;
 mod covering;
 mod fault;
+mod id_runs;
 mod joining;
 pub mod laws;
-mod listing;
 mod naming;
 mod ranked;
 mod renumbering;
-mod runs;
 
 pub use fault::MergeFault;
 pub use joining::{merge, merge_within};

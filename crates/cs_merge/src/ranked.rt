@@ -32,7 +32,10 @@ impl<'a, 'b> Model for Ranked<'a, 'b> {
 
 impl<'a, 'b> Ranked<'a, 'b> {
     /// Of an index; `None` where it holds a name twice. Names that ascend take no memory.
-    pub(crate) fn of(alloc: Global, index: &'b Index<'a>) -> Result<Option<Self>, AllocError>
+    pub(crate) fn of(
+        alloc: Global,
+        index: &'b Index<'a>,
+    ) -> Result<Option<Ranked<'a, 'b>>, AllocError>
         ensures ranked { IfOk result (λ found. MatchOption found
             (are_distinct index.now.names ≡ false)
             (λ ranked. (ranked.parts ≡ index.now) × IsRanked ranked)) }

@@ -1,6 +1,7 @@
 // How the ids of an index become ids of the index of both.
 ghost use Rattle.std.specs.Prelude.{◌≡◌, ◌<◌, ◌^◌, ◌∷◌, ◌++◌, [], Some, None, length, IfOk, OnOk};
-ghost use Rattle.cs_merge.specs.Renumbering.{new_id as new_id', ArePut, IsOrdering};
+ghost use Rattle.cs_merge.specs.Renumbering.{new_id as new_id', ArePut};
+ghost use Rattle.cs_merge.specs.SideBySide.{AreIds};
 
 use std::alloc::{AllocError, Global};
 use std::marker::Model;
@@ -21,7 +22,7 @@ impl Model for Renumbering {
 
 impl Renumbering {
     /// Of no id.
-    pub(crate) fn new(alloc: Global) -> Self
+    pub(crate) fn new(alloc: Global) -> Renumbering
         ensures { result ≡ [] }
     {
         Renumbering {
@@ -56,7 +57,7 @@ impl Renumbering {
     /// The new ids of these ids, from those of their places.
     pub(crate) fn place(&self, alloc: Global, ids: &[u32]) -> Result<Renumbering, AllocError>
         requires all { length self.now ≡ length ids.now }
-        requires order { IsOrdering ids.now }
+        requires order { AreIds (length ids.now) ids.now }
         ensures long { IfOk result (λ new_ids. length new_ids ≡ length self.now) }
         ensures each { IfOk result (λ new_ids. ArePut ids.now self.now (length ids.now) new_ids) }
     {

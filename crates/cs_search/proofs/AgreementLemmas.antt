@@ -1,9 +1,8 @@
 -- Where the files read as they were indexed, those that a query leaves out have no line with the pattern.
 use Rattle.std.proofs.Common.{◌≡◌, ℕ, ◌+◌, ◌<◌, ◌≤◌, Bool, true, false, cond, nat_lt, ◌&&◌, ◌||◌, List, [], ◌∷◌, ◌++◌, length, map, refl, sym, ap, subst, ◌∙◌, arith, eq-eqb, Option, Some, None, append_assoc, append-nil, length-append, not}
 use Rattle.cs_tree.specs.TreeAnswers.{opening_of}
-use Rattle.cs_tree.specs.Pieces.{onto_first}
 use Rattle.std.specs.Prelude.{nat_eq, nat_le, filter}
-use Rattle.std.specs.List.{list_all, AllByRecursion}
+use Rattle.std.specs.List.{list_all, AllByRecursion, onto_first}
 use Rattle.std.proofs.lemmas.Bool.{true≢false, and_from, leb-false, le-ltb}
 use Rattle.std.proofs.Math.Bool.{or-true}
 use Rattle.std.proofs.lemmas.List.{take_all}
@@ -17,21 +16,21 @@ use Rattle.cs_trigram.specs.Text.{rule_broken, first_broken, too_many, skip, non
 use Rattle.cs_trigram.specs.declared.limits.Limits.{Limits}
 use Rattle.cs_trigram.specs.declared.scan.Reason.{Reason}
 use Rattle.cs_trigram.specs.declared.scan.Reason.TheVariants.{Nul, Utf8, TooLong as TooManyBytes, LongLine}
-use Rattle.cs_trigram.proofs.TextLemmas.{option_or-none}
+use Rattle.cs_trigram.proofs.RuleLemmas.{option_or-none}
 use Rattle.cs_trigram.proofs.LawLemmas.{has-part_of}
 use Rattle.cs_trigram.specs.Query.{holds, HasTrigrams, LosesNoLine}
 use Rattle.cs_trigram.specs.declared.queries.Query.{Query}
 use Rattle.cs_index.specs.Image.{Entry}
+use Rattle.cs_history.specs.FileTrigrams.{ReadAsIndexed}
 use Rattle.cs_words.specs.declared.jobs.Tool.{Tool}
 use Rattle.cs_words.specs.declared.jobs.Style.{Style}
 use Rattle.cs_search.specs.declared.grep_fault.ReadFault.{ReadFault}
 use Rattle.cs_search.specs.declared.grep_fault.ReadFault.TheVariants.{TooLong}
 use Rattle.cs_search.specs.declared.report.TheConstants.{MOST_SEARCHED}
-use Rattle.cs_search.specs.Csearch.{ReadAsIndexed}
 use Rattle.cs_match.specs.Lines.{newline, lines}
-use Rattle.cs_search.specs.Report.{Hit, hits_from, some_hit, name_line, count_line, hits_output, report}
+use Rattle.cs_search.specs.Report.{Hit, hits_from, some_hit, name_line, hits_output, report}
 use Rattle.cs_search.specs.InputReport.{told_report}
-use Rattle.cs_search.specs.Printed.{Printed, printed_of, input_printed, opened_printed, file_printed, all_printed, both_printed, nothing}
+use Rattle.cs_search.specs.Printed.{Printed, printed_of, input_printed, opened_printed, file_printed, all_printed, both_printed, none_printed}
 
 -- ---- the lines of a text are parts of it
 
@@ -129,7 +128,7 @@ module _ (query : Query) (pattern : Tree) (loses : LosesNoLine query pattern) (f
 -- ---- what is printed of a text
 
 nothing_found : (style : Style) (name : List ℕ) → hits_output style name true [] ≡ []
-unfolding hits_output name_line count_line
+unfolding hits_output name_line
 nothing_found style name =
     elim style.list as (λ l. cond {A = List ℕ} l [] (cond style.count [] []) ≡ []) [
       | true ↦ refl
@@ -163,7 +162,7 @@ module _ (most : ℕ) (style : Style) (finds : List ℕ → Bool) (name bytes : 
       ap (printed_of tool name) text_reported
       ∙ ap (λ (fault : Option ReadFault). printed_of tool name (record { output = hits_output style name true hits_in; fault = fault; matched = some_hit hits_in })) (no_fault (style.list && some_hit hits_in))
 
-  printed_nothing : hits_in ≡ [] → text_printed ≡ nothing
+  printed_nothing : hits_in ≡ [] → text_printed ≡ none_printed
   printed_nothing e =
       ap (λ (hits : List Hit). record { output = hits_output style name true hits; errors = []; matched = some_hit hits }) e
       ∙ ap (λ (output : List ℕ). record { output = output; errors = []; matched = false }) (nothing_found style name)
@@ -231,7 +230,7 @@ module _ (style : Style) (finds : List ℕ → Bool) (tree : Snapshot) (name tri
 
   -- where the query leaves it out
   module _ (query : Query) (pattern : Tree) (loses : LosesNoLine query pattern) (decides : Decides finds pattern) where
-    pub file_empty : (item : Item) → item_at tree name ≡ item → read_item (text_trigrams limits) item ≡ Some trigrams → holds query (has trigrams) ≡ false → (a : Tool) → file_printed MOST_SEARCHED a style finds tree name ≡ nothing
+    pub file_empty : (item : Item) → item_at tree name ≡ item → read_item (text_trigrams limits) item ≡ Some trigrams → holds query (has trigrams) ≡ false → (a : Tool) → file_printed MOST_SEARCHED a style finds tree name ≡ none_printed
     file_empty (file bytes) e h out a =
         let text = text_is bytes trigrams h in
         let known : AllByRecursion (HasTrigrams (has trigrams)) (lines bytes) = subst (λ (ns : List ℕ). AllByRecursion (HasTrigrams (has ns)) (lines bytes)) text.are (lines_known bytes) in

@@ -6,7 +6,7 @@ use Rattle.memchr.specs.Find.{Nowhere, NoneAfter, Passes, is_byte}
 use Rattle.cs_tree.proofs.Growing.{take_on}
 use Rattle.cs_match.specs.Lines.{ended_lines}
 use Rattle.cs_match.specs.LineParts.{IsPart}
-use Rattle.cs_match.specs.Skipping.{AreWhole}
+use Rattle.cs_match.specs.Skipping.{AreWholeLines}
 use Rattle.cs_match.specs.LastPart.{last_part}
 use Rattle.cs_match.proofs.LinesLemmas.{lines_within, last_part-append, ended_lines-part, last_part-part, IsPart-append, IsPart-searched}
 use Rattle.cs_match.proofs.NewlineLemmas.{next_none}
@@ -24,10 +24,10 @@ module _ (block : List ℕ) (clean : ℕ) where
     pub last_within : clean + at < length block
     last_within = omega (arith, last.0.high, length-drop clean block)
 
-    pub whole_last : AreWhole (take (clean + at + 1) block)
+    pub whole_last : AreWholeLines (take (clean + at + 1) block)
     whole_last =
         let here : get_or block (clean + at) 0 ≡ 10 = sym (get_or-drop clean block at 0) ∙ eqb-true (get_or (drop clean block) at 0) 10 last.1 in
-        subst AreWhole (sym (take_more block (clean + at) 0 last_within ∙ ap (λ b. take (clean + at) block ++ b ∷ []) here))
+        subst AreWholeLines (sym (take_more block (clean + at) 0 last_within ∙ ap (λ b. take (clean + at) block ++ b ∷ []) here))
         (whole_ended (take (clean + at) block))
 
     pub part_last : IsPart (drop (clean + at + 1) block)
@@ -38,7 +38,7 @@ module _ (block : List ℕ) (clean : ℕ) where
         last.0.after (at + 1 + k) (omega arith) (omega (arith, low, size, length-drop clean block, last_within)) (subst (λ b. nat_eq b 10 ≡ true) there e))
 
 -- a block is whole lines, and then a part
-module _ (block : List ℕ) (stop : ℕ) (whole : AreWhole (take stop block)) where
+module _ (block : List ℕ) (stop : ℕ) (whole : AreWholeLines (take stop block)) where
   pub ended_front : ended_lines block ≡ ended_lines (take stop block) ++ ended_lines (drop stop block)
   ended_front = ap ended_lines (sym (take-append-drop stop block)) ∙ ended_lines-whole (drop stop block) (take stop block) whole
 
@@ -54,7 +54,7 @@ module _ (block : List ℕ) (stop : ℕ) (whole : AreWhole (take stop block)) wh
       ∙ last_part-part (drop stop block) part)
 
 -- whole lines up to one place, and on to another
-module _ (block : List ℕ) (from to : ℕ) (rising : from ≤ to) (before : AreWhole (take from block)) where
+module _ (block : List ℕ) (from to : ℕ) (rising : from ≤ to) (before : AreWholeLines (take from block)) where
   front_is : take to block ≡ take from block ++ take (to - from) (drop from block)
   front_is =
       let at : to ≡ from + (to - from) = omega arith in
@@ -63,8 +63,8 @@ module _ (block : List ℕ) (from to : ℕ) (rising : from ≤ to) (before : Are
   pub lines_on : ended_lines (take to block) ≡ ended_lines (take from block) ++ ended_lines (take (to - from) (drop from block))
   lines_on = ap ended_lines front_is ∙ ended_lines-whole (take (to - from) (drop from block)) (take from block) before
 
-  pub whole_on : AreWhole (take (to - from) (drop from block)) → AreWhole (take to block)
-  whole_on w = subst AreWhole (sym front_is) (whole_append _ _ before w)
+  pub whole_on : AreWholeLines (take (to - from) (drop from block)) → AreWholeLines (take to block)
+  whole_on w = subst AreWholeLines (sym front_is) (whole_append _ _ before w)
 
 pub counted_within : (text : List ℕ) (n : ℕ) → length (ended_lines (take n text)) ≤ n
 counted_within text n = omega (arith, lines_within (take n text), length-take n text)

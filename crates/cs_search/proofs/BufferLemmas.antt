@@ -5,7 +5,7 @@ use Rattle.std.proofs.lemmas.List.{take_at, drop_at, take-append-drop, drop-drop
 use Rattle.cs_tree.specs.declared.fault.IoFault.{IoFault}
 use Rattle.cs_tree.specs.Told.{Told}
 use Rattle.cs_tree.proofs.Growing.{take_on}
-use Rattle.cs_search.specs.Buffer.{Gains, pending}
+use Rattle.cs_search.specs.Buffer.{GrowsBy, pending_bytes}
 use Rattle.cs_search.specs.declared.buffer.LineBuffer.{LineBuffer}
 
 pub slice_skip : (bytes : List ℕ) (start end n : ℕ) → start + n ≤ end → take (end - (start + n)) (drop (start + n) bytes) ≡ drop n (take (end - start) (drop start bytes))
@@ -39,8 +39,8 @@ module _ (bytes more : List ℕ) (start end : ℕ) (rising : start ≤ end) (wit
       ∙ ap (λ r. take (end - start) (drop start bytes) ++ take n r) (ap (λ r. drop (end - start) r) slice_front ∙ drop_at (take (end - start) (drop start bytes)) more (end - start) slice_size)
 
 -- what some bytes gain
-pub Gains-append : (old new more : List ℕ) (n : ℕ) → new ≡ old ++ more → length more ≡ n → Gains old new n
-Gains-append old new more n e size =
+pub GrowsBy-append : (old new more : List ℕ) (n : ℕ) → new ≡ old ++ more → length more ≡ n → GrowsBy old new n
+GrowsBy-append old new more n e size =
     record {
       front = ap (λ l. take (length old) l) e ∙ take_at old more (length old) refl;
       size = ap length e ∙ length-append old more ∙ ap (λ k. length old + k) size;
@@ -61,20 +61,20 @@ module _ (buffer : LineBuffer) (bytes : List ℕ) (before : take buffer.end byte
   bytes_are = sym (take-append-drop buffer.end bytes) ∙ ap (λ f. f ++ drop buffer.end bytes) before
 
   -- what is in a buffer after a write behind it
-  pub pending_more : (n : ℕ) → take (buffer.end + n - buffer.start) (drop buffer.start bytes) ≡ pending buffer ++ take n (drop buffer.end bytes)
-  unfolding pending
+  pub pending_more : (n : ℕ) → take (buffer.end + n - buffer.start) (drop buffer.start bytes) ≡ pending_bytes buffer ++ take n (drop buffer.end bytes)
+  unfolding pending_bytes
   pending_more n =
       ap (λ l. take (buffer.end + n - buffer.start) (drop buffer.start l)) bytes_are
       ∙ slice_more buffer.bytes.items (drop buffer.end bytes) buffer.start buffer.end buffer.ordered inside n
 
-  pub pending_same : take (buffer.end - buffer.start) (drop buffer.start bytes) ≡ pending buffer
-  unfolding pending
+  pub pending_same : take (buffer.end - buffer.start) (drop buffer.start bytes) ≡ pending_bytes buffer
+  unfolding pending_bytes
   pending_same =
       ap (λ l. take (buffer.end - buffer.start) (drop buffer.start l)) bytes_are
       ∙ slice_same buffer.bytes.items (drop buffer.end bytes) buffer.start buffer.end buffer.ordered inside
 
-pub pending_size : (buffer : LineBuffer) → length (pending buffer) + buffer.start ≡ buffer.end
-unfolding pending
+pub pending_size : (buffer : LineBuffer) → length (pending_bytes buffer) + buffer.start ≡ buffer.end
+unfolding pending_bytes
 pending_size buffer =
     let within : buffer.end ≤ length buffer.bytes.items = omega (arith, buffer.within, buffer.bytes.ok.0) in
     let rising : buffer.start ≤ buffer.end = buffer.ordered in
@@ -86,8 +86,8 @@ Reads_front told later (Ok n) buf rest within some r =
     (subst (Loses told later) (sym (take-append-le n buf rest within)) r.0, λ none room. r.1 none some)
 Reads_front told later (Err fault) buf rest within some r = r
 
-pub Gains-split : (old new : List ℕ) (n : ℕ) → Gains old new n → new ≡ old ++ drop (length old) new
-Gains-split old new n gains = sym (take-append-drop (length old) new) ∙ ap (λ f. f ++ drop (length old) new) gains.front
+pub GrowsBy-split : (old new : List ℕ) (n : ℕ) → GrowsBy old new n → new ≡ old ++ drop (length old) new
+GrowsBy-split old new n gains = sym (take-append-drop (length old) new) ∙ ap (λ f. f ++ drop (length old) new) gains.front
 
-pub Gains-size : (old new : List ℕ) (n : ℕ) → Gains old new n → length (drop (length old) new) ≡ n
-Gains-size old new n gains = omega (arith, length-drop (length old) new, gains.size)
+pub GrowsBy-size : (old new : List ℕ) (n : ℕ) → GrowsBy old new n → length (drop (length old) new) ≡ n
+GrowsBy-size old new n gains = omega (arith, length-drop (length old) new, gains.size)

@@ -44,7 +44,7 @@ use Rattle.cs_search.specs.declared.status.Status.{Status}
 use Rattle.cs_words.proofs.DivisionLemmas.{slice_get-front}
 use Rattle.cs_search.proofs.CgrepLemmas.{read_once, decides_program}
 use Rattle.cs_search.specs.IndexSearch.{FileRefused, OpenRefused, file_fault_at, file_pattern_fault, names_at, IsCompiled, DecidesNames}
-use Rattle.cs_search.specs.Printed.{Printed, NamedFault, AreFaultsOf, file_printed, all_printed, both_printed, nothing}
+use Rattle.cs_search.specs.Printed.{Printed, NamedFault, AreFaultsOf, file_printed, all_printed, both_printed, none_printed}
 use Rattle.cs_search.proofs.PrintedLemmas.{all_append, both_printed-nothing}
 
 -- ---- the pattern of `-f` that is refused
@@ -97,7 +97,7 @@ module _ (printed : List ℕ → Printed) (keeps : List ℕ → Bool) (names : L
       ∙ all_append printed (filter keeps first) (filter keeps rest)
       ∙ ap (λ (p : Printed). both_printed p (all_printed printed (filter keeps rest))) chosen_first
 
-  pub none_at : (id : ℕ) → slice_get names id ≡ None → all_printed printed (filter keeps (names_at names (id ∷ []))) ≡ nothing
+  pub none_at : (id : ℕ) → slice_get names id ≡ None → all_printed printed (filter keeps (names_at names (id ∷ []))) ≡ none_printed
   unfolding names_at all_printed
   none_at id e = ap (λ (o : Option (List ℕ)). all_printed printed (filter keeps (cons_option o []))) e
 
@@ -106,7 +106,7 @@ module _ (printed : List ℕ → Printed) (keeps : List ℕ → Bool) (names : L
     unfolding names_at
     one_at = ap (λ (o : Option (List ℕ)). all_printed printed (filter keeps (cons_option o []))) there
 
-    pub left_out_at : keeps name ≡ false → all_printed printed (filter keeps (names_at names (id ∷ []))) ≡ nothing
+    pub left_out_at : keeps name ≡ false → all_printed printed (filter keeps (names_at names (id ∷ []))) ≡ none_printed
     unfolding all_printed
     left_out_at e = one_at ∙ ap (λ t. all_printed printed (cond t (name ∷ []) [])) e
 
@@ -246,7 +246,7 @@ module _ (Holds : Option Printed → Type 0) (tree : Option Snapshot) (names : L
 
 -- ---- what was printed of a name
 
-pub Prints-nothing : (tree : Option Snapshot) (printed : Snapshot → Printed) (out err : Option Taken) → ((s : Snapshot) → printed s ≡ nothing) → Prints (option_map printed tree) out out err err false
+pub Prints-nothing : (tree : Option Snapshot) (printed : Snapshot → Printed) (out err : Option Taken) → ((s : Snapshot) → printed s ≡ none_printed) → Prints (option_map printed tree) out out err err false
 Prints-nothing None printed out err is = tt
 Prints-nothing (Some s) printed out err is = subst (λ (p : Printed). IsPrinted p out out err err false) (sym (is s)) (Grows-same out, Grows-same err, refl)
 

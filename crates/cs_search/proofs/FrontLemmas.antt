@@ -106,15 +106,15 @@ module _ (style : Style) (name : List ℕ) (finds : List ℕ → Bool) (before m
   -- the piece that was read last is tested in part
   pub FindsFront-piece : (told left later : Option Told) (n : ℕ) (rest piece : List ℕ) (lines : ℕ) (out : Option Taken) → n + length piece ≤ most → HasRead told left n rest lines → Loses left later piece → (style.list ≡ true → mid.hits ≡ 0) → mid.lines ≡ before.lines + lines → HasTested told n (λ ls. Tests style name finds ls before mid taken now) → TestsFront style name finds (ended_lines (rest ++ piece)) (mid.lines + 1) now out → FindsFront style name finds (before.lines + 1) taken out most told
   FindsFront-piece None left later n rest piece lines out within r l none counted t front = tt
-  FindsFront-piece (Some told) None later n rest piece lines out within r l none counted t front = absurd r
+  FindsFront-piece (Some told) None later n rest piece lines out within r l none counted t front = absurd r.1
   FindsFront-piece (Some told) (Some left) None n rest piece lines out within r l none counted t front = absurd l
   FindsFront-piece (Some told) (Some left) (Some later) n rest piece lines out within r l none counted t front =
-      let read = front_more told left later n piece r.0 r.1 l.0 in
-      let ended = ap ended_lines read ∙ ended_lines-append (take n told.bytes) piece ∙ ap (λ b. ended_lines (take n told.bytes) ++ ended_lines (b ++ piece)) (sym r.3) in
+      let read = front_more told left later n piece r.0 r.1.0 l.0 in
+      let ended = ap ended_lines read ∙ ended_lines-append (take n told.bytes) piece ∙ ap (λ b. ended_lines (take n told.bytes) ++ ended_lines (b ++ piece)) (sym r.2) in
       subst (λ ls. TestsFront style name finds ls (before.lines + 1) taken out) (sym (lines_searched told (n + length piece) within))
       (TestsFront-more style name finds _ _ _ taken out
       (subst (λ ls. TestsFront style name finds ls (before.lines + 1) taken out) (sym ended)
-      (TestsFront-after style name finds _ _ before mid taken now out none (counted ∙ ap (λ k. before.lines + k) r.4) t front)))
+      (TestsFront-after style name finds _ _ before mid taken now out none (counted ∙ ap (λ k. before.lines + k) r.3) t front)))
 
 -- ---- the report
 

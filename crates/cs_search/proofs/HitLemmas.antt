@@ -1,5 +1,5 @@
 -- What was printed at the hits, and at the end, is what the report prints.
-use Rattle.std.proofs.Common.{◌≡◌, ℕ, ◌+◌, ◌≤◌, Bool, true, false, cond, nat_lt, List, [], ◌∷◌, ◌++◌, length, refl, sym, ap, subst, ◌∙◌, arith, append-nil, Option, Some, None, ⊎_elim, codes, decimal, is_none}
+use Rattle.std.proofs.Common.{◌≡◌, ℕ, ◌+◌, ◌≤◌, Bool, true, false, cond, nat_lt, List, [], ◌∷◌, ◌++◌, length, refl, sym, ap, subst, ◌∙◌, arith, append-nil, Option, Some, None, ⊎_elim, is_none}
 use Rattle.std.specs.Prelude.{◌&&◌}
 use Rattle.std.specs.List.{flat_map}
 use Rattle.std.proofs.lemmas.List.{nil_from_length}
@@ -47,8 +47,8 @@ module _ (style : Style) (name : List ℕ) where
   unfolding hits_output name_line
   hits_output_listed e whole hits = rw e refl
 
-  pub hits_output_counted : style.list ≡ false → style.count ≡ true → (whole : Bool) (hits : List Hit) → hits_output style name whole hits ≡ cond whole (cond (some_hit hits) (name ++ (codes ": " ++ (decimal (length hits) ++ newline ∷ []))) []) []
-  unfolding hits_output count_line
+  pub hits_output_counted : style.list ≡ false → style.count ≡ true → (whole : Bool) (hits : List Hit) → hits_output style name whole hits ≡ cond (whole && some_hit hits) (count_line name (length hits)) []
+  unfolding hits_output
   hits_output_counted e h whole hits = rw (e, h) refl
 
   pub hits_output_plain : style.list ≡ false → style.count ≡ false → (whole : Bool) (hits : List Hit) → hits_output style name whole hits ≡ flat_map (hit_line style name) hits
@@ -59,7 +59,7 @@ module _ (style : Style) (name : List ℕ) where
   unfolding total
   total_listed e count = rw e refl
 
-  total_counted : style.list ≡ false → style.count ≡ true → (count : ℕ) → total style name count ≡ cond (nat_lt 0 count) (name ++ (codes ": " ++ (decimal count ++ newline ∷ []))) []
+  total_counted : style.list ≡ false → style.count ≡ true → (count : ℕ) → total style name count ≡ cond (nat_lt 0 count) (count_line name count) []
   unfolding total
   total_counted e h count = rw (e, h) refl
 
@@ -77,7 +77,7 @@ module _ (style : Style) (name : List ℕ) where
   pub printed_end : (hits : List Hit) → (style.list ≡ true → length hits ≤ 1) → flat_map (hit_output style name) hits ++ total style name (length hits) ≡ hits_output style name true hits
   printed_end hits bound =
       ⊎_elim (λ e. ap (λ l. flat_map (hit_output style name) hits ++ l) (total_listed e (length hits)) ∙ append-nil (flat_map (hit_output style name) hits) ∙ listed_once e hits (bound e) ∙ sym (hits_output_listed e true hits))
-      (λ e. ⊎_elim (λ h. ap (λ l. l ++ total style name (length hits)) (flat_none (hit_output style name) (hit_output_counted e h) hits) ∙ total_counted e h (length hits) ∙ ap (λ b. cond b (name ++ (codes ": " ++ (decimal (length hits) ++ newline ∷ []))) []) (some_counted hits) ∙ sym (hits_output_counted e h true hits))
+      (λ e. ⊎_elim (λ h. ap (λ l. l ++ total style name (length hits)) (flat_none (hit_output style name) (hit_output_counted e h) hits) ∙ total_counted e h (length hits) ∙ ap (λ b. cond b (count_line name (length hits)) []) (some_counted hits) ∙ sym (hits_output_counted e h true hits))
       (λ h. ap (λ l. flat_map (hit_output style name) hits ++ l) (total_plain e h (length hits)) ∙ append-nil (flat_map (hit_output style name) hits) ∙ flat_same (hit_output style name) (hit_line style name) (hit_output_plain e h) hits ∙ sym (hits_output_plain e h true hits))
       (cases_Bool style.count)) (cases_Bool style.list)
 

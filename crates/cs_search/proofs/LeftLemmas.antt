@@ -16,9 +16,7 @@ use Rattle.cs_index.specs.Opening.{opening}
 use Rattle.cs_index.specs.OpenedParts.{Parts, ids_read, are_whole}
 use Rattle.cs_index.specs.Answerable.{is_answerable, asks_for}
 use Rattle.cs_index.specs.declared.fault.IndexFault.{IndexFault}
-use Rattle.cs_merge.proofs.ContentLemmas.{each_of_map}
 use Rattle.cs_history.specs.History.{History, files_of}
-use Rattle.cs_history.specs.FileTrigrams.{file_trigrams}
 use Rattle.cs_history.specs.Left.{HasLeft}
 use Rattle.cs_history.proofs.HistoryLemmas.{history_opens}
 use Rattle.cs_history.specs.SearchHeadline.{SearchPremises, indexed_names}
@@ -74,8 +72,7 @@ module _ (history : History) (bytes : List ℕ) (left : HasLeft history bytes) w
 pub still_quiet : (style : Style) (finds keeps : List ℕ → Bool) (tree : Snapshot) (index : Option (List ℕ)) (earlier : History) → SearchPremises (Some tree) index earlier → (searched_by_cgrep MOST_SEARCHED style finds tree (filter keeps (indexed_names earlier))).errors ≡ []
 unfolding searched_by_cgrep
 still_quiet style finds keeps tree index earlier premises =
-    let each = each_of_map (λ name (trigrams : List ℕ). file_trigrams tree name ≡ Some trigrams) (files_of earlier) premises.still_reads in
-    search_quiet style finds keeps tree Cgrep (map'.entries (files_of earlier)) each
+    search_quiet style finds keeps tree Cgrep (map'.entries (files_of earlier)) premises.still_reads
 
 -- ---- the same search by cgrep
 
@@ -95,7 +92,7 @@ module _ (job : SearchJob) (names : List (List ℕ)) (like : GrepJob) (same : Is
       ∙ ap (λ (all : List (List ℕ)). Some (searched_by_cgrep MOST_SEARCHED job.style finds tree all)) same.over
 
 pub promised_by_cgrep : (job : SearchJob) (index : Option (List ℕ)) (tree : Snapshot) (input : Option Told) (Prints : Option Printed → Type 0) (finds keeps : List ℕ → Bool) (earlier : History) (like : GrepJob) →
-    PrintsAsPromised MOST_SEARCHED job index (Some tree) Prints → Seeks job finds keeps → SearchPremises (Some tree) index earlier → IsSameSearch job (filter keeps (indexed_names earlier)) like →
+    PrintsAsPromised job index (Some tree) Prints → Seeks job finds keeps → SearchPremises (Some tree) index earlier → IsSameSearch job (filter keeps (indexed_names earlier)) like →
     Prints (cgrep_printed MOST_SEARCHED like finds (Some tree) input)
 promised_by_cgrep job index tree input Prints finds keeps earlier like promised seeks premises same =
     subst Prints (sym (printed_by_cgrep job (filter keeps (indexed_names earlier)) like same finds tree input)) (promised tree finds keeps refl seeks earlier premises)

@@ -10,7 +10,7 @@ use Rattle.std.proofs.Math.Bool.{or-false, or_assoc}
 use Rattle.std.proofs.lemmas.List.Concat.{flat_map-append}
 use Rattle.cs_tree.specs.Told.{Told, Grows, Taken}
 use Rattle.cs_tree.specs.Snapshot.{Snapshot, item_at}
-use Rattle.cs_tree.specs.Trees.{Opens, OpensAs, OpenedAs, open_told, is_tree_failure}
+use Rattle.cs_tree.specs.Trees.{OpensFile, OpensFileAs, OpenedAs, open_told, is_tree_failure}
 use Rattle.cs_tree.specs.declared.fault.TreeFault.{TreeFault}
 use Rattle.cs_tree.specs.declared.fault.TreeFault.TheVariants as tree
 use Rattle.cs_words.specs.declared.jobs.Tool.{Tool}
@@ -23,9 +23,9 @@ use Rattle.cs_search.specs.declared.grepped.Grepped.{Grepped}
 use Rattle.cs_search.specs.GrepReports.{Reports, ReportsFront}
 use Rattle.cs_search.specs.InputReport.{told_report}
 use Rattle.cs_tree.specs.Taken.{TakesFront, EndsAfter, MayEnd}
-use Rattle.cs_tree.specs.TakenAll.{TakesAll}
+use Rattle.cs_tree.specs.TakenAll.{TakesBytes}
 use Rattle.cs_search.specs.GrepFaults.{is_failed_read}
-use Rattle.cs_search.specs.Printed.{left_fault, Printed, both_printed, nothing, all_printed, input_printed, opened_printed, file_printed, NamedFault, fault_lines, failures_of, AreFaultsOf, PrintsSome, PrintsFaults}
+use Rattle.cs_search.specs.Printed.{left_fault, Printed, both_printed, none_printed, all_printed, input_printed, opened_printed, file_printed, NamedFault, fault_lines, failures_of, AreFaultsOf, PrintsSome, PrintsFaults}
 use Rattle.cs_search.specs.Searcher.{Prints, IsPrinted, PrintsAllFaults, PrintsFront}
 use Rattle.cs_tree.proofs.Growing.{Grows-chain, Grows-same}
 use Rattle.cs_tree.proofs.Fronts.{front_none, front_all, front_left, front_right, front_after, ends_quiet, ends_after, may_end_after}
@@ -47,20 +47,20 @@ module _ (most : ℕ) (tool : Tool) (style : Style) (finds : List ℕ → Bool) 
   opened-at (Ok told) later out out' err err' matched is p = rw is at p
   opened-at (Err fault) later out out' err err' matched is p = absurd is
 
-  pub Prints-opened : (snapshot : Option Snapshot) (later : Option Told) (out out' err err' : Option Taken) (matched : Bool) → Opens snapshot name (Ok tt) later → Prints (option_map (input_printed most tool style finds name) (open_told snapshot later)) out out' err err' matched → Prints (option_map (λ (s : Snapshot). file_printed most tool style finds s name) snapshot) out out' err err' matched
+  pub Prints-opened : (snapshot : Option Snapshot) (later : Option Told) (out out' err err' : Option Taken) (matched : Bool) → OpensFile snapshot name (Ok tt) later → Prints (option_map (input_printed most tool style finds name) (open_told snapshot later)) out out' err err' matched → Prints (option_map (λ (s : Snapshot). file_printed most tool style finds s name) snapshot) out out' err err' matched
   unfolding file_printed
   Prints-opened None later out out' err err' matched opens p = tt
   Prints-opened (Some s) later out out' err err' matched opens p = opened-at (opening_of (item_at s name)) later out out' err err' matched opens p
 
   -- what was not
-  refused-at : (fault : TreeFault) (opening : Result Told TreeFault) (later : Option Told) → fault ≢ tree.Memory → OpensAs (Err fault) opening later → opening ≡ Err fault
+  refused-at : (fault : TreeFault) (opening : Result Told TreeFault) (later : Option Told) → fault ≢ tree.Memory → OpensFileAs (Err fault) opening later → opening ≡ Err fault
   refused-at tree.Missing opening later not o = o.0
   refused-at tree.Denied opening later not o = o.0
   refused-at tree.Output opening later not o = o.0
   refused-at tree.Failed opening later not o = o.0
   refused-at tree.Memory opening later not o = absurd (not refl)
 
-  pub Prints-refused : (snapshot : Option Snapshot) (fault : TreeFault) (later : Option Told) (out err err' : Option Taken) → fault ≢ tree.Memory → Opens snapshot name (Err fault) later → Grows err err' (fault_line_of tool name (file_fault_of fault)) → Prints (option_map (λ (s : Snapshot). file_printed most tool style finds s name) snapshot) out out err err' false
+  pub Prints-refused : (snapshot : Option Snapshot) (fault : TreeFault) (later : Option Told) (out err err' : Option Taken) → fault ≢ tree.Memory → OpensFile snapshot name (Err fault) later → Grows err err' (fault_line_of tool name (file_fault_of fault)) → Prints (option_map (λ (s : Snapshot). file_printed most tool style finds s name) snapshot) out out err err' false
   unfolding file_printed
   Prints-refused None fault later out err err' not opens grows = tt
   Prints-refused (Some s) fault later out err err' not opens grows =
@@ -84,12 +84,12 @@ module _ (most : ℕ) (tool : Tool) (style : Style) (finds : List ℕ → Bool) 
   front-at (Ok told) later out out' err err' is p = rw is at p
   front-at (Err fault) later out out' err err' is p = absurd is
 
-  pub PrintsFront-opened : (snapshot : Option Snapshot) (later : Option Told) (out out' err err' : Option Taken) → Opens snapshot name (Ok tt) later → PrintsFront (option_map (input_printed most tool style finds name) (open_told snapshot later)) out out' err err' → PrintsFront (option_map (λ (s : Snapshot). file_printed most tool style finds s name) snapshot) out out' err err'
+  pub PrintsFront-opened : (snapshot : Option Snapshot) (later : Option Told) (out out' err err' : Option Taken) → OpensFile snapshot name (Ok tt) later → PrintsFront (option_map (input_printed most tool style finds name) (open_told snapshot later)) out out' err err' → PrintsFront (option_map (λ (s : Snapshot). file_printed most tool style finds s name) snapshot) out out' err err'
   unfolding file_printed
   PrintsFront-opened None later out out' err err' opens p = tt
   PrintsFront-opened (Some s) later out out' err err' opens p = front-at (opening_of (item_at s name)) later out out' err err' opens p
 
-  pub PrintsFront-refused : (snapshot : Option Snapshot) (fault : TreeFault) (later : Option Told) (out err err' : Option Taken) → fault ≢ tree.Memory → Opens snapshot name (Err fault) later → TakesFront (fault_line_of tool name (file_fault_of fault)) err err' → PrintsFront (option_map (λ (s : Snapshot). file_printed most tool style finds s name) snapshot) out out err err'
+  pub PrintsFront-refused : (snapshot : Option Snapshot) (fault : TreeFault) (later : Option Told) (out err err' : Option Taken) → fault ≢ tree.Memory → OpensFile snapshot name (Err fault) later → TakesFront (fault_line_of tool name (file_fault_of fault)) err err' → PrintsFront (option_map (λ (s : Snapshot). file_printed most tool style finds s name) snapshot) out out err err'
   unfolding file_printed
   PrintsFront-refused None fault later out err err' not opens front = tt
   PrintsFront-refused (Some s) fault later out err err' not opens front =
@@ -121,7 +121,7 @@ PrintsSome-all (Some printed) out now later err err-now err-later matched p ends
 same_printed : (output output' errors errors' : List ℕ) (matched matched' : Bool) → output ≡ output' → errors ≡ errors' → matched ≡ matched' → ◌≡◌ {A = Printed} (record { output = output; errors = errors; matched = matched }) (record { output = output'; errors = errors'; matched = matched' })
 same_printed output output' errors errors' matched matched' o e m = rw (o, e, m) refl
 
-pub both_printed-nothing : (printed : Printed) → both_printed printed nothing ≡ printed
+pub both_printed-nothing : (printed : Printed) → both_printed printed none_printed ≡ printed
 both_printed-nothing printed = same_printed _ _ _ _ _ _ (append-nil printed.output) (append-nil printed.errors) (or-false printed.matched)
 
 pub both_printed-assoc : (a b c : Printed) → both_printed a (both_printed b c) ≡ both_printed (both_printed a b) c
@@ -221,19 +221,19 @@ module _ (tool : Tool) where
   open_counted tree.Failed n not = refl
   open_counted tree.Memory n not = absurd (not refl)
 
-  takes-line : {A E : Type 0} (r : Result A E) (name : List ℕ) (fault : FileFault) (err err' : Option Taken) → TakesAll (fault_line_of tool name fault) err err' r → TakesAll (fault_lines tool ((name, fault) ∷ [])) err err' r
-  takes-line r name fault err err' takes = subst (λ bytes. TakesAll bytes err err' r) (sym (append-nil (fault_line_of tool name fault))) takes
+  takes-line : {A E : Type 0} (r : Result A E) (name : List ℕ) (fault : FileFault) (err err' : Option Taken) → TakesBytes (fault_line_of tool name fault) err err' r → TakesBytes (fault_lines tool ((name, fault) ∷ [])) err err' r
+  takes-line r name fault err err' takes = subst (λ bytes. TakesBytes bytes err err' r) (sym (append-nil (fault_line_of tool name fault))) takes
 
   -- nothing failed, and nothing was printed
   pub PrintsAllFaults-none : {A E : Type 0} (r : Result A E) (names : List (List ℕ)) (failed failed' : ℕ) (err err' : Option Taken) → failed' ≡ failed → err' ≡ err → PrintsAllFaults tool names failed failed' err err' r
   PrintsAllFaults-none (Ok x) names failed failed' err err' same is = ([], faults_none names, same, subst (λ (e : Option Taken). Grows err e []) (sym is) (Grows-same err))
   PrintsAllFaults-none (Err e) names failed failed' err err' same is = ([], faults_none names, same, subst (TakesFront [] err) (sym is) (front_none [] err))
 
-  pub PrintsAllFaults-left : {A E : Type 0} (r : Result A E) (fault : ReadFault) (name : List ℕ) (failed failed' : ℕ) (err err' : Option Taken) → failed' ≡ count_if (is_failed_read (Some fault)) failed → TakesAll (fault_line_of tool name (left_fault fault)) err err' r → PrintsAllFaults tool (name ∷ []) failed failed' err err' r
+  pub PrintsAllFaults-left : {A E : Type 0} (r : Result A E) (fault : ReadFault) (name : List ℕ) (failed failed' : ℕ) (err err' : Option Taken) → failed' ≡ count_if (is_failed_read (Some fault)) failed → TakesBytes (fault_line_of tool name (left_fault fault)) err err' r → PrintsAllFaults tool (name ∷ []) failed failed' err err' r
   PrintsAllFaults-left r fault name failed failed' err err' count takes =
       ((name, left_fault fault) ∷ [], faults_one name (left_fault fault) (left_may_be fault), count ∙ left_counted fault failed, takes-line r name (left_fault fault) err err' takes)
 
-  pub PrintsAllFaults-open : {A E : Type 0} (r : Result A E) (fault : TreeFault) (name : List ℕ) (failed failed' : ℕ) (err err' : Option Taken) → fault ≢ tree.Memory → failed' ≡ count_after {A = Unit {0}} is_tree_failure (Err fault) failed → TakesAll (fault_line_of tool name (file_fault_of fault)) err err' r → PrintsAllFaults tool (name ∷ []) failed failed' err err' r
+  pub PrintsAllFaults-open : {A E : Type 0} (r : Result A E) (fault : TreeFault) (name : List ℕ) (failed failed' : ℕ) (err err' : Option Taken) → fault ≢ tree.Memory → failed' ≡ count_after {A = Unit {0}} is_tree_failure (Err fault) failed → TakesBytes (fault_line_of tool name (file_fault_of fault)) err err' r → PrintsAllFaults tool (name ∷ []) failed failed' err err' r
   PrintsAllFaults-open r fault name failed failed' err err' not count takes =
       ((name, file_fault_of fault) ∷ [], faults_one name (file_fault_of fault) (open_may_be fault), count ∙ open_counted fault failed not, takes-line r name (file_fault_of fault) err err' takes)
 
@@ -241,7 +241,7 @@ module _ (tool : Tool) where
   failures_of-append [] b n = refl
   failures_of-append (fault ∷ a) b n = failures_of-append a b (count_if (is_file_failure fault.1) n)
 
-  takes-more : {A E : Type 0} (r : Result A E) (first next : List NamedFault) (err err-now err-later : Option Taken) → Grows err err-now (fault_lines tool first) → TakesAll (fault_lines tool next) err-now err-later r → TakesAll (fault_lines tool (first ++ next)) err err-later r
+  takes-more : {A E : Type 0} (r : Result A E) (first next : List NamedFault) (err err-now err-later : Option Taken) → Grows err err-now (fault_lines tool first) → TakesBytes (fault_lines tool next) err-now err-later r → TakesBytes (fault_lines tool (first ++ next)) err err-later r
   takes-more (Ok x) first next err err-now err-later grows takes =
       subst (Grows err err-later) (sym (flat_map-append (λ (fault : NamedFault). fault_line_of tool fault.0 fault.1) first next)) (Grows-chain err err-now err-later _ _ grows takes)
   takes-more (Err e) first next err err-now err-later grows takes =

@@ -1,7 +1,7 @@
 -- csearch prints what cgrep does where the files still read as they were indexed, and so where jobs left the index.
 use Rattle.std.proofs.Common.{◌≡◌, ℕ, ◌<◌, ◌^◌, List, length, refl, sym, ap, subst, ◌∙◌, Bool, true, false, Option, Some, None, Result, Ok}
 use Rattle.cs_tree.specs.Told.{Taken}
-use Rattle.cs_index.specs.Roundtrip.{parts_written, Has}
+use Rattle.cs_index.specs.Roundtrip.{parts_written, IsIndexWith}
 use Rattle.std.specs.Prelude.{filter, option_map, string_bytes}
 use Rattle.std.specs.FinMap as map'
 use Rattle.cs_tree.specs.PathSet as set
@@ -15,12 +15,12 @@ use Rattle.cs_index.specs.Image.{image, image_of}
 use Rattle.cs_index.specs.Opening.{opening}
 use Rattle.cs_index.specs.OpenedParts.{Parts, files_read, lists_in}
 use Rattle.cs_index.proofs.WrittenLemmas.{image_opens, image_has}
-use Rattle.cs_merge.proofs.ContentLemmas.{content_indexable, ascending_sets, each_of_map}
+use Rattle.cs_merge.proofs.ContentLemmas.{content_indexable, ascending_sets}
 use Rattle.cs_history.specs.History.{History, index_of, paths_of, files_of}
-use Rattle.cs_history.specs.FileTrigrams.{file_trigrams}
+use Rattle.cs_history.specs.FileTrigrams.{ReadAsIndexed}
 use Rattle.cs_history.specs.Meeting.{names_meeting}
 use Rattle.cs_history.specs.Premises.{snapshot_told, IsShort}
-use Rattle.cs_history.specs.SearchHeadline.{IsByJobs, StillReads, indexed_names, SearchPremises}
+use Rattle.cs_history.specs.SearchHeadline.{IsByJobs, indexed_names, SearchPremises}
 use Rattle.cs_history.specs.WellFormed.{IsHistory}
 use Rattle.cs_history.proofs.HistoryLemmas.{history_content, index_is}
 use Rattle.cs_words.specs.declared.jobs.Tool.TheVariants.{Csearch, Cgrep}
@@ -36,7 +36,7 @@ use Rattle.cs_index.specs.declared.fault.IndexFault.{IndexFault}
 use Rattle.cs_words.specs.Faults.{index_fault}
 use Rattle.cs_search.specs.Plans.{IsPlan, IsLent, RefusesPlan}
 use Rattle.cs_search.specs.declared.plan.Plan.{Plan}
-use Rattle.cs_search.specs.Csearch.{file_text, OpensWith, IsQueryOf, Asks, Seeks, ReadAsIndexed, csearch_printed, AreAccepted, IsReady, PrintsAsked, PrintsLikeCgrep, PrintsAsPromised}
+use Rattle.cs_search.specs.Csearch.{file_text, OpensWith, IsQueryOf, Asks, Seeks, csearch_printed, AreAccepted, IsReady, PrintsAsked, PrintsLikeCgrep, PrintsAsPromised}
 use Rattle.cs_search.proofs.AgreementLemmas.{search_alike}
 use Rattle.cs_search.proofs.PrintedLemmas.{PrintsSome-none}
 use Rattle.cs_search.proofs.CgrepLemmas.{decides_program}
@@ -88,7 +88,7 @@ module _ (job : SearchJob) (index : Option (List ℕ)) (plan : Plan) (is : IsPla
         abbrev Chosen : (List ℕ → Bool) → (List ℕ → Bool) → List (List ℕ) → Option Printed
         Chosen finds keeps names = option_map (λ (s : Snapshot). all_printed (file_printed MOST_SEARCHED Csearch job.style finds s) (filter keeps (names_at names ids))) tree
 
-        pub searched : ((finds keeps : List ℕ → Bool) → Decides finds plan.program → DecidesNames keeps plan.file → Prints (Chosen finds keeps parts.names)) → PrintsAsked MOST_SEARCHED job index tree Prints
+        pub searched : ((finds keeps : List ℕ → Bool) → Decides finds plan.program → DecidesNames keeps plan.file → Prints (Chosen finds keeps parts.names)) → PrintsAsked job index tree Prints
         searched prints = (
           asks,
           all_whole,
@@ -107,14 +107,14 @@ module _ (job : SearchJob) (index : Option (List ℕ)) (plan : Plan) (is : IsPla
           (PrintsAllFaults-chosen r Csearch lent.whole plan.query ids failed failed' err err' chosen_ids
           (subst (λ (names : List (List ℕ)). PrintsAllFaults Csearch (names_at names ids) failed failed' err err' r) lent.answers.names told))
 
-module _ (job : SearchJob) (index : Option (List ℕ)) (tree : Option Snapshot) (Prints : Option Printed → Type 0) (by_index : PrintsAsked MOST_SEARCHED job index tree Prints) where
+module _ (job : SearchJob) (index : Option (List ℕ)) (tree : Option Snapshot) (Prints : Option Printed → Type 0) (by_index : PrintsAsked job index tree Prints) where
   -- what was printed, where the tree tells its snapshot
   told_printed : (snapshot : Snapshot) (finds keeps : List ℕ → Bool) → tree ≡ Some snapshot → Seeks job finds keeps → Prints (Some (all_printed (file_printed MOST_SEARCHED Csearch job.style finds snapshot) (filter keeps (names_meeting by_index.0.query (files_read by_index.0.parts)))))
   unfolding csearch_printed
   told_printed snapshot finds keeps is tests =
       subst (λ (t : Option Snapshot). Prints (csearch_printed MOST_SEARCHED job.style finds keeps by_index.0.parts by_index.0.query t)) is (by_index.2 finds keeps tests)
 
-  pub like_cgrep : PrintsLikeCgrep MOST_SEARCHED job index tree Prints
+  pub like_cgrep : PrintsLikeCgrep job index tree Prints
   like_cgrep parts snapshot finds keeps opens is agrees tests =
       let asks = by_index.0 in
       let same : parts ≡ asks.parts = opens_once index parts asks.parts opens asks.opens in
@@ -122,7 +122,7 @@ module _ (job : SearchJob) (index : Option (List ℕ)) (tree : Option Snapshot) 
       subst Prints (ap (λ (p : Printed). Some p) (alike job index finds keeps asks tests snapshot there ∙ ap (λ (p : Parts). searched_by_cgrep MOST_SEARCHED job.style finds snapshot (filter keeps p.names)) (sym same))) (told_printed snapshot finds keeps is tests)
 
 -- where nothing was printed
-pub like_cgrep_quiet : (job : SearchJob) (index : Option (List ℕ)) (tree : Option Snapshot) (out err : Option Taken) → PrintsLikeCgrep MOST_SEARCHED job index tree (λ printed. PrintsSome printed out out err err)
+pub like_cgrep_quiet : (job : SearchJob) (index : Option (List ℕ)) (tree : Option Snapshot) (out err : Option Taken) → PrintsLikeCgrep job index tree (λ printed. PrintsSome printed out out err err)
 like_cgrep_quiet job index tree out err parts snapshot finds keeps opens is agrees seeks = PrintsSome-none (Some (searched_by_cgrep MOST_SEARCHED job.style finds snapshot (filter keeps parts.names))) out err
 
 -- ---- an index that a job built
@@ -141,7 +141,7 @@ module _ (history : History) (bytes : List ℕ) (is : IsHistory history) (by : I
       let small = subst (λ (b : List ℕ). length b < 2 ^ 32) (sym there) short in
       ap opening (sym there) ∙ image_opens (set.items (paths_of history)) (map'.entries (files_of history)) (content_indexable (paths_of history) (files_of history) (history_content history is) small)
 
-  pub has_so : Has written (set.items (paths_of history)) (map'.entries (files_of history))
+  pub has_so : IsIndexWith written (set.items (paths_of history)) (map'.entries (files_of history))
   unfolding written
   has_so =
       let small = subst (λ (b : List ℕ). length b < 2 ^ 32) (sym there) short in
@@ -152,12 +152,11 @@ module _ (history : History) (bytes : List ℕ) (is : IsHistory history) (by : I
       let same : parts ≡ written = opens_once (Some bytes) parts written opens opens_so in
       ap (λ (p : Parts). p.names) same ∙ has_so.has_names
 
-  pub agrees_still : (parts : Parts) (tree : Snapshot) → opening bytes ≡ Ok parts → StillReads history tree → ReadAsIndexed tree (files_read parts)
+  pub agrees_still : (parts : Parts) (tree : Snapshot) → opening bytes ≡ Ok parts → ReadAsIndexed tree (map'.entries (files_of history)) → ReadAsIndexed tree (files_read parts)
   agrees_still parts tree opens still =
       let same : written ≡ parts = opens_once (Some bytes) written parts opens_so opens in
-      let each = each_of_map (λ name (trigrams : List ℕ). file_trigrams tree name ≡ Some trigrams) (files_of history) still in
       let files = has_so.has_files (ascending_sets (files_of history) (history_content history is).sets_are) in
-      subst (λ (p : Parts). ReadAsIndexed tree (files_read p)) same (subst (ReadAsIndexed tree) (sym files) each)
+      subst (λ (p : Parts). ReadAsIndexed tree (files_read p)) same (subst (ReadAsIndexed tree) (sym files) still)
 
 module _ (job : SearchJob) (index : Option (List ℕ)) (tree : Option Snapshot) (finds keeps : List ℕ → Bool) (asks : Asks job index) (tests : Seeks job finds keeps) (snapshot : Snapshot) (tells : tree ≡ Some snapshot) (earlier : History) (premises : SearchPremises tree index earlier) where
   promised : all_printed (file_printed MOST_SEARCHED Csearch job.style finds snapshot) (filter keeps (names_meeting asks.query (files_read asks.parts))) ≡ searched_by_cgrep MOST_SEARCHED job.style finds (snapshot_told tree) (filter keeps (indexed_names earlier))
@@ -172,13 +171,13 @@ module _ (job : SearchJob) (index : Option (List ℕ)) (tree : Option Snapshot) 
       by_bytes (Some bytes) e opens left short =
           let left' : index_of earlier ≡ Some bytes = left ∙ e in
           let short' = subst IsShort e short in
-          let agrees = agrees_still earlier bytes premises.jobs_left.jobs_were premises.by_jobs left' short' asks.parts snapshot opens (subst (StillReads earlier) (sym snapshot_is) premises.still_reads) in
+          let agrees = agrees_still earlier bytes premises.jobs_left.jobs_were premises.by_jobs left' short' asks.parts snapshot opens (subst (λ (s : Snapshot). ReadAsIndexed s (map'.entries (files_of earlier))) (sym snapshot_is) premises.still_reads) in
           alike job index finds keeps asks tests snapshot agrees
           ∙ ap (λ (s : Snapshot). searched_by_cgrep MOST_SEARCHED job.style finds s (filter keeps asks.parts.names)) snapshot_is
           ∙ ap (λ (names : List (List ℕ)). searched_by_cgrep MOST_SEARCHED job.style finds (snapshot_told tree) (filter keeps names)) (named earlier bytes premises.jobs_left.jobs_were premises.by_jobs left' short' asks.parts opens)
 
-module _ (job : SearchJob) (index : Option (List ℕ)) (tree : Option Snapshot) (Prints : Option Printed → Type 0) (by_index : PrintsAsked MOST_SEARCHED job index tree Prints) where
-  pub as_promised : PrintsAsPromised MOST_SEARCHED job index tree Prints
+module _ (job : SearchJob) (index : Option (List ℕ)) (tree : Option Snapshot) (Prints : Option Printed → Type 0) (by_index : PrintsAsked job index tree Prints) where
+  pub as_promised : PrintsAsPromised job index tree Prints
   as_promised snapshot finds keeps tells tests earlier premises =
       subst (λ (p : Printed). Prints (Some p)) (promised job index tree finds keeps by_index.0 tests snapshot tells earlier premises)
       (told_printed job index tree Prints by_index snapshot finds keeps tells tests)

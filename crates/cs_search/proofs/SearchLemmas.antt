@@ -8,7 +8,6 @@ use Rattle.cs_index.specs.OpenedParts.{Parts}
 use Rattle.cs_words.specs.declared.jobs.Tool.TheVariants.{Csearch}
 use Rattle.cs_words.specs.declared.jobs.SearchJob.{SearchJob}
 use Rattle.cs_words.specs.declared.fault.ToolFault.{ToolFault}
-use Rattle.cs_search.specs.declared.report.TheConstants.{MOST_SEARCHED}
 use Rattle.cs_search.specs.declared.status.Status.{Status}
 use Rattle.cs_search.specs.Csearch.{OpensWith, PrintsAsked, AreAccepted, IsReady}
 use Rattle.cs_search.specs.Plans.{RefusesPlan}
@@ -34,7 +33,7 @@ module _ (job : SearchJob) (index : Option (List ℕ)) (tree : Option Snapshot) 
 
   module _ (failed failed' : ℕ) (out out' err err' : Option Taken) (ready : AreAccepted job × IsReady job index) where
     -- refused while files are searched, or at the end
-    pub refused_late : (fault : ToolFault) → IsSearchFault {A = Status} (Err fault) → PrintsAsked MOST_SEARCHED job index tree (λ printed. PrintsSome printed out out' err err') →
+    pub refused_late : (fault : ToolFault) → IsSearchFault {A = Status} (Err fault) → PrintsAsked job index tree (λ printed. PrintsSome printed out out' err err') →
         ((parts : Parts) → OpensWith index parts → PrintsFaults Csearch parts.names failed failed' (λ lines. EndsAfter {A = Status} lines err err' (Err fault))) →
         IsSearch job index tree failed failed' out out' err err' (Err fault)
     refused_late fault is prints faults = record {
@@ -47,7 +46,7 @@ module _ (job : SearchJob) (index : Option (List ℕ)) (tree : Option Snapshot) 
       faults = faults;
     }
 
-    pub searched_to_the_end : (status : Status) → PrintsAsked MOST_SEARCHED job index tree (λ printed. PrintsStatus printed out out' err err' status) →
+    pub searched_to_the_end : (status : Status) → PrintsAsked job index tree (λ printed. PrintsStatus printed out out' err err' status) →
         ((parts : Parts) → OpensWith index parts → PrintsFaults Csearch parts.names failed failed' (λ lines. EndsAfter {E = ToolFault} lines err err' (Ok status))) →
         IsSearch job index tree failed failed' out out' err err' (Ok status)
     searched_to_the_end status prints faults = record {

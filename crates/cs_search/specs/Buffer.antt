@@ -5,11 +5,11 @@ use Rattle.cs_tree.specs.declared.fault.IoFault.{IoFault}
 use Rattle.cs_tree.specs.Told.{Told, ends}
 use Rattle.cs_search.specs.declared.buffer.LineBuffer.{LineBuffer}
 
-unfoldable pub pending : LineBuffer → List ℕ
-pending buffer = slice_range buffer.bytes.items buffer.start buffer.end
+unfoldable pub pending_bytes : LineBuffer → List ℕ
+pending_bytes buffer = slice_range buffer.bytes.items buffer.start buffer.end
 
 -- The second bytes are the first, and then these.
-pub record Gains (old new : List ℕ) (n : ℕ) : Type 0 where
+pub record GrowsBy (old new : List ℕ) (n : ℕ) : Type 0 where
   pub front : take (length old) new ≡ old
   pub size : length new ≡ length old + n
 

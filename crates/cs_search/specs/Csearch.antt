@@ -1,6 +1,5 @@
--- What csearch prints and answers. docs/PROMISES.md, "What is printed" and "The main promise".
+-- What csearch prints and answers. docs/PROMISES.md, "Searches of an index" and "The main promise".
 use Rattle.std.specs.Prelude.{ℕ, ◌≡◌, ◌⊎◌, Bool, true, false, List, filter, Option, Some, None, option_map, string_bytes, Result, Ok, Err, IfSome, IsSomeAnd}
-use Rattle.std.specs.List.{AllByRecursion}
 use Rattle.cs_syntax.specs.Matching.{Tree}
 use Rattle.cs_syntax.specs.Reading.{Reads}
 use Rattle.cs_match.specs.Finding.{Decides}
@@ -9,12 +8,11 @@ use Rattle.cs_trigram.specs.Query.{LosesNoLine}
 use Rattle.cs_trigram.specs.declared.queries.Query.{Query}
 use Rattle.cs_trigram.specs.declared.queries.Query.TheVariants.{All}
 use Rattle.cs_trigram.specs.PlainRuns.{IsSharp}
-use Rattle.cs_index.specs.Image.{Entry}
 use Rattle.cs_index.specs.Opening.{opening}
 use Rattle.cs_index.specs.OpenedParts.{Parts, files_read}
 use Rattle.cs_index.specs.declared.fault.IndexFault.{IndexFault}
 use Rattle.cs_index.specs.declared.fault.IndexFault.TheVariants.{BadList}
-use Rattle.cs_history.specs.FileTrigrams.{file_trigrams}
+use Rattle.cs_history.specs.FileTrigrams.{ReadAsIndexed}
 use Rattle.cs_history.specs.Meeting.{names_meeting}
 use Rattle.cs_history.specs.SearchHeadline.{SearchesLikeGrep}
 use Rattle.cs_words.specs.declared.jobs.Tool.TheVariants.{Csearch}
@@ -24,6 +22,7 @@ use Rattle.cs_words.specs.declared.fault.ToolFault.{ToolFault}
 use Rattle.cs_words.specs.declared.fault.ToolFault.TheVariants.{Pattern, FilePattern, NoIndex, BadIndex, Write, Memory}
 use Rattle.cs_index.specs.Answerable.{is_answerable}
 use Rattle.cs_search.specs.Refusals.{IsAccepted, IsPatternRefused}
+use Rattle.cs_search.specs.declared.report.TheConstants.{MOST_SEARCHED}
 use Rattle.cs_search.specs.Printed.{searched_by_cgrep, Printed, file_printed, all_printed}
 
 -- ---- which files are searched
@@ -61,12 +60,6 @@ pub record Seeks (job : SearchJob) (finds keeps : List ℕ → Bool) : Type 0 wh
   pub decides : Decides finds pattern
   pub names : Keeps (file_text job) keeps
 
--- ---- files that still read as they were indexed
-
--- at the name of each of these files stands a text with its trigrams
-abbrev pub ReadAsIndexed : Snapshot → List Entry → Type 0
-ReadAsIndexed tree files = AllByRecursion (λ (entry : Entry). file_trigrams tree entry.0 ≡ Some entry.1) files
-
 -- ---- what is printed
 
 module _ (most : ℕ) (style : Style) (finds : List ℕ → Bool) where
@@ -77,27 +70,27 @@ module _ (most : ℕ) (style : Style) (finds : List ℕ → Bool) where
       option_map (λ (tree : Snapshot). all_printed (file_printed most Csearch style finds tree) names) tree
 
 -- `Prints` says that something was printed and answered.
-module _ (most : ℕ) (job : SearchJob) (index : Option (List ℕ)) (tree : Option Snapshot) (Prints : Option Printed → Type 0) where
+module _ (job : SearchJob) (index : Option (List ℕ)) (tree : Option Snapshot) (Prints : Option Printed → Type 0) where
   -- The lists that the query asks for are whole, and what is printed is what is found in the files that meet it.
   abbrev pub PrintsAsked : Type 0
   PrintsAsked =
       (asks : Asks job index)
       × (is_answerable asks.parts asks.query ≡ true)
       × ((finds keeps : List ℕ → Bool) → Seeks job finds keeps →
-      Prints (csearch_printed most job.style finds keeps asks.parts asks.query tree))
+      Prints (csearch_printed MOST_SEARCHED job.style finds keeps asks.parts asks.query tree))
 
   -- Where each file reads as it was indexed, it is what cgrep prints of all names that `-f` keeps.
   abbrev pub PrintsLikeCgrep : Type 0
   PrintsLikeCgrep =
       (parts : Parts) (snapshot : Snapshot) (finds keeps : List ℕ → Bool) →
       OpensWith index parts → tree ≡ Some snapshot → ReadAsIndexed snapshot (files_read parts) → Seeks job finds keeps →
-      Prints (Some (searched_by_cgrep most job.style finds snapshot (filter keeps parts.names)))
+      Prints (Some (searched_by_cgrep MOST_SEARCHED job.style finds snapshot (filter keeps parts.names)))
 
   -- The last part of the main promise: where jobs left the index, and what they indexed still reads so.
   abbrev pub PrintsAsPromised : Type 0
   PrintsAsPromised =
       (snapshot : Snapshot) (finds keeps : List ℕ → Bool) → tree ≡ Some snapshot → Seeks job finds keeps →
-      SearchesLikeGrep (searched_by_cgrep most job.style finds) keeps (λ printed. Prints (Some printed)) tree index
+      SearchesLikeGrep (searched_by_cgrep MOST_SEARCHED job.style finds) keeps (λ printed. Prints (Some printed)) tree index
 
 -- ---- refusals
 

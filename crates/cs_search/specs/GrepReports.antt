@@ -6,7 +6,7 @@ use Rattle.cs_search.specs.declared.grepped.Grepped.{Grepped}
 use Rattle.cs_tree.specs.Taken.{TakesFront}
 use Rattle.cs_search.specs.Report.{Report}
 
--- The report's output was written, and the answer has its mark and its fault.
+-- The report's output was written, and the answer says whether some line matched, and has its fault.
 abbrev pub IsReported : Report ReadFault → Option Taken → Option Taken → Grepped → Type 0
 IsReported report before after answer =
     Grows before after report.output × (answer.matched ≡ report.matched) × (answer.fault ≡ report.fault)

@@ -7,13 +7,13 @@ use Rattle.cs_search.specs.declared.grep_fault.ReadFault.{ReadFault}
 use Rattle.cs_search.specs.declared.grep_fault.ReadFault.TheVariants.{Read, TooLong}
 use Rattle.cs_search.specs.Report.{Report, report}
 
-abbrev pub fault_at : Ending → Option ReadFault
-fault_at ends = None
-fault_at fails = Some Read
+abbrev pub fault_of_ending : Ending → Option ReadFault
+fault_of_ending ends = None
+fault_of_ending fails = Some Read
 
 -- why an input is left before its end: it has more bytes than are searched, or it fails after them
 abbrev pub fault_within : ℕ → Told → Option ReadFault
-fault_within most told = if nat_lt most (length told.bytes) then Some TooLong else fault_at told.ending
+fault_within most told = if nat_lt most (length told.bytes) then Some TooLong else fault_of_ending told.ending
 
 -- the report of an input, of which at most so many bytes are searched
 unfoldable pub told_report : ℕ → Style → List ℕ → (List ℕ → Bool) → Told → Report ReadFault

@@ -1,5 +1,6 @@
 -- What public contracts rest on.
 pub use Rattle.cs_history.specs.History
+pub use Rattle.cs_history.specs.FileTrigrams
 pub use Rattle.cs_history.specs.Left
 pub use Rattle.cs_history.specs.Meeting
 pub use Rattle.cs_history.specs.SearchHeadline
@@ -34,9 +35,9 @@ pub mod CgrepFaults
 pub mod Csearch
 pub mod Searched
 pub mod StoredSearch
-pub mod Buffer
 pub mod SameSearch
 -- What functions inside promise each other.
+pub mod Buffer
 pub mod TestedLines
 pub mod Progress
 pub mod Searcher

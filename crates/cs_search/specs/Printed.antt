@@ -62,12 +62,12 @@ both_printed first next = record {
   matched = first.matched || next.matched;
 }
 
-abbrev pub nothing : Printed
-nothing = record { output = []; errors = []; matched = false }
+abbrev pub none_printed : Printed
+none_printed = record { output = []; errors = []; matched = false }
 
 -- of inputs with these names, in their order
 unfoldable pub all_printed : (List ℕ → Printed) → List (List ℕ) → Printed
-all_printed printed [] = nothing
+all_printed printed [] = none_printed
 all_printed printed (name ∷ names) = both_printed (printed name) (all_printed printed names)
 
 -- by cgrep, of files with these names, in this order
@@ -78,7 +78,7 @@ abbrev pub status_of : Bool → Status
 status_of true = Matched
 status_of false = NoMatch
 
--- This was printed, then each output was flushed once, and the answer is its mark as a status, where what was searched
+-- This was printed, then each output was flushed once, and the status is whether some line matched, where what was searched
 -- tells its bytes.
 abbrev pub PrintsStatus : Option Printed → Option Taken → Option Taken → Option Taken → Option Taken → Status → Type 0
 PrintsStatus None out out' err err' status = Unit {0}

@@ -1,6 +1,7 @@
 -- How far the reading of an input has come, and where it stops.
-use Rattle.std.specs.Prelude.{ℕ, ◌+◌, ◌<◌, ◌≤◌, ◌≡◌, Bool, List, [], ◌++◌, length, take, Option, Some, None, Result, Ok, Err, false}
+use Rattle.std.specs.Prelude.{ℕ, ◌+◌, ◌<◌, ◌≤◌, ◌≡◌, Bool, List, length, take, Option, Some, None, Result, Ok, Err, false}
 use Rattle.cs_tree.specs.Told.{Told, ends, fails, Taken}
+use Rattle.cs_tree.specs.Transfers.{Loses, IsAt}
 use Rattle.cs_words.specs.declared.jobs.Style.{Style}
 use Rattle.cs_search.specs.declared.tally.Tally.{Tally}
 use Rattle.cs_search.specs.declared.grep_fault.ReadFault.{ReadFault}
@@ -17,9 +18,8 @@ use Rattle.cs_search.specs.TestedLines.{Tests, TestsFront, IsListed}
 -- So many bytes of what was told were read; this part after their last newline waits, and the lines before it are counted.
 abbrev pub HasRead : Option Told → Option Told → ℕ → List ℕ → ℕ → Type 0
 HasRead None later n rest lines = Unit {0}
-HasRead (Some told) None n rest lines = ⊥
-HasRead (Some told) (Some left) n rest lines =
-    (n ≤ length told.bytes) × (told.bytes ≡ take n told.bytes ++ left.bytes) × (told.ending ≡ left.ending)
+HasRead (Some told) later n rest lines =
+    (n ≤ length told.bytes) × Loses (Some told) later (take n told.bytes)
     × (rest ≡ last_part (take n told.bytes)) × (lines ≡ length (ended_lines (take n told.bytes)))
 
 -- The lines that ended in the first n bytes were tested.
@@ -36,8 +36,8 @@ stop_fault (Left fault) = Some fault
 abbrev pub StopsHere : Stop → Option Told → Type 0
 StopsHere stop None = Unit {0}
 StopsHere Listed (Some told) = ⊥
-StopsHere End (Some told) = (told.bytes ≡ []) × (told.ending ≡ ends)
-StopsHere (Left Read) (Some told) = (told.bytes ≡ []) × (told.ending ≡ fails)
+StopsHere End (Some told) = IsAt ends (Some told)
+StopsHere (Left Read) (Some told) = IsAt fails (Some told)
 StopsHere (Left TooLong) (Some told) = 0 < length told.bytes
 
 -- a search of at most so many bytes has come to this stop, with this part unended, and its lines tested

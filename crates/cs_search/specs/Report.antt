@@ -33,15 +33,16 @@ hit_line style name hit =
 unfoldable pub name_line : List ℕ → List Hit → List ℕ
 name_line name hits = if some_hit hits then name ++ newline ∷ [] else []
 
--- `NAME: COUNT`, where there is a hit
-unfoldable pub count_line : List ℕ → List Hit → List ℕ
-count_line name hits = if some_hit hits then name ++ (codes ": " ++ (decimal (length hits) ++ newline ∷ [])) else []
+-- `NAME: COUNT`
+unfoldable pub count_line : List ℕ → ℕ → List ℕ
+count_line name count = name ++ (codes ": " ++ (decimal count ++ newline ∷ []))
 
--- `-l` goes before `-c`, and `-c` before the others. There is no count of an input that was left before its end.
+-- `-l` goes before `-c`, and `-c` before the others. There is no count without a hit, or of an input that was left
+-- before its end.
 unfoldable pub hits_output : Style → List ℕ → Bool → List Hit → List ℕ
 hits_output style name to_its_end hits =
     if style.list then name_line name hits
-    else (if style.count then (if to_its_end then count_line name hits else [])
+    else (if style.count then (if to_its_end && some_hit hits then count_line name (length hits) else [])
     else flat_map (hit_line style name) hits)
 
 -- What is printed, why the input was left before its end, and whether there is a hit. With `-l` a hit ends the search,

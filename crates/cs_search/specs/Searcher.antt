@@ -2,7 +2,7 @@
 use Rattle.std.specs.Prelude.{ℕ, ◌≡◌, Bool, List, Option, Some, None, Result, Ok, Err}
 use Rattle.cs_tree.specs.Told.{Told, Taken, Grows}
 use Rattle.cs_tree.specs.Taken.{TakesFront}
-use Rattle.cs_tree.specs.TakenAll.{TakesAll}
+use Rattle.cs_tree.specs.TakenAll.{TakesBytes}
 use Rattle.cs_tree.specs.Loss.{LosesAtMost}
 use Rattle.cs_tree.specs.Snapshot.{Snapshot, item_at}
 use Rattle.cs_tree.specs.TreeAnswers.{opening_of}
@@ -18,7 +18,7 @@ pub record IsKept (old new : Searcher) : Type 0 where
   pub style : new.style ≡ old.style
   pub matcher : new.matcher ≡ old.matcher
 
--- this was printed, and the answer is its mark
+-- this was printed, and the answer is whether some line matched
 abbrev pub IsPrinted : Printed → Option Taken → Option Taken → Option Taken → Option Taken → Bool → Type 0
 IsPrinted printed out out' err err' matched =
     Grows out out' printed.output × Grows err err' printed.errors × (matched ≡ printed.matched)
@@ -38,7 +38,7 @@ PrintsFront (Some printed) out out' err err' =
 abbrev pub PrintsAllFaults : {A E : Type 0} → Tool → List (List ℕ) → ℕ → ℕ → Option Taken → Option Taken →
     Result A E → Type 0
 PrintsAllFaults tool names failed failed' err err' result =
-    PrintsFaults tool names failed failed' (λ lines. TakesAll lines err err' result)
+    PrintsFaults tool names failed failed' (λ lines. TakesBytes lines err err' result)
 
 -- Of what was opened at most so many bytes were read, where it is open yet.
 abbrev pub OpenLosesAtMost : ℕ → Result Told TreeFault → Option Told → Type 0

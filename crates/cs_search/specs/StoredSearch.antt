@@ -1,4 +1,4 @@
--- What a search promises by an index that lies in a store. docs/PROMISES.md, "What is printed".
+-- What a search promises by an index that lies in a store. docs/PROMISES.md, "Searches of an index".
 use Rattle.std.specs.Prelude.{ℕ, Bool, false, List, Option, Some, Result, Ok, Err, IfSome}
 use Rattle.cs_tree.specs.declared.fault.IoFault.{IoFault}
 use Rattle.cs_index.specs.declared.fault.IndexFault.{IndexFault}

@@ -1,12 +1,12 @@
 -- What functions inside a search promise each other: which lines were tested, and what was printed of them.
-use Rattle.std.specs.Prelude.{ℕ, ◌+◌, ◌<◌, ◌≡◌, nat_lt, true, false, if◌then◌else◌, Bool, List, [], ◌∷◌, ◌++◌, length, Option, codes, decimal}
+use Rattle.std.specs.Prelude.{ℕ, ◌+◌, ◌<◌, ◌≡◌, nat_lt, true, false, if◌then◌else◌, Bool, List, [], ◌∷◌, ◌++◌, length, Option}
 use Rattle.std.specs.List.{flat_map}
 use Rattle.cs_tree.specs.Told.{Grows, Taken}
 use Rattle.cs_words.specs.declared.jobs.Style.{Style}
 use Rattle.cs_search.specs.declared.tally.Tally.{Tally}
 use Rattle.cs_match.specs.Lines.{newline}
 use Rattle.cs_tree.specs.Taken.{TakesFront}
-use Rattle.cs_search.specs.Report.{Hit, hits_from, hit_line, some_hit, hits_output}
+use Rattle.cs_search.specs.Report.{Hit, hits_from, hit_line, count_line, some_hit, hits_output}
 
 -- what is printed at a hit
 unfoldable pub hit_output : Style → List ℕ → Hit → List ℕ
@@ -40,6 +40,4 @@ pub record IsListed (style : Style) (name : List ℕ) (finds : List ℕ → Bool
 unfoldable pub total : Style → List ℕ → ℕ → List ℕ
 total style name count =
     if style.list then []
-    else (if style.count
-    then (if nat_lt 0 count then name ++ (codes ": " ++ (decimal count ++ newline ∷ [])) else [])
-    else [])
+    else (if style.count then (if nat_lt 0 count then count_line name count else []) else [])

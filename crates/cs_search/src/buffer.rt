@@ -22,21 +22,21 @@ pub struct LineBuffer {
 
 impl LineBuffer {
     ghost use Rattle.std.specs.Prelude.{◌^◌, [], OnOk, OnErr};
-    ghost use Rattle.cs_search.specs.Buffer.{pending, Gains, Fills};
+    ghost use Rattle.cs_search.specs.Buffer.{pending_bytes, GrowsBy, Fills};
 
     /// A buffer with nothing in it.
-    #[tactic(auto, unfolding(crate::specs::Buffer::pending))]
+    #[tactic(auto, unfolding(crate::specs::Buffer::pending_bytes))]
     pub(crate) fn new(alloc: Global) -> Result<LineBuffer, AllocError>
-        ensures { IfOk result (λ buffer. pending buffer ≡ []) }
+        ensures { IfOk result (λ buffer. pending_bytes buffer ≡ []) }
     {
         LineBuffer::of_size(alloc, FIRST_SIZE)
     }
 
     /// A buffer of so many bytes with nothing in it.
-    #[tactic(auto, unfolding(crate::specs::Buffer::pending))]
+    #[tactic(auto, unfolding(crate::specs::Buffer::pending_bytes))]
     pub fn of_size(alloc: Global, size: usize) -> Result<LineBuffer, AllocError>
         requires { 0 < size }
-        ensures { IfOk result (λ buffer. pending buffer ≡ []) }
+        ensures { IfOk result (λ buffer. pending_bytes buffer ≡ []) }
     {
         let bytes = vec![in alloc; 0u8; size]?;
         Ok(LineBuffer {
@@ -47,35 +47,35 @@ impl LineBuffer {
     }
 
     /// Lets go what is in it.
-    #[tactic(auto, unfolding(crate::specs::Buffer::pending))]
+    #[tactic(auto, unfolding(crate::specs::Buffer::pending_bytes))]
     pub(crate) fn clear(&mut self)
-        ensures { pending self.new ≡ [] }
+        ensures { pending_bytes self.new ≡ [] }
     {
         self.start = 0;
         self.end = 0;
     }
 
     /// What is in it.
-    #[tactic(auto, unfolding(crate::specs::Buffer::pending))]
+    #[tactic(auto, unfolding(crate::specs::Buffer::pending_bytes))]
     pub(crate) fn pending(&self) -> &[u8]
-        ensures { result.now ≡ pending self.now }
+        ensures { result.now ≡ pending_bytes self.now }
     {
         &self.bytes[self.start..self.end]
     }
 
     /// Lets go so many bytes at the front of what is in it.
-    #[tactic(auto, unfolding(crate::specs::Buffer::pending))]
+    #[tactic(auto, unfolding(crate::specs::Buffer::pending_bytes))]
     pub(crate) fn skip(&mut self, n: usize)
-        requires { n ≤ length (pending self.old) }
-        ensures { pending self.new ≡ drop n (pending self.old) }
+        requires { n ≤ length (pending_bytes self.old) }
+        ensures { pending_bytes self.new ≡ drop n (pending_bytes self.old) }
     {
         self.start += n;
     }
 
     /// Moves what is in it to the front.
-    #[tactic(auto, unfolding(crate::specs::Buffer::pending))]
+    #[tactic(auto, unfolding(crate::specs::Buffer::pending_bytes))]
     fn move_front(&mut self)
-        ensures same { pending self.new ≡ pending self.old }
+        ensures same { pending_bytes self.new ≡ pending_bytes self.old }
         ensures size { vec_len self.new.bytes ≡ vec_len self.old.bytes }
         ensures end { self.new.end + self.old.start ≡ self.old.end }
     {
@@ -87,11 +87,11 @@ impl LineBuffer {
     }
 
     /// Makes room behind what is in it.
-    #[tactic(auto, unfolding(crate::specs::Buffer::pending))]
+    #[tactic(auto, unfolding(crate::specs::Buffer::pending_bytes))]
     fn make_room(&mut self) -> Result<(), AllocError>
-        requires { length (pending self.old) < 2 ^ 32 }
+        requires { length (pending_bytes self.old) < 2 ^ 32 }
         ensures room { OnOk result (self.new.end < vec_len self.new.bytes) }
-        ensures same { pending self.new ≡ pending self.old }
+        ensures same { pending_bytes self.new ≡ pending_bytes self.old }
     {
         if self.end < self.bytes.len() {
             return Ok(());
@@ -106,15 +106,16 @@ impl LineBuffer {
     }
 
     /// Reads some bytes behind what is in it, at most so many, and answers how many. None is the end.
-    #[tactic(auto, unfolding(crate::specs::Buffer::pending))]
+    #[tactic(auto, unfolding(crate::specs::Buffer::pending_bytes))]
     pub(crate) fn fill<R: Source>(&mut self, input: &mut R, most: usize) -> Result<usize, IoFault>
         requires some { 0 < most }
-        requires bound { length (pending self.old) < 2 ^ 32 }
+        requires bound { length (pending_bytes self.old) < 2 ^ 32 }
         ensures within { IfOk result (λ n. n ≤ most) }
-        ensures gains { IfOk result (λ n. Gains (pending self.old) (pending self.new) n) }
+        ensures gains { IfOk result
+            (λ n. GrowsBy (pending_bytes self.old) (pending_bytes self.new) n) }
         ensures told { Fills (R.told input.old) (R.told input.new) result
-            (drop (length (pending self.old)) (pending self.new)) }
-        ensures same { OnErr result (pending self.new ≡ pending self.old) }
+            (drop (length (pending_bytes self.old)) (pending_bytes self.new)) }
+        ensures same { OnErr result (pending_bytes self.new ≡ pending_bytes self.old) }
         ensures failed { R.failed input.new ≡
             count_after is_io_failure result (R.failed input.old) }
         ensures keeps { R.Keeps input.old input.new }

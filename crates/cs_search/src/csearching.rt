@@ -14,7 +14,7 @@ ghost use Rattle.cs_search.specs.Plans.{IsPlan, IsLent, RefusesPlan};
 ghost use Rattle.cs_search.specs.Printed.{PrintsStatus, PrintsNothing, PrintsSome, PrintsFaults, all_printed, file_printed};
 ghost use Rattle.cs_search.specs.Searched.{IsSearch};
 
-use crate::names::NameFilter;
+use crate::name_filter::NameFilter;
 use crate::plan::Plan;
 use crate::report::MOST_SEARCHED;
 use crate::searcher::Searcher;
@@ -38,34 +38,11 @@ pub fn csearch<T: Tree, O: Sink, E: Sink>(
     out: &mut O,
     err: &mut E,
 ) -> Result<Status, ToolFault>
-    ensures prints { IfOk result (λ status. PrintsAsked MOST_SEARCHED job.now
-        (option_copied index.entry) (T.snapshot tree.old)
-        (λ printed. PrintsStatus printed
-        (O.taken out.old) (O.taken out.new) (E.taken err.old) (E.taken err.new) status)) }
-    ensures agrees { IfOk result (λ status. PrintsLikeCgrep MOST_SEARCHED job.now
-        (option_copied index.entry) (T.snapshot tree.old)
-        (λ printed. PrintsStatus printed
-        (O.taken out.old) (O.taken out.new) (E.taken err.old) (E.taken err.new) status)) }
-    ensures promised { IfOk result (λ status. PrintsAsPromised MOST_SEARCHED job.now
-        (option_copied index.entry) (T.snapshot tree.old)
-        (λ printed. PrintsStatus printed
-        (O.taken out.old) (O.taken out.new) (E.taken err.old) (E.taken err.new) status)) }
-    ensures front { OnErr result
-        (PrintsNothing (O.taken out.old) (O.taken out.new) (E.taken err.old) (E.taken err.new)
-        ⊎ (AreAccepted job.now × PrintsAsked MOST_SEARCHED job.now
-        (option_copied index.entry) (T.snapshot tree.old)
-        (λ printed. PrintsSome printed
-        (O.taken out.old) (O.taken out.new) (E.taken err.old) (E.taken err.new)))) }
-    ensures front_agrees { OnErr result (PrintsLikeCgrep MOST_SEARCHED job.now
-        (option_copied index.entry) (T.snapshot tree.old)
-        (λ printed. PrintsSome printed
-        (O.taken out.old) (O.taken out.new) (E.taken err.old) (E.taken err.new))) }
-    ensures refused { RefusedInOrder job.now (option_copied index.entry) result }
+    ensures searches { IsSearch job.now (option_copied index.entry)
+        (T.snapshot tree.old) (T.failed tree.old) (T.failed tree.new)
+        (O.taken out.old) (O.taken out.new) (E.taken err.old) (E.taken err.new) result }
     ensures quiet { QuietAtRefusal result
         (PrintsNothing (O.taken out.old) (O.taken out.new) (E.taken err.old) (E.taken err.new)) }
-    ensures faults { (parts : Parts) → OpensWith (option_copied index.entry) parts →
-        PrintsFaults Csearch parts.names (T.failed tree.old) (T.failed tree.new)
-        (λ lines. EndsAfter lines (E.taken err.old) (E.taken err.new) result) }
     ensures flushed { OnOk result (HasFlushed (O.taken out.new) × HasFlushed (E.taken err.new)) }
     ensures writes { CountsOne (has_write_failed result)
         (O.failed out.old) (O.failed out.new) (E.failed err.old) (E.failed err.new) }

@@ -3,8 +3,8 @@ ghost use Rattle.std.specs.Prelude.{◌≡◌, ◌++◌, ◌∷◌, [], true, fa
 ghost use Rattle.cs_search.specs.GrepFaults.{is_grep_failure};
 ghost use Rattle.cs_tree.specs.FailureCount.{count_after};
 ghost use Rattle.cs_match.specs.Lines.{newline};
-ghost use Rattle.cs_tree.specs.TakenAll.{TakesAll};
-ghost use Rattle.cs_search.specs.Report.{hit_line};
+ghost use Rattle.cs_tree.specs.TakenAll.{TakesBytes};
+ghost use Rattle.cs_search.specs.Report.{count_line, hit_line};
 ghost use Rattle.cs_search.specs.TestedLines.{hit_output, total};
 
 use crate::grep_fault::GrepFault;
@@ -36,7 +36,8 @@ impl Form<'_> {
         line: &[u8],
         out: &mut O,
     ) -> Result<(), GrepFault>
-        ensures written { TakesAll (hit_output self.now.style self.now.name.now (number, line.now))
+        ensures written { TakesBytes
+            (hit_output self.now.style self.now.name.now (number, line.now))
             (O.taken out.old) (O.taken out.new) result }
         ensures failed { O.failed out.new ≡ count_after is_grep_failure result (O.failed out.old) }
     {
@@ -54,7 +55,7 @@ impl Form<'_> {
     /// The name on a line.
     #[tactic(auto, using(crate::proofs::Printing::printing))]
     fn print_name<O: Sink>(&self, out: &mut O) -> Result<(), GrepFault>
-        ensures written { TakesAll (self.now.name.now ++ newline ∷ [])
+        ensures written { TakesBytes (self.now.name.now ++ newline ∷ [])
             (O.taken out.old) (O.taken out.new) result }
         ensures failed { O.failed out.new ≡ count_after is_grep_failure result (O.failed out.old) }
     {
@@ -66,7 +67,7 @@ impl Form<'_> {
     /// The line, after the name and the number that the style asks for.
     #[tactic(auto, using(crate::proofs::Printing::printing), unfolding(crate::specs::Report::hit_line))]
     fn print_line<O: Sink>(&self, number: u64, line: &[u8], out: &mut O) -> Result<(), GrepFault>
-        ensures written { TakesAll (hit_line self.now.style self.now.name.now (number, line.now))
+        ensures written { TakesBytes (hit_line self.now.style self.now.name.now (number, line.now))
             (O.taken out.old) (O.taken out.new) result }
         ensures failed { O.failed out.new ≡ count_after is_grep_failure result (O.failed out.old) }
     {
@@ -80,7 +81,7 @@ impl Form<'_> {
     /// `NAME:`, and under `-h` nothing.
     #[tactic(auto, using(crate::proofs::Printing::printing))]
     fn print_front<O: Sink>(&self, out: &mut O) -> Result<(), GrepFault>
-        ensures written { TakesAll
+        ensures written { TakesBytes
             (if self.now.style.bare then [] else self.now.name.now ++ codes ":")
             (O.taken out.old) (O.taken out.new) result }
         ensures failed { O.failed out.new ≡ count_after is_grep_failure result (O.failed out.old) }
@@ -96,7 +97,7 @@ impl Form<'_> {
     /// `NUMBER:` under `-n`, and else nothing.
     #[tactic(auto, using(crate::proofs::Printing::printing))]
     fn print_number<O: Sink>(&self, number: u64, out: &mut O) -> Result<(), GrepFault>
-        ensures written { TakesAll
+        ensures written { TakesBytes
             (if self.now.style.number then decimal number ++ codes ":" else [])
             (O.taken out.old) (O.taken out.new) result }
         ensures failed { O.failed out.new ≡ count_after is_grep_failure result (O.failed out.old) }
@@ -112,7 +113,7 @@ impl Form<'_> {
     /// What is printed at the end of an input where so many lines matched: under `-c` without `-l` their number.
     #[tactic(auto, using(crate::proofs::Printing::printing), unfolding(crate::specs::TestedLines::total))]
     pub(crate) fn print_total<O: Sink>(&self, count: u64, out: &mut O) -> Result<(), GrepFault>
-        ensures written { TakesAll (total self.now.style self.now.name.now count)
+        ensures written { TakesBytes (total self.now.style self.now.name.now count)
             (O.taken out.old) (O.taken out.new) result }
         ensures failed { O.failed out.new ≡ count_after is_grep_failure result (O.failed out.old) }
     {
@@ -124,11 +125,10 @@ impl Form<'_> {
     }
 
     /// `NAME: COUNT` on a line.
-    #[tactic(auto, using(crate::proofs::Printing::printing))]
+    #[tactic(auto, using(crate::proofs::Printing::printing), unfolding(crate::specs::Report::count_line))]
     fn print_count<O: Sink>(&self, count: u64, out: &mut O) -> Result<(), GrepFault>
-        ensures written { TakesAll
-            (self.now.name.now ++ (codes ": " ++ (decimal count ++ newline ∷ [])))
-            (O.taken out.old) (O.taken out.new) result }
+        ensures written { TakesBytes
+            (count_line self.now.name.now count) (O.taken out.old) (O.taken out.new) result }
         ensures failed { O.failed out.new ≡ count_after is_grep_failure result (O.failed out.old) }
     {
         write_all(out, self.name.as_bytes())?;
@@ -141,7 +141,7 @@ impl Form<'_> {
 
 /// The digits of a number.
 fn write_number<O: Sink>(number: u64, out: &mut O) -> Result<(), GrepFault>
-    ensures written { TakesAll (decimal number) (O.taken out.old) (O.taken out.new) result }
+    ensures written { TakesBytes (decimal number) (O.taken out.old) (O.taken out.new) result }
     ensures failed { O.failed out.new ≡ count_after is_grep_failure result (O.failed out.old) }
 {
     let mut digits = Buffer::new();
@@ -151,7 +151,7 @@ fn write_number<O: Sink>(number: u64, out: &mut O) -> Result<(), GrepFault>
 
 /// A newline.
 fn end_line<O: Sink>(out: &mut O) -> Result<(), GrepFault>
-    ensures written { TakesAll (newline ∷ []) (O.taken out.old) (O.taken out.new) result }
+    ensures written { TakesBytes (newline ∷ []) (O.taken out.old) (O.taken out.new) result }
     ensures failed { O.failed out.new ≡ count_after is_grep_failure result (O.failed out.old) }
 {
     write_all(out, b"\n")?;

@@ -47,7 +47,7 @@ impl From<AllocError> for GrepFault {
 
     ghost from_gives = { λ _ fault. fault ≡ Memory };
 
-    fn from(_e: AllocError) -> GrepFault {
+    fn from(_refused: AllocError) -> GrepFault {
         GrepFault::Memory
     }
 }

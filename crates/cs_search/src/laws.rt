@@ -19,6 +19,7 @@ ghost use Rattle.cs_index.specs.OpenedParts.{Parts, are_whole, lists_in};
 ghost use Rattle.cs_index.specs.Candidates.{candidates_of};
 ghost use Rattle.cs_index.specs.declared.fault.IndexFault.{IndexFault};
 ghost use Rattle.cs_history.specs.History.{History};
+ghost use Rattle.cs_history.specs.FileTrigrams.{ReadAsIndexed};
 ghost use Rattle.cs_history.specs.Meeting.{names_meeting};
 ghost use Rattle.cs_history.specs.Left.{HasLeft};
 ghost use Rattle.cs_history.specs.SearchHeadline.{SearchPremises, indexed_names};
@@ -31,7 +32,7 @@ ghost use Rattle.cs_words.specs.declared.fault.ToolFault.TheVariants.{NoIndex, B
 ghost use Rattle.cs_search.specs.declared.status.Status.{Status};
 ghost use Rattle.cs_search.specs.Cgrep.{cgrep_printed};
 ghost use Rattle.cs_search.specs.Printed.{searched_by_cgrep, PrintsStatus, all_printed, file_printed};
-ghost use Rattle.cs_search.specs.Csearch.{ReadAsIndexed, Seeks, RefusedInOrder, PrintsAsPromised};
+ghost use Rattle.cs_search.specs.Csearch.{Seeks, RefusedInOrder, PrintsAsPromised};
 ghost use Rattle.cs_search.specs.SameSearch.{IsSameSearch};
 
 use crate::report::MOST_SEARCHED;
@@ -84,7 +85,7 @@ pub fn searches_are_those_of_cgrep()
     ensures promised { (job : SearchJob) (index : Option (List ℕ)) (tree : Snapshot)
         (input : Option Told) (out out' err err' : Option Taken) (status : Status)
         (finds keeps : List ℕ → Bool) (earlier : History) (like : GrepJob) →
-        PrintsAsPromised MOST_SEARCHED job index (Some tree)
+        PrintsAsPromised job index (Some tree)
         (λ printed. PrintsStatus printed out out' err err' status) → Seeks job finds keeps →
         SearchPremises (Some tree) index earlier →
         IsSameSearch job (filter keeps (indexed_names earlier)) like →

@@ -3,16 +3,16 @@
 //! buffer of the caller's own.
 #![tactic(auto)]
 
-mod blocks;
 mod buffer;
 mod csearching;
 mod form;
 mod grep_fault;
 mod grepped;
+mod input;
 pub mod laws;
-mod names;
+mod line_search;
+mod name_filter;
 mod plan;
-mod reading;
 mod report;
 mod searcher;
 mod searching;

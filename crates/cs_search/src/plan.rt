@@ -11,7 +11,7 @@ ghost use Rattle.cs_search.specs.Refusals.{has_write_failed};
 ghost use Rattle.cs_search.specs.Searcher.{IsSearchFault, Prints, PrintsFront, PrintsAllFaults};
 
 use crate::csearching::search_ids;
-use crate::names::{NameFilter, compile_file};
+use crate::name_filter::{NameFilter, compile_file};
 use crate::report::MOST_SEARCHED;
 use crate::searcher::Searcher;
 use cs_index::Index;

@@ -10,12 +10,12 @@ ghost use Rattle.cs_search.specs.InputReport.{told_report};
 ghost use Rattle.cs_search.specs.GrepFaults.{is_grep_failure, has_read_failed};
 ghost use Rattle.cs_search.specs.TestedLines.{Tests, TestsFront};
 
-use crate::blocks::search_line;
 use crate::buffer::LineBuffer;
 use crate::form::Form;
 use crate::grep_fault::GrepFault;
 use crate::grepped::Grepped;
-use crate::reading::search_input;
+use crate::input::search_input;
+use crate::line_search::search_line;
 use crate::stop::Stop;
 use crate::tally::Tally;
 use cs_match::Matcher;

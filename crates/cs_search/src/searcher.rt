@@ -4,7 +4,7 @@ ghost use Rattle.cs_words.specs.FileFaults.{fault_line_of};
 ghost use Rattle.cs_tree.specs.Failures.{count_if, CountsOne};
 ghost use Rattle.cs_tree.specs.Loss.{LosesAtMost};
 ghost use Rattle.cs_match.specs.Finding.{Decides};
-ghost use Rattle.cs_tree.specs.TakenAll.{TakesAll};
+ghost use Rattle.cs_tree.specs.TakenAll.{TakesBytes};
 ghost use Rattle.cs_search.specs.Searcher.{IsSearchFault, Prints, FileLosesAtMost, PrintsFront, PrintsAllFaults};
 ghost use Rattle.cs_search.specs.Refusals.{has_write_failed};
 ghost use Rattle.cs_search.specs.Printed.{input_printed, file_printed, all_printed, left_fault};
@@ -180,7 +180,7 @@ impl<'p> Searcher<'p> {
         fault: FileFault,
         err: &mut E,
     ) -> Result<(), ToolFault>
-        ensures written { TakesAll (fault_line_of self.now.tool name.now fault)
+        ensures written { TakesBytes (fault_line_of self.now.tool name.now fault)
             (E.taken err.old) (E.taken err.new) result }
         ensures failed { E.failed err.new ≡ count_if (has_write_failed result) (E.failed err.old) }
         ensures only { IsSearchFault result }

@@ -6,7 +6,7 @@ ghost use Rattle.cs_syntax.specs.Matching.{Tree as PatternTree};
 ghost use Rattle.cs_syntax.specs.Reading.{Reads};
 ghost use Rattle.cs_match.specs.Finding.{Decides};
 ghost use Rattle.cs_tree.specs.Taken.{EndsAfter, MayEnd};
-ghost use Rattle.cs_tree.specs.TakenAll.{TakesAll};
+ghost use Rattle.cs_tree.specs.TakenAll.{TakesBytes};
 ghost use Rattle.cs_tree.specs.Told.{GrowsFlushed, HasFlushed};
 ghost use Rattle.cs_search.specs.Cgrep.{cgrep_printed};
 ghost use Rattle.cs_search.specs.CgrepFaults.{PatternFirst, PrintsFaultsOf};
@@ -121,7 +121,7 @@ fn search_job<T: Tree, R: Source, O: Sink, E: Sink>(
     ensures loses { LosesAtMost (MOST_SEARCHED + 1) (R.told input.old) (R.told input.new) }
     ensures faults { PrintsFaultsOf job.now
         (T.failed tree.old) (T.failed tree.new) (R.failed input.old) (R.failed input.new)
-        (λ lines. TakesAll lines (E.taken err.old) (E.taken err.new) result) }
+        (λ lines. TakesBytes lines (E.taken err.old) (E.taken err.new) result) }
     ensures writes { CountsOne (has_write_failed result)
         (O.failed out.old) (O.failed out.new) (E.failed err.old) (E.failed err.new) }
     ensures only { IsSearchFault result }

@@ -1,4 +1,4 @@
-pub mod Examples
-pub mod GroupLemmas
-pub mod LaneLemmas
-pub mod MarkLemmas
+mod ByteGroupLemmas
+mod Examples
+mod LaneLemmas
+mod MarkLemmas

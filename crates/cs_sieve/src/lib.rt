@@ -1,5 +1,5 @@
 //! Passes quickly over bytes of a text in which no window of three neighbouring bytes begins. A window is three sets of
-//! bytes. Read `specs/Standing.antt` first; `specs/Codes.antt` says what the tables of a sieve give.
+//! bytes. Read `specs/Stands.antt` first; `specs/Codes.antt` says what the tables of a sieve give.
 #![tactic(auto)]
 
 mod lanes;

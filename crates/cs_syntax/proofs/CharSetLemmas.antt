@@ -544,10 +544,10 @@ pub Counts-at : (count : ℕ) (runs : List (ℕ × ℕ)) (whole i : ℕ) → Cou
     Counts count (get_or runs i (0, 0) ∷ drop (i + 1) runs) whole
 Counts-at count runs whole i h inside = subst (λ rest. Counts count rest whole) (drop_more runs i (0, 0) inside) h
 
-pub Counts-more : (count : ℕ) (run : ℕ × ℕ) (runs : List (ℕ × ℕ)) (whole : ℕ) → Counts count (run ∷ runs) whole →
+pub CountsDigits-more : (count : ℕ) (run : ℕ × ℕ) (runs : List (ℕ × ℕ)) (whole : ℕ) → Counts count (run ∷ runs) whole →
     (scalar_index run.0 ≤ scalar_index run.1 + 1) × (scalar_index run.1 < 1112064) × (count + (scalar_index run.1 + 1 - scalar_index run.0) ≤ whole)
     × Counts (count + (scalar_index run.1 + 1 - scalar_index run.0)) runs whole
-Counts-more count run runs whole h = (
+CountsDigits-more count run runs whole h = (
   omega (arith, h.1.1.1.0),
   last_place run.1 h.1.1.1.2,
   omega (arith, h.0),

@@ -1,22 +1,23 @@
 -- A pattern, a bar and another pattern: the branches of both.
 use Rattle.std.proofs.Common.{◌≡◌, ℕ, zero, suc, ◌+◌, ◌<◌, ◌≤◌, Bool, true, false, cond, ◌&&◌, ◌||◌, List, [], ◌∷◌, ◌++◌, length, take, drop, refl, sym, ap, subst, ◌∙◌, inl, inr, arith, Option, Some, None, length-drop}
 use Rattle.std.specs.Prelude.{nat_eq, nat_lt, nat_le, not, min, if◌then◌else◌, is_some, option_map, codes, map, chars, slice_index}
+use Rattle.std.specs.Char.{is_ascii_alphabetic}
 use Rattle.std.specs.List.{prefix_len, starts_with}
 use Rattle.std.proofs.lemmas.Bool.{true≢false, and_parts, cases_Bool, ltb-true, eqb-true}
 use Rattle.std.proofs.lemmas.List.Sums.{prefix_len-le-length}
 use Rattle.cs_syntax.specs.Matching.{Tree, Trees, one_of, more, is_word}
 use Rattle.cs_syntax.specs.NumberList.{has}
-use Rattle.cs_syntax.specs.Fronts.{Front, Item, unit, repeat, bar, group_start, group_end, flags_from_here, item, fault, sequence, is_front, is_continuation, bytes_tree, char_tree}
-use Rattle.cs_syntax.specs.ByteSet.{is_letter, char_set}
-use Rattle.cs_syntax.specs.Numbers.{digit_value, is_digit, count_digits, value_in}
-use Rattle.cs_syntax.specs.Classes.{ClassFront, piece, misread, ClassChar, one, wrong, class_escape, wide_class_char, class_char, range_to, range_from, span, name_length, posix_class, after_colon, after_backslash, class_front, ClassRest, closed, failed, with_item, items_from, class_of, class}
+use Rattle.cs_syntax.specs.Fronts.{Front, PatternItem, unit, repeat, bar, group_start, group_end, flags_from_here, item, fault, sequence, is_front, is_continuation, bytes_tree, char_tree}
+use Rattle.cs_syntax.specs.ByteSet.{char_set}
+use Rattle.cs_syntax.specs.Numbers.{digit_value, is_digit, count_digits, number_of_digits}
+use Rattle.cs_syntax.specs.Classes.{ClassFront, piece, misread, ClassChar, one, wrong, class_escape, wide_class_char, class_char, range_to, range_from, span, name_length, posix_class, after_colon, after_backslash, class_front, ClassRest, closed, failed, with_class_item, items_from, class_of, class}
 use Rattle.cs_syntax.specs.declared.class_item.ClassItem.{ClassItem}
 use Rattle.cs_syntax.specs.declared.class_item.ClassItem.TheVariants.{Range}
 use Rattle.cs_syntax.specs.Repeats.{lazy, number, counts_to, counts_from, counts, is_bad, brace}
 use Rattle.cs_syntax.specs.declared.repeats.Number.{Number}
-use Rattle.cs_syntax.specs.declared.repeats.Counts.{Counts}
+use Rattle.cs_syntax.specs.declared.repeats.RepeatCounts.{RepeatCounts}
 use Rattle.cs_syntax.specs.Characters.{is_scalar}
-use Rattle.cs_syntax.specs.Escapes.{char_by_number, octal_char, hex_char_in_braces, hex_char, control_char, escaped_char, is_left_out, escaped_class, escaped_tree, char_front, escape}
+use Rattle.cs_syntax.specs.Escapes.{char_by_number, octal_char, hex_char_in_braces, hex_char, control_char, escaped_char, is_unsupported_escape, escaped_class, escaped_tree, char_front, escape}
 use Rattle.cs_syntax.specs.declared.escapes.EscapedChar.{EscapedChar}
 use Rattle.cs_syntax.specs.Items.{front, item_by}
 use Rattle.cs_syntax.specs.Signs.{sign_of}
@@ -67,11 +68,11 @@ abbrev ClosedBefore : ℕ → ClassRest → Type 0
 ClosedBefore n (closed items len) = len < n
 ClosedBefore n (failed k behind) = Unit {0}
 
-item_before : (i : ClassItem) (n : ℕ) (r : ClassRest) → ClosedBefore n r → ClosedBefore n (with_item i r)
+item_before : (i : ClassItem) (n : ℕ) (r : ClassRest) → ClosedBefore n r → ClosedBefore n (with_class_item i r)
 item_before i n (closed items len) h = h
 item_before i n (failed k behind) h = tt
 
-item_closed : (i : ClassItem) (r : ClassRest) → IsClosed (with_item i r) → IsClosed r
+item_closed : (i : ClassItem) (r : ClassRest) → IsClosed (with_class_item i r) → IsClosed r
 item_closed i (closed items len) h = tt
 item_closed i (failed k behind) h = h
 
@@ -85,7 +86,7 @@ closed_before zero behind start (b ∷ text) = by (nat_eq b 93 && not start) (cl
     later = omega arith
 
     by : (now : Bool) (f : ClassFront) → ((len : ℕ) → ClosedBefore (behind + 1 + length text) (items_from len (behind + 1) false text)) →
-        ClosedBefore (behind + suc (length text)) (cond now (closed [] behind) (elim f [ misread k by ↦ failed k (behind + by) | piece i len ↦ with_item i (items_from len (behind + 1) false text) ]))
+        ClosedBefore (behind + suc (length text)) (cond now (closed [] behind) (elim f [ misread k by ↦ failed k (behind + by) | piece i len ↦ with_class_item i (items_from len (behind + 1) false text) ]))
     by true f goes = omega arith
     by false (misread k at) goes = tt
     by false (piece i len) goes = item_before i (behind + suc (length text)) (items_from len (behind + 1) false text) (subst (λ n. ClosedBefore n (items_from len (behind + 1) false text)) later (goes len))
@@ -103,7 +104,7 @@ min_within n len h = omega (arith, h)
 
 -- two hexadecimal digits at the front
 abbrev two_digits : List ℕ → Option EscapedChar
-two_digits text = cond (nat_lt 1 (count_digits 16 text)) (char_by_number (value_in 16 (take 2 text)) 3) None
+two_digits text = cond (nat_lt 1 (count_digits 16 text)) (char_by_number (number_of_digits 16 (take 2 text)) 3) None
 
 abbrev Within : ℕ → Option EscapedChar → Type 0
 Within n None = Unit {0}
@@ -115,8 +116,8 @@ number_within value len n h = elim (is_scalar value) as (λ b. Within n (cond b 
 octal_within : (text : List ℕ) → Within (length text) (octal_char text)
 octal_within text =
     let len : ℕ = min (count_digits 8 text) 3 in
-    elim (is_front 48 text || nat_lt 1 len) as (λ b. Within (length text) (cond b (char_by_number (value_in 8 (take len text)) len) None)) [
-      | true ↦ number_within (value_in 8 (take len text)) len (length text) (min_within (count_digits 8 text) (length text) (prefix_len-le-length (is_digit 8) text))
+    elim (is_front 48 text || nat_lt 1 len) as (λ b. Within (length text) (cond b (char_by_number (number_of_digits 8 (take len text)) len) None)) [
+      | true ↦ number_within (number_of_digits 8 (take len text)) len (length text) (min_within (count_digits 8 text) (length text) (prefix_len-le-length (is_digit 8) text))
       | false ↦ tt
     ]
 
@@ -132,16 +133,16 @@ braces_within text = by (nat_lt 0 len) (is_front 125 (drop len text)) refl
     len : ℕ
     len = count_digits 16 text
 
-    by : (x y : Bool) → is_front 125 (drop (count_digits 16 text) text) ≡ y → Within (length text + 2) (cond (x && y) (char_by_number (value_in 16 (take (count_digits 16 text) text)) (count_digits 16 text + 3)) None)
-    by true true h = number_within (value_in 16 (take (count_digits 16 text) text)) (count_digits 16 text + 3) (length text + 2) (let less = front_there 125 (count_digits 16 text) text h in omega (arith, less))
+    by : (x y : Bool) → is_front 125 (drop (count_digits 16 text) text) ≡ y → Within (length text + 2) (cond (x && y) (char_by_number (number_of_digits 16 (take (count_digits 16 text) text)) (count_digits 16 text + 3)) None)
+    by true true h = number_within (number_of_digits 16 (take (count_digits 16 text) text)) (count_digits 16 text + 3) (length text + 2) (let less = front_there 125 (count_digits 16 text) text h in omega (arith, less))
     by true false h = tt
     by false y h = tt
 
 two_within : (text : List ℕ) → Within (suc (length text)) (two_digits text)
 two_within text = by (nat_lt 1 (count_digits 16 text)) refl
   where
-    by : (b : Bool) → nat_lt 1 (count_digits 16 text) ≡ b → Within (suc (length text)) (cond b (char_by_number (value_in 16 (take 2 text)) 3) None)
-    by true h = number_within (value_in 16 (take 2 text)) 3 (suc (length text)) (let some = ltb-true 1 (count_digits 16 text) h in let le = prefix_len-le-length (is_digit 16) text in omega (arith, some, le))
+    by : (b : Bool) → nat_lt 1 (count_digits 16 text) ≡ b → Within (suc (length text)) (cond b (char_by_number (number_of_digits 16 (take 2 text)) 3) None)
+    by true h = number_within (number_of_digits 16 (take 2 text)) 3 (suc (length text)) (let some = ltb-true 1 (count_digits 16 text) h in let le = prefix_len-le-length (is_digit 16) text in omega (arith, some, le))
     by false h = tt
 
 hex_within : (text : List ℕ) → Within (suc (length text)) (hex_char text)
@@ -156,16 +157,16 @@ escaped_within : (e : ℕ) (text : List ℕ) → Within (suc (length text)) (esc
 escaped_within e text =
     elim (control_char e) as (λ (o : Option ℕ). Within (suc (length text)) (elim o [
       | Some c ↦ Some (record { char = c; len = 1 })
-      | None ↦ cond (nat_eq e 120) (hex_char text) (cond (is_digit 8 e) (octal_char (e ∷ text)) (cond (nat_lt e 128 && not (is_letter e || is_digit 10 e)) (Some (record { char = e; len = 1 })) None))
+      | None ↦ cond (nat_eq e 120) (hex_char text) (cond (is_digit 8 e) (octal_char (e ∷ text)) (cond (nat_lt e 128 && not (is_ascii_alphabetic e || is_digit 10 e)) (Some (record { char = e; len = 1 })) None))
     ])) [
       | Some c ↦ omega arith
       | None ↦
-          elim (nat_eq e 120) as (λ b. Within (suc (length text)) (cond b (hex_char text) (cond (is_digit 8 e) (octal_char (e ∷ text)) (cond (nat_lt e 128 && not (is_letter e || is_digit 10 e)) (Some (record { char = e; len = 1 })) None)))) [
+          elim (nat_eq e 120) as (λ b. Within (suc (length text)) (cond b (hex_char text) (cond (is_digit 8 e) (octal_char (e ∷ text)) (cond (nat_lt e 128 && not (is_ascii_alphabetic e || is_digit 10 e)) (Some (record { char = e; len = 1 })) None)))) [
             | true ↦ hex_within text
             | false ↦
-                elim (is_digit 8 e) as (λ b. Within (suc (length text)) (cond b (octal_char (e ∷ text)) (cond (nat_lt e 128 && not (is_letter e || is_digit 10 e)) (Some (record { char = e; len = 1 })) None))) [
+                elim (is_digit 8 e) as (λ b. Within (suc (length text)) (cond b (octal_char (e ∷ text)) (cond (nat_lt e 128 && not (is_ascii_alphabetic e || is_digit 10 e)) (Some (record { char = e; len = 1 })) None))) [
                   | true ↦ octal_within (e ∷ text)
-                  | false ↦ elim (nat_lt e 128 && not (is_letter e || is_digit 10 e)) as (λ b. Within (suc (length text)) (cond b (Some (record { char = e; len = 1 })) None)) [ true ↦ omega arith | false ↦ tt ]
+                  | false ↦ elim (nat_lt e 128 && not (is_ascii_alphabetic e || is_digit 10 e)) as (λ b. Within (suc (length text)) (cond b (Some (record { char = e; len = 1 })) None)) [ true ↦ omega arith | false ↦ tt ]
                 ]
           ]
     ]
@@ -176,14 +177,14 @@ abbrev NumberWithin : ℕ → Option Number → Type 0
 NumberWithin n None = Unit {0}
 NumberWithin n (Some number) = number.len ≤ n
 
-abbrev CountsWithin : ℕ → Option Counts → Type 0
+abbrev CountsWithin : ℕ → Option RepeatCounts → Type 0
 CountsWithin n None = Unit {0}
 CountsWithin n (Some c) = c.len ≤ n
 
 digits_within : (text : List ℕ) → NumberWithin (length text) (number text)
 digits_within text =
     let len : ℕ = count_digits 10 text in
-    elim (nat_eq len 0 || (nat_lt 1 len && is_front 48 text)) as (λ b. NumberWithin (length text) (cond b None (Some (record { value = value_in 10 (take len text); len = len })))) [
+    elim (nat_eq len 0 || (nat_lt 1 len && is_front 48 text)) as (λ b. NumberWithin (length text) (cond b None (Some (record { value = number_of_digits 10 (take len text); len = len })))) [
       | true ↦ tt
       | false ↦ prefix_len-le-length (is_digit 10) text
     ]
@@ -274,19 +275,19 @@ module _ (t : List ℕ) where
       let n : ℕ = count_digits 8 text in
       let le = prefix_len-le-length (is_digit 8) text in
       let taken : take (min (count_digits 8 (after text)) 3) (after text) ≡ take (min n 3) text = ap (λ k. take (min k 3) (after text)) (count_after 8 no_octal text) ∙ take_after (min n 3) text (min_within n (length text) le) in
-      λ i. cond (is_front_after 48 text refl i || nat_lt 1 (min (count_after 8 no_octal text i) 3)) (char_by_number (value_in 8 (taken i)) (min (count_after 8 no_octal text i) 3)) None
+      λ i. cond (is_front_after 48 text refl i || nat_lt 1 (min (count_after 8 no_octal text i) 3)) (char_by_number (number_of_digits 8 (taken i)) (min (count_after 8 no_octal text i) 3)) None
 
   braces_after : (text : List ℕ) → hex_char_in_braces (after text) ≡ hex_char_in_braces text
   braces_after text = λ i.
-      cond (nat_lt 0 (count_after 16 no_hex text i) && behind_digits 16 no_hex 125 text refl i) (char_by_number (value_in 16 (digits_after 16 no_hex text i)) (count_after 16 no_hex text i + 3)) None
+      cond (nat_lt 0 (count_after 16 no_hex text i) && behind_digits 16 no_hex 125 text refl i) (char_by_number (number_of_digits 16 (digits_after 16 no_hex text i)) (count_after 16 no_hex text i + 3)) None
 
   two_after : (text : List ℕ) → two_digits (after text) ≡ two_digits text
   two_after text =
-      ap (λ n. cond (nat_lt 1 n) (char_by_number (value_in 16 (take 2 (after text))) 3) None) (count_after 16 no_hex text)
+      ap (λ n. cond (nat_lt 1 n) (char_by_number (number_of_digits 16 (take 2 (after text))) 3) None) (count_after 16 no_hex text)
       ∙ by (nat_lt 1 (count_digits 16 text)) refl
     where
-      by : (b : Bool) → nat_lt 1 (count_digits 16 text) ≡ b → cond b (char_by_number (value_in 16 (take 2 (after text))) 3) None ≡ cond b (char_by_number (value_in 16 (take 2 text)) 3) None
-      by true h = ap (λ bs. char_by_number (value_in 16 bs) 3) (take_after 2 text (let some = ltb-true 1 (count_digits 16 text) h in let le = prefix_len-le-length (is_digit 16) text in omega (arith, some, le)))
+      by : (b : Bool) → nat_lt 1 (count_digits 16 text) ≡ b → cond b (char_by_number (number_of_digits 16 (take 2 (after text))) 3) None ≡ cond b (char_by_number (number_of_digits 16 (take 2 text)) 3) None
+      by true h = ap (λ bs. char_by_number (number_of_digits 16 bs) 3) (take_after 2 text (let some = ltb-true 1 (count_digits 16 text) h in let le = prefix_len-le-length (is_digit 16) text in omega (arith, some, le)))
       by false h = refl
 
   hex_after : (text : List ℕ) → hex_char (after text) ≡ hex_char text
@@ -300,13 +301,13 @@ module _ (t : List ℕ) where
         | None ↦
             cond (nat_eq e 120) (hex_after text i)
             (cond (is_digit 8 e) (octal_after (e ∷ text) i)
-            (cond (nat_lt e 128 && not (is_letter e || is_digit 10 e)) (Some (record { char = e; len = 1 })) None))
+            (cond (nat_lt e 128 && not (is_ascii_alphabetic e || is_digit 10 e)) (Some (record { char = e; len = 1 })) None))
       ]
 
   escape_after : (fold : Bool) (e : ℕ) (text : List ℕ) → escape fold (e ∷ after text) ≡ escape fold (e ∷ text)
   unfolding char_front
   escape_after fold e text =
-      ap (λ (o : Option EscapedChar). cond (is_left_out e) (fault NotInProfile 0)
+      ap (λ (o : Option EscapedChar). cond (is_unsupported_escape e) (fault NotInProfile 0)
       (elim (escaped_tree e) [ Some t ↦ item (unit t) 1 | None ↦ elim o [ None ↦ fault BadEscape 0 | Some c ↦ item (unit (char_tree fold c.char)) c.len ] ])) (escaped_after e text)
 
   -- ---- braces
@@ -321,10 +322,10 @@ module _ (t : List ℕ) where
   number_after : (text : List ℕ) → number (after text) ≡ number text
   number_after text = λ i.
       cond (nat_eq (count_after 10 no_decimal text i) 0 || (nat_lt 1 (count_after 10 no_decimal text i) && is_front_after 48 text refl i)) None
-      (Some (record { value = value_in 10 (digits_after 10 no_decimal text i); len = count_after 10 no_decimal text i }))
+      (Some (record { value = number_of_digits 10 (digits_after 10 no_decimal text i); len = count_after 10 no_decimal text i }))
 
   -- behind a comma: the second number, and what ends the counts
-  abbrev second_in : Number → List ℕ → Option Number → Option Counts
+  abbrev second_in : Number → List ℕ → Option Number → Option RepeatCounts
   second_in k text o =
       elim o [ None ↦ None | Some m ↦ cond (is_front 125 (drop m.len text)) (Some (record { least = k.value; most = Some m.value; len = k.len + 2 + m.len })) None ]
 
@@ -346,18 +347,18 @@ module _ (t : List ℕ) where
   counts_after : (text : List ℕ) → counts (after text) ≡ counts text
   counts_after text =
       ap (λ (o : Option Number). elim o [ None ↦ None | Some k ↦ counts_from k (drop k.len (after text)) ]) (number_after text)
-      ∙ elim (number text) as (λ (o : Option Number). NumberWithin (length text) o → ◌≡◌ {A = Option Counts} (elim o [ None ↦ None | Some k ↦ counts_from k (drop k.len (after text)) ]) (elim o [ None ↦ None | Some k ↦ counts_from k (drop k.len text) ])) [
+      ∙ elim (number text) as (λ (o : Option Number). NumberWithin (length text) o → ◌≡◌ {A = Option RepeatCounts} (elim o [ None ↦ None | Some k ↦ counts_from k (drop k.len (after text)) ]) (elim o [ None ↦ None | Some k ↦ counts_from k (drop k.len text) ])) [
         | None ↦ λ h. refl
         | Some k ↦ λ h. ap (counts_from k) (drop_after k.len text h) ∙ counts_from_after k (drop k.len text)
       ] (digits_within text)
 
-  abbrev brace_by : List ℕ → Option Counts → Front
+  abbrev brace_by : List ℕ → Option RepeatCounts → Front
   brace_by text o = elim o [ None ↦ item (unit (one_of (char_set false 123))) 0 | Some c ↦ cond (is_bad c) (fault BadRepeat 0) (lazy c.least c.most c.len text) ]
 
   brace_after : (text : List ℕ) → brace (after text) ≡ brace text
   brace_after text = ap (brace_by (after text)) (counts_after text) ∙ by (counts text) (counts_within text)
     where
-      by : (o : Option Counts) → CountsWithin (length text) o → brace_by (after text) o ≡ brace_by text o
+      by : (o : Option RepeatCounts) → CountsWithin (length text) o → brace_by (after text) o ≡ brace_by text o
       by None h = refl
       by (Some c) h = ap (λ b. cond (is_bad c) (fault BadRepeat 0) (item (repeat c.least c.most) (c.len + cond b 1 0))) (front_behind 63 c.len text refl h)
 
@@ -378,11 +379,11 @@ module _ (t : List ℕ) where
 
   abbrev class_escape_by : ℕ → Option EscapedChar → ClassChar
   class_escape_by e o =
-      cond (is_left_out e) (wrong NotInProfile) (elim o [ None ↦ wrong BadEscape | Some c ↦ one c.char c.len ])
+      cond (is_unsupported_escape e) (wrong NotInProfile) (elim o [ None ↦ wrong BadEscape | Some c ↦ one c.char c.len ])
 
   class_escape_within : (text : List ℕ) → CharWithin (length text) (class_escape text)
   class_escape_within [] = tt
-  class_escape_within (e ∷ text) = by (is_left_out e) (escaped_char (e ∷ text)) (escaped_within e text)
+  class_escape_within (e ∷ text) = by (is_unsupported_escape e) (escaped_char (e ∷ text)) (escaped_within e text)
     where
       by : (b : Bool) (o : Option EscapedChar) → Within (suc (length text)) o → CharWithin (suc (length text)) (cond b (wrong NotInProfile) (elim o [ None ↦ wrong BadEscape | Some c ↦ one c.char c.len ]))
       by true o h = tt
@@ -541,14 +542,14 @@ module _ (t : List ℕ) where
       ]
 
   abbrev items_by : ℕ → List ℕ → ClassFront → ClassRest
-  items_by behind text f = elim f [ misread k by ↦ failed k (behind + by) | piece i len ↦ with_item i (items_from len (behind + 1) false text) ]
+  items_by behind text f = elim f [ misread k by ↦ failed k (behind + by) | piece i len ↦ with_class_item i (items_from len (behind + 1) false text) ]
 
   item_after : (behind : ℕ) (text : List ℕ) → ((len : ℕ) → IsClosed (items_from len (behind + 1) false text) → items_from len (behind + 1) false (after text) ≡ items_from len (behind + 1) false text) →
       (f g : ClassFront) → (GoesOn (behind + 1) text f → g ≡ f) → IsClosed (items_by behind text f) → items_by behind (after text) g ≡ items_by behind text f
   item_after behind text later (misread k at) g same h = absurd h
   item_after behind text later (piece i len) g same h =
       let goes = item_closed i (items_from len (behind + 1) false text) h in
-      ap (items_by behind (after text)) (same goes) ∙ ap (with_item i) (later len goes)
+      ap (items_by behind (after text)) (same goes) ∙ ap (with_class_item i) (later len goes)
 
   now_after : (behind : ℕ) (text : List ℕ) (f g : ClassFront) → (IsClosed (items_by behind text f) → items_by behind (after text) g ≡ items_by behind text f) → (now : Bool) →
       IsClosed (cond now (closed [] behind) (items_by behind text f)) → cond now (closed [] behind) (items_by behind (after text) g) ≡ cond now (closed [] behind) (items_by behind text f)
@@ -774,11 +775,11 @@ module _ (t : List ℕ) where
         long n h true e = let less = front_there 63 n text e in omega (arith, less)
         long n h false e = omega (arith, h)
 
-        by_bad : (c : Counts) → c.len ≤ length text → (b : Bool) → Fits text (cond b (fault BadRepeat 0) (lazy c.least c.most c.len text))
+        by_bad : (c : RepeatCounts) → c.len ≤ length text → (b : Bool) → Fits text (cond b (fault BadRepeat 0) (lazy c.least c.most c.len text))
         by_bad c h true = tt
         by_bad c h false = long c.len h (is_front 63 (drop c.len text)) refl
 
-        by : (o : Option Counts) → CountsWithin (length text) o → Fits text (brace_by text o)
+        by : (o : Option RepeatCounts) → CountsWithin (length text) o → Fits text (brace_by text o)
         by None h = omega arith
         by (Some c) h = by_bad c h (is_bad c)
 
@@ -840,7 +841,7 @@ module _ (t : List ℕ) where
     escape_fits : (text : List ℕ) → Fits text (escape flags.fold text)
     escape_fits [] = tt
     escape_fits (e ∷ text) =
-        elim (is_left_out e) as (λ b. Fits (e ∷ text) (cond b (fault NotInProfile 0) (elim (escaped_tree e) [ Some t ↦ item (unit t) 1 | None ↦ char_front flags.fold (e ∷ text) ]))) [
+        elim (is_unsupported_escape e) as (λ b. Fits (e ∷ text) (cond b (fault NotInProfile 0) (elim (escaped_tree e) [ Some t ↦ item (unit t) 1 | None ↦ char_front flags.fold (e ∷ text) ]))) [
           | true ↦ tt
           | false ↦ elim (escaped_tree e) as (λ (o : Option Tree). Fits (e ∷ text) (elim o [ Some t ↦ item (unit t) 1 | None ↦ char_front flags.fold (e ∷ text) ])) [
             | Some t ↦ omega arith
@@ -921,7 +922,7 @@ abbrev Readings : Type 0
 Readings = Before → List Group → Flags → Rest
 
 -- what an item makes of the readings of what follows it
-abbrev step : ℕ → Before → List Group → Flags → Item → Readings → Rest
+abbrev step : ℕ → Before → List Group → Flags → PatternItem → Readings → Rest
 step at before groups flags x r =
     elim x [
       | unit t ↦ inside (with_unit t) (r Operand groups flags)
@@ -940,7 +941,7 @@ outer_of groups = map (λ (g : Group). g.flags) groups
 abbrev Ending : Type 0
 Ending = List Flags → Flags → Flags
 
-abbrev flags_step : List Flags → Flags → Item → Ending → Flags
+abbrev flags_step : List Flags → Flags → PatternItem → Ending → Flags
 flags_step outer flags x ending =
     elim x [
       | group_start inner ↦ ending (flags ∷ outer) inner
@@ -983,7 +984,7 @@ module _ (last : Flags) (bs : Trees) where
   joins_end at (g ∷ gs) flags r s ending ends same is =
       ap with_close (same Operand gs g.flags ends (close_read (r Operand gs g.flags) is)) ∙ joined-close bs (r Operand gs g.flags)
 
-  joins_step : (at : ℕ) (before : Before) (groups : List Group) (flags : Flags) (x : Item) (r s : Readings) (ending : Ending) → flags_step (outer_of groups) flags x ending ≡ last → Joins r s ending →
+  joins_step : (at : ℕ) (before : Before) (groups : List Group) (flags : Flags) (x : PatternItem) (r s : Readings) (ending : Ending) → flags_step (outer_of groups) flags x ending ≡ last → Joins r s ending →
       IsRead (step at before groups flags x r) → step at before groups flags x s ≡ joined bs (step at before groups flags x r)
   joins_step at before groups flags (unit u) r s ending ends same is = joins_inside (with_unit u) (r Operand groups flags) (s Operand groups flags) (λ l. refl) (same Operand groups flags ends) is
   joins_step at before groups flags (repeat n m) r s ending ends same is = joins_repeat at n m before (r Counted groups flags) (s Counted groups flags) (same Counted groups flags ends) is
@@ -1075,7 +1076,7 @@ module _ (at by : ℕ) (before : Before) (flags : Flags) where
       let here : List Group = record { at = at; flags = flags } ∷ gs in
       ap with_open (same Start here (record { at = by; flags = flags } ∷ hs) inner (refl, alike) (open_read (r Start here inner) is))
 
-  agree_step : (gs hs : List Group) (x : Item) (r s : Readings) → Alike gs hs → Agree r s → IsRead (step at before gs flags x r) → step by before hs flags x s ≡ step at before gs flags x r
+  agree_step : (gs hs : List Group) (x : PatternItem) (r s : Readings) → Alike gs hs → Agree r s → IsRead (step at before gs flags x r) → step by before hs flags x s ≡ step at before gs flags x r
   agree_step gs hs (unit u) r s alike same is = ap (inside (with_unit u)) (same Operand gs hs flags alike (inside_read (with_unit u) (r Operand gs flags) is))
   agree_step gs hs (repeat n m) r s alike same is = agree_repeat n m before (r Counted gs flags) (s Counted hs flags) (same Counted gs hs flags alike) is
   agree_step gs hs bar r s alike same is = ap (inside with_bar) (same Start gs hs flags alike (inside_read with_bar (r Start gs flags) is))

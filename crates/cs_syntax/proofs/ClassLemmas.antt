@@ -6,12 +6,12 @@ use Rattle.std.specs.Str.{chars, chars_after, continuation_len, lead_bits}
 use Rattle.std.proofs.lemmas.Bool.Decides.{nat_tests}
 use Rattle.std.specs.Option.{option_map}
 use Rattle.std.specs.List.{starts_with}
-use Rattle.cs_syntax.specs.Matching.{differ}
+use Rattle.std.specs.Bool.{xor}
 use Rattle.cs_syntax.specs.Characters.{is_scalar, has_char, runs_of}
 use Rattle.cs_syntax.specs.CharTrees.{runs_tree, chars_tree}
 use Rattle.cs_syntax.specs.Fronts.{item, fault, unit, is_front}
 use Rattle.cs_syntax.specs.ClassSets.{is_in_item, is_in_items, class_tree}
-use Rattle.cs_syntax.specs.Classes.{name_length, ClassRest, closed, failed, with_item, items_from, class_front, piece, misread, class, class_of}
+use Rattle.cs_syntax.specs.Classes.{name_length, ClassRest, closed, failed, with_class_item, items_from, class_front, piece, misread, class, class_of}
 use Rattle.cs_syntax.specs.ClassState.{HaveItems}
 use Rattle.cs_syntax.specs.declared.class_item.ClassItem.{ClassItem}
 use Rattle.cs_syntax.specs.declared.fault.PatternFault.{PatternFault}
@@ -26,19 +26,19 @@ further at (Some n) = let e : at + suc n ≡ (at + 1) + n = omega arith in ap So
 -- the items so far, before what the rest of the class reads as
 abbrev pub with_items : List ClassItem → ClassRest → ClassRest
 with_items [] rest = rest
-with_items (i ∷ is) rest = with_item i (with_items is rest)
+with_items (i ∷ is) rest = with_class_item i (with_items is rest)
 
-pub with_items-last : (is : List ClassItem) (i : ClassItem) (r : ClassRest) → with_items (is ++ i ∷ []) r ≡ with_items is (with_item i r)
+pub with_items-last : (is : List ClassItem) (i : ClassItem) (r : ClassRest) → with_items (is ++ i ∷ []) r ≡ with_items is (with_class_item i r)
 with_items-last [] i r = refl
-with_items-last (j ∷ is) i r = ap (with_item j) (with_items-last is i r)
+with_items-last (j ∷ is) i r = ap (with_class_item j) (with_items-last is i r)
 
 pub with_items-closed : (is : List ClassItem) (len : ℕ) → with_items is (closed [] len) ≡ closed is len
 with_items-closed [] len = refl
-with_items-closed (i ∷ is) len = ap (with_item i) (with_items-closed is len)
+with_items-closed (i ∷ is) len = ap (with_class_item i) (with_items-closed is len)
 
 pub with_items-failed : (is : List ClassItem) (k : PatternFault) (behind : ℕ) → with_items is (failed k behind) ≡ failed k behind
 with_items-failed [] k behind = refl
-with_items-failed (i ∷ is) k behind = ap (with_item i) (with_items-failed is k behind)
+with_items-failed (i ∷ is) k behind = ap (with_class_item i) (with_items-failed is k behind)
 
 -- the bytes of an item are passed over
 pub items_from-skip : (skip behind : ℕ) (start : Bool) (text : List ℕ) → items_from skip behind start text ≡ items_from 0 (behind + skip) start (drop skip text)
@@ -50,9 +50,9 @@ items_from-skip (suc skip) behind start (b ∷ text) =
 
 -- one item is read
 pub items_from-item : (text rest : List ℕ) (b behind len : ℕ) (start : Bool) (i : ClassItem) → text ≡ b ∷ rest → (nat_eq b 93 && not start) ≡ false → class_front b rest ≡ piece i len →
-    items_from 0 behind start text ≡ with_item i (items_from 0 (behind + 1 + len) false (drop len rest))
+    items_from 0 behind start text ≡ with_class_item i (items_from 0 (behind + 1 + len) false (drop len rest))
 items_from-item text rest b behind len start i here not_closed found =
-    rw (here, items_from, not_closed, found) (ap (with_item i) (items_from-skip len (behind + 1) false rest))
+    rw (here, items_from, not_closed, found) (ap (with_class_item i) (items_from-skip len (behind + 1) false rest))
 
 pub items_from-fault : (text rest : List ℕ) (b behind by : ℕ) (start : Bool) (k : PatternFault) → text ≡ b ∷ rest → (nat_eq b 93 && not start) ≡ false → class_front b rest ≡ misread k by →
     items_from 0 behind start text ≡ failed k (behind + by)
@@ -76,7 +76,7 @@ pub have-read : (fold : Bool) (is : List ClassItem) (ranges read : List (ℕ × 
 have-read fold is ranges read same have c = ap (λ l. has_char l c) same ∙ have c
 
 -- the set of the items is the tree of the class
-class_runs : (fold negated : Bool) (is : List ClassItem) (set : List (ℕ × ℕ)) → set ≡ runs_of (λ c. differ negated (is_in_items fold is c)) → class_tree fold negated is ≡ runs_tree set
+class_runs : (fold negated : Bool) (is : List ClassItem) (set : List (ℕ × ℕ)) → set ≡ runs_of (λ c. xor negated (is_in_items fold is c)) → class_tree fold negated is ≡ runs_tree set
 unfolding chars_tree
 class_runs fold negated is set s = sym (ap runs_tree s)
 
@@ -92,7 +92,7 @@ class_is fold true rest f = rw f refl
 class_is fold false rest f = rw f refl
 
 pub class_read : (fold negated : Bool) (rest : List ℕ) (is : List ClassItem) (len : ℕ) (set : List (ℕ × ℕ)) → is_front 94 rest ≡ negated →
-    items_from 0 (opening negated) true (inside negated rest) ≡ closed is len → set ≡ runs_of (λ c. differ negated (is_in_items fold is c)) →
+    items_from 0 (opening negated) true (inside negated rest) ≡ closed is len → set ≡ runs_of (λ c. xor negated (is_in_items fold is c)) →
     class fold rest ≡ item (unit (runs_tree set)) len
 class_read fold negated rest is len set f e s =
     class_is fold negated rest f ∙ ap (class_of fold negated) e ∙ ap (λ t. item (unit t) len) (class_runs fold negated is set s)

@@ -5,13 +5,14 @@ use Rattle.std.specs.Str.{chars}
 use Rattle.std.proofs.lemmas.Bool.Decides.{nat_tests}
 use Rattle.std.specs.Char.{encode_utf8}
 use Rattle.std.proofs.lemmas.Fmt.{decimal_digit}
+use mathlib.Core.Bool.{xor}
 use Rattle.cs_syntax.specs.Matching.{Trees, empty, one_of, one_char, cat, alt, rep, line_start, line_end, word_edge, not_word_edge, none, more, member}
 use Rattle.cs_syntax.specs.Characters.{has_char, runs_through, TakesChar}
 use Rattle.cs_syntax.specs.CharRuns.{AreRuns}
 use Rattle.cs_syntax.specs.Lowering.{byte_range, utf8_tree}
 use Rattle.cs_syntax.specs.ByteSet.{set_of, char_set, all_bytes}
 use Rattle.cs_syntax.specs.Bits.{has_bit}
-use Rattle.cs_syntax.specs.SetWords.{set_of_bits, words_of}
+use Rattle.cs_syntax.specs.SetWords.{set_of_bits, set_words}
 use Rattle.cs_syntax.specs.CharTrees.{ascii_set}
 use Rattle.cs_syntax.specs.ClassSets.{is_in_item, is_in_class, is_in_dot, item_tree, class_tree, dot_tree}
 use Rattle.cs_syntax.specs.Classes.{class_by_name}
@@ -24,7 +25,7 @@ use Rattle.cs_syntax.specs.Reading.{reading, tree, refused, flags_at_start}
 use Rattle.cs_syntax.specs.Signs.{sign_of}
 use Rattle.cs_syntax.specs.Written.{counted_repeat, quotation}
 use Rattle.cs_syntax.proofs.CharSetLemmas.{scalar_tells}
-use Rattle.cs_syntax.proofs.RunLemmas.{tree_is}
+use Rattle.cs_syntax.proofs.CharRunLemmas.{tree_is}
 use Rattle.cs_syntax.specs.Weight.{most_weight, weight, weights}
 use Rattle.cs_syntax.specs.declared.class_item.NamedClass.TheVariants.{Ascii, Digit, Lower, Word}
 use Rattle.cs_syntax.specs.declared.class_item.ClassItem.TheVariants.{Range, Named}
@@ -249,15 +250,15 @@ members :
     × (is_in_class false true (Named Digit true ∷ []) 53 ≡ true)
     -- word has underscore
     × (is_in_class false false (Named Word false ∷ []) 95 ≡ true)
-unfolding set_of is_in_item char_set
+unfolding set_of is_in_item char_set xor
 members = (refl, refl, refl, refl, refl, refl, refl, refl, refl, refl, refl)
 
 -- a set of bytes as bits: place 64 is in the second word, and so is `a`, whose number is 97
 bits :
     (has_bit (0 ∷ 1 ∷ []) 64 ≡ true)
-    × (words_of (char_set false 97) ≡ 0 ∷ 2 ^ 33 ∷ 0 ∷ 0 ∷ [])
+    × (set_words (char_set false 97) ≡ 0 ∷ 2 ^ 33 ∷ 0 ∷ 0 ∷ [])
     × (set_of_bits (0 ∷ 2 ^ 33 ∷ 0 ∷ 0 ∷ []) ≡ char_set false 97)
-unfolding words_of set_of_bits char_set set_of
+unfolding set_words set_of_bits char_set set_of
 bits = (refl, refl, refl)
 
 -- how a text is quoted, and how a repeat is written
@@ -312,7 +313,7 @@ dots :
     (dot_tree false ≡ one_char ((0, 9) ∷ (11, 1114111) ∷ []))
     × (dot_tree true ≡ one_char ((0, 1114111) ∷ []))
     × (item_tree (Named Digit true) ≡ one_char ((0, 47) ∷ (58, 1114111) ∷ []))
-unfolding is_in_item
+unfolding is_in_item xor
 dots = (
   tree_is _ ((0, 9) ∷ (11, 1114111) ∷ []) (omega arith, (omega arith, refl, refl), (omega arith, (omega arith, refl, refl), tt)) (λ c. grind (arith, nat_tests, scalar_tells c)),
   tree_is _ ((0, 1114111) ∷ []) (omega arith, (omega arith, refl, refl), tt) (λ c. grind (arith, nat_tests, scalar_tells c)),
@@ -326,7 +327,7 @@ classes :
     × (class_tree false true (Range 233 233 ∷ []) ≡ one_char ((0, 232) ∷ (234, 1114111) ∷ []))
     × (class_tree false false (Named Ascii true ∷ []) ≡ one_char ((128, 1114111) ∷ []))
     × (class_tree false false (Range 55295 57344 ∷ []) ≡ one_char ((55295, 57344) ∷ []))
-unfolding is_in_item
+unfolding is_in_item xor
 classes = (
   tree_is _ ((97, 99) ∷ []) (omega arith, (omega arith, refl, refl), tt) (λ c. grind (arith, nat_tests, scalar_tells c)),
   tree_is _ ((233, 233) ∷ []) (omega arith, (omega arith, refl, refl), tt) (λ c. grind (arith, nat_tests, scalar_tells c)),

@@ -4,11 +4,11 @@ use Rattle.std.specs.Prelude.{Option, Some, None, nat_eq, nat_lt, if◌then◌el
 use Rattle.std.specs.List.{prefix_len}
 use Rattle.cs_syntax.specs.ByteSet.{char_set}
 use Rattle.cs_syntax.specs.Matching.{Tree, one_of, is_word}
-use Rattle.cs_syntax.specs.Fronts.{Item, unit, repeat, bar, group_start, group_end, flags_from_here, Front, item, fault, is_front, char_tree}
+use Rattle.cs_syntax.specs.Fronts.{PatternItem, unit, repeat, bar, group_start, group_end, flags_from_here, Front, item, fault, is_front, char_tree}
 use Rattle.cs_syntax.specs.Repeats.{counts, is_bad, lazy}
 use Rattle.cs_syntax.specs.Groups.{name, is_flag, is_cleared_flag, with_set, with_cleared, after_flags, cleared_flags, set_flags, head, group}
-use Rattle.cs_syntax.specs.Escapes.{escaped_char, escaped_class, escaped_tree, is_left_out, char_front, escape}
-use Rattle.cs_syntax.specs.Classes.{ClassFront, piece, misread, ClassChar, one, wrong, class_escape, class_char, range_to, range_from, span, name_length, posix_class, after_backslash, class_front, ClassRest, closed, failed, with_item, items_from, class_of, class}
+use Rattle.cs_syntax.specs.Escapes.{escaped_char, escaped_class, escaped_tree, is_unsupported_escape, char_front, escape}
+use Rattle.cs_syntax.specs.Classes.{ClassFront, piece, misread, ClassChar, one, wrong, class_escape, class_char, range_to, range_from, span, name_length, posix_class, after_backslash, class_front, ClassRest, closed, failed, with_class_item, items_from, class_of, class}
 use Rattle.cs_syntax.specs.Items.{item_by, front}
 use Rattle.cs_syntax.specs.Signs.{sign_of}
 use Rattle.cs_syntax.specs.Reading.{IsTextFault, Level, Rest, levels, broken, inside, with_open, with_close, with_unit, with_repeat, with_bar, Group, at_end, most_open, rest, answer, Reading, tree, refused, Breaks, flags_at_start}
@@ -16,7 +16,7 @@ use Rattle.cs_syntax.specs.declared.class_item.ClassItem.{ClassItem}
 use Rattle.cs_syntax.specs.declared.class_item.ClassItem.TheVariants.{Range, Named}
 use Rattle.cs_syntax.specs.declared.class_item.NamedClass.{NamedClass}
 use Rattle.cs_syntax.specs.declared.escapes.EscapedChar.{EscapedChar}
-use Rattle.cs_syntax.specs.declared.repeats.Counts.{Counts}
+use Rattle.cs_syntax.specs.declared.repeats.RepeatCounts.{RepeatCounts}
 use Rattle.cs_syntax.specs.declared.before.Before.{Before}
 use Rattle.cs_syntax.specs.declared.before.Before.TheVariants.{Start, Operand, Counted}
 use Rattle.cs_syntax.specs.declared.flags.Flags.{Flags}
@@ -34,7 +34,7 @@ abbrev OfText : Front → Type 0
 OfText (item x len) = Unit {0}
 OfText (fault k behind) = IsTextFault k
 
-counted : (text : List ℕ) (o : Option Counts) →
+counted : (text : List ℕ) (o : Option RepeatCounts) →
     OfText (elim o [ None ↦ item (unit (one_of (char_set false 123))) 0 | Some c ↦ if is_bad c then fault BadRepeat 0 else lazy c.least c.most c.len text ])
 counted text None = tt
 counted text (Some c) = either OfText (is_bad c) (fault BadRepeat 0) (lazy c.least c.most c.len text) tt tt
@@ -85,7 +85,7 @@ escaped_item (Some t) fold text = tt
 
 escape-of : (fold : Bool) (text : List ℕ) → OfText (escape fold text)
 escape-of fold [] = tt
-escape-of fold (e ∷ text) = either OfText (is_left_out e) _ _ tt (escaped_item (escaped_tree e) fold (e ∷ text))
+escape-of fold (e ∷ text) = either OfText (is_unsupported_escape e) _ _ tt (escaped_item (escaped_tree e) fold (e ∷ text))
 
 abbrev OfClass : ClassFront → Type 0
 OfClass (piece i len) = Unit {0}
@@ -101,7 +101,7 @@ escaped_in_class (Some c) = tt
 
 class_escape-of : (text : List ℕ) → OfChar (class_escape text)
 class_escape-of [] = tt
-class_escape-of (e ∷ text) = either OfChar (is_left_out e) _ _ tt (escaped_in_class (escaped_char (e ∷ text)))
+class_escape-of (e ∷ text) = either OfChar (is_unsupported_escape e) _ _ tt (escaped_in_class (escaped_char (e ∷ text)))
 
 class_char-of : (b : ℕ) (text : List ℕ) → OfChar (class_char b text)
 class_char-of b text = either OfChar (nat_eq b 92) _ _ (class_escape-of text) (either OfChar (nat_lt b 128) _ _ tt tt)
@@ -144,14 +144,14 @@ abbrev OfRest : ClassRest → Type 0
 OfRest (closed items len) = Unit {0}
 OfRest (failed k behind) = IsTextFault k
 
-with_item-of : (i : ClassItem) (r : ClassRest) → OfRest r → OfRest (with_item i r)
-with_item-of i (closed items len) p = tt
-with_item-of i (failed k behind) p = p
+with_class_item-of : (i : ClassItem) (r : ClassRest) → OfRest r → OfRest (with_class_item i r)
+with_class_item-of i (closed items len) p = tt
+with_class_item-of i (failed k behind) p = p
 
 next_item : (f : ClassFront) (behind : ℕ) (r : ℕ → ClassRest) → OfClass f → ((len : ℕ) → OfRest (r len)) →
-    OfRest (elim f [ misread k by ↦ failed k (behind + by) | piece i len ↦ with_item i (r len) ])
+    OfRest (elim f [ misread k by ↦ failed k (behind + by) | piece i len ↦ with_class_item i (r len) ])
 next_item (misread k by) behind r p q = p
-next_item (piece i len) behind r p q = with_item-of i (r len) (q len)
+next_item (piece i len) behind r p q = with_class_item-of i (r len) (q len)
 
 items_from-of : (skip behind : ℕ) (start : Bool) (text : List ℕ) → OfRest (items_from skip behind start text)
 items_from-of skip behind start [] = tt
@@ -220,7 +220,7 @@ close_next : (groups : List Group) (at : ℕ) (r : Before → List Group → Fla
 close_next [] at r p = tt
 close_next (g ∷ gs) at r p = with_close-of (r Operand gs g.flags) (p Operand gs g.flags)
 
-item_next : (x : Item) (at : ℕ) (before : Before) (groups : List Group) (flags : Flags) (r : Before → List Group → Flags → Rest) → ((b : Before) (gs : List Group) (f : Flags) → OfReading (r b gs f)) →
+item_next : (x : PatternItem) (at : ℕ) (before : Before) (groups : List Group) (flags : Flags) (r : Before → List Group → Flags → Rest) → ((b : Before) (gs : List Group) (f : Flags) → OfReading (r b gs f)) →
     OfReading
     (elim x [
       | unit t ↦ inside (with_unit t) (r Operand groups flags)

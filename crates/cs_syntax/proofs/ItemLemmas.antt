@@ -7,10 +7,10 @@ use Rattle.cs_syntax.specs.PartialGroups.{with_last, PartialGroup, whole_reading
 use Rattle.cs_syntax.specs.ItemViews.{front_view, IsFrontOf}
 use Rattle.cs_syntax.specs.declared.item.Item as items
 use Rattle.cs_syntax.specs.declared.item.Misread.{Misread}
-use Rattle.cs_syntax.specs.Fronts.{Front, Item, unit, repeat, bar, group_start, group_end, flags_from_here, item, fault}
+use Rattle.cs_syntax.specs.Fronts.{Front, PatternItem, unit, repeat, bar, group_start, group_end, flags_from_here, item, fault}
 use Rattle.cs_syntax.specs.Items.{front}
 use Rattle.cs_syntax.specs.Reading.{Reading, refused, Group, Rest, most_open, rest, inside, with_repeat}
-use Rattle.cs_syntax.specs.ParserState.{WaitingGroup, State, group_of, reading_on, goes_on, stops, step_repeat, step_open, step_close, step, IsOperand, HasOperand, IsStop, IsRefusal}
+use Rattle.cs_syntax.specs.ParserState.{WaitingGroup, ParserState, group_of, reading_on, goes_on, stops, step_repeat, step_open, step_close, step, IsOperand, HasOperand, IsStop, IsRefusal}
 use Rattle.cs_syntax.specs.declared.before.Before.{Before}
 use Rattle.cs_syntax.specs.declared.before.Before.TheVariants.{Start, Operand, Counted}
 use Rattle.cs_syntax.specs.declared.flags.Flags.{Flags}
@@ -26,7 +26,7 @@ rest_skip (suc skip) at before groups flags (b ∷ text) =
     let e : (at + 1) + skip ≡ at + suc skip = omega arith in
     rest_skip skip (at + 1) before groups flags text ∙ ap (λ n. rest 0 n before groups flags (drop skip text)) e
 
-pub reading_on-skip : (s : State) (skip at : ℕ) (text : List ℕ) → reading_on s skip at text ≡ reading_on s 0 (at + skip) (drop skip text)
+pub reading_on-skip : (s : ParserState) (skip at : ℕ) (text : List ℕ) → reading_on s skip at text ≡ reading_on s 0 (at + skip) (drop skip text)
 unfolding reading_on
 reading_on-skip s skip at text = ap (λ r. whole_reading (map (λ w. w.so_far) s.around) s.so_far r) (rest_skip skip at s.before (map group_of s.around) s.flags text)
 
@@ -46,27 +46,27 @@ repeat_on hs bs (more u us) n m r some =
     ∙ whole_reading_repeat hs before l.1 n m r
     ∙ sym (ap (λ (x : Trees). whole_reading hs (f x) r) l.3)
 
-same_state : (s t : State) → goes_on s ≡ goes_on t → s ≡ t
+same_state : (s t : ParserState) → goes_on s ≡ goes_on t → s ≡ t
 same_state s t e = (cc)
 
 same_fault : (j k : PatternFault) → stops j ≡ stops k → j ≡ k
 same_fault j k e = (cc)
 
-on : List WaitingGroup → PartialGroup → Before → Flags → State
+on : List WaitingGroup → PartialGroup → Before → Flags → ParserState
 on ws h before flags = record { around = ws; so_far = h; before = before; flags = flags }
 
 module _ (len at b : ℕ) (text : List ℕ) where
   -- what the text reads as after the item
-  abbrev After : State → Reading
+  abbrev After : ParserState → Reading
   After s = reading_on s len (at + 1) text
 
-  abbrev Before_item : State → Reading
+  abbrev Before_item : ParserState → Reading
   Before_item s = reading_on s 0 at (b ∷ text)
 
-  moved : (s t : State) (r : Reading) → goes_on s ≡ goes_on t → After s ≡ r → After t ≡ r
+  moved : (s t : ParserState) (r : Reading) → goes_on s ≡ goes_on t → After s ≡ r → After t ≡ r
   moved s t r e f = ap After (sym (same_state s t e)) ∙ f
 
-  on_repeat : (ws : List WaitingGroup) (h : PartialGroup) (before : Before) (flags : Flags) (new : State) (n : ℕ) (m : Option ℕ) → IsOperand before h.units → front flags b text ≡ item (repeat n m) len →
+  on_repeat : (ws : List WaitingGroup) (h : PartialGroup) (before : Before) (flags : Flags) (new : ParserState) (n : ℕ) (m : Option ℕ) → IsOperand before h.units → front flags b text ≡ item (repeat n m) len →
       step_repeat before n m (on ws h before flags) ≡ goes_on new → After new ≡ Before_item (on ws h before flags)
   unfolding reading_on on
   on_repeat ws h Start flags new n m some f e = cc
@@ -75,7 +75,7 @@ module _ (len at b : ℕ) (text : List ℕ) where
       moved (on ws (with_last_unit_repeated n m h) Counted flags) new _ e
       (rw (rest, f) (sym (repeat_on (map (λ w. w.so_far) ws) h.branches h.units n m (rest len (at + 1) Counted (map group_of ws) flags text) some)))
 
-  on_open : (ws : List WaitingGroup) (h : PartialGroup) (before : Before) (flags inner : Flags) (new : State) (full : Bool) → nat_eq (length ws) most_open ≡ full → front flags b text ≡ item (group_start inner) len →
+  on_open : (ws : List WaitingGroup) (h : PartialGroup) (before : Before) (flags inner : Flags) (new : ParserState) (full : Bool) → nat_eq (length ws) most_open ≡ full → front flags b text ≡ item (group_start inner) len →
       step_open full inner at (on ws h before flags) ≡ goes_on new → After new ≡ Before_item (on ws h before flags)
   unfolding reading_on on
   on_open ws h before flags inner new true deep f e = cc
@@ -85,7 +85,7 @@ module _ (len at b : ℕ) (text : List ℕ) where
       moved (on (w ∷ ws) empty_group Start inner) new _ e
       (rw (rest, f, room) (sym (whole_reading_open (map (λ x. x.so_far) ws) h (rest len (at + 1) Start (group_of w ∷ map group_of ws) inner text))))
 
-  on_close : (ws : List WaitingGroup) (h : PartialGroup) (before : Before) (flags : Flags) (new : State) → front flags b text ≡ item group_end len →
+  on_close : (ws : List WaitingGroup) (h : PartialGroup) (before : Before) (flags : Flags) (new : ParserState) → front flags b text ≡ item group_end len →
       step_close ws (on ws h before flags) ≡ goes_on new → After new ≡ Before_item (on ws h before flags)
   unfolding reading_on on
   on_close [] h before flags new f e = cc
@@ -93,7 +93,7 @@ module _ (len at b : ℕ) (text : List ℕ) where
       moved (on ws (with_last_unit w.so_far (tree_so_far h)) Operand w.flags) new _ e
       (rw (rest, f) (sym (whole_reading_close (map (λ x. x.so_far) ws) w.so_far h (rest len (at + 1) Operand (map group_of ws) w.flags text))))
 
-  after_item : (x : Item) (ws : List WaitingGroup) (h : PartialGroup) (before : Before) (flags : Flags) (new : State) → IsOperand before h.units → front flags b text ≡ item x len →
+  after_item : (x : PatternItem) (ws : List WaitingGroup) (h : PartialGroup) (before : Before) (flags : Flags) (new : ParserState) → IsOperand before h.units → front flags b text ≡ item x len →
       step x at (on ws h before flags) ≡ goes_on new → After new ≡ Before_item (on ws h before flags)
   unfolding reading_on on
   after_item (unit t) ws h before flags new some f e =
@@ -108,7 +108,7 @@ module _ (len at b : ℕ) (text : List ℕ) where
   after_item (flags_from_here inner) ws h before flags new some f e = moved (on ws h Start inner) new _ e (rw (rest, f) refl)
 
   -- after an item that goes on the text reads as before it
-  pub goes_on-reads : (x : Item) (s new : State) → HasOperand s → front s.flags b text ≡ item x len → step x at s ≡ goes_on new → reading_on new len (at + 1) text ≡ reading_on s 0 at (b ∷ text)
+  pub goes_on-reads : (x : PatternItem) (s new : ParserState) → HasOperand s → front s.flags b text ≡ item x len → step x at s ≡ goes_on new → reading_on new len (at + 1) text ≡ reading_on s 0 at (b ∷ text)
   unfolding on
   goes_on-reads x s new some f e = after_item x s.around s.so_far s.before s.flags new some f e
 
@@ -133,7 +133,7 @@ module _ (len at b : ℕ) (text : List ℕ) where
   stopped_close [] h before flags k f e = rw (rest, f) (ap (λ j. refused j at) (same_fault _ _ e))
   stopped_close (w ∷ ws) h before flags k f e = cc
 
-  stopped : (x : Item) (ws : List WaitingGroup) (h : PartialGroup) (before : Before) (flags : Flags) (k : PatternFault) → front flags b text ≡ item x len →
+  stopped : (x : PatternItem) (ws : List WaitingGroup) (h : PartialGroup) (before : Before) (flags : Flags) (k : PatternFault) → front flags b text ≡ item x len →
       step x at (on ws h before flags) ≡ stops k → Before_item (on ws h before flags) ≡ refused k at
   unfolding on
   stopped (unit t) ws h before flags k f e = cc
@@ -144,12 +144,12 @@ module _ (len at b : ℕ) (text : List ℕ) where
   stopped (flags_from_here new) ws h before flags k f e = cc
 
   -- an item that stops is the fault of the reading
-  pub stops-reads : (x : Item) (s : State) (k : PatternFault) → front s.flags b text ≡ item x len → step x at s ≡ stops k → reading_on s 0 at (b ∷ text) ≡ refused k at
+  pub stops-reads : (x : PatternItem) (s : ParserState) (k : PatternFault) → front s.flags b text ≡ item x len → step x at s ≡ stops k → reading_on s 0 at (b ∷ text) ≡ refused k at
   unfolding on
   stops-reads x s k f e = stopped x s.around s.so_far s.before s.flags k f e
 
 -- what is no item is the fault of the reading
-pub fault-reads : (at b behind : ℕ) (text : List ℕ) (s : State) (k : PatternFault) → front s.flags b text ≡ fault k behind → reading_on s 0 at (b ∷ text) ≡ refused k (at + behind)
+pub fault-reads : (at b behind : ℕ) (text : List ℕ) (s : ParserState) (k : PatternFault) → front s.flags b text ≡ fault k behind → reading_on s 0 at (b ∷ text) ≡ refused k (at + behind)
 unfolding reading_on
 fault-reads at b behind text s k f = rw (rest, f) refl
 
@@ -157,21 +157,21 @@ last_is_some : (us : Trees) (t : Tree) → IsOperand Operand (with_last us t)
 last_is_some none t = tt
 last_is_some (more u us) t = tt
 
-still_repeat : (before : Before) (n : ℕ) (m : Option ℕ) (s new : State) → step_repeat before n m s ≡ goes_on new → IsOperand new.before new.so_far.units
+still_repeat : (before : Before) (n : ℕ) (m : Option ℕ) (s new : ParserState) → step_repeat before n m s ≡ goes_on new → IsOperand new.before new.so_far.units
 still_repeat Start n m s new e = cc
 still_repeat Counted n m s new e = cc
 still_repeat Operand n m s new e = subst HasOperand (same_state _ new e) tt
 
-still_open : (full : Bool) (inner : Flags) (at : ℕ) (s new : State) → step_open full inner at s ≡ goes_on new → HasOperand new
+still_open : (full : Bool) (inner : Flags) (at : ℕ) (s new : ParserState) → step_open full inner at s ≡ goes_on new → HasOperand new
 still_open true inner at s new e = cc
 still_open false inner at s new e = subst HasOperand (same_state _ new e) tt
 
-still_close : (ws : List WaitingGroup) (s new : State) → step_close ws s ≡ goes_on new → HasOperand new
+still_close : (ws : List WaitingGroup) (s new : ParserState) → step_close ws s ≡ goes_on new → HasOperand new
 still_close [] s new e = cc
 still_close (w ∷ ws) s new e = subst HasOperand (same_state _ new e) (last_is_some w.so_far.units (tree_so_far s.so_far))
 
 -- after each item an operand is a unit
-pub still-operand : (x : Item) (at : ℕ) (s new : State) → step x at s ≡ goes_on new → HasOperand new
+pub still-operand : (x : PatternItem) (at : ℕ) (s new : ParserState) → step x at s ≡ goes_on new → HasOperand new
 still-operand (unit t) at s new e = subst HasOperand (same_state _ new e) (last_is_some s.so_far.units t)
 still-operand (repeat n m) at s new e = still_repeat s.before n m s new e
 still-operand bar at s new e = subst HasOperand (same_state _ new e) tt
@@ -180,7 +180,7 @@ still-operand group_end at s new e = still_close s.around s new e
 still-operand (flags_from_here inner) at s new e = subst HasOperand (same_state _ new e) tt
 
 -- where an item stops, the error is the refusal of the reading
-pub stop_is_refusal : (x : Item) (s : State) (at b len : ℕ) (text tail : List ℕ) (e : PatternError) → drop at text ≡ b ∷ tail → front s.flags b tail ≡ item x len → IsStop (step x at s) at e →
+pub stop_is_refusal : (x : PatternItem) (s : ParserState) (at b len : ℕ) (text tail : List ℕ) (e : PatternError) → drop at text ≡ b ∷ tail → front s.flags b tail ≡ item x len → IsStop (step x at s) at e →
     IsRefusal (reading_on s 0 at (drop at text)) e
 stop_is_refusal x s at b len text tail e here f (inl m) = inl m
 stop_is_refusal x s at b len text tail e here f (inr k) = inr (ap (reading_on s 0 at) here ∙ stops-reads len at b tail x s e.fault f k.0 ∙ ap (refused e.fault) (sym k.1))

@@ -1,7 +1,7 @@
 -- The rest of a text has one level more than there are open groups.
 use Rattle.std.proofs.Common.{◌≡◌, ◌≢◌, ℕ, zero, suc, ◌+◌, true, false, List, [], ◌∷◌, length, Option, refl, subst, arith}
 use Rattle.std.specs.Prelude.{nat_eq, if◌then◌else◌}
-use Rattle.cs_syntax.specs.Fronts.{Front, Item, unit, repeat, bar, group_start, group_end, flags_from_here, item, fault}
+use Rattle.cs_syntax.specs.Fronts.{Front, PatternItem, unit, repeat, bar, group_start, group_end, flags_from_here, item, fault}
 use Rattle.cs_syntax.specs.Items.{front}
 use Rattle.cs_syntax.specs.Reading.{Level, Rest, Group, levels, broken, inside, with_close, with_open, with_unit, with_repeat, with_bar, most_open, rest, at_end}
 use Rattle.cs_syntax.specs.declared.flags.Flags.{Flags}
@@ -35,7 +35,7 @@ module _ (at : ℕ) (before : Before) (flags : Flags) where
   has_end [] r each = tt
   has_end (g ∷ gs) r each = has_close (r Operand gs g.flags) g gs (each Operand gs g.flags)
 
-  has_item : (x : Item) (groups : List Group) (r : Before → List Group → Flags → Rest) → ((b : Before) (gs : List Group) (f : Flags) → HasLevels (r b gs f) gs) →
+  has_item : (x : PatternItem) (groups : List Group) (r : Before → List Group → Flags → Rest) → ((b : Before) (gs : List Group) (f : Flags) → HasLevels (r b gs f) gs) →
       HasLevels
       (elim x [
         | unit t ↦ inside (with_unit t) (r Operand groups flags)

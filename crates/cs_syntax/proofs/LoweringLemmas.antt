@@ -10,7 +10,7 @@ use Rattle.std.proofs.lemmas.List.{take-append-drop, drop-drop, length-append, l
 use Rattle.cs_syntax.specs.Ranges.{is_in_ranges}
 use Rattle.cs_syntax.specs.ByteSet.{set_of}
 use Rattle.cs_syntax.specs.Characters.{is_scalar, StandsFrom, TakesChar}
-use Rattle.cs_syntax.specs.Lowering.{byte_range, part, parts, with_last_byte, forms, forms_within, wide_forms, all_wide_forms, ascii_forms, utf8_tree}
+use Rattle.cs_syntax.specs.Lowering.{byte_range, range_part, range_parts, with_last_byte, forms, forms_within, wide_forms, all_wide_forms, ascii_forms, utf8_tree}
 use Rattle.cs_syntax.specs.Matching.{Tree, Trees, one_of, cat, none, more, member, Takes, TakesSome}
 use Rattle.cs_syntax.specs.Widths.{Fits}
 use Rattle.cs_syntax.specs.Node.{tree_of}
@@ -20,7 +20,7 @@ use Rattle.cs_syntax.specs.declared.node.Node.TheVariants.{Set, Cat}
 use Rattle.cs_syntax.proofs.NodeLemmas.{tree_of-Set, tree_of-Cat}
 use Rattle.cs_syntax.proofs.TreeLemmas.{pushed_tree, chosen_trees}
 use Rattle.cs_syntax.specs.TreeList.{append}
-use Rattle.cs_syntax.proofs.SetLemmas.{length-set_of, set_of_at}
+use Rattle.cs_syntax.proofs.AnswerListLemmas.{length-set_of, set_of_at}
 use Rattle.cs_syntax.proofs.TreeListLemmas.{takes_any, takes_append, append_assoc_trees, append_none}
 use Rattle.cs_syntax.proofs.CharSetLemmas.{scalar_tells}
 
@@ -116,24 +116,24 @@ among_right : (n : ℕ) (ps qs : List (ℕ × ℕ)) → IsAmong n qs → IsAmong
 among_right n [] qs h = h
 among_right n (p ∷ ps) qs h = inr (among_right n ps qs h)
 
-part_blocks : (low high from end : ℕ) → (from < end → (low ≤ from) × (end - 1 ≤ high) × IsBlock (from, end - 1)) → AreBlocks low high (part from end)
+part_blocks : (low high from end : ℕ) → (from < end → (low ≤ from) × (end - 1 ≤ high) × IsBlock (from, end - 1)) → AreBlocks low high (range_part from end)
 part_blocks low high from end h = by (nat_lt from end) refl
   where
     by : (b : Bool) → nat_lt from end ≡ b → AreBlocks low high (if b then (from, end - 1) ∷ [] else [])
     by true e = let p = h (grind (arith, nat_tests)) in (p.0, p.1, p.2, tt)
     by false e = tt
 
-part_among : (n from end : ℕ) → from ≤ n → n < end → IsAmong n (part from end)
+part_among : (n from end : ℕ) → from ≤ n → n < end → IsAmong n (range_part from end)
 part_among n from end le lt =
     let e : nat_lt from end ≡ true = grind (arith, nat_tests) in
     let P : List (ℕ × ℕ) → Type 0 = IsAmong n in
     subst P (sym (cond-true (nat_lt from end) _ _ e)) (inl (le, omega arith))
 
-parts_blocks : (low high : ℕ) → AreBlocks low high (parts low high)
+parts_blocks : (low high : ℕ) → AreBlocks low high (range_parts low high)
 parts_blocks low high = by (nat_le ((low + 63) / 64 * 64) ((high + 1) / 64 * 64)) refl
   where
     by : (b : Bool) → nat_le ((low + 63) / 64 * 64) ((high + 1) / 64 * 64) ≡ b →
-        AreBlocks low high (if b then part low ((low + 63) / 64 * 64) ++ (part ((low + 63) / 64 * 64) ((high + 1) / 64 * 64) ++ part ((high + 1) / 64 * 64) (high + 1)) else part low (high + 1))
+        AreBlocks low high (if b then range_part low ((low + 63) / 64 * 64) ++ (range_part ((low + 63) / 64 * 64) ((high + 1) / 64 * 64) ++ range_part ((high + 1) / 64 * 64) (high + 1)) else range_part low (high + 1))
     by true e =
         let le : (low + 63) / 64 * 64 ≤ (high + 1) / 64 * 64 = grind (arith, nat_tests) in
         blocks_append low high _ _ (part_blocks low high low ((low + 63) / 64 * 64) (λ lt. (omega arith, omega arith, (omega arith, inl (omega arith)))))
@@ -144,18 +144,18 @@ parts_blocks low high = by (nat_le ((low + 63) / 64 * 64) ((high + 1) / 64 * 64)
         let gt : (high + 1) / 64 * 64 < (low + 63) / 64 * 64 = grind (arith, nat_tests) in
         part_blocks low high low (high + 1) (λ lt. (omega arith, omega arith, (omega arith, inl (omega arith))))
 
-parts_among : (n low high : ℕ) → low ≤ n → n ≤ high → IsAmong n (parts low high)
+parts_among : (n low high : ℕ) → low ≤ n → n ≤ high → IsAmong n (range_parts low high)
 parts_among n low high from to = by (nat_le ((low + 63) / 64 * 64) ((high + 1) / 64 * 64))
   where
-    by : (b : Bool) → IsAmong n (if b then part low ((low + 63) / 64 * 64) ++ (part ((low + 63) / 64 * 64) ((high + 1) / 64 * 64) ++ part ((high + 1) / 64 * 64) (high + 1)) else part low (high + 1))
+    by : (b : Bool) → IsAmong n (if b then range_part low ((low + 63) / 64 * 64) ++ (range_part ((low + 63) / 64 * 64) ((high + 1) / 64 * 64) ++ range_part ((high + 1) / 64 * 64) (high + 1)) else range_part low (high + 1))
     by true =
         elim (cases_lt n ((low + 63) / 64 * 64)) [
-          | inl before ↦ among_left n (part low ((low + 63) / 64 * 64)) _ (part_among n low ((low + 63) / 64 * 64) from before)
+          | inl before ↦ among_left n (range_part low ((low + 63) / 64 * 64)) _ (part_among n low ((low + 63) / 64 * 64) from before)
           | inr past ↦
-              among_right n (part low ((low + 63) / 64 * 64)) _
+              among_right n (range_part low ((low + 63) / 64 * 64)) _
               (elim (cases_lt n ((high + 1) / 64 * 64)) [
-                | inl before ↦ among_left n (part ((low + 63) / 64 * 64) ((high + 1) / 64 * 64)) _ (part_among n ((low + 63) / 64 * 64) ((high + 1) / 64 * 64) past before)
-                | inr behind ↦ among_right n (part ((low + 63) / 64 * 64) ((high + 1) / 64 * 64)) _ (part_among n ((high + 1) / 64 * 64) (high + 1) behind (omega arith))
+                | inl before ↦ among_left n (range_part ((low + 63) / 64 * 64) ((high + 1) / 64 * 64)) _ (part_among n ((low + 63) / 64 * 64) ((high + 1) / 64 * 64) past before)
+                | inr behind ↦ among_right n (range_part ((low + 63) / 64 * 64) ((high + 1) / 64 * 64)) _ (part_among n ((high + 1) / 64 * 64) (high + 1) behind (omega arith))
               ])
         ]
     by false = part_among n low (high + 1) from (omega arith)
@@ -241,16 +241,16 @@ forms_taken s lead zero low high i j h =
     let P : ℕ → Type 0 = λ c. StandsFrom s (c ∷ []) i j in
     (b.0 - lead, omega (arith, b.1), omega (arith, b.2), subst P same b.3)
 forms_taken s lead (suc k) low high i j h =
-    last_taken s (forms lead k) lead k (forms_taken s lead k) low high (parts low high) (parts_blocks low high) i j
-    ((takes_any s i j (with_last_byte (forms lead k) (parts low high))).0 h)
+    last_taken s (forms lead k) lead k (forms_taken s lead k) low high (range_parts low high) (parts_blocks low high) i j
+    ((takes_any s i j (with_last_byte (forms lead k) (range_parts low high))).0 h)
 
 forms_take : (s : List ℕ) (lead k low high n i j : ℕ) → Fits lead k high → low ≤ n → n ≤ high → StandsFrom s (form lead k n) i j → Takes s (forms lead k low high) i j
 forms_take s lead zero low high n i j fit from to h = byte_takes s (lead + low) (lead + high) (lead + n) i j fit (omega arith) (omega arith) h
 forms_take s lead (suc k) low high n i j fit from to h =
-    (takes_any s i j (with_last_byte (forms lead k) (parts low high))).1
+    (takes_any s i j (with_last_byte (forms lead k) (range_parts low high))).1
     (last_takes s (forms lead k) lead k high
     (λ a b m u v top. forms_take s lead k a b m u v (fits_below lead k b (high / 64) top fit))
-    low (parts low high) (parts_blocks low high) n i j (parts_among n low high from to) h)
+    low (range_parts low high) (parts_blocks low high) n i j (parts_among n low high from to) h)
 
 within_taken : (s : List ℕ) (from to lead k : ℕ) (run : ℕ × ℕ) (i j : ℕ) → TakesSome s (forms_within from to lead k run) i j →
     (n : ℕ) × (from ≤ n) × (n ≤ to) × (run.0 ≤ n) × (n ≤ run.1) × StandsFrom s (form lead k n) i j
@@ -519,7 +519,7 @@ four_behind old a b c d one two three four e f g h =
 pub part_pushed : (old new none_yet one : List Node) (front : Node) (vec : Vec Node Global) (lead k low end high : ℕ) (set : List Bool) → low < end → high ≡ end - 1 →
     tree_of front ≡ forms lead k (low / 64) (high / 64) → set ≡ set_of (is_in_ranges ((128 + low % 64, 128 + high % 64) ∷ [])) →
     none_yet ≡ [] → one ≡ none_yet ++ front ∷ [] → vec.items ≡ one ++ Set set ∷ [] → new ≡ old ++ Cat vec ∷ [] →
-    trees_of new ≡ append (trees_of old) (with_last_byte (forms lead k) (part low end))
+    trees_of new ≡ append (trees_of old) (with_last_byte (forms lead k) (range_part low end))
 part_pushed old new none_yet one front vec lead k low end high set lt is_high is_front is_set is_none is_one is_both pushed =
     let e : nat_lt low end ≡ true = grind (arith, nat_tests) in
     let Part : ℕ → Trees = λ h. with_last_byte (forms lead k) ((low, h) ∷ []) in
@@ -533,7 +533,7 @@ part_pushed old new none_yet one front vec lead k low end high set lt is_high is
     ∙ ap (λ (h : ℕ). append (trees_of old) (Part h)) is_high
     ∙ ap (λ ps. append (trees_of old) (with_last_byte (forms lead k) ps)) (sym (cond-true (nat_lt low end) _ _ e))
 
-pub part_left : (old : List Node) (lead k low end : ℕ) → end ≤ low → trees_of old ≡ append (trees_of old) (with_last_byte (forms lead k) (part low end))
+pub part_left : (old : List Node) (lead k low end : ℕ) → end ≤ low → trees_of old ≡ append (trees_of old) (with_last_byte (forms lead k) (range_part low end))
 part_left old lead k low end le =
     let e : nat_lt low end ≡ false = grind (arith, nat_tests) in
     sym (append_none (trees_of old)) ∙ ap (λ ps. append (trees_of old) (with_last_byte (forms lead k) ps)) (sym (cond-false (nat_lt low end) _ _ e))

@@ -2,7 +2,7 @@
 use Rattle.std.proofs.Common.{◌≡◌, ℕ, ◌≤◌, List, [], ◌∷◌, ◌++◌, Bool, length, drop, reverse, refl, ap, arith, drop_of_length-le}
 use Rattle.std.proofs.lemmas.List.{reverse-append}
 use Rattle.cs_syntax.specs.Reading.{reading, flags_at_start, rest}
-use Rattle.cs_syntax.specs.ParserState.{State, at_start, reading_on, reading_at_end}
+use Rattle.cs_syntax.specs.ParserState.{ParserState, at_start, reading_on, reading_at_end}
 use Rattle.cs_syntax.specs.declared.before.Before.TheVariants.{Start}
 use Rattle.cs_syntax.specs.declared.parser.Open as open_type
 use Rattle.cs_syntax.proofs.PartialGroupLemmas.{whole_reading_start}
@@ -14,7 +14,7 @@ nothing_open (o ∷ os) h = absurd (omega arith)
 pub one_more_open : (os : List open_type.Open) (o : open_type.Open) → reverse (os ++ o ∷ []) ≡ o ∷ reverse os
 one_more_open os o = reverse-append os (o ∷ [])
 
-pub reading_on-end : (s : State) (text : List ℕ) (at : ℕ) → length text ≤ at → reading_on s 0 at (drop at text) ≡ reading_at_end s
+pub reading_on-end : (s : ParserState) (text : List ℕ) (at : ℕ) → length text ≤ at → reading_on s 0 at (drop at text) ≡ reading_at_end s
 unfolding reading_on reading_at_end
 reading_on-end s text at le = ap (λ (t : List ℕ). reading_on s 0 at t) (drop_of_length-le text {i = at} le)
 

@@ -17,7 +17,7 @@ use Rattle.cs_syntax.specs.Items.{front, item_by}
 use Rattle.cs_syntax.specs.Signs.{sign_of}
 use Rattle.cs_syntax.specs.Reading.{Rest, levels, inside, with_unit, rest, answer, flags_at_start, Reads}
 use Rattle.cs_syntax.specs.Written.{signs, quotation, units_of}
-use Rattle.cs_syntax.proofs.WrittenLemmas.{unit_read, plain_front, taken, left}
+use Rattle.cs_syntax.proofs.WrittenRepeatLemmas.{unit_read, plain_front, taken, left}
 use Rattle.cs_syntax.specs.declared.flags.Flags.{Flags}
 use Rattle.cs_syntax.specs.declared.sign.Sign.TheVariants.{Star, Plus, Question, Brace, Dot, Caret, Dollar, Bar, Open, Close, Class, Backslash, Wide, Plain}
 use Rattle.cs_syntax.specs.declared.before.Before.{Before}

@@ -17,9 +17,9 @@ use Rattle.cs_syntax.specs.Matching.{member}
 use Rattle.cs_syntax.specs.Members.{count}
 use Rattle.cs_syntax.specs.ByteSet.{set_of}
 use Rattle.cs_syntax.specs.Bits.{has_bit}
-use Rattle.cs_syntax.specs.SetWords.{AnswersAs, set_of_bits, word_of, words_of}
+use Rattle.cs_syntax.specs.SetWords.{TestsAs, set_of_bits, word_of, set_words}
 use Rattle.cs_syntax.proofs.BitLemmas.{IsWithBit, with_one_more, has_bit-zeros, has_bit-set_same, has_bit-set_other}
-use Rattle.cs_syntax.proofs.SetLemmas.{length-set_of, set_of_at, set_of-agree}
+use Rattle.cs_syntax.proofs.AnswerListLemmas.{length-set_of, set_of_at, set_of-agree}
 
 pub length-set_of_bits : (words : List ℕ) → length (set_of_bits words) ≡ 256
 unfolding set_of_bits
@@ -54,13 +54,13 @@ module _ (set : List Bool) (long : length set ≡ 256) (k : ℕ) (h : k < 4) whe
       ap (λ (xs : List Bool). count_ones (mask_l xs)) (sym (map-id (take 64 (drop (k * 64) set))))
       ∙ ones-mask_l (λ b. b) (take 64 (drop (k * 64) set))
 
-get_or-words_of : (set : List Bool) (k : ℕ) → k < 4 → get_or (words_of set) k 0 ≡ word_of set k
-unfolding words_of
-get_or-words_of set k h = get_or-map-range_with_len (word_of set) 0 4 k k 0 h (omega arith)
+get_or-set_words : (set : List Bool) (k : ℕ) → k < 4 → get_or (set_words set) k 0 ≡ word_of set k
+unfolding set_words
+get_or-set_words set k h = get_or-map-range_with_len (word_of set) 0 4 k k 0 h (omega arith)
 
-length-words_of : (set : List Bool) → length (words_of set) ≡ 4
-unfolding words_of
-length-words_of set = length-map-range_with_len (word_of set) 0 4
+length-set_words : (set : List Bool) → length (set_words set) ≡ 4
+unfolding set_words
+length-set_words set = length-map-range_with_len (word_of set) 0 4
 
 word_of-set_of_bits : (words : List ℕ) → length words ≡ 4 → All (λ w. w < 2 ^ 64) words → (k : ℕ) → k < 4 → word_of (set_of_bits words) k ≡ get_or words k 0
 word_of-set_of_bits words four fit k h =
@@ -74,10 +74,10 @@ word_of-set_of_bits words four fit k h =
     ∙ ap (λ (n : ℕ). bit_at (get_or words k 0) n) rest)
 
 -- a set gives its words back
-pub words_of-set_of_bits : (words : List ℕ) → length words ≡ 4 → All (λ w. w < 2 ^ 64) words → words_of (set_of_bits words) ≡ words
-words_of-set_of_bits words four fit = ext_get_or 0 _ _ (length-words_of (set_of_bits words) ∙ sym four) (λ k h.
-    let low : k < 4 = omega (arith, h, length-words_of (set_of_bits words)) in
-    get_or-words_of (set_of_bits words) k low ∙ word_of-set_of_bits words four fit k low)
+pub set_words-set_of_bits : (words : List ℕ) → length words ≡ 4 → All (λ w. w < 2 ^ 64) words → set_words (set_of_bits words) ≡ words
+set_words-set_of_bits words four fit = ext_get_or 0 _ _ (length-set_words (set_of_bits words) ∙ sym four) (λ k h.
+    let low : k < 4 = omega (arith, h, length-set_words (set_of_bits words)) in
+    get_or-set_words (set_of_bits words) k low ∙ word_of-set_of_bits words four fit k low)
 
 counts_from : (set : List Bool) (n : ℕ) → count (take 64 (drop n set)) + count (drop (n + 64) set) ≡ count (drop n set)
 counts_from set n =
@@ -89,12 +89,12 @@ none_left set long = ap count (drop_of_length-le set {i = 256} (omega (arith, lo
 
 -- ---- what the words are known to be
 
-module _ (words : List ℕ) (own : words_of (set_of_bits words) ≡ words) where
+module _ (words : List ℕ) (own : set_words (set_of_bits words) ≡ words) where
   pub four_words : length words ≡ 4
-  four_words = sym (ap length own) ∙ length-words_of (set_of_bits words)
+  four_words = sym (ap length own) ∙ length-set_words (set_of_bits words)
 
   own_word : (k : ℕ) → k < 4 → word_of (set_of_bits words) k ≡ get_or words k 0
-  own_word k h = sym (get_or-words_of (set_of_bits words) k h) ∙ ap (λ (ws : List ℕ). get_or ws k 0) own
+  own_word k h = sym (get_or-set_words (set_of_bits words) k h) ∙ ap (λ (ws : List ℕ). get_or ws k 0) own
 
   pub word-lt : (k : ℕ) → k < 4 → get_or words k 0 < 2 ^ 64
   word-lt k h = subst (λ (w : ℕ). w < 2 ^ 64) (own_word k h) (word_of-lt (set_of_bits words) (length-set_of_bits words) k h)
@@ -171,7 +171,7 @@ module _ (answers : ℕ → Bool → Type 0) where
         waiting = λ k past. has_bit-set_other words b new true bit within k (λ same. omega arith) ∙ have.waiting k (omega arith);
       }
 
-  pub answered_all : (b : ℕ) (words : List ℕ) (f : ℕ → Bool) → 256 ≤ b → HaveAnswers answers b words → AnswersAs answers f → set_of_bits words ≡ set_of f
+  pub answered_all : (b : ℕ) (words : List ℕ) (f : ℕ → Bool) → 256 ≤ b → HaveAnswers answers b words → TestsAs answers f → set_of_bits words ≡ set_of f
   unfolding set_of_bits
   answered_all b words f all have agree = set_of-agree (has_bit words) f (λ k low. agree k (has_bit words k) low (have.done k (omega arith)))
 

@@ -1,6 +1,6 @@
 -- Sets of characters, as runs of numbers, and where a character stands in a line.
 -- A run is a pair of characters, and has each character from the one to the other. The Unicode standard,
--- "Unicode scalar value" and table 3-6.
+-- "Unicode scalar value" and table 3-6. docs/PATTERNS.md, "Characters".
 use Rattle.std.specs.Prelude.{ℕ, ◌≡◌, ◌+◌, Bool, true, ◌||◌, ◌&&◌, nat_eq, nat_lt, nat_le, List, [], ◌∷◌, length, slice_range, encode_utf8, if◌then◌else◌}
 use Rattle.std.specs.Char.{scalar_index}
 use Rattle.std.specs.List.{filter, range_with_len}

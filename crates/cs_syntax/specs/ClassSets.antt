@@ -1,8 +1,9 @@
 -- The sets of characters that a dot and classes stand for.
 -- docs/PATTERNS.md, "Classes"; the RE2 syntax page, "Character classes".
 use Rattle.std.specs.Prelude.{ℕ, Bool, false, ◌||◌, not, nat_eq, List, [], ◌∷◌}
+use Rattle.std.specs.Bool.{xor}
 use Rattle.std.specs.List.{list_any}
-use Rattle.cs_syntax.specs.Matching.{Tree, differ}
+use Rattle.cs_syntax.specs.Matching.{Tree}
 use Rattle.cs_syntax.specs.Ranges.{word_ranges}
 use Rattle.cs_syntax.specs.ByteSet.{is_in_folded}
 use Rattle.cs_syntax.specs.CharTrees.{chars_tree}
@@ -32,7 +33,7 @@ ranges_of White = (9, 10) ∷ (12, 13) ∷ (32, 32) ∷ []
 -- the character is in the item: the item is folded first, and then complemented where it is negated
 unfoldable pub is_in_item : Bool → ClassItem → ℕ → Bool
 is_in_item fold (Range low high) c = is_in_folded fold ((low, high) ∷ []) c
-is_in_item fold (Named class negated) c = differ negated (is_in_folded fold (ranges_of class) c)
+is_in_item fold (Named class negated) c = xor negated (is_in_folded fold (ranges_of class) c)
 
 -- the character is in one of the items
 abbrev pub is_in_items : Bool → List ClassItem → ℕ → Bool
@@ -40,7 +41,7 @@ is_in_items fold items c = list_any (λ i. is_in_item fold i c) items
 
 -- the items are united, and the whole is complemented where the class is negated
 abbrev pub is_in_class : Bool → Bool → List ClassItem → ℕ → Bool
-is_in_class fold negated items c = differ negated (is_in_items fold items c)
+is_in_class fold negated items c = xor negated (is_in_items fold items c)
 
 -- the class as a tree
 abbrev pub class_tree : Bool → Bool → List ClassItem → Tree

@@ -5,7 +5,7 @@ use Rattle.std.specs.Option.{option_map}
 use Rattle.std.specs.List.{prefix_len, starts_with}
 use Rattle.std.specs.Cmp.Lexicographic.{pointwise}
 use Rattle.cs_syntax.specs.ClassSets.{class_tree}
-use Rattle.cs_syntax.specs.Escapes.{escaped_char, escaped_class, is_left_out}
+use Rattle.cs_syntax.specs.Escapes.{escaped_char, escaped_class, is_unsupported_escape}
 use Rattle.cs_syntax.specs.Fronts.{Front, item, fault, unit, is_front, is_continuation}
 use Rattle.cs_syntax.specs.declared.class_item.NamedClass.{NamedClass}
 use Rattle.cs_syntax.specs.declared.class_item.NamedClass.TheVariants.{Alnum, Alpha, Ascii, Blank, Cntrl, Digit, Graph, Lower, Print, Punct, Space, Upper, Word, Xdigit}
@@ -30,7 +30,7 @@ pub data ClassChar : Type 0 where
 abbrev pub class_escape : List ℕ → ClassChar
 class_escape [] = wrong LoneBackslash
 class_escape (e ∷ rest) =
-    if is_left_out e then wrong NotInProfile
+    if is_unsupported_escape e then wrong NotInProfile
     else elim (escaped_char (e ∷ rest)) [ None ↦ wrong BadEscape | Some c ↦ one c.char c.len ]
 
 -- a character past ASCII, as it is written: its number is what its bytes spell in UTF-8
@@ -119,9 +119,9 @@ pub data ClassRest : Type 0 where
   closed : List ClassItem → ℕ → ClassRest
   failed : PatternFault → ℕ → ClassRest
 
-abbrev pub with_item : ClassItem → ClassRest → ClassRest
-with_item i (closed items len) = closed (i ∷ items) len
-with_item i (failed k behind) = failed k behind
+abbrev pub with_class_item : ClassItem → ClassRest → ClassRest
+with_class_item i (closed items len) = closed (i ∷ items) len
+with_class_item i (failed k behind) = failed k behind
 
 -- `items_from skip behind start text`: the text that many bytes behind the `[`, whose first `skip`
 -- bytes belong to the item before it;
@@ -131,7 +131,7 @@ items_from skip behind start [] = failed OpenClass 0
 items_from (suc skip) behind start (b ∷ text) = items_from skip (behind + 1) start text
 items_from zero behind start (b ∷ text) =
     if nat_eq b 93 && not start then closed [] behind
-    else elim (class_front b text) [ misread k by ↦ failed k (behind + by) | piece i len ↦ with_item i (items_from len (behind + 1) false text) ]
+    else elim (class_front b text) [ misread k by ↦ failed k (behind + by) | piece i len ↦ with_class_item i (items_from len (behind + 1) false text) ]
 
 abbrev pub class_of : Bool → Bool → ClassRest → Front
 class_of fold negated (closed items len) = item (unit (class_tree fold negated items)) len

@@ -1,4 +1,4 @@
--- Each text reads as one tree, or breaks by one fault.
+-- Each text reads as one tree, or breaks by one fault. docs/PATTERNS.md, "Faults".
 use Rattle.std.specs.Prelude.{ℕ, ◌≡◌, ◌⊎◌, Bool, List}
 use Rattle.cs_syntax.specs.Matching.{Tree}
 use Rattle.cs_syntax.specs.declared.fault.PatternFault.{PatternFault}

@@ -1,12 +1,13 @@
 -- Escapes: what a backslash makes of what follows it.
 -- docs/PATTERNS.md, "Escapes"; the RE2 syntax page, "Escape sequences".
 use Rattle.std.specs.Prelude.{ℕ, ◌+◌, Bool, true, false, ◌&&◌, ◌||◌, not, min, List, [], ◌∷◌, Option, Some, None, nat_lt, nat_eq, take, drop, if◌then◌else◌}
+use Rattle.std.specs.Char.{is_ascii_alphabetic}
 use Rattle.std.specs.Option.{option_map}
 use Rattle.cs_syntax.specs.Matching.{Tree, one_of, word_edge, not_word_edge}
-use Rattle.cs_syntax.specs.ByteSet.{is_letter, all_bytes}
+use Rattle.cs_syntax.specs.ByteSet.{all_bytes}
 use Rattle.cs_syntax.specs.ClassSets.{item_tree}
 use Rattle.cs_syntax.specs.Characters.{is_scalar}
-use Rattle.cs_syntax.specs.Numbers.{is_digit, count_digits, value_in}
+use Rattle.cs_syntax.specs.Numbers.{is_digit, count_digits, number_of_digits}
 use Rattle.cs_syntax.specs.Fronts.{Front, item, fault, unit, is_front, char_tree}
 use Rattle.cs_syntax.specs.declared.class_item.NamedClass.TheVariants.{Digit, White, Word}
 use Rattle.cs_syntax.specs.declared.class_item.ClassItem.{ClassItem}
@@ -22,20 +23,20 @@ char_by_number c len = if is_scalar c then Some (record { char = c; len = len })
 abbrev pub octal_char : List ℕ → Option EscapedChar
 octal_char text =
     let len = min (count_digits 8 text) 3 in
-    if is_front 48 text || nat_lt 1 len then char_by_number (value_in 8 (take len text)) len else None
+    if is_front 48 text || nat_lt 1 len then char_by_number (number_of_digits 8 (take len text)) len else None
 
 -- behind `x{`: hexadecimal digits and a `}`
 abbrev pub hex_char_in_braces : List ℕ → Option EscapedChar
 hex_char_in_braces text =
     let len = count_digits 16 text in
-    if nat_lt 0 len && is_front 125 (drop len text) then char_by_number (value_in 16 (take len text)) (len + 3)
+    if nat_lt 0 len && is_front 125 (drop len text) then char_by_number (number_of_digits 16 (take len text)) (len + 3)
     else None
 
 -- behind `x`: two hexadecimal digits, or some in braces
 abbrev pub hex_char : List ℕ → Option EscapedChar
 hex_char text =
     if is_front 123 text then hex_char_in_braces (drop 1 text)
-    else if nat_lt 1 (count_digits 16 text) then char_by_number (value_in 16 (take 2 text)) 3
+    else if nat_lt 1 (count_digits 16 text) then char_by_number (number_of_digits 16 (take 2 text)) 3
     else None
 
 -- `\a`, `\f`, `\t`, `\n`, `\r` and `\v`
@@ -58,7 +59,7 @@ escaped_char (e ∷ rest) =
       | None ↦
           if nat_eq e 120 then hex_char rest
           else if is_digit 8 e then octal_char (e ∷ rest)
-          else if nat_lt e 128 && not (is_letter e || is_digit 10 e) then Some (record { char = e; len = 1 })
+          else if nat_lt e 128 && not (is_ascii_alphabetic e || is_digit 10 e) then Some (record { char = e; len = 1 })
           else None
     ]
 
@@ -74,8 +75,8 @@ escaped_class e =
     else None
 
 -- `\A`, `\z`, `\Q`, `\p` and `\P`, which are left out
-abbrev pub is_left_out : ℕ → Bool
-is_left_out e = nat_eq e 65 || nat_eq e 122 || nat_eq e 81 || nat_eq e 112 || nat_eq e 80
+abbrev pub is_unsupported_escape : ℕ → Bool
+is_unsupported_escape e = nat_eq e 65 || nat_eq e 122 || nat_eq e 81 || nat_eq e 112 || nat_eq e 80
 
 -- behind a backslash outside a class, where it gives a character or nothing
 unfoldable pub char_front : Bool → List ℕ → Front
@@ -94,5 +95,5 @@ escaped_tree e =
 abbrev pub escape : Bool → List ℕ → Front
 escape fold [] = fault LoneBackslash 0
 escape fold (e ∷ rest) =
-    if is_left_out e then fault NotInProfile 0
+    if is_unsupported_escape e then fault NotInProfile 0
     else elim (escaped_tree e) [ Some t ↦ item (unit t) 1 | None ↦ char_front fold (e ∷ rest) ]

@@ -6,22 +6,22 @@ use Rattle.cs_syntax.specs.ByteSet.{char_set}
 use Rattle.cs_syntax.specs.declared.flags.Flags.{Flags}
 use Rattle.cs_syntax.specs.declared.fault.PatternFault.{PatternFault}
 
-pub data Item : Type 0 where
+pub data PatternItem : Type 0 where
   -- one unit for a repeat
-  unit : Tree → Item
+  unit : Tree → PatternItem
   -- at least n times, and at most m times where m is given, what stands before
-  repeat : ℕ → Option ℕ → Item
-  bar : Item
+  repeat : ℕ → Option ℕ → PatternItem
+  bar : PatternItem
   -- a group begins, with these flags inside
-  group_start : Flags → Item
-  group_end : Item
+  group_start : Flags → PatternItem
+  group_end : PatternItem
   -- these flags hold from here on, to the end of the group
-  flags_from_here : Flags → Item
+  flags_from_here : Flags → PatternItem
 
 -- An item and the number of its bytes after the first; or a fault, and how many bytes behind the
 -- front it lies.
 pub data Front : Type 0 where
-  item : Item → ℕ → Front
+  item : PatternItem → ℕ → Front
   fault : PatternFault → ℕ → Front
 
 -- the byte stands at the front

@@ -3,7 +3,7 @@ use Rattle.std.specs.Prelude.{ℕ, suc, ◌≡◌, ◌⊎◌, ◌≤◌, List, t
 use Rattle.cs_syntax.specs.CharTrees.{runs_tree}
 use Rattle.cs_syntax.specs.ClassSets.{item_tree, dot_tree}
 use Rattle.cs_syntax.specs.Matching.{Tree, one_of, line_start, line_end, word_edge, not_word_edge}
-use Rattle.cs_syntax.specs.Fronts.{Item, Front, unit, repeat, bar, group_start, group_end, flags_from_here, item, fault, bytes_tree}
+use Rattle.cs_syntax.specs.Fronts.{PatternItem, Front, unit, repeat, bar, group_start, group_end, flags_from_here, item, fault, bytes_tree}
 use Rattle.cs_syntax.specs.declared.item.Unit as units
 use Rattle.cs_syntax.specs.declared.item.Unit.TheVariants as unit_of
 use Rattle.cs_syntax.specs.declared.item.Item as items
@@ -28,7 +28,7 @@ unit_tree text unit_of.WordEdge = word_edge
 unit_tree text unit_of.NotWordEdge = not_word_edge
 
 -- the item, from its own text
-abbrev pub item_view : List ℕ → items.Item → Item
+abbrev pub item_view : List ℕ → items.Item → PatternItem
 item_view text (item_of.Unit u) = unit (unit_tree text u)
 item_view text (item_of.Repeat n m) = repeat n m
 item_view text item_of.Bar = bar
@@ -61,5 +61,5 @@ class_char_view (Err k) = wrong k
 
 -- what a reader has found has at most `most` bytes behind its first, and a fault lies at most `far` bytes behind
 -- the front
-abbrev pub IsWithin : {A : Type 0} → ℕ → ℕ → Result (A × ℕ) Misread → Type 0
-IsWithin most far r = MatchResult r (λ x. x.1 ≤ most) (λ m. m.behind ≤ far)
+abbrev pub StaysWithin : {A : Type 0} → ℕ → ℕ → Result (A × ℕ) Misread → Type 0
+StaysWithin most far r = MatchResult r (λ x. x.1 ≤ most) (λ m. m.behind ≤ far)

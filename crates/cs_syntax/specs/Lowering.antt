@@ -11,7 +11,7 @@ use Rattle.cs_syntax.specs.Matching.{Tree, Trees, one_of, cat, none, more, alt}
 use Rattle.cs_syntax.specs.TreeList.{append}
 use Rattle.cs_syntax.specs.Branches.{choice}
 
--- the same of some branches, or of none
+-- the choice of some branches, or of none
 abbrev pub any_of : Trees → Tree
 any_of none = alt none
 any_of (more t ts) = choice t ts
@@ -21,17 +21,17 @@ abbrev pub byte_range : ℕ → ℕ → Tree
 byte_range low high = one_of (set_of (is_in_ranges ((low, high) ∷ [])))
 
 -- the numbers from low on and before end, where there are any
-abbrev pub part : ℕ → ℕ → List (ℕ × ℕ)
-part low end = if nat_lt low end then (low, end - 1) ∷ [] else []
+abbrev pub range_part : ℕ → ℕ → List (ℕ × ℕ)
+range_part low end = if nat_lt low end then (low, end - 1) ∷ [] else []
 
 -- The numbers from the one to the other, in parts: whole blocks of 64 numbers, and what stands before and behind
 -- them.
-abbrev pub parts : ℕ → ℕ → List (ℕ × ℕ)
-parts low high =
+abbrev pub range_parts : ℕ → ℕ → List (ℕ × ℕ)
+range_parts low high =
     let first = (low + 63) / 64 * 64 in
     let end = (high + 1) / 64 * 64 in
-    if nat_le first end then part low first ++ (part first end ++ part end (high + 1))
-    else part low (high + 1)
+    if nat_le first end then range_part low first ++ (range_part first end ++ range_part end (high + 1))
+    else range_part low (high + 1)
 
 -- for each part the forms of its blocks, and then a last byte
 abbrev pub with_last_byte : (ℕ → ℕ → Tree) → List (ℕ × ℕ) → Trees
@@ -44,7 +44,7 @@ with_last_byte front (p ∷ ps) =
 -- which have six bits each.
 abbrev pub forms : ℕ → ℕ → ℕ → ℕ → Tree
 forms lead zero low high = byte_range (lead + low) (lead + high)
-forms lead (suc k) low high = any_of (with_last_byte (forms lead k) (parts low high))
+forms lead (suc k) low high = any_of (with_last_byte (forms lead k) (range_parts low high))
 
 -- the forms of those numbers of the run that lie between the bounds
 abbrev pub forms_within : ℕ → ℕ → ℕ → ℕ → ℕ × ℕ → Trees

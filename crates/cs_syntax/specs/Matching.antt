@@ -1,6 +1,7 @@
 -- The tree of a pattern, and what part of a line it takes.
 -- docs/PATTERNS.md, "Lines and matching"; the RE2 syntax page.
-use Rattle.std.specs.Prelude.{ℕ, zero, suc, ◌≡◌, ◌-◌, ◌<◌, ◌≤◌, ◌⊎◌, ◌&&◌, not, Bool, true, false, List, length, slice_index, slice_index_or, nat_le, nat_lt, Option, Some, None}
+use Rattle.std.specs.Prelude.{ℕ, zero, suc, ◌≡◌, ◌-◌, ◌<◌, ◌≤◌, ◌⊎◌, ◌&&◌, Bool, true, false, List, length, slice_index, slice_index_or, nat_le, nat_lt, Option, Some, None}
+use Rattle.std.specs.Bool.{xor}
 use Rattle.cs_syntax.specs.Ranges.{is_in_ranges, word_ranges}
 use Rattle.cs_syntax.specs.Characters.{TakesChar}
 
@@ -39,14 +40,9 @@ word_before s i = nat_lt 0 i && nat_le i (length s) && is_word (slice_index s (i
 unfoldable pub word_after : List ℕ → ℕ → Bool
 word_after s i = nat_lt i (length s) && is_word (slice_index s i)
 
--- exactly one of the two
-abbrev pub differ : Bool → Bool → Bool
-differ true b = not b
-differ false b = b
-
 -- exactly one of the bytes around the place is a word byte
 unfoldable pub at_word_edge : List ℕ → ℕ → Bool
-at_word_edge s i = differ (word_before s i) (word_after s i)
+at_word_edge s i = xor (word_before s i) (word_after s i)
 
 -- a chain of k parts of R from i to j
 abbrev pub Chain : (ℕ → ℕ → Type 0) → ℕ → ℕ → ℕ → Type 0

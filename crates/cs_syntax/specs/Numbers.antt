@@ -1,4 +1,4 @@
--- Digits in a pattern, and the numbers that they write.
+-- Digits in a pattern, and the numbers that they write. docs/PATTERNS.md, "Repeats" and "Escapes".
 use Rattle.std.specs.Prelude.{ℕ, ◌+◌, ◌-◌, ◌*◌, Bool, ◌&&◌, List, [], ◌∷◌, nat_le, nat_lt, if◌then◌else◌}
 use Rattle.std.specs.List.{prefix_len}
 
@@ -23,5 +23,5 @@ value_after base n [] = n
 value_after base n (d ∷ ds) = value_after base (base * n + digit_value d) ds
 
 -- the number that the digits write
-abbrev pub value_in : ℕ → List ℕ → ℕ
-value_in base ds = value_after base 0 ds
+abbrev pub number_of_digits : ℕ → List ℕ → ℕ
+number_of_digits base ds = value_after base 0 ds

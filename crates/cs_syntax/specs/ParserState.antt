@@ -2,7 +2,7 @@
 use Rattle.std.specs.Prelude.{ℕ, ◌≡◌, ◌⊎◌, Bool, true, false, List, [], ◌∷◌, Option, map, reverse, drop, length, nat_eq}
 use Rattle.cs_syntax.specs.Matching.{Trees, none, more}
 use Rattle.cs_syntax.specs.NodeList.{trees_of}
-use Rattle.cs_syntax.specs.Fronts.{Item, unit, repeat, bar, group_start, group_end, flags_from_here}
+use Rattle.cs_syntax.specs.Fronts.{PatternItem, unit, repeat, bar, group_start, group_end, flags_from_here}
 use Rattle.cs_syntax.specs.Reading.{Reading, refused, Group, flags_at_start, most_open, at_end, rest}
 use Rattle.cs_syntax.specs.PartialGroups.{PartialGroup, whole_reading, with_last_unit, with_last_unit_repeated, with_last_branch, tree_so_far, empty_group}
 use Rattle.cs_syntax.specs.declared.before.Before.{Before}
@@ -24,14 +24,14 @@ pub record WaitingGroup : Type 0 where
 
 -- the groups around, the innermost first; what the group that is read has so far; what stands
 -- directly before; and the flags
-pub record State : Type 0 where
+pub record ParserState : Type 0 where
   pub around : List WaitingGroup
   pub so_far : PartialGroup
   pub before : Before
   pub flags : Flags
 
 -- nothing is read yet
-abbrev pub at_start : Bool → State
+abbrev pub at_start : Bool → ParserState
 at_start fold = record { around = []; so_far = empty_group; before = Start; flags = flags_at_start fold }
 
 -- as the reading has it
@@ -40,35 +40,35 @@ group_of w = record { at = w.at; flags = w.flags }
 
 -- what the whole text reads as, where the text from offset `at` on is this one, and its first
 -- `skip` bytes are read
-unfoldable pub reading_on : State → ℕ → ℕ → List ℕ → Reading
+unfoldable pub reading_on : ParserState → ℕ → ℕ → List ℕ → Reading
 reading_on s skip at text =
     whole_reading (map (λ w. w.so_far) s.around) s.so_far
     (rest skip at s.before (map group_of s.around) s.flags text)
 
 -- what an item does: the state goes on, or the text breaks by a fault at the item
 pub data Step : Type 0 where
-  goes_on : State → Step
+  goes_on : ParserState → Step
   stops : PatternFault → Step
 
-abbrev pub step_repeat : Before → ℕ → Option ℕ → State → Step
+abbrev pub step_repeat : Before → ℕ → Option ℕ → ParserState → Step
 step_repeat Start n m s = stops NoOperand
 step_repeat Counted n m s = stops StackedRepeat
 step_repeat Operand n m s =
     goes_on (record s { so_far = with_last_unit_repeated n m s.so_far; before = Counted })
 
-abbrev pub step_open : Bool → Flags → ℕ → State → Step
+abbrev pub step_open : Bool → Flags → ℕ → ParserState → Step
 step_open true inner at s = stops TooDeep
 step_open false inner at s =
     let w : WaitingGroup = record { at = at; flags = s.flags; so_far = s.so_far } in
     goes_on (record { around = w ∷ s.around; so_far = empty_group; before = Start; flags = inner })
 
-abbrev pub step_close : List WaitingGroup → State → Step
+abbrev pub step_close : List WaitingGroup → ParserState → Step
 step_close [] s = stops StrayClose
 step_close (w ∷ ws) s =
     let outer = with_last_unit w.so_far (tree_so_far s.so_far) in
     goes_on (record { around = ws; so_far = outer; before = Operand; flags = w.flags })
 
-abbrev pub step : Item → ℕ → State → Step
+abbrev pub step : PatternItem → ℕ → ParserState → Step
 step (unit t) at s = goes_on (record s { so_far = with_last_unit s.so_far t; before = Operand })
 step (repeat n m) at s = step_repeat s.before n m s
 step bar at s = goes_on (record s { so_far = with_last_branch s.so_far; before = Start })
@@ -83,7 +83,7 @@ partial_group d = record { branches = trees_of d.branches.items; units = trees_o
 abbrev pub waiting_group : Open → WaitingGroup
 waiting_group o = record { at = o.at; flags = o.flags; so_far = partial_group o.outer }
 
-unfoldable pub state_of : Parser → State
+unfoldable pub state_of : Parser → ParserState
 state_of p =
     record {
       around = map waiting_group (reverse p.open.items);
@@ -97,7 +97,7 @@ abbrev pub reading_from : Parser → List ℕ → ℕ → Reading
 reading_from p text at = reading_on (state_of p) 0 at (drop at text)
 
 -- the same, where the text ends there
-unfoldable pub reading_at_end : State → Reading
+unfoldable pub reading_at_end : ParserState → Reading
 reading_at_end s =
     whole_reading (map (λ w. w.so_far) s.around) s.so_far (at_end (map group_of s.around))
 
@@ -108,7 +108,7 @@ IsOperand Counted us = Unit {0}
 IsOperand Operand none = ⊥
 IsOperand Operand (more u us) = Unit {0}
 
-abbrev pub HasOperand : State → Type 0
+abbrev pub HasOperand : ParserState → Type 0
 HasOperand s = IsOperand s.before s.so_far.units
 
 -- a growth was refused
@@ -124,9 +124,9 @@ abbrev pub IsStop : Step → ℕ → PatternError → Type 0
 IsStop s at e = IsWantOfMemory e ⊎ ((s ≡ stops e.fault) × (e.at ≡ at))
 
 -- the item takes the parser from one state to the next
-abbrev pub Advances : Item → ℕ → Parser → Parser → Type 0
+abbrev pub Advances : PatternItem → ℕ → Parser → Parser → Type 0
 Advances x at old new = step x at (state_of old) ≡ goes_on (state_of new)
 
 -- the error is the answer where the item stops the parser
-abbrev pub StopsAt : Item → ℕ → Parser → PatternError → Type 0
-StopsAt x at old e = IsStop (step x at (state_of old)) at e
+abbrev pub StopsWith : PatternItem → ℕ → Parser → PatternError → Type 0
+StopsWith x at old e = IsStop (step x at (state_of old)) at e

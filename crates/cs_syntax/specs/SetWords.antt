@@ -14,9 +14,9 @@ abbrev pub word_of : List Bool → ℕ → ℕ
 word_of set k = mask_l (take 64 (drop (k * 64) set))
 
 -- the words of a set
-unfoldable pub words_of : List Bool → List ℕ
-words_of set = map (word_of set) (range_with_len 0 4)
+unfoldable pub set_words : List Bool → List ℕ
+set_words set = map (word_of set) (range_with_len 0 4)
 
 -- at each byte a test can answer nothing but f
-abbrev pub AnswersAs : (ℕ → Bool → Type 0) → (ℕ → Bool) → Type 0
-AnswersAs answers f = (b : ℕ) (answer : Bool) → b < 256 → answers b answer → answer ≡ f b
+abbrev pub TestsAs : (ℕ → Bool → Type 0) → (ℕ → Bool) → Type 0
+TestsAs answers f = (b : ℕ) (answer : Bool) → b < 256 → answers b answer → answer ≡ f b

@@ -1,4 +1,4 @@
--- What a byte means at the front of an item.
+-- What a byte means at the front of an item. docs/PATTERNS.md, "Items".
 use Rattle.std.specs.Prelude.{ℕ, nat_eq, nat_le, if◌then◌else◌}
 use Rattle.cs_syntax.specs.declared.sign.Sign.{Sign}
 use Rattle.cs_syntax.specs.declared.sign.Sign.TheVariants.{Star, Plus, Question, Brace, Dot, Caret, Dollar, Bar, Open, Close, Class, Backslash, Wide, Plain}

@@ -1,10 +1,11 @@
 // Sets of bytes.
 ghost use Rattle.std.specs.Prelude.{⊤, ◌≡◌, ◌+◌, ◌-◌, ◌^◌, ◌<◌, ◌≤◌, ◌==◌, ◌||◌, ◌&&◌, ◌∷◌, [], nat_eq, nat_lt, ℕ, List, Bool, false, not, Option, IfSome, IfNone, length};
+ghost use Rattle.std.specs.Char.{is_ascii_alphabetic};
 ghost use Rattle.std.specs.Int.{bit_at};
 ghost use Rattle.cs_syntax.specs.Members.{count, IsOnly};
 ghost use Rattle.cs_syntax.specs.Matching.{member};
-ghost use Rattle.cs_syntax.specs.ByteSet.{set_of, all_bytes, is_letter, other_case, is_in_folded, char_set};
-ghost use Rattle.cs_syntax.specs.SetWords.{AnswersAs};
+ghost use Rattle.cs_syntax.specs.ByteSet.{set_of, all_bytes, other_case, is_in_folded, char_set};
+ghost use Rattle.cs_syntax.specs.SetWords.{TestsAs};
 ghost use Rattle.cs_syntax.specs.Ranges.{is_in_ranges};
 
 use crate::char_set::is_in_runs;
@@ -18,15 +19,15 @@ pub struct ByteSet {
 
 impl Model for ByteSet {
     ghost use Rattle.std.specs.Prelude.{◌≡◌, List, Bool};
-    ghost use Rattle.cs_syntax.specs.SetWords.{set_of_bits, words_of};
+    ghost use Rattle.cs_syntax.specs.SetWords.{set_of_bits, set_words};
 
     ghost Value = { List Bool };
 
     ghost view = { λ s. set_of_bits s.words };
 
-    ghost invariant = { λ s. words_of (set_of_bits s.words) ≡ s.words };
+    ghost invariant = { λ s. set_words (set_of_bits s.words) ≡ s.words };
 
-    ghost inverse = { λ v. record { words = words_of v } };
+    ghost inverse = { λ v. record { words = set_words v } };
 
     ghost inverse_ok = { λ s h i. record { words = h i } };
 }
@@ -88,7 +89,7 @@ impl ByteSet {
     /// The bytes that pass the test.
     fn of<F: Fn(usize) -> bool>(test: F) -> ByteSet
         requires { (b : ℕ) → b < 256 → F.pre test b }
-        ensures { (f : ℕ → Bool) → AnswersAs (F.post test) f → result ≡ set_of f }
+        ensures { (f : ℕ → Bool) → TestsAs (F.post test) f → result ≡ set_of f }
     {
         let mut words = [0u64; 4];
         for b in 0..256 {
@@ -164,7 +165,7 @@ fn low_ones(count: usize) -> u64
 
 /// Whether the byte is an ASCII letter.
 pub(crate) fn is_letter(b: usize) -> bool
-    ensures { result ≡ is_letter b }
+    ensures { result ≡ is_ascii_alphabetic b }
 {
     (65 <= b && b <= 90) || (97 <= b && b <= 122)
 }

@@ -1,9 +1,9 @@
 // Sets of characters.
 ghost use Rattle.std.specs.Prelude.{◌≡◌, ◌+◌, ◌<◌, ◌≤◌, ◌&&◌, ◌||◌, ℕ, Bool, not, List, All, IfOk};
+ghost use Rattle.std.specs.Bool.{xor};
 ghost use Rattle.std.specs.Char.{scalar_index};
 ghost use Rattle.std.specs.List.Sorted.{IsNonDecreasingBy};
 ghost use Rattle.cs_syntax.specs.Ranges.{is_in_ranges};
-ghost use Rattle.cs_syntax.specs.Matching.{differ};
 ghost use Rattle.cs_syntax.specs.Characters.{is_scalar, has_char, runs_of};
 ghost use Rattle.cs_syntax.specs.CharRuns.{IsRun, AreRuns, char_count};
 ghost use Rattle.cs_syntax.specs.CharPlaces.{char_at, char_from, char_to};
@@ -104,7 +104,7 @@ impl CharSet {
     ) -> Result<CharSet, AllocError>
         ensures { IfOk result (λ set. (test : ℕ → Bool)
             → ((c : ℕ) → has_char ranges.now c ≡ (is_scalar c && test c))
-            → set ≡ runs_of (λ c. differ negated (test c))) }
+            → set ≡ runs_of (λ c. xor negated (test c))) }
     {
         let set = CharSet::from_ranges(alloc, ranges)?;
         if negated {

@@ -1,10 +1,10 @@
 // Characters and ranges in a class.
 ghost use Rattle.std.specs.Prelude.{◌≡◌, ◌+◌, ◌-◌, ◌*◌, ◌≤◌, ◌<◌, ◌^◌, ◌∷◌, ℕ, length, drop, take, chars, slice_index, MatchResult, IfOk};
 ghost use Rattle.cs_syntax.specs.Classes.{class_escape, class_char, range_to, range_from, span};
-ghost use Rattle.cs_syntax.specs.ItemViews.{IsWithin, class_front_view, class_char_view};
+ghost use Rattle.cs_syntax.specs.ItemViews.{StaysWithin, class_front_view, class_char_view};
 
 use crate::class_item::ClassItem;
-use crate::escapes::{escaped_char, is_left_out};
+use crate::escapes::{escaped_char, is_unsupported_escape};
 use crate::fault::PatternFault;
 use crate::front::written_len;
 use crate::item::Misread;
@@ -17,7 +17,7 @@ pub(crate) fn class_escape(text: &[u8]) -> Result<(u32, usize), PatternFault>
     let Some((&letter, _)) = text.split_first() else {
         return Err(PatternFault::LoneBackslash);
     };
-    if is_left_out(letter) {
+    if is_unsupported_escape(letter) {
         return Err(PatternFault::NotInProfile);
     }
     let Some(escaped) = escaped_char(text) else {
@@ -101,7 +101,7 @@ fn range_to(
 fn range_from(low: u32, len: usize, rest: &[u8]) -> Result<(ClassItem, usize), Misread>
     requires { len + length rest.now < 2 ^ 63 }
     ensures value { class_front_view result ≡ range_from low len rest.now }
-    ensures within { IsWithin (len + length rest.now) (len + length rest.now) result }
+    ensures within { StaysWithin (len + length rest.now) (len + length rest.now) result }
 {
     match rest {
         [b'-', c, after @ ..] if *c != b']' => range_to(low, len + 2, class_char(*c, after)),
@@ -116,7 +116,7 @@ pub(crate) fn span(
 ) -> Result<(ClassItem, usize), Misread>
     requires { IfOk low (λ l. l.1 ≤ length rest.now) }
     ensures value { class_front_view result ≡ span (class_char_view low) rest.now }
-    ensures within { IsWithin (length rest.now) (length rest.now) result }
+    ensures within { StaysWithin (length rest.now) (length rest.now) result }
 {
     match low {
         Err(fault) => Err(Misread { fault, behind: 0 }),

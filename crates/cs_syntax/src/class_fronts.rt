@@ -2,7 +2,7 @@
 ghost use Rattle.std.specs.Prelude.{◌≡◌, ◌+◌, ◌≤◌, ◌<◌, ◌^◌, ℕ, length, drop, take, IfSome};
 ghost use Rattle.std.specs.Option.{option_map};
 ghost use Rattle.cs_syntax.specs.Classes.{name_length, class_by_name, posix_class, after_colon, after_backslash, class_front};
-ghost use Rattle.cs_syntax.specs.ItemViews.{IsWithin, class_front_view};
+ghost use Rattle.cs_syntax.specs.ItemViews.{StaysWithin, class_front_view};
 
 use crate::class_chars::{class_char, class_escape, span};
 use crate::class_item::{ClassItem, NamedClass};
@@ -58,7 +58,7 @@ fn class_by_name(name: &[u8]) -> Option<NamedClass>
 fn posix_class(name: &[u8]) -> Result<(ClassItem, usize), Misread>
     requires { length name.now + 3 < 2 ^ 64 }
     ensures value { class_front_view result ≡ posix_class name.now }
-    ensures within { IsWithin (length name.now + 3) 0 result }
+    ensures within { StaysWithin (length name.now + 3) 0 result }
 {
     let negated = is_front(b'^', name);
     let word = if negated { &name[1..] } else { name };
@@ -75,7 +75,7 @@ fn posix_class(name: &[u8]) -> Result<(ClassItem, usize), Misread>
 fn after_colon(text: &[u8]) -> Result<(ClassItem, usize), Misread>
     requires { length text.now + 1 < 2 ^ 63 }
     ensures value { class_front_view result ≡ after_colon text.now }
-    ensures within { IsWithin (length text.now + 1) (length text.now + 1) result }
+    ensures within { StaysWithin (length text.now + 1) (length text.now + 1) result }
 {
     match name_length(text) {
         Some(n) => posix_class(&text[..n]),
@@ -86,7 +86,7 @@ fn after_colon(text: &[u8]) -> Result<(ClassItem, usize), Misread>
 /// Behind a backslash.
 fn after_backslash(rest: &[u8]) -> Result<(ClassItem, usize), Misread>
     ensures value { class_front_view result ≡ after_backslash rest.now }
-    ensures within { IsWithin (length rest.now) (length rest.now) result }
+    ensures within { StaysWithin (length rest.now) (length rest.now) result }
 {
     let Some((&letter, _)) = rest.split_first() else {
         return Err(Misread {
@@ -103,7 +103,7 @@ fn after_backslash(rest: &[u8]) -> Result<(ClassItem, usize), Misread>
 /// The item that begins with the byte.
 pub(crate) fn class_front(byte: u8, rest: &[u8]) -> Result<(ClassItem, usize), Misread>
     ensures value { class_front_view result ≡ class_front byte rest.now }
-    ensures within { IsWithin (length rest.now) (length rest.now) result }
+    ensures within { StaysWithin (length rest.now) (length rest.now) result }
 {
     if byte == b'[' && is_front(b':', rest) {
         return after_colon(&rest[1..]);

@@ -2,7 +2,7 @@
 ghost use Rattle.std.specs.Prelude.{◌≡◌, ◌+◌, ◌<◌, ◌≤◌, ◌^◌, ◌&&◌, not, nat_eq, ℕ, List, true, length, MatchResult};
 ghost use Rattle.cs_syntax.specs.Classes.{items_from, class};
 ghost use Rattle.cs_syntax.specs.ClassState.{IsReadAs};
-ghost use Rattle.cs_syntax.specs.ItemViews.{IsWithin, IsFrontOf};
+ghost use Rattle.cs_syntax.specs.ItemViews.{StaysWithin, IsFrontOf};
 
 use crate::char_set::CharSet;
 use crate::class_fronts::class_front;
@@ -60,7 +60,7 @@ fn items(
 /// Behind `[`.
 pub(crate) fn class(alloc: Global, fold: bool, rest: &[u8]) -> Result<(Item, usize), Misread>
     ensures value { (front : List ℕ) → IsFrontOf front result (class fold rest.now) }
-    ensures within { IsWithin (length rest.now) (length rest.now + 1) result }
+    ensures within { StaysWithin (length rest.now) (length rest.now + 1) result }
 {
     if is_front(b'^', rest) {
         let (ranges, len) = items(alloc, fold, 2, &rest[1..])?;

@@ -1,18 +1,18 @@
 // Escapes.
 ghost use Rattle.std.specs.Prelude.{◌≡◌, ◌+◌, ◌≤◌, ◌<◌, ◌^◌, ℕ, Bool, List, length, min, take, drop, IfSome, ◌∷◌};
-ghost use Rattle.cs_syntax.specs.ByteSet.{is_letter};
+ghost use Rattle.std.specs.Char.{is_ascii_alphabetic};
 ghost use Rattle.std.specs.Option.{option_map};
 ghost use Rattle.cs_syntax.specs.Fronts.{char_tree};
-ghost use Rattle.cs_syntax.specs.ItemViews.{IsWithin, front_view, unit_tree};
+ghost use Rattle.cs_syntax.specs.ItemViews.{StaysWithin, front_view, unit_tree};
 ghost use Rattle.cs_syntax.specs.Characters.{is_scalar};
-ghost use Rattle.cs_syntax.specs.Escapes.{char_by_number, octal_char, hex_char_in_braces, hex_char, control_char, escaped_char, escaped_class, is_left_out, escaped_tree, char_front, escape};
+ghost use Rattle.cs_syntax.specs.Escapes.{char_by_number, octal_char, hex_char_in_braces, hex_char, control_char, escaped_char, escaped_class, is_unsupported_escape, escaped_tree, char_front, escape};
 
 use crate::byte_set::{ByteSet, is_letter};
 use crate::class_item::{ClassItem, NamedClass};
+use crate::digits::{count_digits, is_digit, value_in};
 use crate::fault::PatternFault;
 use crate::front::is_front;
 use crate::item::{Item, Misread, Unit};
-use crate::numbers::{count_digits, is_digit, value_in};
 
 /// A character that an escape gives, and how many bytes stand behind the backslash.
 #[derive(Clone, Copy, Drop)]
@@ -121,8 +121,8 @@ pub(crate) fn escaped_class(letter: u8) -> Option<ClassItem>
 }
 
 /// Whether the escape is one that is left out.
-pub(crate) fn is_left_out(letter: u8) -> bool
-    ensures { result ≡ is_left_out letter }
+pub(crate) fn is_unsupported_escape(letter: u8) -> bool
+    ensures { result ≡ is_unsupported_escape letter }
 {
     matches!(letter, b'A' | b'z' | b'Q' | b'p' | b'P')
 }
@@ -142,7 +142,7 @@ fn char_unit(fold: bool, char: char) -> Unit
 #[tactic(auto, unfolding(crate::specs::Escapes::char_front))]
 fn char_front(fold: bool, text: &[u8]) -> Result<(Item, usize), Misread>
     ensures value { (front : List ℕ) → front_view front result ≡ char_front fold text.now }
-    ensures within { IsWithin (length text.now) 0 result }
+    ensures within { StaysWithin (length text.now) 0 result }
 {
     let Some(escaped) = escaped_char(text) else {
         return Err(Misread {
@@ -172,7 +172,7 @@ fn escaped_unit(letter: u8) -> Option<Unit>
 /// Behind a backslash outside a class.
 pub(crate) fn escape(fold: bool, text: &[u8]) -> Result<(Item, usize), Misread>
     ensures value { (front : List ℕ) → front_view front result ≡ escape fold text.now }
-    ensures within { IsWithin (length text.now) 0 result }
+    ensures within { StaysWithin (length text.now) 0 result }
 {
     let Some((&letter, _)) = text.split_first() else {
         return Err(Misread {
@@ -180,7 +180,7 @@ pub(crate) fn escape(fold: bool, text: &[u8]) -> Result<(Item, usize), Misread>
             behind: 0,
         });
     };
-    if is_left_out(letter) {
+    if is_unsupported_escape(letter) {
         return Err(Misread {
             fault: PatternFault::NotInProfile,
             behind: 0,

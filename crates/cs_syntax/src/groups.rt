@@ -2,7 +2,7 @@
 ghost use Rattle.std.specs.Prelude.{◌≡◌, ◌+◌, ◌≤◌, ◌<◌, ◌^◌, ℕ, Bool, List, length, take, drop};
 ghost use Rattle.std.specs.List.{prefix_len, list_any};
 ghost use Rattle.cs_syntax.specs.Matching.{is_word};
-ghost use Rattle.cs_syntax.specs.ItemViews.{IsWithin, front_view};
+ghost use Rattle.cs_syntax.specs.ItemViews.{StaysWithin, front_view};
 ghost use Rattle.cs_syntax.specs.NumberList.{has};
 ghost use Rattle.cs_syntax.specs.Groups.{name, is_flag, is_cleared_flag, with_set, with_cleared, after_flags, cleared_flags, set_flags, head, group};
 
@@ -89,7 +89,7 @@ fn cleared_len(text: &[u8]) -> usize
 fn name(flags: Flags, len: usize, text: &[u8]) -> Result<(Item, usize), Misread>
     requires { len + length text.now ≤ 2 ^ 63 }
     ensures value { (front : List ℕ) → front_view front result ≡ name flags len text.now }
-    ensures within { IsWithin (len + length text.now) 0 result }
+    ensures within { StaysWithin (len + length text.now) 0 result }
 {
     let n = name_len(text);
     if n == 0 || !is_front(b'>', &text[n..]) {
@@ -102,7 +102,7 @@ fn name(flags: Flags, len: usize, text: &[u8]) -> Result<(Item, usize), Misread>
 fn after_flags(flags: Flags, len: usize, rest: &[u8]) -> Result<(Item, usize), Misread>
     requires { len + length rest.now ≤ 2 ^ 63 }
     ensures value { (front : List ℕ) → front_view front result ≡ after_flags flags len rest.now }
-    ensures within { IsWithin (len + length rest.now) 0 result }
+    ensures within { StaysWithin (len + length rest.now) 0 result }
 {
     if is_front(b':', rest) {
         return Ok((Item::GroupStart(flags), len + 1));
@@ -117,7 +117,7 @@ fn after_flags(flags: Flags, len: usize, rest: &[u8]) -> Result<(Item, usize), M
 fn cleared_flags(flags: Flags, len: usize, text: &[u8]) -> Result<(Item, usize), Misread>
     requires { len + length text.now ≤ 2 ^ 63 }
     ensures value { (front : List ℕ) → front_view front result ≡ cleared_flags flags len text.now }
-    ensures within { IsWithin (len + length text.now) 0 result }
+    ensures within { StaysWithin (len + length text.now) 0 result }
 {
     let n = cleared_len(text);
     if is_front(b'm', &text[n..]) {
@@ -135,7 +135,7 @@ fn cleared_flags(flags: Flags, len: usize, text: &[u8]) -> Result<(Item, usize),
 /// Behind `(?`.
 fn set_flags(flags: Flags, text: &[u8]) -> Result<(Item, usize), Misread>
     ensures value { (front : List ℕ) → front_view front result ≡ set_flags flags text.now }
-    ensures within { IsWithin (1 + length text.now) 0 result }
+    ensures within { StaysWithin (1 + length text.now) 0 result }
 {
     let n = set_len(text);
     let set = with_set(&text[..n], flags);
@@ -148,7 +148,7 @@ fn set_flags(flags: Flags, text: &[u8]) -> Result<(Item, usize), Misread>
 /// Behind `(?`.
 fn head(flags: Flags, text: &[u8]) -> Result<(Item, usize), Misread>
     ensures value { (front : List ℕ) → front_view front result ≡ head flags text.now }
-    ensures within { IsWithin (1 + length text.now) 0 result }
+    ensures within { StaysWithin (1 + length text.now) 0 result }
 {
     if is_front(b'<', text) {
         return name(flags, 2, &text[1..]);
@@ -162,7 +162,7 @@ fn head(flags: Flags, text: &[u8]) -> Result<(Item, usize), Misread>
 /// Behind `(`.
 pub(crate) fn group(flags: Flags, rest: &[u8]) -> Result<(Item, usize), Misread>
     ensures value { (front : List ℕ) → front_view front result ≡ group flags rest.now }
-    ensures within { IsWithin (length rest.now) 0 result }
+    ensures within { StaysWithin (length rest.now) 0 result }
 {
     if is_front(b'?', rest) {
         return head(flags, &rest[1..]);

@@ -52,7 +52,7 @@ impl From<AllocError> for Misread {
 
     ghost from_gives = { λ _ m. m ≡ record { fault = Memory; behind = 0 } };
 
-    fn from(_e: AllocError) -> Misread {
+    fn from(_refused: AllocError) -> Misread {
         Misread {
             fault: PatternFault::Memory,
             behind: 0,

@@ -1,7 +1,7 @@
 // Items: what stands at the front of a text.
 ghost use Rattle.std.specs.Prelude.{◌≡◌, ◌+◌, ◌≤◌, ℕ, List, ◌∷◌, length};
 ghost use Rattle.cs_syntax.specs.Items.{front};
-ghost use Rattle.cs_syntax.specs.ItemViews.{IsWithin, IsFrontOf};
+ghost use Rattle.cs_syntax.specs.ItemViews.{StaysWithin, IsFrontOf};
 
 use crate::byte_set::ByteSet;
 use crate::classes::class;
@@ -23,7 +23,7 @@ pub(crate) fn front_item(
     rest: &[u8],
 ) -> Result<(Item, usize), Misread>
     ensures value { IsFrontOf (byte ∷ rest.now) result (front flags byte rest.now) }
-    ensures within { IsWithin (length rest.now) (length rest.now + 1) result }
+    ensures within { StaysWithin (length rest.now) (length rest.now + 1) result }
 {
     match Sign::of(byte) {
         Sign::Star => Ok(lazy(0, None, 0, rest)),

@@ -1,7 +1,7 @@
 // Sets of characters, as trees of sets of bytes.
 ghost use Rattle.std.specs.Prelude.{ℕ, nat_lt, ◌≡◌, ◌+◌, ◌<◌, ◌≤◌, ◌^◌, ◌-◌, IfOk, OnOk};
 ghost use Rattle.std.specs.List.{list_any};
-ghost use Rattle.cs_syntax.specs.Lowering.{part, with_last_byte, forms, forms_within, wide_forms, ascii_forms, utf8_tree, any_of};
+ghost use Rattle.cs_syntax.specs.Lowering.{range_part, with_last_byte, forms, forms_within, wide_forms, ascii_forms, utf8_tree, any_of};
 ghost use Rattle.cs_syntax.specs.Node.{tree_of};
 ghost use Rattle.cs_syntax.specs.NodeList.{trees_of};
 ghost use Rattle.cs_syntax.specs.TreeList.{append};
@@ -132,7 +132,8 @@ fn add_part(
     requires small { end ≤ 2 ^ 26 }
     requires fit { Fits lead (more + 1) (end - 1) }
     ensures { OnOk result (trees_of trees.new.items
-        ≡ append (trees_of trees.old.items) (with_last_byte (forms lead more) (part low end))) }
+        ≡ append (trees_of trees.old.items)
+        (with_last_byte (forms lead more) (range_part low end))) }
 {
     if low < end {
         let high = end - 1;

@@ -41,7 +41,7 @@ struct Parser {
 }
 
 impl Parser {
-    ghost use Rattle.cs_syntax.specs.ParserState.{reading_from, reading_at_end, state_of, at_start, HasOperand, IsRefusal, Advances, StopsAt};
+    ghost use Rattle.cs_syntax.specs.ParserState.{reading_from, reading_at_end, state_of, at_start, HasOperand, IsRefusal, Advances, StopsWith};
 
     /// Nothing is read yet.
     #[tactic(auto, unfolding(crate::specs::ParserState::state_of))]
@@ -80,7 +80,7 @@ impl Parser {
     ) -> Result<(), PatternError>
         requires { HasOperand (state_of self.old) }
         ensures goes_on { OnOk result (Advances (repeat least most) at self.old self.new) }
-        ensures refused { IfErr result (StopsAt (repeat least most) at self.old) }
+        ensures refused { IfErr result (StopsWith (repeat least most) at self.old) }
     {
         match self.before {
             Before::Start => Err(PatternError {
@@ -112,7 +112,7 @@ impl Parser {
     #[tactic(auto, unfolding(crate::specs::ParserState::state_of))]
     fn open_group(&mut self, alloc: Global, flags: Flags, at: usize) -> Result<(), PatternError>
         ensures goes_on { OnOk result (Advances (group_start flags) at self.old self.new) }
-        ensures refused { IfErr result (StopsAt (group_start flags) at self.old) }
+        ensures refused { IfErr result (StopsWith (group_start flags) at self.old) }
     {
         if self.open.len() == MOST_OPEN {
             return Err(PatternError {
@@ -134,7 +134,7 @@ impl Parser {
     #[tactic(auto, unfolding(crate::specs::ParserState::state_of))]
     fn close_group(&mut self, at: usize) -> Result<(), PatternError>
         ensures goes_on { OnOk result (Advances group_end at self.old self.new) }
-        ensures refused { IfErr result (StopsAt group_end at self.old) }
+        ensures refused { IfErr result (StopsWith group_end at self.old) }
     {
         let Some(
             Open {
@@ -168,7 +168,7 @@ impl Parser {
     fn take(&mut self, alloc: Global, item: Item, own: &[u8], at: usize) -> Result<(), PatternError>
         requires { HasOperand (state_of self.old) }
         ensures goes_on { OnOk result (Advances (item_view own.now item) at self.old self.new) }
-        ensures refused { IfErr result (StopsAt (item_view own.now item) at self.old) }
+        ensures refused { IfErr result (StopsWith (item_view own.now item) at self.old) }
     {
         match item {
             Item::Unit(found) => Ok(self.unit(alloc, found, own)?),

@@ -2,14 +2,14 @@
 ghost use Rattle.std.specs.Prelude.{◌≡◌, ◌+◌, ◌≤◌, ◌<◌, ◌^◌, ℕ, length, min, take, drop, MatchOption, IfSome, IfOk, OnOk, List};
 ghost use Rattle.std.specs.Option.{option_map};
 ghost use Rattle.cs_syntax.specs.Fronts.{item};
-ghost use Rattle.cs_syntax.specs.ItemViews.{IsWithin, item_view, front_view};
+ghost use Rattle.cs_syntax.specs.ItemViews.{StaysWithin, item_view, front_view};
 ghost use Rattle.cs_syntax.specs.Repeats.{number, counts_to, counts_from, counts, is_bad, brace, lazy};
 
 use crate::byte_set::ByteSet;
+use crate::digits::{count_digits, value_in};
 use crate::fault::PatternFault;
 use crate::front::is_front;
 use crate::item::{Item, Misread, Unit};
-use crate::numbers::{count_digits, value_in};
 
 /// The largest count of a repeat.
 const MOST_TIMES: u32 = 1000;
@@ -23,7 +23,7 @@ struct Number {
 
 /// How often something is repeated, and how many bytes say so.
 #[derive(Clone, Copy, Drop)]
-struct Counts {
+struct RepeatCounts {
     least: u32,
     most: Option<u32>,
     len: usize,
@@ -48,14 +48,14 @@ fn read_number(text: &[u8]) -> Option<Number>
 }
 
 /// Behind `n,`.
-fn counts_to(n: Number, rest: &[u8]) -> Option<Counts>
+fn counts_to(n: Number, rest: &[u8]) -> Option<RepeatCounts>
     requires { n.len + length rest.now < 2 ^ 63 }
     ensures value { (real : Number) → n ≡ u32_number real → result
         ≡ option_map u32_counts (counts_to real rest.now) }
     ensures within { IfSome result (λ c. c.len ≤ n.len + 1 + length rest.now) }
 {
     if is_front(b'}', rest) {
-        return Some(Counts {
+        return Some(RepeatCounts {
             least: n.value,
             most: None,
             len: n.len + 2,
@@ -65,7 +65,7 @@ fn counts_to(n: Number, rest: &[u8]) -> Option<Counts>
     if !is_front(b'}', &rest[m.len..]) {
         return None;
     }
-    Some(Counts {
+    Some(RepeatCounts {
         least: n.value,
         most: Some(m.value),
         len: n.len + 2 + m.len,
@@ -73,14 +73,14 @@ fn counts_to(n: Number, rest: &[u8]) -> Option<Counts>
 }
 
 /// Behind `n`.
-fn counts_from(n: Number, rest: &[u8]) -> Option<Counts>
+fn counts_from(n: Number, rest: &[u8]) -> Option<RepeatCounts>
     requires { n.len + length rest.now < 2 ^ 63 }
     ensures value { (real : Number) → n ≡ u32_number real → result
         ≡ option_map u32_counts (counts_from real rest.now) }
     ensures within { IfSome result (λ c. c.len ≤ n.len + length rest.now) }
 {
     if is_front(b'}', rest) {
-        return Some(Counts {
+        return Some(RepeatCounts {
             least: n.value,
             most: Some(n.value),
             len: n.len + 1,
@@ -93,7 +93,7 @@ fn counts_from(n: Number, rest: &[u8]) -> Option<Counts>
 }
 
 /// Behind `{`.
-fn read_counts(text: &[u8]) -> Option<Counts>
+fn read_counts(text: &[u8]) -> Option<RepeatCounts>
     ensures value { result ≡ option_map u32_counts (counts text.now) }
     ensures within { IfSome result (λ c. c.len ≤ length text.now) }
 {
@@ -116,7 +116,7 @@ pub(crate) fn lazy(least: u32, most: Option<u32>, len: usize, rest: &[u8]) -> (I
     (Item::Repeat(least, most), len)
 }
 
-fn is_bad(c: Counts) -> bool
+fn is_bad(c: RepeatCounts) -> bool
     ensures { result ≡ is_bad c }
 {
     match c.most {
@@ -128,7 +128,7 @@ fn is_bad(c: Counts) -> bool
 /// Behind `{`.
 pub(crate) fn brace(rest: &[u8]) -> Result<(Item, usize), Misread>
     ensures value { (text : List ℕ) → front_view text result ≡ brace rest.now }
-    ensures within { IsWithin (length rest.now) (length rest.now) result }
+    ensures within { StaysWithin (length rest.now) (length rest.now) result }
 {
     let Some(counts) = read_counts(rest) else {
         return Ok((Item::Unit(Unit::Set(ByteSet::of_char(false, b'{'))), 0));

@@ -1,12 +1,13 @@
 // Jobs of cindex.
 ghost use Rattle.std.specs.Prelude.{◌≡◌, ◌∷◌, [], true, string_bytes, IfOk};
-ghost use Rattle.cs_tree.specs.Cover.{begins, slash};
+ghost use Rattle.std.specs.Path.{slash};
+ghost use Rattle.cs_tree.specs.Cover.{begins};
 
 use cs_words::IndexJob;
 use std::alloc::{AllocError, Global};
 
-mod files;
 pub mod jobs;
+mod rows;
 mod stored;
 
 /// The job of words, of which those that begin with a dash are options.

@@ -4,10 +4,10 @@ use std::alloc::AllocError;
 use std::process::Abort;
 use std::test::Fail;
 
-mod files;
 mod indexes;
 mod patterns;
-mod texts;
+mod scans;
+mod sources;
 mod tools;
 
 /// What a call came to.

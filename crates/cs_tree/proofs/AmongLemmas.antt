@@ -3,8 +3,10 @@ use denote.Ref.{Bor}
 use Rattle.cs_tree.specs.Covering.{Covers, itself, below, root}
 use Rattle.cs_tree.specs.PathSet.{Paths}
 use Rattle.cs_tree.specs.NameOrder.{bytes_cmp}
+use Rattle.cs_tree.specs.NamesAscending.{are_ascending}
 use Rattle.std.proofs.Common.{◌≡◌, ℕ, ◌+◌, ◌<◌, Bool, true, false, not, ◌&&◌, ◌||◌, List, [], ◌∷◌, ◌++◌, length, map, drop, get_or, Option, Some, None, refl, sym, ap, subst, ◌∙◌, ◌⊎◌, inl, inr, arith, append_assoc, length-append}
-use Rattle.std.specs.Prelude.{Result, Ok, Err, is_ok}
+use Rattle.std.specs.Prelude.{Result, Ok, Err, is_ok, bytes_eq}
+use Rattle.std.specs.Path.{slash}
 use Rattle.std.specs.List.{list_any}
 use Rattle.std.specs.List.Sorted.{IsSorted, IsStrictlySortedBy, IsBinarySearchResult, IsSearchInRange}
 use Rattle.std.specs.Ordering.{is_lt, is_eq, nat_cmp, ordering_reverse}
@@ -19,15 +21,15 @@ use Rattle.std.proofs.Math.ListN.{get_or-map}
 use Rattle.std.proofs.lemmas.List.Folds.{list_any_none, list_any_at}
 use Rattle.std.proofs.lemmas.List.Sorted.{searchable_from_sorted}
 use Rattle.std.proofs.lemmas.Map.Keys.{Less-from_sorted}
-use Rattle.cs_tree.specs.Cover.{slash, same, begins, covers, is_alone, is_among, is_covered}
-use Rattle.cs_tree.specs.Below.{lies_below}
+use Rattle.cs_tree.specs.Cover.{begins, covers, is_alone, is_among, is_covered}
+use Rattle.cs_tree.specs.Cover.{lies_below}
 use Rattle.cs_tree.specs.PathSet as set
 use Rattle.std.proofs.lemmas.Str.Pattern.{NoCharPasses-char}
 use Rattle.cs_tree.proofs.Covering.{begins_rest, begins_at, covers_says}
 use Rattle.cs_tree.proofs.Splitting.{NoSlash, no_slash, no_slash_parts, LastSlash, rsplit_says}
 use Rattle.cs_tree.proofs.Sets.{alike}
 use Rattle.cs_tree.proofs.NameLemmas.{list_any-map}
-use Rattle.cs_tree.proofs.ReduceLemmas.{items-from_list}
+use Rattle.cs_tree.proofs.ReduceLemmas.{any-from_list, strictly_from}
 
 -- ---- a path that is searched
 
@@ -39,16 +41,16 @@ module _ {X : Type 0} (bytes : X → List ℕ) where
       let rises : bytes_cmp (bytes (get_or xs k d)) (bytes (get_or xs (k + 1) d)) ≡ Less = sym (ap (λ x. bytes_cmp x (get_or (map bytes xs) (k + 1) (bytes d))) (get_or-map bytes xs k d) ∙ ap (bytes_cmp (bytes (get_or xs k d))) (get_or-map bytes xs (k + 1) d)) ∙ less in
       ap is_lt (nat_list_cmp_total.antisymm (bytes (get_or xs (k + 1) d)) (bytes (get_or xs k d)) ∙ ap ordering_reverse rises)
 
-  pub listed : (xs : List X) (path : List ℕ) (r : Result ℕ ℕ) → IsStrictlySortedBy bytes_cmp (map bytes xs) → IsSearchInRange r (length xs) → IsBinarySearchResult (λ (x : X). slice_cmp nat_cmp (bytes x) path) xs r → is_ok r ≡ is_among (map bytes xs) path
-  listed [] path (Ok i) strict bound found = absurd (omega (arith, bound))
-  listed (x ∷ xs) path (Ok i) strict bound found =
-      sym (list_any-map bytes (λ other. same other path) (x ∷ xs)
-      ∙ list_any_at (λ (y : X). same (bytes y) path) (x ∷ xs) i x bound
+  pub listed : (xs : List X) (path : List ℕ) (r : Result ℕ ℕ) → are_ascending (map bytes xs) ≡ true → IsSearchInRange r (length xs) → IsBinarySearchResult (λ (x : X). slice_cmp nat_cmp (bytes x) path) xs r → is_ok r ≡ is_among (map bytes xs) path
+  listed [] path (Ok i) up bound found = absurd (omega (arith, bound))
+  listed (x ∷ xs) path (Ok i) up bound found =
+      sym (list_any-map bytes (λ other. bytes_eq other path) (x ∷ xs)
+      ∙ list_any_at (λ (y : X). bytes_eq (bytes y) path) (x ∷ xs) i x bound
       ((bytes_decides (bytes (get_or (x ∷ xs) i x)) path).1 (alike (bytes (get_or (x ∷ xs) i x)) path (found x))))
-  listed xs path (Err i) strict bound found =
-      let parts = found (searchable_from_sorted nat_list_cmp_total bytes xs path (adjacent xs strict)) in
-      sym (list_any-map bytes (λ other. same other path) xs
-      ∙ list_any_none (λ (y : X). same (bytes y) path) xs (λ k d within. elim (cases_lt k i) [
+  listed xs path (Err i) up bound found =
+      let parts = found (searchable_from_sorted nat_list_cmp_total bytes xs path (adjacent xs (strictly_from (map bytes xs) up))) in
+      sym (list_any-map bytes (λ other. bytes_eq other path) xs
+      ∙ list_any_none (λ (y : X). bytes_eq (bytes y) path) xs (λ k d within. elim (cases_lt k i) [
         | inl before ↦ texts_ties (bytes (get_or xs k d)) path ∙ ap is_eq (parts.0 k d (omega arith) before)
         | inr after ↦ texts_ties (bytes (get_or xs k d)) path ∙ ap is_eq (parts.1 k d after within)
       ]))
@@ -110,15 +112,15 @@ either_front (b ∷ other) (c ∷ front) rest name e h =
       | inr later ↦ inr (later.0, let after : front ≡ other ++ slash ∷ later.0 = later.1 in cc)
     ]
 
-below_last : (path front name : List ℕ) → LastSlash path front name → (other : List ℕ) → lies_below path other ≡ (same other front || lies_below front other)
+below_last : (path front name : List ℕ) → LastSlash path front name → (other : List ℕ) → lies_below path other ≡ (bytes_eq other front || lies_below front other)
 below_last path front name h other = same_tests _ _
     (λ lower.
     let found = below_parts path other lower in
     elim (either_front other front found.0 name (sym found.1 ∙ h.whole) h.last) [
-      | inl is ↦ or_left (same other front) _ ((bytes_decides other front).1 is)
-      | inr later ↦ or_right (same other front) _ (below_from front other later.0 later.1)
+      | inl is ↦ or_left (bytes_eq other front) _ ((bytes_decides other front).1 is)
+      | inr later ↦ or_right (bytes_eq other front) _ (below_from front other later.0 later.1)
     ])
-    (λ either. elim (or_cases (same other front) (lies_below front other) either) [
+    (λ either. elim (or_cases (bytes_eq other front) (lies_below front other) either) [
       | inl is ↦ below_from path other name (h.whole ∙ ap (λ f. f ++ slash ∷ name) (sym ((bytes_decides other front).0 is)))
       | inr later ↦
           let found = below_parts front other later in
@@ -126,8 +128,8 @@ below_last path front name h other = same_tests _ _
     ])
 
 -- some path is what stands before the last slash, or that lies below some
-pub any_below_last : (path front name : List ℕ) (paths : List (List ℕ)) → LastSlash path front name → list_any (lies_below path) paths ≡ (list_any (λ other. same other front) paths || list_any (lies_below front) paths)
-any_below_last path front name paths h = (λ i. list_any (λ other. below_last path front name h other i) paths) ∙ list_any_or (λ other. same other front) (lies_below front) paths
+pub any_below_last : (path front name : List ℕ) (paths : List (List ℕ)) → LastSlash path front name → list_any (lies_below path) paths ≡ (list_any (λ other. bytes_eq other front) paths || list_any (lies_below front) paths)
+any_below_last path front name paths h = (λ i. list_any (λ other. below_last path front name h other i) paths) ∙ list_any_or (λ other. bytes_eq other front) (lies_below front) paths
 
 any_below_none : (path : List ℕ) (paths : List (List ℕ)) → NoSlash path → list_any (lies_below path) paths ≡ false
 any_below_none path paths h = list_any_false (lies_below path) (λ other. false_from_ne_true _ (λ lower.
@@ -136,7 +138,7 @@ any_below_none path paths h = list_any_false (lies_below path) (λ other. false_
 -- what the cut at the last slash says
 abbrev pub FrontSays : List ℕ → List (List ℕ) → Option (Bor (List ℕ) × Bor (List ℕ)) → Type 0
 FrontSays path paths cut = MatchOption cut (list_any (lies_below path) paths ≡ false)
-    (λ parts. (list_any (lies_below path) paths ≡ (list_any (λ other. same other parts.0.now) paths || list_any (lies_below parts.0.now) paths)) × (length parts.0.now < length path))
+    (λ parts. (list_any (lies_below path) paths ≡ (list_any (λ other. bytes_eq other parts.0.now) paths || list_any (lies_below parts.0.now) paths)) × (length parts.0.now < length path))
 
 pub front_says : (path : List ℕ) (paths : List (List ℕ)) (cut : Option (Bor (List ℕ) × Bor (List ℕ))) → MatchOption cut (RFindsChar slash path None) (λ x. SplitsAroundMatch (RFindsChar slash) path x.0.now x.1.now) → FrontSays path paths cut
 front_says path paths None h = any_below_none path paths (no_slash path (λ i l. NoCharPasses-char slash path i h (omega arith) l))
@@ -146,32 +148,32 @@ front_says path paths (Some x) h =
 
 -- ---- a path that another one covers
 
-covers_apart_from : (path other : List ℕ) → (covers other path && not (same other path)) ≡ (lies_below path other || (same other (slash ∷ []) && (begins (slash ∷ []) path && not (same path (slash ∷ [])))))
+covers_apart_from : (path other : List ℕ) → (covers other path && not (bytes_eq other path)) ≡ (lies_below path other || (bytes_eq other (slash ∷ []) && (begins (slash ∷ []) path && not (bytes_eq path (slash ∷ [])))))
 covers_apart_from path other = same_tests _ _
-    (λ h. let parts = and_parts (covers other path) (not (same other path)) h in says (not-true _ parts.1) (covers_says other path parts.0))
+    (λ h. let parts = and_parts (covers other path) (not (bytes_eq other path)) h in says (not-true _ parts.1) (covers_says other path parts.0))
     (λ h. elim (or_cases (lies_below path other) _ h) [
-      | inl lower ↦ and_from (covers other path) _ (or_right (same other path) _ (or_left (lies_below path other) _ lower)) (not_from_false _ (false_from_ne_true _ (λ is.
+      | inl lower ↦ and_from (covers other path) _ (or_right (bytes_eq other path) _ (or_left (lies_below path other) _ lower)) (not_from_false _ (false_from_ne_true _ (λ is.
           let long = below_longer path other lower in let e : length other ≡ length path = ap length ((bytes_decides other path).0 is) in absurd (omega arith))))
       | inr top ↦
-          let parts = and_parts (same other (slash ∷ [])) _ top in
-          let rest = and_parts (begins (slash ∷ []) path) (not (same path (slash ∷ []))) parts.1 in
-          and_from (covers other path) _ (or_right (same other path) _ (or_right (lies_below path other) _ (and_from (same other (slash ∷ [])) _ parts.0 rest.0))) (not_from_false _ (false_from_ne_true _ (λ is.
-          both_ways (same path (slash ∷ [])) (not-true _ rest.1) ((bytes_decides path (slash ∷ [])).1 (sym ((bytes_decides other path).0 is) ∙ (bytes_decides other (slash ∷ [])).0 parts.0)))))
+          let parts = and_parts (bytes_eq other (slash ∷ [])) _ top in
+          let rest = and_parts (begins (slash ∷ []) path) (not (bytes_eq path (slash ∷ []))) parts.1 in
+          and_from (covers other path) _ (or_right (bytes_eq other path) _ (or_right (lies_below path other) _ (and_from (bytes_eq other (slash ∷ [])) _ parts.0 rest.0))) (not_from_false _ (false_from_ne_true _ (λ is.
+          both_ways (bytes_eq path (slash ∷ [])) (not-true _ rest.1) ((bytes_decides path (slash ∷ [])).1 (sym ((bytes_decides other path).0 is) ∙ (bytes_decides other (slash ∷ [])).0 parts.0)))))
     ])
   where
-    says : same other path ≡ false → Covers other path → (lies_below path other || (same other (slash ∷ []) && (begins (slash ∷ []) path && not (same path (slash ∷ []))))) ≡ true
-    says apart (itself e) = absurd (both_ways (same other path) apart ((bytes_decides other path).1 e))
+    says : bytes_eq other path ≡ false → Covers other path → (lies_below path other || (bytes_eq other (slash ∷ []) && (begins (slash ∷ []) path && not (bytes_eq path (slash ∷ []))))) ≡ true
+    says apart (itself e) = absurd (both_ways (bytes_eq other path) apart ((bytes_decides other path).1 e))
     says apart (below rest e) = or_left (lies_below path other) _ (below_from path other rest e)
-    says apart (root rest e f) = or_right (lies_below path other) _ (and_from (same other (slash ∷ [])) _ ((bytes_decides other (slash ∷ [])).1 e)
+    says apart (root rest e f) = or_right (lies_below path other) _ (and_from (bytes_eq other (slash ∷ [])) _ ((bytes_decides other (slash ∷ [])).1 e)
         (and_from (begins (slash ∷ []) path) _ (subst (λ t. begins (slash ∷ []) t ≡ true) (sym f) refl)
-        (not_from_false _ (false_from_ne_true _ (λ is. both_ways (same other path) apart ((bytes_decides other path).1 (e ∙ sym ((bytes_decides path (slash ∷ [])).0 is))))))))
+        (not_from_false _ (false_from_ne_true _ (λ is. both_ways (bytes_eq other path) apart ((bytes_decides other path).1 (e ∙ sym ((bytes_decides path (slash ∷ [])).0 is))))))))
 
 -- what covers it lies above it, or is the root
-pub alone_is : (path : List ℕ) (paths : List (List ℕ)) → is_alone paths path ≡ not (list_any (lies_below path) paths || ((begins (slash ∷ []) path && not (same path (slash ∷ []))) && is_among paths (slash ∷ [])))
+pub alone_is : (path : List ℕ) (paths : List (List ℕ)) → is_alone paths path ≡ not (list_any (lies_below path) paths || ((begins (slash ∷ []) path && not (bytes_eq path (slash ∷ []))) && is_among paths (slash ∷ [])))
 alone_is path paths = ap not
     ((λ i. list_any (λ other. covers_apart_from path other i) paths)
-    ∙ list_any_or (lies_below path) (λ other. same other (slash ∷ []) && (begins (slash ∷ []) path && not (same path (slash ∷ [])))) paths
-    ∙ ap (λ b. list_any (lies_below path) paths || b) (list_any_and (λ other. same other (slash ∷ [])) (begins (slash ∷ []) path && not (same path (slash ∷ []))) paths))
+    ∙ list_any_or (lies_below path) (λ other. bytes_eq other (slash ∷ []) && (begins (slash ∷ []) path && not (bytes_eq path (slash ∷ [])))) paths
+    ∙ ap (λ b. list_any (lies_below path) paths || b) (list_any_and (λ other. bytes_eq other (slash ∷ [])) (begins (slash ∷ []) path && not (bytes_eq path (slash ∷ []))) paths))
 
 -- ---- a name that one of the paths covers
 
@@ -192,8 +194,8 @@ fronts_cover : (name : List ℕ) (ps : List (List ℕ)) → list_any (λ path. c
 fronts_cover name [] = elim (begins (slash ∷ []) name) as (λ b. false ≡ (b && false)) [ true ↦ refl | false ↦ refl ]
 fronts_cover name (path ∷ ps) =
     ap (λ b. covers path name || b) (fronts_cover name ps)
-    ∙ regroup (same path name) (lies_below name path) (same path (slash ∷ [])) (begins (slash ∷ []) name) (is_among ps name) (list_any (lies_below name) ps) (is_among ps (slash ∷ []))
+    ∙ regroup (bytes_eq path name) (lies_below name path) (bytes_eq path (slash ∷ [])) (begins (slash ∷ []) name) (is_among ps name) (list_any (lies_below name) ps) (is_among ps (slash ∷ []))
 
 -- it is one of the paths, or lies below one, or below the root
-pub covered_is : (name : List ℕ) (ps : List (List ℕ)) → IsStrictlySortedBy bytes_cmp ps → is_covered (set.from_list ps) name ≡ (is_among ps name || (list_any (lies_below name) ps || (begins (slash ∷ []) name && is_among ps (slash ∷ []))))
-covered_is name ps up = ap (list_any (λ path. covers path name)) (items-from_list ps up) ∙ fronts_cover name ps
+pub covered_is : (name : List ℕ) (ps : List (List ℕ)) → is_covered (set.from_list ps) name ≡ (is_among ps name || (list_any (lies_below name) ps || (begins (slash ∷ []) name && is_among ps (slash ∷ []))))
+covered_is name ps = sym (any-from_list (λ path. covers path name) ps) ∙ fronts_cover name ps

@@ -2,11 +2,12 @@
 use denote.Ref.{Bor}
 use Rattle.std.proofs.Common.{◌≡◌, ℕ, ◌+◌, ◌<◌, List, [], ◌∷◌, ◌++◌, length, take, get_or, Bool, true, false, ◌&&◌, ◌||◌, ◌≢◌, cond, eqb, Some, None, refl, sym, ap, ◌∙◌, arith}
 use Rattle.std.proofs.lemmas.List.{map-append, take_more, reverse-append, length-map, length-reverse}
-use Rattle.std.specs.Prelude.{reverse, nat_lt, Result, Ok, Err, OnOk}
+use Rattle.std.specs.Prelude.{reverse, nat_lt, Result, Ok, Err, OnOk, bytes_eq}
+use Rattle.std.specs.Path.{slash}
 use Rattle.std.proofs.lemmas.Bool.{eq-eqb, eqb-true}
 use Rattle.std.proofs.lemmas.List.Folds.{list_any-append}
 use Rattle.std.specs.Cmp.{both_ways as same_tests}
-use Rattle.cs_tree.specs.Cover.{slash, begins, same}
+use Rattle.cs_tree.specs.Cover.{begins}
 use Rattle.cs_tree.specs.Clean.{elements, steps, with_element, with_slashes, path_of, absolute, clean_path, has_nul, longest_path}
 use Rattle.cs_tree.specs.Cleaning.{clean_fault}
 use Rattle.cs_tree.specs.PathParts.{texts, parts_path, parts_fault}
@@ -58,21 +59,21 @@ cleaned_relative folder text h =
 fault_of : (parts_nul nul : Bool) (parts path : List ℕ) → parts_nul ≡ nul → parts ≡ path → cond parts_nul (Some Nul) (cond (nat_lt longest_path (length parts)) (Some TooLong) None) ≡ cond nul (Some Nul) (cond (nat_lt longest_path (length path)) (Some TooLong) None)
 fault_of parts_nul nul parts path e f = ap (λ b. cond b (Some Nul) (cond (nat_lt longest_path (length parts)) (Some TooLong) None)) e ∙ ap (λ p. cond nul (Some Nul) (cond (nat_lt longest_path (length p)) (Some TooLong) None)) f
 
-not_empty : (folder text : List ℕ) → same text [] ≡ false → cond (has_nul (absolute folder text)) (Some Nul) (cond (nat_lt longest_path (length (clean_path folder text))) (Some TooLong) None) ≡ clean_fault folder text
+not_empty : (folder text : List ℕ) → bytes_eq text [] ≡ false → cond (has_nul (absolute folder text)) (Some Nul) (cond (nat_lt longest_path (length (clean_path folder text))) (Some TooLong) None) ≡ clean_fault folder text
 not_empty folder text h = sym (ap (λ b. cond b (Some Empty) (cond (has_nul (absolute folder text)) (Some Nul) (cond (nat_lt longest_path (length (clean_path folder text))) (Some TooLong) None))) h)
 
-pub fault_absolute : (folder text : List ℕ) → same text [] ≡ false → begins (slash ∷ []) text ≡ true → parts_fault [] text ≡ clean_fault folder text
+pub fault_absolute : (folder text : List ℕ) → bytes_eq text [] ≡ false → begins (slash ∷ []) text ≡ true → parts_fault [] text ≡ clean_fault folder text
 fault_absolute folder text some h =
     fault_of (has_nul [] || has_nul text) (has_nul (absolute folder text)) (parts_path [] text) (clean_path folder text) (ap has_nul (sym (path_absolute folder text h))) (cleaned_absolute folder text h)
     ∙ not_empty folder text some
 
-pub fault_relative : (folder text : List ℕ) → same text [] ≡ false → begins (slash ∷ []) text ≡ false → parts_fault folder text ≡ clean_fault folder text
+pub fault_relative : (folder text : List ℕ) → bytes_eq text [] ≡ false → begins (slash ∷ []) text ≡ false → parts_fault folder text ≡ clean_fault folder text
 fault_relative folder text some h =
     fault_of (has_nul folder || has_nul text) (has_nul (absolute folder text)) (parts_path folder text) (clean_path folder text)
     (sym (ap has_nul (path_relative folder text h) ∙ list_any-append (λ b. eqb b 0) folder (slash ∷ text))) (cleaned_relative folder text h)
     ∙ not_empty folder text some
 
-pub some_text : (text : List ℕ) → length text ≢ 0 → same text [] ≡ false
+pub some_text : (text : List ℕ) → length text ≢ 0 → bytes_eq text [] ≡ false
 some_text [] h = absurd (h refl)
 some_text (b ∷ text) h = refl
 

@@ -2,29 +2,30 @@
 -- lists there.
 use Rattle.std.proofs.Common.{◌≡◌, ℕ, ◌+◌, ◌<◌, Bool, true, false, not, ◌||◌, cond, List, [], ◌∷◌, ◌++◌, length, map, drop, refl, sym, ap, subst, ◌∙◌, ◌⊎◌, inl, inr, eqb, nat_le, arith, append_assoc, length-append}
 use Rattle.cs_tree.specs.Covering.{Covers, itself, below, root}
-use Rattle.cs_tree.specs.Folders.{stem_of, child, lists, is_element, ListsElements, IsTree}
+use Rattle.cs_tree.specs.Folders.{stem_of, child, names_listed, lists, is_element, ListsElements, IsTree}
 use Rattle.std.proofs.lemmas.Bool.{cases_Bool, eqb-true, true≢false, false_from_ne_true, and_parts, and_from, or_cases, or_left, or_right, not-true}
 use Rattle.std.proofs.Math.Seq.{drop-append-add}
-use Rattle.std.specs.Prelude.{filter}
+use Rattle.std.specs.Prelude.{filter, bytes_eq}
+use Rattle.std.specs.Path.{slash}
 use Rattle.std.specs.Cmp.{both_ways as same_tests}
 use Rattle.std.specs.Cmp.Lexicographic.{bytes_decides}
 use Rattle.std.specs.List.{list_any, list_all}
-use Rattle.cs_tree.specs.Cover.{slash, same, covers}
+use Rattle.cs_tree.specs.Cover.{covers}
 use Rattle.cs_tree.specs.Clean.{elements, longest_path}
 use Rattle.cs_tree.specs.Snapshot.{Snapshot, Item, item_at, folder, file, cut, other, bad}
 use Rattle.cs_tree.specs.Reached.{elements_under, is_left_out, leads}
-use Rattle.cs_tree.specs.Visits.{comes, children, is_walked, names_listed}
+use Rattle.cs_tree.specs.Visits.{comes, children, is_walked}
 use Rattle.cs_tree.proofs.Covering.{covers_says, covers_from, covers_chain, covers_itself, covers_longer}
 use Rattle.cs_tree.proofs.NameLemmas.{folder_covers_child, name_parts}
 use Rattle.cs_tree.proofs.Splitting.{NoSlash, elements-some, elements-append, elements-one, stem-other}
 
-same_itself : (p : List ℕ) → same p p ≡ true
+same_itself : (p : List ℕ) → bytes_eq p p ≡ true
 same_itself p = (bytes_decides p p).1 refl
 
-same_means : (p q : List ℕ) → same p q ≡ true → p ≡ q
+same_means : (p q : List ℕ) → bytes_eq p q ≡ true → p ≡ q
 same_means p q h = (bytes_decides p q).0 h
 
-shorter_apart : (p q : List ℕ) → length p < length q → same p q ≡ false
+shorter_apart : (p q : List ℕ) → length p < length q → bytes_eq p q ≡ false
 shorter_apart p q l = false_from_ne_true _ (λ h. let e : length p ≡ length q = ap length (same_means p q h) in absurd (omega (arith, l, e)))
 
 -- ---- a child's path
@@ -35,7 +36,7 @@ name_some (b ∷ name) h = omega arith
 
 pub child_longer : (path name : List ℕ) → 0 < length name → length path < length (child path name)
 child_longer path name some =
-    elim (cases_Bool (same path (slash ∷ []))) [
+    elim (cases_Bool (bytes_eq path (slash ∷ []))) [
       | inl is_root ↦
           let e : path ≡ slash ∷ [] = same_means path (slash ∷ []) is_root in
           subst (λ p. length p < length (child p name)) (sym e) (at_root some)
@@ -47,7 +48,7 @@ child_longer path name some =
     at_root : 0 < length name → 1 < length (slash ∷ name)
     at_root l = omega (arith, l)
 
-child_below_root : (path name : List ℕ) → is_element name ≡ true → same (child path name) (slash ∷ []) ≡ false
+child_below_root : (path name : List ℕ) → is_element name ≡ true → bytes_eq (child path name) (slash ∷ []) ≡ false
 child_below_root path name good =
     false_from_ne_true _ (λ h.
     let e : length (child path name) ≡ length (slash ∷ []) = ap length (same_means (child path name) (slash ∷ []) h) in
@@ -55,29 +56,29 @@ child_below_root path name good =
 
 -- ---- the elements under a path
 
-under_after : (p q rest : List ℕ) → q ≡ stem_of p ++ slash ∷ rest → same p q ≡ false → elements_under p q ≡ elements rest
-under_after p q rest e apart = ap (λ b. cond b [] (elements (drop (cond (same p (slash ∷ [])) 1 (length p + 1)) q))) apart ∙ ap elements (after (same p (slash ∷ [])) refl)
+under_after : (p q rest : List ℕ) → q ≡ stem_of p ++ slash ∷ rest → bytes_eq p q ≡ false → elements_under p q ≡ elements rest
+under_after p q rest e apart = ap (λ b. cond b [] (elements (drop (cond (bytes_eq p (slash ∷ [])) 1 (length p + 1)) q))) apart ∙ ap elements (after (bytes_eq p (slash ∷ [])) refl)
   where
-    after : (b : Bool) → same p (slash ∷ []) ≡ b → drop (cond b 1 (length p + 1)) q ≡ rest
+    after : (b : Bool) → bytes_eq p (slash ∷ []) ≡ b → drop (cond b 1 (length p + 1)) q ≡ rest
     after true is = ap (drop 1) (e ∙ ap (λ t. cond t [] p ++ slash ∷ rest) is)
     after false is = ap (drop (length p + 1)) (e ∙ ap (λ t. cond t [] p ++ slash ∷ rest) is) ∙ drop-append-add p (slash ∷ rest) 1
 
 pub under_itself : (p : List ℕ) → elements_under p p ≡ []
-under_itself p = ap (λ b. cond b [] (elements (drop (cond (same p (slash ∷ [])) 1 (length p + 1)) p))) (same_itself p)
+under_itself p = ap (λ b. cond b [] (elements (drop (cond (bytes_eq p (slash ∷ [])) 1 (length p + 1)) p))) (same_itself p)
 
 -- what lies under a path has some rest after its stem
 record After (p q : List ℕ) : Type 0 where
   rest : List ℕ
   is : q ≡ stem_of p ++ slash ∷ rest
 
-after_covers : (p q : List ℕ) → covers p q ≡ true → same p q ≡ false → After p q
+after_covers : (p q : List ℕ) → covers p q ≡ true → bytes_eq p q ≡ false → After p q
 after_covers p q h apart = says (covers_says p q h)
   where
     says : Covers p q → After p q
     says (itself e) = absurd (true≢false (sym ((bytes_decides p q).1 e) ∙ apart))
-    says (below rest e) = by_root (same p (slash ∷ [])) refl
+    says (below rest e) = by_root (bytes_eq p (slash ∷ [])) refl
       where
-        by_root : (b : Bool) → same p (slash ∷ []) ≡ b → After p q
+        by_root : (b : Bool) → bytes_eq p (slash ∷ []) ≡ b → After p q
         by_root true is = record { rest = slash ∷ rest; is = e ∙ ap (λ x. x ++ slash ∷ rest) (same_means p (slash ∷ []) is) ∙ ap (λ t. cond t [] p ++ slash ∷ slash ∷ rest) (sym is) }
         by_root false is = record { rest = rest; is = e ∙ ap (λ t. cond t [] p ++ slash ∷ rest) (sym is) }
     says (root rest f e) = record { rest = rest; is = e ∙ ap (λ t. cond t [] p ++ slash ∷ rest) (sym ((bytes_decides p (slash ∷ [])).1 f)) }
@@ -109,7 +110,7 @@ under_child p m q good h = says (covers_says (child p m) q h)
     short : length p < length (child p m)
     short = child_longer p m (name_some m good)
 
-    apart : same p q ≡ false
+    apart : bytes_eq p q ≡ false
     apart = elim (covers_longer (child p m) q h) [
       | inl e ↦ shorter_apart p q (subst (λ x. length p < length x) e short)
       | inr l ↦ shorter_apart p q (omega (arith, l, short))
@@ -129,7 +130,7 @@ under_child p m q good h = says (covers_says (child p m) q h)
     says (root r f e) = absurd (true≢false (sym ((bytes_decides (child p m) (slash ∷ [])).1 f) ∙ child_below_root p m good))
 
 -- what lies under a path lies under the child that its first element names
-covers_first : (p q first : List ℕ) (later : List (List ℕ)) → covers p q ≡ true → same p q ≡ false → is_element first ≡ true → elements_under p q ≡ first ∷ later → covers (child p first) q ≡ true
+covers_first : (p q first : List ℕ) (later : List (List ℕ)) → covers p q ≡ true → bytes_eq p q ≡ false → is_element first ≡ true → elements_under p q ≡ first ∷ later → covers (child p first) q ≡ true
 covers_first p q first later h apart good e =
     let after = after_covers p q h apart in
     by_front after.rest (front_of after.rest) after.is (sym (under_after p q after.rest after.is apart) ∙ e)
@@ -147,11 +148,11 @@ covers_first p q first later h apart good e =
 
 -- ---- one step down
 
-listed_good : (names : List (List ℕ)) (m : List ℕ) → list_all is_element names ≡ true → list_any (λ l. same l m) names ≡ true → is_element m ≡ true
+listed_good : (names : List (List ℕ)) (m : List ℕ) → list_all is_element names ≡ true → list_any (λ l. bytes_eq l m) names ≡ true → is_element m ≡ true
 listed_good [] m all h = absurd (true≢false (sym h))
 listed_good (x ∷ names) m all h =
     let parts = and_parts (is_element x) (list_all is_element names) all in
-    elim (or_cases (same x m) _ h) [
+    elim (or_cases (bytes_eq x m) _ h) [
       | inl here ↦ subst (λ n. is_element n ≡ true) (same_means x m here) parts.0
       | inr there ↦ listed_good names m parts.1 there
     ]
@@ -181,9 +182,9 @@ pub record Onward (tree : Snapshot) (p q : List ℕ) : Type 0 where
 pub comes_itself : (tree : Snapshot) (p : List ℕ) → comes tree p p ≡ true
 comes_itself tree p = and_from _ _ (covers_itself p) (ap (leads tree p) (under_itself p))
 
-pub comes_on_from : (tree : Snapshot) (p q : List ℕ) → IsTree tree → comes tree p q ≡ true → (same p q ≡ true) ⊎ Onward tree p q
+pub comes_on_from : (tree : Snapshot) (p q : List ℕ) → IsTree tree → comes tree p q ≡ true → (bytes_eq p q ≡ true) ⊎ Onward tree p q
 comes_on_from tree p q told h =
-    elim (cases_Bool (same p q)) [
+    elim (cases_Bool (bytes_eq p q)) [
       | inl tied ↦ inl tied
       | inr apart ↦ inr (by_elements apart (elements_under p q) refl)
     ]
@@ -194,13 +195,13 @@ comes_on_from tree p q told h =
     nothing : (x : List ℕ) (xs : List (List ℕ)) → x ∷ xs ≡ [] → ⊥
     nothing x xs e = cc e
 
-    none_left : same p q ≡ false → elements_under p q ≡ [] → ⊥
+    none_left : bytes_eq p q ≡ false → elements_under p q ≡ [] → ⊥
     none_left apart e =
         let after = after_covers p q parts.0 apart in
         let some = elements-some after.rest in
         nothing some.first some.later (sym some.is ∙ sym (under_after p q after.rest after.is apart) ∙ e)
 
-    by_elements : same p q ≡ false → (es : List (List ℕ)) → elements_under p q ≡ es → Onward tree p q
+    by_elements : bytes_eq p q ≡ false → (es : List (List ℕ)) → elements_under p q ≡ es → Onward tree p q
     by_elements apart [] e = absurd (none_left apart e)
     by_elements apart (name ∷ names) e =
         let led = and_parts (not (is_left_out name)) _ (sym (ap (leads tree p) e) ∙ parts.1) in
@@ -226,10 +227,10 @@ comes_on_to tree p m q told step h =
 
 -- ---- all that a path leads to
 
-walked_member : (test : List ℕ → Bool) (p m : List ℕ) (names : List (List ℕ)) → list_any (λ l. same l m) names ≡ true → is_walked m ≡ true → test (child p m) ≡ true → list_any test (children p names) ≡ true
+walked_member : (test : List ℕ → Bool) (p m : List ℕ) (names : List (List ℕ)) → list_any (λ l. bytes_eq l m) names ≡ true → is_walked m ≡ true → test (child p m) ≡ true → list_any test (children p names) ≡ true
 walked_member test p m [] listed good h = absurd (true≢false (sym listed))
 walked_member test p m (x ∷ names) listed good h =
-    elim (or_cases (same x m) _ listed) [
+    elim (or_cases (bytes_eq x m) _ listed) [
       | inl here ↦
           let e : x ≡ m = same_means x m here in
           ap (λ b. list_any test (map (child p) (cond b (x ∷ filter is_walked names) (filter is_walked names)))) (ap is_walked e ∙ good)
@@ -244,7 +245,7 @@ walked_member test p m (x ∷ names) listed good h =
 -- a name that is listed and walked, at whose path the test passes
 record WalkedTo (test : List ℕ → Bool) (p : List ℕ) (names : List (List ℕ)) : Type 0 where
   name : List ℕ
-  listed : list_any (λ l. same l name) names ≡ true
+  listed : list_any (λ l. bytes_eq l name) names ≡ true
   walked : is_walked name ≡ true
   passes : test (child p name) ≡ true
 
@@ -253,11 +254,11 @@ walked_some test p [] h = absurd (true≢false (sym h))
 walked_some test p (x ∷ names) h = by_walked (is_walked x) refl h (walked_some test p names)
   where
     there : WalkedTo test p names → WalkedTo test p (x ∷ names)
-    there found = record { name = found.name; listed = or_right (same x found.name) _ found.listed; walked = found.walked; passes = found.passes }
+    there found = record { name = found.name; listed = or_right (bytes_eq x found.name) _ found.listed; walked = found.walked; passes = found.passes }
 
     by_walked : (b : Bool) → is_walked x ≡ b → list_any test (map (child p) (cond b (x ∷ filter is_walked names) (filter is_walked names))) ≡ true → (list_any test (children p names) ≡ true → WalkedTo test p names) → WalkedTo test p (x ∷ names)
     by_walked true good found rest = elim (or_cases (test (child p x)) _ found) [
-      | inl here ↦ record { name = x; listed = or_left (same x x) _ (same_itself x); walked = good; passes = here }
+      | inl here ↦ record { name = x; listed = or_left (bytes_eq x x) _ (same_itself x); walked = good; passes = here }
       | inr later ↦ there (rest later)
     ]
     by_walked false good found rest = there (rest found)
@@ -266,42 +267,35 @@ walked_some test p (x ∷ names) h = by_walked (is_walked x) refl h (walked_some
 abbrev pub onward : Snapshot → List ℕ → List (List ℕ)
 onward tree path = cond (nat_le (length path) longest_path) (names_listed (item_at tree path)) []
 
-listed_same : (item : Item) (m : List ℕ) → lists item m ≡ list_any (λ l. same l m) (names_listed item)
-listed_same (folder names unnamed) m = refl
-listed_same (file bytes) m = refl
-listed_same (cut bytes) m = refl
-listed_same other m = refl
-listed_same (bad fault) m = refl
-
 name_walked : (m : List ℕ) → is_element m ≡ true → is_left_out m ≡ false → is_walked m ≡ true
-name_walked m good kept = and_from _ _ (and_parts (not (same m [])) _ good).0 (ap not kept)
+name_walked m good kept = and_from _ _ (and_parts (not (bytes_eq m [])) _ good).0 (ap not kept)
 
 -- whether a walk that has come to the paths comes to the name
 abbrev pub comes_by : Snapshot → List (List ℕ) → List ℕ → Bool
 comes_by tree paths name = list_any (λ path. comes tree path name) paths
 
-pub comes_unfolds : (tree : Snapshot) (p q : List ℕ) → IsTree tree → comes tree p q ≡ (same p q || comes_by tree (children p (onward tree p)) q)
+pub comes_unfolds : (tree : Snapshot) (p q : List ℕ) → IsTree tree → comes tree p q ≡ (bytes_eq p q || comes_by tree (children p (onward tree p)) q)
 comes_unfolds tree p q told = same_tests _ _ down up
   where
-    down : comes tree p q ≡ true → (same p q || comes_by tree (children p (onward tree p)) q) ≡ true
+    down : comes tree p q ≡ true → (bytes_eq p q || comes_by tree (children p (onward tree p)) q) ≡ true
     down h = elim (comes_on_from tree p q told h) [
-      | inl tied ↦ or_left (same p q) _ tied
+      | inl tied ↦ or_left (bytes_eq p q) _ tied
       | inr on ↦
           let good = listed_name tree p on.name told on.step.listed in
-          or_right (same p q) _
+          or_right (bytes_eq p q) _
           (ap (λ b. comes_by tree (children p (cond b (names_listed (item_at tree p)) [])) q) on.step.short
-          ∙ walked_member (λ path. comes tree path q) p on.name (names_listed (item_at tree p)) (sym (listed_same (item_at tree p) on.name) ∙ on.step.listed) (name_walked on.name good on.step.kept) on.comes_on)
+          ∙ walked_member (λ path. comes tree path q) p on.name (names_listed (item_at tree p)) on.step.listed (name_walked on.name good on.step.kept) on.comes_on)
     ]
 
     by_short : (b : Bool) → nat_le (length p) longest_path ≡ b → comes_by tree (children p (cond b (names_listed (item_at tree p)) [])) q ≡ true → comes tree p q ≡ true
     by_short true short h =
         let found = walked_some (λ path. comes tree path q) p (names_listed (item_at tree p)) h in
-        let walked = and_parts (not (same found.name [])) (not (is_left_out found.name)) found.walked in
-        comes_on_to tree p found.name q told (record { kept = not-true _ walked.1; short = short; listed = listed_same (item_at tree p) found.name ∙ found.listed }) found.passes
+        let walked = and_parts (not (bytes_eq found.name [])) (not (is_left_out found.name)) found.walked in
+        comes_on_to tree p found.name q told (record { kept = not-true _ walked.1; short = short; listed = found.listed }) found.passes
     by_short false short h = absurd (true≢false (sym h))
 
-    up : (same p q || comes_by tree (children p (onward tree p)) q) ≡ true → comes tree p q ≡ true
-    up h = elim (or_cases (same p q) _ h) [
+    up : (bytes_eq p q || comes_by tree (children p (onward tree p)) q) ≡ true → comes tree p q ≡ true
+    up h = elim (or_cases (bytes_eq p q) _ h) [
       | inl tied ↦ subst (λ x. comes tree p x ≡ true) (same_means p q tied) (comes_itself tree p)
       | inr later ↦ by_short (nat_le (length p) longest_path) refl later
     ]

@@ -3,29 +3,19 @@ use Rattle.std.proofs.Common.{◌≡◌, ℕ, ◌+◌, ◌<◌, length, take, sl
 use Rattle.cs_tree.specs.NamesAscending.{are_ascending}
 use Rattle.std.proofs.lemmas.Bool.{true≢false, cases_Bool, or_left, or_right}
 use Rattle.std.proofs.lemmas.List.{take_more, map-append}
-use Rattle.std.specs.Prelude.{is_some, Contains, String, string_bytes}
-use Rattle.std.specs.Cmp.{both_ways as same_tests}
+use Rattle.std.specs.Prelude.{is_some, Contains, String, string_bytes, bytes_eq}
 use Rattle.std.specs.Cmp.Lexicographic.{bytes_decides}
 use Rattle.std.specs.List.{AllByRecursion}
 use Rattle.std.specs.declared.alloc.Global.{Global}
 use Rattle.cs_tree.specs.PathSet as set
-use Rattle.cs_tree.specs.Cover.{same, covers, is_covered}
+use Rattle.cs_tree.specs.Cover.{is_covered}
 use Rattle.cs_tree.specs.Snapshot.{Snapshot, item_at}
-use Rattle.cs_tree.specs.Reached.{reaches, is_reached}
-use Rattle.cs_tree.specs.Walks.{Left, trouble_at, is_among, fault_among, left_paths, names_walked, faults_walked, Finds, FindsIn, CountsFaults}
-use Rattle.cs_tree.specs.Visits.{KeepsTo, covered_by, reaches_by, is_taken, is_left, AreRight, Gathers, GathersIn, KeepsCounts}
+use Rattle.cs_tree.specs.Reached.{is_reached}
+use Rattle.cs_tree.specs.Walks.{LeftPath, trouble_at, is_taken, is_among, fault_among, left_paths, names_walked, faults_walked, Finds, FindsIn, CountsFaults}
+use Rattle.cs_tree.specs.Visits.{KeepsTo, is_left, AreTroublesOf, Gathers, GathersIn, KeepsCounts}
 use Rattle.cs_tree.specs.declared.walking.Walked.{Walked}
 use Rattle.cs_tree.specs.declared.walking.WalkFault.{WalkFault}
 use Rattle.cs_tree.proofs.InOrder.{all_kept}
-use Rattle.cs_tree.proofs.ReduceLemmas.{contains-from_list}
-use Rattle.cs_tree.proofs.Sets.{some_item, item_passes, some_member, member_passes}
-
--- ---- the set of the paths
-
-pub reached_by : (tree : Snapshot) (ps : List (List ℕ)) (q : List ℕ) → reaches_by tree ps q ≡ is_reached tree (set.from_list ps) q
-reached_by tree ps q = same_tests _ _
-    (λ h. let some = some_item (λ p. reaches tree p q) ps h in member_passes (set.from_list ps) (λ p. reaches tree p q) some.0 (contains-from_list ps some.0 ∙ some.1) some.2)
-    (λ h. let some = some_member (set.from_list ps) (λ p. reaches tree p q) h in item_passes (λ p. reaches tree p q) some.path ps some.passes (sym (contains-from_list ps some.path) ∙ some.member))
 
 -- one more of the paths
 pub named_more : (paths : List (String Global)) (i : ℕ) (path : String Global) → i < length paths → path ≡ slice_index_or paths i path → map string_bytes (take (i + 1) paths) ≡ map string_bytes (take i paths) ++ string_bytes path ∷ []
@@ -35,10 +25,10 @@ named_more paths i path within is =
 
 -- ---- all in order
 
-fault_right : (tree : Snapshot) (faults : List Left) (q : List ℕ) → AreRight tree faults → fault_among faults q ≡ cond (is_among (left_paths faults) q) (trouble_at q (item_at tree q)) None
+fault_right : (tree : Snapshot) (faults : List LeftPath) (q : List ℕ) → AreTroublesOf tree faults → fault_among faults q ≡ cond (is_among (left_paths faults) q) (trouble_at q (item_at tree q)) None
 fault_right tree [] q h = refl
 fault_right tree (left ∷ faults) q h =
-    elim (cases_Bool (same left.0 q)) [
+    elim (cases_Bool (bytes_eq left.0 q)) [
       | inl here ↦
           ap (λ b. cond b (Some left.1) (fault_among faults q)) here
           ∙ sym h.0
@@ -51,62 +41,59 @@ fault_right tree (left ∷ faults) q h =
     ]
 
 -- what was gathered, and the same in order
-pub record InOrder (gathered : Walked) (names : List (List ℕ)) (faults : List Left) : Type 0 where
+pub record InOrder (gathered : Walked) (names : List (List ℕ)) (faults : List LeftPath) : Type 0 where
   pub names_ascend : are_ascending names ≡ true
   pub names_same : (q : List ℕ) → is_among names q ≡ is_among (names_walked gathered) q
   pub faults_ascend : are_ascending (left_paths faults) ≡ true
   pub faults_same : (q : List ℕ) → is_among (left_paths faults) q ≡ is_among (left_paths (faults_walked gathered)) q
-  pub kept : (left : Left) → Contains faults left → Contains (faults_walked gathered) left
+  pub kept : (left : LeftPath) → Contains faults left → Contains (faults_walked gathered) left
 
-finds : (tree : Snapshot) (ps : List (List ℕ)) (old gathered : Walked) (names : List (List ℕ)) (faults : List Left) → names_walked old ≡ [] → faults_walked old ≡ [] → Gathers tree (reaches_by tree ps) old gathered → InOrder gathered names faults → Finds tree (set.from_list ps) names faults
+finds : (tree : Snapshot) (ps : List (List ℕ)) (old gathered : Walked) (names : List (List ℕ)) (faults : List LeftPath) → names_walked old ≡ [] → faults_walked old ≡ [] → Gathers tree (is_reached tree (set.from_list ps)) old gathered → InOrder gathered names faults → Finds tree (set.from_list ps) names faults
 finds tree ps old gathered names faults no_names no_faults h order = record {
   names_ascend = order.names_ascend;
-  names_are = λ q. order.names_same q ∙ h.names q ∙ ap (λ xs. is_among xs q || (reaches_by tree ps q && is_taken tree q)) no_names ∙ ap (λ b. b && is_taken tree q) (reached_by tree ps q);
+  names_are = λ q. order.names_same q ∙ h.names q ∙ ap (λ xs. is_among xs q || (is_reached tree (set.from_list ps) q && is_taken tree q)) no_names;
   faults_ascend = order.faults_ascend;
   faults_are = λ q.
       fault_right tree faults q right
-      ∙ ap (λ b. cond b (trouble_at q (item_at tree q)) None) (order.faults_same q ∙ h.paths q ∙ ap (λ xs. is_among (left_paths xs) q || (reaches_by tree ps q && is_left tree q)) no_faults ∙ ap (λ b. b && is_left tree q) (reached_by tree ps q))
+      ∙ ap (λ b. cond b (trouble_at q (item_at tree q)) None) (order.faults_same q ∙ h.paths q ∙ ap (λ xs. is_among (left_paths xs) q || (is_reached tree (set.from_list ps) q && is_left tree q)) no_faults)
       ∙ left_at (is_reached tree (set.from_list ps) q) (trouble_at q (item_at tree q));
 }
   where
-    right : AreRight tree faults
-    right = all_kept _ (faults_walked gathered) faults order.kept (h.right (subst (AreRight tree) (sym no_faults) tt))
+    right : AreTroublesOf tree faults
+    right = all_kept _ (faults_walked gathered) faults order.kept (h.right (subst (AreTroublesOf tree) (sym no_faults) tt))
 
     left_at : (b : Bool) (o : Option WalkFault) → cond (b && is_some o) o None ≡ cond b o None
     left_at true (Some f) = refl
     left_at true None = refl
     left_at false o = refl
 
-pub finds_in : (told : Option Snapshot) (ps : List (List ℕ)) (old gathered : Walked) (names : List (List ℕ)) (faults : List Left) → names_walked old ≡ [] → faults_walked old ≡ [] → GathersIn told (λ tree. reaches_by tree ps) old gathered → InOrder gathered names faults → FindsIn told (set.from_list ps) names faults
+pub finds_in : (told : Option Snapshot) (ps : List (List ℕ)) (old gathered : Walked) (names : List (List ℕ)) (faults : List LeftPath) → names_walked old ≡ [] → faults_walked old ≡ [] → GathersIn told (λ tree. is_reached tree (set.from_list ps)) old gathered → InOrder gathered names faults → FindsIn told (set.from_list ps) names faults
 finds_in None ps old gathered names faults no_names no_faults h order = tt
 finds_in (Some tree) ps old gathered names faults no_names no_faults h order = λ good. finds tree ps old gathered names faults no_names no_faults (h good) order
 
-pub counts_in_order : (count later : ℕ) (old gathered : Walked) (names : List (List ℕ)) (faults : List Left) → faults_walked old ≡ [] → KeepsCounts count later old gathered → InOrder gathered names faults → CountsFaults faults count later
+pub counts_in_order : (count later : ℕ) (old gathered : Walked) (names : List (List ℕ)) (faults : List LeftPath) → faults_walked old ≡ [] → KeepsCounts count later old gathered → InOrder gathered names faults → CountsFaults faults count later
 counts_in_order count later old gathered names faults no_faults h order =
     all_kept _ (faults_walked gathered) faults order.kept (h count (omega arith) (subst (λ fs. CountsFaults fs count count) (sym no_faults) tt))
 
 -- ---- under the paths
 
-pub names_under : (ps : List (List ℕ)) (old gathered : Walked) (names : List (List ℕ)) → names_walked old ≡ [] → KeepsTo (covered_by ps) old gathered → ((q : List ℕ) → is_among names q ≡ is_among (names_walked gathered) q) → AllByRecursion (λ name. is_covered (set.from_list ps) name ≡ true) names
+pub names_under : (ps : List (List ℕ)) (old gathered : Walked) (names : List (List ℕ)) → names_walked old ≡ [] → KeepsTo (is_covered (set.from_list ps)) old gathered → ((q : List ℕ) → is_among names q ≡ is_among (names_walked gathered) q) → AllByRecursion (λ name. is_covered (set.from_list ps) name ≡ true) names
 names_under ps old gathered names no_names keeps alike = each names (λ name member. at name (names_walked gathered) all (sym (alike name) ∙ member))
   where
     test : List ℕ → Bool
     test name = is_covered (set.from_list ps) name
 
-    from_paths : (name : List ℕ) → covered_by ps name ≡ true → test name ≡ true
-    from_paths name h = let some = some_item (λ p. covers p name) ps h in member_passes (set.from_list ps) (λ p. covers p name) some.0 (contains-from_list ps some.0 ∙ some.1) some.2
-
     all : AllByRecursion (λ name. test name ≡ true) (names_walked gathered)
-    all = keeps test from_paths (subst (AllByRecursion (λ name. test name ≡ true)) (sym no_names) tt)
+    all = keeps test (λ name is. is) (subst (AllByRecursion (λ name. test name ≡ true)) (sym no_names) tt)
 
     at : (name : List ℕ) (xs : List (List ℕ)) → AllByRecursion (λ x. test x ≡ true) xs → is_among xs name ≡ true → test name ≡ true
     at name [] all h = absurd (true≢false (sym h))
     at name (x ∷ xs) all h =
-        elim (cases_Bool (same x name)) [
+        elim (cases_Bool (bytes_eq x name)) [
           | inl here ↦ subst (λ m. test m ≡ true) ((bytes_decides x name).0 here) all.0
           | inr apart ↦ at name xs all.1 (sym (ap (λ b. b || is_among xs name) apart) ∙ h)
         ]
 
     each : (ns : List (List ℕ)) → ((name : List ℕ) → is_among ns name ≡ true → test name ≡ true) → AllByRecursion (λ name. test name ≡ true) ns
     each [] g = tt
-    each (n ∷ ns) g = (g n (or_left (same n n) _ ((bytes_decides n n).1 refl)), each ns (λ m member. g m (or_right (same n m) _ member)))
+    each (n ∷ ns) g = (g n (or_left (bytes_eq n n) _ ((bytes_decides n n).1 refl)), each ns (λ m member. g m (or_right (bytes_eq n m) _ member)))

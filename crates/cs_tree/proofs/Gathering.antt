@@ -4,15 +4,15 @@ use Rattle.cs_tree.specs.Folders.{child, last_element}
 use Rattle.std.proofs.lemmas.Bool.{true≢false}
 use Rattle.std.proofs.lemmas.List.{map-append}
 use Rattle.std.proofs.lemmas.List.Folds.{list_any-append}
-use Rattle.std.specs.Prelude.{string_bytes, is_some, filter}
+use Rattle.std.specs.Prelude.{string_bytes, is_some, filter, bytes_eq}
 use Rattle.std.specs.Cmp.Lexicographic.{bytes_decides}
 use Rattle.std.specs.List.{list_any, AllByRecursion}
-use Rattle.cs_tree.specs.Cover.{same, covers}
+use Rattle.cs_tree.specs.Cover.{covers}
 use Rattle.cs_tree.specs.Clean.{longest_path}
 use Rattle.cs_tree.specs.Snapshot.{Snapshot, item_at}
 use Rattle.cs_tree.specs.Reached.{is_left_out, reaches, leads, elements_under}
-use Rattle.cs_tree.specs.Walks.{Left, trouble_at, is_among, left_paths, names_walked, faults_walked, CountsFault, CountsFaults}
-use Rattle.cs_tree.specs.Visits.{comes, is_taken, is_left, Gains, AreRight, Gathers, GathersIn, KeepsCounts, is_file_seen, fault_seen, names_seen, Shows, ShowsIn, IsEntered, CountsSight, children, is_walked, named_if, left_if}
+use Rattle.cs_tree.specs.Walks.{LeftPath, trouble_at, is_taken, is_among, left_paths, names_walked, faults_walked, CountsFault, CountsFaults}
+use Rattle.cs_tree.specs.Visits.{comes, is_left, Gains, AreTroublesOf, Gathers, GathersIn, KeepsCounts, is_file_seen, fault_seen, names_seen, IsSightOf, IsSightIn, IsEntered, CountsSight, children, is_walked, named_if, left_if}
 use Rattle.cs_tree.specs.declared.walking.Walked.{Walked}
 use Rattle.cs_tree.specs.declared.walking.WalkFault.{WalkFault}
 use Rattle.cs_tree.specs.declared.walking.WalkFault.TheVariants as fault
@@ -23,7 +23,7 @@ use Rattle.cs_tree.proofs.Coming.{comes_by, comes_unfolds, child_longer}
 -- ---- names
 
 among-append : (xs ys : List (List ℕ)) (name : List ℕ) → is_among (xs ++ ys) name ≡ (is_among xs name || is_among ys name)
-among-append xs ys name = list_any-append (λ one. same one name) xs ys
+among-append xs ys name = list_any-append (λ one. bytes_eq one name) xs ys
 
 gains_chain : (old mid new : List (List ℕ)) (a b keep : List ℕ → Bool) → Gains old mid (λ q. a q && keep q) → Gains mid new (λ q. b q && keep q) → Gains old new (λ q. (a q || b q) && keep q)
 gains_chain old mid new a b keep first second = λ q. second q ∙ ap (λ x. x || (b q && keep q)) (first q) ∙ both (is_among old q) (a q) (b q) (keep q)
@@ -47,7 +47,7 @@ gains_same : (old new : List (List ℕ)) (a b keep : List ℕ → Bool) → ((q 
 gains_same old new a b keep is h = λ q. h q ∙ ap (λ x. is_among old q || (x && keep q)) (is q)
 
 -- one more path, where it is kept
-gains_one : (old new : List (List ℕ)) (b : Bool) (path : List ℕ) (keep : List ℕ → Bool) → b ≡ keep path → new ≡ old ++ named_if b path → Gains old new (λ q. same path q && keep q)
+gains_one : (old new : List (List ℕ)) (b : Bool) (path : List ℕ) (keep : List ℕ → Bool) → b ≡ keep path → new ≡ old ++ named_if b path → Gains old new (λ q. bytes_eq path q && keep q)
 gains_one old new b path keep kept e = λ q.
     ap (λ xs. is_among xs q) e ∙ among-append old (named_if b path) q ∙ ap (λ x. is_among old q || x) (by_kept b kept q)
   where
@@ -55,14 +55,14 @@ gains_one old new b path keep kept e = λ q.
     right_false true = refl
     right_false false = refl
 
-    by_tied : (x : Bool) (q : List ℕ) → same path q ≡ x → (b' : Bool) → b' ≡ keep path → is_among (named_if b' path) q ≡ (x && keep q)
+    by_tied : (x : Bool) (q : List ℕ) → bytes_eq path q ≡ x → (b' : Bool) → b' ≡ keep path → is_among (named_if b' path) q ≡ (x && keep q)
     by_tied true q tied true kept = ap (λ x. x || false) tied ∙ kept ∙ ap keep ((bytes_decides path q).0 tied)
     by_tied true q tied false kept = kept ∙ ap keep ((bytes_decides path q).0 tied)
     by_tied false q tied true kept = ap (λ x. x || false) tied
     by_tied false q tied false kept = refl
 
-    by_kept : (b' : Bool) → b' ≡ keep path → (q : List ℕ) → is_among (named_if b' path) q ≡ (same path q && keep q)
-    by_kept b' kept q = by_tied (same path q) q refl b' kept
+    by_kept : (b' : Bool) → b' ≡ keep path → (q : List ℕ) → is_among (named_if b' path) q ≡ (bytes_eq path q && keep q)
+    by_kept b' kept q = by_tied (bytes_eq path q) q refl b' kept
 
 -- ---- what is gathered
 
@@ -87,23 +87,23 @@ gathers_none tree walked = record {
   right = λ h. h;
 }
 
-paths_left : (faults : List Left) (o : Option WalkFault) (path : List ℕ) → left_paths (faults ++ left_if o path) ≡ left_paths faults ++ named_if (is_some o) path
-paths_left faults None path = map-append (λ (left : Left). left.0) faults []
-paths_left faults (Some fault) path = map-append (λ (left : Left). left.0) faults ((path, fault) ∷ [])
+paths_left : (faults : List LeftPath) (o : Option WalkFault) (path : List ℕ) → left_paths (faults ++ left_if o path) ≡ left_paths faults ++ named_if (is_some o) path
+paths_left faults None path = map-append (λ (left : LeftPath). left.0) faults []
+paths_left faults (Some fault) path = map-append (λ (left : LeftPath). left.0) faults ((path, fault) ∷ [])
 
 pub all-append : {X : Type 0} (P : X → Type 0) (xs ys : List X) → AllByRecursion P xs → AllByRecursion P ys → AllByRecursion P (xs ++ ys)
 all-append P [] ys h k = k
 all-append P (x ∷ xs) ys h k = (h.0, all-append P xs ys h.1 k)
 
-right_left : (tree : Snapshot) (o : Option WalkFault) (path : List ℕ) → o ≡ trouble_at path (item_at tree path) → AreRight tree (left_if o path)
+right_left : (tree : Snapshot) (o : Option WalkFault) (path : List ℕ) → o ≡ trouble_at path (item_at tree path) → AreTroublesOf tree (left_if o path)
 right_left tree None path e = tt
 right_left tree (Some fault) path e = (sym e, tt)
 
-pub gathers_one : (tree : Snapshot) (path : List ℕ) (seen : Sight) (old new : Walked) → Shows tree path seen → names_walked new ≡ names_walked old ++ named_if (is_file_seen seen) path → faults_walked new ≡ faults_walked old ++ left_if (fault_seen seen) path → Gathers tree (λ q. same path q) old new
+pub gathers_one : (tree : Snapshot) (path : List ℕ) (seen : Sight) (old new : Walked) → IsSightOf tree path seen → names_walked new ≡ names_walked old ++ named_if (is_file_seen seen) path → faults_walked new ≡ faults_walked old ++ left_if (fault_seen seen) path → Gathers tree (λ q. bytes_eq path q) old new
 gathers_one tree path seen old new shows names faults = record {
   names = gains_one (names_walked old) (names_walked new) (is_file_seen seen) path (is_taken tree) shows.file names;
   paths = gains_one (left_paths (faults_walked old)) (left_paths (faults_walked new)) (is_some (fault_seen seen)) path (is_left tree) (ap is_some shows.fault) (ap left_paths faults ∙ paths_left (faults_walked old) (fault_seen seen) path);
-  right = λ h. subst (AreRight tree) (sym faults) (all-append _ (faults_walked old) (left_if (fault_seen seen) path) h (right_left tree (fault_seen seen) path shows.fault));
+  right = λ h. subst (AreTroublesOf tree) (sym faults) (all-append _ (faults_walked old) (left_if (fault_seen seen) path) h (right_left tree (fault_seen seen) path shows.fault));
 }
 
 -- ---- a named path
@@ -128,7 +128,7 @@ abbrev pub none : Coming
 none tree q = false
 
 abbrev pub only : List ℕ → Coming
-only path tree q = same path q
+only path tree q = bytes_eq path q
 
 pub chain_in : (told later : Option Snapshot) (a b : Coming) (old mid new : Walked) → later ≡ told → GathersIn told a old mid → GathersIn later b mid new → GathersIn told (either a b) old new
 chain_in told later a b old mid new e first second = by_told told first (subst (λ o. GathersIn o b mid new) e second)
@@ -146,14 +146,14 @@ none_in None walked = tt
 none_in (Some tree) walked = λ good. gathers_none tree walked
 
 -- the path, and the paths that it leads to
-pub path_in : (told later : Option Snapshot) (path : List ℕ) (seen : Sight) (deeper : List (List ℕ)) (old mid new : Walked) → later ≡ told → ShowsIn told path seen → names_walked mid ≡ names_walked old ++ named_if (is_file_seen seen) path → faults_walked mid ≡ faults_walked old ++ left_if (fault_seen seen) path → deeper ≡ children path (names_seen seen) → GathersIn later (λ tree. comes_by tree deeper) mid new → GathersIn told (λ tree. comes tree path) old new
+pub path_in : (told later : Option Snapshot) (path : List ℕ) (seen : Sight) (deeper : List (List ℕ)) (old mid new : Walked) → later ≡ told → IsSightIn told path seen → names_walked mid ≡ names_walked old ++ named_if (is_file_seen seen) path → faults_walked mid ≡ faults_walked old ++ left_if (fault_seen seen) path → deeper ≡ children path (names_seen seen) → GathersIn later (λ tree. comes_by tree deeper) mid new → GathersIn told (λ tree. comes tree path) old new
 path_in told later path seen deeper old mid new e shows names faults onwards h = by_told told shows (subst (λ o. GathersIn o (λ tree. comes_by tree deeper) mid new) e h)
   where
-    by_told : (o : Option Snapshot) → ShowsIn o path seen → GathersIn o (λ tree. comes_by tree deeper) mid new → GathersIn o (λ tree. comes tree path) old new
+    by_told : (o : Option Snapshot) → IsSightIn o path seen → GathersIn o (λ tree. comes_by tree deeper) mid new → GathersIn o (λ tree. comes tree path) old new
     by_told None shows later = tt
     by_told (Some tree) shows later = λ good.
         gathers_same tree
-        (λ q. ap (λ paths. same path q || comes_by tree paths q) (onwards ∙ ap (children path) shows.names) ∙ sym (comes_unfolds tree path q good))
+        (λ q. ap (λ paths. bytes_eq path q || comes_by tree paths q) (onwards ∙ ap (children path) shows.names) ∙ sym (comes_unfolds tree path q good))
         (gathers_chain tree (gathers_one tree path seen old mid shows names faults) (later good))
 
 -- from one more path
@@ -194,7 +194,7 @@ counts_sooner (fault.Tree f) start count later up (inr l) = inr l
 counts_sooner fault.Unnamed start count later up h = tt
 counts_sooner fault.TooLong start count later up h = tt
 
-all_later : (faults : List Left) (start count later : ℕ) → count ≤ later → CountsFaults faults start count → CountsFaults faults start later
+all_later : (faults : List LeftPath) (start count later : ℕ) → count ≤ later → CountsFaults faults start count → CountsFaults faults start later
 all_later [] start count later up h = tt
 all_later (left ∷ faults) start count later up h = (counts_later left.1 start count later up h.0, all_later faults start count later up h.1)
 

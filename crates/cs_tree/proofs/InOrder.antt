@@ -5,21 +5,20 @@ use Rattle.cs_tree.specs.NamesAscending.{are_ascending}
 use Rattle.std.proofs.lemmas.Bool.{cases_Bool, and_from}
 use Rattle.std.proofs.lemmas.List.Kept.{IsStrictlySortedBy-dedup, Contains-from_dedup}
 use Rattle.std.proofs.lemmas.List.Sorted.{IsPermutation-map, IsPermutation-sym, Contains-permutation}
-use Rattle.std.specs.Prelude.{Contains, IsSorted, IsPermutation}
+use Rattle.std.specs.Prelude.{Contains, IsSorted, IsPermutation, bytes_eq}
 use Rattle.std.specs.Cmp.{on_total}
 use Rattle.std.specs.Cmp.Lexicographic.{bytes_decides, nat_list_cmp_total, texts_ties}
 use Rattle.std.specs.List.{list_any, AllByRecursion, dedup, dedup_from}
 use Rattle.std.specs.List.Sorted.{IsStrictlySortedBy}
 use Rattle.std.specs.Ordering.{is_lt}
 use Rattle.std.specs.declared.cmp.Ordering.{Ordering}
-use Rattle.cs_tree.specs.Cover.{same}
 
 module _ {X : Type 0} (key : X → List ℕ) where
   abbrev pub by_key : X → X → Ordering
   by_key x y = bytes_cmp (key x) (key y)
 
   abbrev pub same_key : X → X → Bool
-  same_key x y = same (key x) (key y)
+  same_key x y = bytes_eq (key x) (key y)
 
   pub keys_ascend : (xs : List X) → IsStrictlySortedBy by_key xs → are_ascending (map key xs) ≡ true
   unfolding IsStrictlySortedBy

@@ -1,4 +1,5 @@
 -- Names in order are distinct, so that a folder may list them.
+use Rattle.std.specs.Prelude.{bytes_eq}
 use Rattle.std.proofs.Common.{◌≡◌, ℕ, Bool, true, false, not, ◌||◌, List, [], ◌∷◌, ◌++◌, refl, sym, ap, subst, ◌∙◌, inl, inr}
 use Rattle.cs_tree.specs.NameOrder.{bytes_cmp}
 use Rattle.cs_tree.specs.NamesAscending.{are_ascending}
@@ -8,11 +9,11 @@ use Rattle.std.specs.List.{list_all}
 use Rattle.std.specs.Ordering.{is_lt}
 use Rattle.std.specs.Cmp.{tied_itself}
 use Rattle.std.proofs.lemmas.List.Folds.{list_all-append}
-use Rattle.cs_tree.specs.Cover.{same, is_among}
+use Rattle.cs_tree.specs.Cover.{is_among}
 use Rattle.cs_tree.specs.Folders.{is_element, are_distinct, are_elements}
 use Rattle.cs_tree.proofs.BeforeLemmas.{before_chain}
 
-apart : (a b : List ℕ) → is_lt (bytes_cmp a b) ≡ true → same b a ≡ false
+apart : (a b : List ℕ) → is_lt (bytes_cmp a b) ≡ true → bytes_eq b a ≡ false
 apart a b h = false_from_ne_true _ (λ tied.
     true≢false (sym (subst (λ x. is_lt (bytes_cmp a x) ≡ true) ((bytes_decides b a).0 tied) h) ∙ ap is_lt (tied_itself nat_list_cmp_total a)))
 
@@ -35,7 +36,7 @@ passes_one : (test : List ℕ → Bool) (names : List (List ℕ)) (name : List �
 passes_one test [] name all h = absurd (true≢false (sym h))
 passes_one test (x ∷ names) name all h =
     let parts = and_parts (test x) (list_all test names) all in
-    elim (or_cases (same x name) _ h) [
+    elim (or_cases (bytes_eq x name) _ h) [
       | inl here ↦ subst (λ n. test n ≡ true) ((bytes_decides x name).0 here) parts.0
       | inr there ↦ passes_one test names name parts.1 there
     ]
@@ -43,8 +44,8 @@ passes_one test (x ∷ names) name all h =
 passes_all : (test : List ℕ → Bool) (names : List (List ℕ)) → ((name : List ℕ) → is_among names name ≡ true → test name ≡ true) → list_all test names ≡ true
 passes_all test [] each = refl
 passes_all test (x ∷ names) each =
-    and_from (test x) _ (each x (or_left (same x x) _ ((bytes_decides x x).1 refl)))
-    (passes_all test names (λ name there. each name (or_right (same x name) _ there)))
+    and_from (test x) _ (each x (or_left (bytes_eq x x) _ ((bytes_decides x x).1 refl)))
+    (passes_all test names (λ name there. each name (or_right (bytes_eq x name) _ there)))
 
 -- the same names in order
 pub names_in_order : (old new : List (List ℕ)) → list_all is_element old ≡ true → are_ascending new ≡ true → ((name : List ℕ) → is_among new name ≡ is_among old name) → are_elements new ≡ true

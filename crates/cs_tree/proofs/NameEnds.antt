@@ -2,25 +2,35 @@
 use lib.Utf8.{encode}
 use Rattle.cs_tree.specs.Folders.{last_element}
 use Rattle.std.proofs.Common.{◌≡◌, ◌≢◌, ℕ, suc, ◌-◌, ◌<◌, false, not, List, [], ◌∷◌, length, drop, get_or, refl, sym, ap, ◌∙◌, eqb, Option, Some, None, Bor, arith}
-use Rattle.std.proofs.lemmas.Bool.{ne_eqb}
+use Rattle.std.proofs.lemmas.Bool.{ne_eqb, eq-eqb, eqb-true}
+use Rattle.std.proofs.Math.Bool.{and-true}
 use Rattle.std.proofs.lemmas.List.Sums.{suffix_len_is}
 use Rattle.std.proofs.lemmas.Str.Pattern.{NoCharPasses-char}
-use Rattle.std.specs.List.{suffix_len, slice_get}
+use Rattle.std.specs.List.{suffix_len, slice_get, ends_with}
+use Rattle.std.specs.Prelude.{codes, bytes_eq}
+use Rattle.std.specs.Cmp.{both_ways as same_tests}
+use Rattle.std.specs.Path.{slash}
 use Rattle.std.specs.Option.{MatchOption}
 use Rattle.std.specs.Str.Pattern.{RFindsChar, SplitsAroundMatch}
-use Rattle.cs_tree.specs.Cover.{slash}
-use Rattle.cs_tree.specs.Reached.{ends_in_tilde}
 use Rattle.cs_tree.proofs.Splitting.{rsplit_says, last_element-last}
 
-pub tilde_last : (name : List ℕ) (b : ℕ) → slice_get name (length name - 1) ≡ Some b → ends_in_tilde name ≡ eqb b 126
-tilde_last [] b h = cc h
-tilde_last (a ∷ []) b h = let e : a ≡ b = cc h in ap (λ x. eqb x 126) e
-tilde_last (a ∷ c ∷ rest) b h = tilde_last (c ∷ rest) b (sym (ap (slice_get (a ∷ c ∷ rest)) {x = length (a ∷ c ∷ rest) - 1} {y = suc (length (c ∷ rest) - 1)} (omega arith)) ∙ h)
+-- the text from its last byte on
+last_from : (name : List ℕ) (b : ℕ) → slice_get name (length name - 1) ≡ Some b → drop (length name - 1) name ≡ b ∷ []
+last_from [] b h = cc h
+last_from (a ∷ []) b h = let e : a ≡ b = cc h in ap (λ x. x ∷ []) e
+last_from (a ∷ c ∷ rest) b h =
+    let one_more : length (a ∷ c ∷ rest) - 1 ≡ suc (length (c ∷ rest) - 1) = omega arith in
+    ap (λ n. drop n (a ∷ c ∷ rest)) one_more ∙ last_from (c ∷ rest) b (sym (ap (slice_get (a ∷ c ∷ rest)) one_more) ∙ h)
 
-pub tilde_none : (name : List ℕ) → slice_get name (length name - 1) ≡ None → ends_in_tilde name ≡ false
+pub tilde_last : (name : List ℕ) (b : ℕ) → slice_get name (length name - 1) ≡ Some b → ends_with eqb name (codes "~") ≡ eqb b 126
+tilde_last name b h = ap (bytes_eq (codes "~")) (last_from name b h) ∙ and-true (eqb 126 b) ∙ same_tests _ _ (λ e. eq-eqb b 126 (sym (eqb-true 126 b e))) (λ e. eq-eqb 126 b (sym (eqb-true b 126 e)))
+
+pub tilde_none : (name : List ℕ) → slice_get name (length name - 1) ≡ None → ends_with eqb name (codes "~") ≡ false
 tilde_none [] h = refl
 tilde_none (a ∷ []) h = cc h
-tilde_none (a ∷ c ∷ rest) h = tilde_none (c ∷ rest) (sym (ap (slice_get (a ∷ c ∷ rest)) {x = length (a ∷ c ∷ rest) - 1} {y = suc (length (c ∷ rest) - 1)} (omega arith)) ∙ h)
+tilde_none (a ∷ c ∷ rest) h =
+    let one_more : length (a ∷ c ∷ rest) - 1 ≡ suc (length (c ∷ rest) - 1) = omega arith in
+    ap (λ n. bytes_eq (codes "~") (drop n (a ∷ c ∷ rest))) one_more ∙ tilde_none (c ∷ rest) (sym (ap (slice_get (a ∷ c ∷ rest)) one_more) ∙ h)
 
 -- a path without a slash is its name
 name_plain : (path : List ℕ) → ((i : ℕ) → i < length path → get_or path i 0 ≢ slash) → last_element path ≡ path

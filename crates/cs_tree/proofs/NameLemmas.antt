@@ -5,11 +5,12 @@ use Rattle.cs_tree.specs.Folders.{stem_of, child, is_element, are_distinct, are_
 use Rattle.std.proofs.lemmas.Bool.{cases_Bool, true≢false, and_parts, and_from, or_parts, or_right, not-true}
 use Rattle.std.proofs.lemmas.List.{map-append}
 use Rattle.std.proofs.lemmas.List.Folds.{list_all-append, list_any-append}
-use Rattle.std.specs.Prelude.{filter}
+use Rattle.std.specs.Prelude.{filter, bytes_eq}
+use Rattle.std.specs.Path.{slash}
 use Rattle.std.specs.Cmp.{both_ways as same_tests}
 use Rattle.std.specs.Cmp.Lexicographic.{bytes_decides}
 use Rattle.std.specs.List.{list_any, list_all}
-use Rattle.cs_tree.specs.Cover.{slash, same, begins, covers}
+use Rattle.cs_tree.specs.Cover.{begins, covers}
 use Rattle.cs_tree.proofs.Covering.{covers_says, covers_from, covers_chain, begins_rest}
 use Rattle.cs_tree.proofs.Splitting.{NoSlash, stem-other}
 
@@ -55,29 +56,29 @@ module _ {X : Type 0} where
 
 -- ---- names in a folder
 
-same-sym : (p q : List ℕ) → same p q ≡ same q p
+same-sym : (p q : List ℕ) → bytes_eq p q ≡ bytes_eq q p
 same-sym p q = same_tests _ _ (λ h. (bytes_decides q p).1 (sym ((bytes_decides p q).0 h))) (λ h. (bytes_decides p q).1 (sym ((bytes_decides q p).0 h)))
 
-distinct-push : (names : List (List ℕ)) (name : List ℕ) → are_distinct names ≡ true → list_any (λ listed. same listed name) names ≡ false → are_distinct (names ++ name ∷ []) ≡ true
+distinct-push : (names : List (List ℕ)) (name : List ℕ) → are_distinct names ≡ true → list_any (λ listed. bytes_eq listed name) names ≡ false → are_distinct (names ++ name ∷ []) ≡ true
 distinct-push [] name h new = refl
 distinct-push (x ∷ names) name h new =
-    let parts = and_parts (not (list_any (λ o. same o x) names)) (are_distinct names) h in
-    let apart = or_parts (same x name) (list_any (λ listed. same listed name) names) new in
+    let parts = and_parts (not (list_any (λ o. bytes_eq o x) names)) (are_distinct names) h in
+    let apart = or_parts (bytes_eq x name) (list_any (λ listed. bytes_eq listed name) names) new in
     and_from _ _
-    (ap not (list_any-append (λ o. same o x) names (name ∷ []) ∙ ap (λ b. b || (same name x || false)) (not-true _ parts.0) ∙ ap (λ b. b || false) (same-sym name x ∙ apart.0)))
+    (ap not (list_any-append (λ o. bytes_eq o x) names (name ∷ []) ∙ ap (λ b. b || (bytes_eq name x || false)) (not-true _ parts.0) ∙ ap (λ b. b || false) (same-sym name x ∙ apart.0)))
     (distinct-push names name parts.1 apart.1)
 
 distinct-filter : (p : List ℕ → Bool) (names : List (List ℕ)) → are_distinct names ≡ true → are_distinct (filter p names) ≡ true
 distinct-filter p [] h = refl
 distinct-filter p (x ∷ names) h =
-    let parts = and_parts (not (list_any (λ o. same o x) names)) (are_distinct names) h in
+    let parts = and_parts (not (list_any (λ o. bytes_eq o x) names)) (are_distinct names) h in
     let rest = distinct-filter p names parts.1 in
     elim (p x) as (λ b. are_distinct (cond b (x ∷ filter p names) (filter p names)) ≡ true) [
-      | true ↦ and_from _ _ (ap not (list_any-filter p (λ o. same o x) names (not-true _ parts.0))) rest
+      | true ↦ and_from _ _ (ap not (list_any-filter p (λ o. bytes_eq o x) names (not-true _ parts.0))) rest
       | false ↦ rest
     ]
 
-pub are_elements-push : (names : List (List ℕ)) (name : List ℕ) → are_elements names ≡ true → is_element name ≡ true → list_any (λ listed. same listed name) names ≡ false → are_elements (names ++ name ∷ []) ≡ true
+pub are_elements-push : (names : List (List ℕ)) (name : List ℕ) → are_elements names ≡ true → is_element name ≡ true → list_any (λ listed. bytes_eq listed name) names ≡ false → are_elements (names ++ name ∷ []) ≡ true
 are_elements-push names name h good new =
     let parts = and_parts (list_all is_element names) (are_distinct names) h in
     and_from _ _ (list_all-append is_element names (name ∷ []) ∙ ap (λ b. b && (is_element name && true)) parts.0 ∙ ap (λ b. b && true) good) (distinct-push names name parts.1 new)
@@ -107,7 +108,7 @@ slash_split (a ∷ p) (b ∷ q) n rest h e =
 -- a path that covers what stands before a slash in a child's path covers the folder
 stem_covered : (path folder : List ℕ) → (path ≡ stem_of folder) ⊎ ((r : List ℕ) × (stem_of folder ≡ path ++ slash ∷ r)) → covers path folder ≡ true
 stem_covered path folder h =
-    elim (cases_Bool (same folder (slash ∷ []))) [
+    elim (cases_Bool (bytes_eq folder (slash ∷ []))) [
       | inl is_root ↦ at_root ((bytes_decides folder (slash ∷ [])).0 is_root) h
       | inr other ↦ elsewhere (stem-other folder other) h
     ]
@@ -121,26 +122,26 @@ stem_covered path folder h =
     elsewhere e (inr found) = covers_from path folder (below found.0 (sym e ∙ found.1))
 
 pub name_parts : (name : List ℕ) → is_element name ≡ true → NoSlash name
-name_parts name h = not-true _ (and_parts (not (list_any (λ b. eqb b slash) name)) _ (and_parts (not (same name [])) _ h).1).0
+name_parts name h = not-true _ (and_parts (not (list_any (λ b. eqb b slash) name)) _ (and_parts (not (bytes_eq name [])) _ h).1).0
 
 -- a path that does not cover a folder covers of its children only itself
-pub covers_child : (path folder name : List ℕ) → begins (slash ∷ []) folder ≡ true → covers path folder ≡ false → is_element name ≡ true → covers path (child folder name) ≡ same (child folder name) path
+pub covers_child : (path folder name : List ℕ) → begins (slash ∷ []) folder ≡ true → covers path folder ≡ false → is_element name ≡ true → covers path (child folder name) ≡ bytes_eq (child folder name) path
 covers_child path folder name rooted apart good = same_tests _ _ (λ h. says (covers_says path (child folder name) h)) (λ h. covers_from path (child folder name) (itself (sym ((bytes_decides (child folder name) path).0 h))))
   where
-    says : Covers path (child folder name) → same (child folder name) path ≡ true
+    says : Covers path (child folder name) → bytes_eq (child folder name) path ≡ true
     says (itself e) = (bytes_decides (child folder name) path).1 (sym e)
     says (below rest e) = absurd (true≢false (sym (stem_covered path folder (slash_split path (stem_of folder) name rest (name_parts name good) e)) ∙ apart))
     says (root rest e f) = let front = begins_rest (slash ∷ []) folder rooted in absurd (true≢false (sym (covers_from path folder (root front.0 e front.1)) ∙ apart))
 
 pub folder_covers_child : (folder name : List ℕ) → covers folder (child folder name) ≡ true
 folder_covers_child folder name =
-    elim (cases_Bool (same folder (slash ∷ []))) [
+    elim (cases_Bool (bytes_eq folder (slash ∷ []))) [
       | inl is_root ↦ let e = (bytes_decides folder (slash ∷ [])).0 is_root in covers_from folder (child folder name) (root name e (ap (λ x. child x name) e))
       | inr other ↦ covers_from folder (child folder name) (below name (ap (λ stem. stem ++ slash ∷ name) (stem-other folder other)))
     ]
 
 -- what is left of a folder's names where a path is taken away
-pub names_beside : (path folder : List ℕ) (names : List (List ℕ)) → begins (slash ∷ []) folder ≡ true → covers path folder ≡ false → are_elements names ≡ true → filter (λ name. not (same (child folder name) path)) names ≡ filter (λ name. not (covers path (child folder name))) names
+pub names_beside : (path folder : List ℕ) (names : List (List ℕ)) → begins (slash ∷ []) folder ≡ true → covers path folder ≡ false → are_elements names ≡ true → filter (λ name. not (bytes_eq (child folder name) path)) names ≡ filter (λ name. not (covers path (child folder name))) names
 names_beside path folder names rooted apart good =
     sym (same_filters _ _ is_element (λ name h. ap not (covers_child path folder name rooted apart h)) names (and_parts (list_all is_element names) _ good).0)
 
@@ -150,13 +151,13 @@ names_below path folder names h = filter_none _ (λ name. ap not (covers_chain p
 -- ---- one more name
 
 module _ {X : Type 0} (view : X → List ℕ) where
-  pub pushed_names : (ok : Bool) (items later : List X) (x : X) (name : List ℕ) → later ≡ cond ok (items ++ x ∷ []) items → view x ≡ name → are_elements (map view items) ≡ true → is_element name ≡ true → list_any (λ y. same (view y) name) items ≡ false → are_elements (map view later) ≡ true
+  pub pushed_names : (ok : Bool) (items later : List X) (x : X) (name : List ℕ) → later ≡ cond ok (items ++ x ∷ []) items → view x ≡ name → are_elements (map view items) ≡ true → is_element name ≡ true → list_any (λ y. bytes_eq (view y) name) items ≡ false → are_elements (map view later) ≡ true
   pushed_names true items later x name e is h good new =
       ap (λ ys. are_elements (map view ys)) e ∙ ap are_elements (map-append view items (x ∷ []) ∙ ap (λ n. map view items ++ n ∷ []) is)
-      ∙ are_elements-push (map view items) name h good (list_any-map view (λ listed. same listed name) items ∙ new)
+      ∙ are_elements-push (map view items) name h good (list_any-map view (λ listed. bytes_eq listed name) items ∙ new)
   pushed_names false items later x name e is h good new = ap (λ ys. are_elements (map view ys)) e ∙ h
 
-  pub added_names : (items later : List X) (x : X) (name : List ℕ) → later ≡ items ++ x ∷ [] → view x ≡ name → list_any (λ y. same (view y) name) items ≡ false → map view later ≡ cond (list_any (λ listed. same listed name) (map view items)) (map view items) (map view items ++ name ∷ [])
+  pub added_names : (items later : List X) (x : X) (name : List ℕ) → later ≡ items ++ x ∷ [] → view x ≡ name → list_any (λ y. bytes_eq (view y) name) items ≡ false → map view later ≡ cond (list_any (λ listed. bytes_eq listed name) (map view items)) (map view items) (map view items ++ name ∷ [])
   added_names items later x name e is new =
       ap (map view) e ∙ map-append view items (x ∷ []) ∙ ap (λ n. map view items ++ n ∷ []) is
-      ∙ ap (λ b. cond b (map view items) (map view items ++ name ∷ [])) (sym (list_any-map view (λ listed. same listed name) items ∙ new))
+      ∙ ap (λ b. cond b (map view items) (map view items ++ name ∷ [])) (sym (list_any-map view (λ listed. bytes_eq listed name) items ∙ new))

@@ -2,6 +2,7 @@
 use denote.Ref.{Bor}
 use Rattle.cs_tree.specs.PathSet.{Paths}
 use Rattle.cs_tree.specs.NameOrder.{bytes_cmp}
+use Rattle.cs_tree.specs.NamesAscending.{are_ascending}
 use Rattle.std.proofs.Common.{◌≡◌, ℕ, Bool, true, false, cond, ◌&&◌, ◌||◌, List, [], ◌∷◌, map, nat_eq, Some, refl, sym, ap, subst, ◌∙◌}
 use Rattle.std.specs.Prelude.{T, is_some, filter}
 use Rattle.std.specs.List.{list_any, dedup, AllByRecursion}
@@ -22,30 +23,51 @@ use Rattle.cs_tree.specs.PathParts.{texts}
 use Rattle.cs_tree.specs.PathSet as set
 use Rattle.cs_tree.proofs.BeforeLemmas.{less_from}
 use Rattle.cs_tree.proofs.NameLemmas.{list_any-map}
-use Rattle.cs_tree.proofs.Sets.{tied_is, same_set, items_in_order, contains_retained}
+use Rattle.cs_tree.proofs.Sets.{tied_is, same_set, items_in_order, contains_retained, some_item, item_passes, some_member, member_passes}
 
 -- ---- sets of paths as lists
 
-pub found-marked : (q : List ℕ) (paths : List (List ℕ)) → is_some (find bytes_cmp q (set.with_units paths)) ≡ list_any (eq_by_cmp bytes_cmp q) paths
+pub found-marked : (q : List ℕ) (paths : List (List ℕ)) → is_some (find bytes_cmp q (set.unit_entries paths)) ≡ list_any (eq_by_cmp bytes_cmp q) paths
 found-marked q [] = refl
 found-marked q (path ∷ paths) =
-    elim (eq_by_cmp bytes_cmp q path) as (λ b. is_some (cond b (Some tt) (find bytes_cmp q (set.with_units paths))) ≡ (b || list_any (eq_by_cmp bytes_cmp q) paths)) [ true ↦ refl | false ↦ found-marked q paths ]
+    elim (eq_by_cmp bytes_cmp q path) as (λ b. is_some (cond b (Some tt) (find bytes_cmp q (set.unit_entries paths))) ≡ (b || list_any (eq_by_cmp bytes_cmp q) paths)) [ true ↦ refl | false ↦ found-marked q paths ]
 
 pub contains-from_list : (paths : List (List ℕ)) (q : List ℕ) → set.contains (set.from_list paths) q ≡ list_any (eq_by_cmp bytes_cmp q) paths
-contains-from_list paths q = ap is_some (map'.get-from_entries nat_list_cmp_total (set.with_units paths) q) ∙ found-marked q paths
+contains-from_list paths q = ap is_some (map'.get-from_entries nat_list_cmp_total (set.unit_entries paths) q) ∙ found-marked q paths
 
-below-marked : (x : List ℕ) (ys : List (List ℕ)) → AllByRecursion (λ y. bytes_cmp x y ≡ Less) ys → below_all bytes_cmp x (set.with_units ys) ≡ true
+-- whether one of the paths passes, by the list and by the set
+pub any-from_list : (test : List ℕ → Bool) (ps : List (List ℕ)) → list_any test ps ≡ list_any test (set.items (set.from_list ps))
+any-from_list test ps = same_tests _ _
+    (λ h. let some = some_item test ps h in member_passes (set.from_list ps) test some.0 (contains-from_list ps some.0 ∙ some.1) some.2)
+    (λ h. let some = some_member (set.from_list ps) test h in item_passes test some.path ps some.passes (sym (contains-from_list ps some.path) ∙ some.member))
+
+below-marked : (x : List ℕ) (ys : List (List ℕ)) → AllByRecursion (λ y. bytes_cmp x y ≡ Less) ys → below_all bytes_cmp x (set.unit_entries ys) ≡ true
 below-marked x [] h = refl
-below-marked x (y ∷ ys) h = ap (λ r. is_lt r && below_all bytes_cmp x (set.with_units ys)) h.0 ∙ below-marked x ys h.1
+below-marked x (y ∷ ys) h = ap (λ r. is_lt r && below_all bytes_cmp x (set.unit_entries ys)) h.0 ∙ below-marked x ys h.1
 
-is_sorted-marked : (ys : List (List ℕ)) → IsStrictlySortedBy bytes_cmp ys → map'.is_sorted bytes_cmp (set.with_units ys) ≡ true
+is_sorted-marked : (ys : List (List ℕ)) → IsStrictlySortedBy bytes_cmp ys → map'.is_sorted bytes_cmp (set.unit_entries ys) ≡ true
 unfolding IsStrictlySortedBy
 is_sorted-marked [] h = refl
-is_sorted-marked (y ∷ ys) h = and_from (below_all bytes_cmp y (set.with_units ys)) _ (below-marked y ys h.0) (is_sorted-marked ys h.1)
+is_sorted-marked (y ∷ ys) h = and_from (below_all bytes_cmp y (set.unit_entries ys)) _ (below-marked y ys h.0) (is_sorted-marked ys h.1)
 
 -- paths in order are the items of the set of them
 pub items-from_list : (ys : List (List ℕ)) → IsStrictlySortedBy bytes_cmp ys → set.items (set.from_list ys) ≡ ys
 items-from_list ys h = items_in_order ys (subst T (sym (is_sorted-marked ys h)) tt)
+
+above_all : (p q : List ℕ) (ps : List (List ℕ)) → bytes_cmp p q ≡ Less → AllByRecursion (λ r. bytes_cmp q r ≡ Less) ps → AllByRecursion (λ r. bytes_cmp p r ≡ Less) ps
+above_all p q [] h all = tt
+above_all p q (r ∷ ps) h all = (nat_list_cmp_total.trans p q r h all.0, above_all p q ps h all.1)
+
+-- where each path is below the next one, each is below all later ones
+pub strictly_from : (ps : List (List ℕ)) → are_ascending ps ≡ true → IsStrictlySortedBy bytes_cmp ps
+unfolding IsStrictlySortedBy
+strictly_from [] up = tt
+strictly_from (p ∷ []) up = (tt, tt)
+strictly_from (p ∷ q ∷ ps) up =
+    let both = and_parts (is_lt (bytes_cmp p q)) (are_ascending (q ∷ ps)) up in
+    let rest : IsStrictlySortedBy bytes_cmp (q ∷ ps) = strictly_from (q ∷ ps) both.1 in
+    let first : bytes_cmp p q ≡ Less = less_from (bytes_cmp p q) both.0 in
+    ((first, above_all p q ps first rest.0), rest)
 
 pub true_from_T : (b : Bool) → T b → b ≡ true
 true_from_T true h = refl
@@ -62,6 +84,16 @@ sorted-keys (e ∷ es) h = let parts = and_parts (below_all bytes_cmp e.0 es) (m
 
 pub sorted-items : (paths : Paths) → IsStrictlySortedBy bytes_cmp (set.items paths)
 sorted-items paths = sorted-keys (map'.entries paths) (true_from_T _ (entries_sorted paths))
+
+ascending_from : (ps : List (List ℕ)) → IsStrictlySortedBy bytes_cmp ps → are_ascending ps ≡ true
+unfolding IsStrictlySortedBy
+ascending_from [] h = refl
+ascending_from (p ∷ []) h = refl
+ascending_from (p ∷ q ∷ ps) h = and_from _ _ (ap is_lt h.0.0) (ascending_from (q ∷ ps) h.1)
+
+-- the paths of a set ascend
+pub items_ascend : (paths : Paths) → are_ascending (set.items paths) ≡ true
+items_ascend paths = ascending_from (set.items paths) (sorted-items paths)
 
 list_any-filter : (q : List ℕ) (test : List ℕ → Bool) (paths : List (List ℕ)) → list_any (eq_by_cmp bytes_cmp q) (filter test paths) ≡ (list_any (eq_by_cmp bytes_cmp q) paths && test q)
 list_any-filter q test [] = refl

@@ -1,13 +1,13 @@
 -- Paths that cleaning leaves as they are.
 use Rattle.std.proofs.Common.{◌≡◌, ◌≢◌, ℕ, ◌<◌, ◌≤◌, arith, Bool, true, false, not, cond, ◌||◌, List, [], ◌∷◌, ◌++◌, length, drop, eqb, Option, Some, None, refl, sym, ap, subst, ◌∙◌, ◌⊎◌, inl, inr, append_assoc, append-nil}
-use Rattle.cs_tree.specs.Pieces.{onto_first}
-use Rattle.std.specs.Prelude.{codes, nat_lt, is_none}
+use Rattle.std.specs.Prelude.{codes, nat_lt, is_none, bytes_eq}
+use Rattle.std.specs.Path.{slash}
 use Rattle.std.specs.Cmp.{both_ways as same_tests}
-use Rattle.std.specs.List.{list_all, list_any, AllByRecursion}
+use Rattle.std.specs.List.{list_all, list_any, AllByRecursion, onto_first}
 use Rattle.std.specs.Cmp.Lexicographic.{bytes_decides}
 use Rattle.std.proofs.lemmas.Bool.{true≢false, and_parts, and_from, ne_eqb, eqb-false, or_cases, or_parts, or_from, or_left, or_right, cond_both, eqb-true, not-true, le-ltb, ltb-false}
 use Rattle.std.proofs.lemmas.List.Folds.{list_all-append}
-use Rattle.cs_tree.specs.Cover.{slash, same, begins}
+use Rattle.cs_tree.specs.Cover.{begins}
 use Rattle.cs_tree.specs.Clean.{is_clean, elements, with_element, steps, with_slashes, path_of, absolute, clean_path, has_nul, longest_path}
 use Rattle.cs_tree.specs.Proper.{is_proper, is_proper_path}
 use Rattle.cs_tree.specs.Cleaning.{clean_fault, is_settled}
@@ -29,11 +29,11 @@ all_without (x ∷ above) all = all.1
 
 all_stepped : (above : List (List ℕ)) (name : List ℕ) → AllByRecursion IsElement above → NoSlash name → AllByRecursion IsElement (with_element above name)
 all_stepped above name all apart =
-    cond_both (same name [] || same name (codes ".")) above (cond (same name (codes "..")) (drop 1 above) (name ∷ above)) (AllByRecursion IsElement)
+    cond_both (bytes_eq name [] || bytes_eq name (codes ".")) above (cond (bytes_eq name (codes "..")) (drop 1 above) (name ∷ above)) (AllByRecursion IsElement)
     (λ _. all)
-    (λ plain. cond_both (same name (codes "..")) (drop 1 above) (name ∷ above) (AllByRecursion IsElement)
+    (λ plain. cond_both (bytes_eq name (codes "..")) (drop 1 above) (name ∷ above) (AllByRecursion IsElement)
     (λ _. all_without above all)
-    (λ down. (record { proper = and_from (not (same name [] || same name (codes "."))) _ (ap not plain) (ap not down); apart = apart }, all)))
+    (λ down. (record { proper = and_from (not (bytes_eq name [] || bytes_eq name (codes "."))) _ (ap not plain) (ap not down); apart = apart }, all)))
 
 all_steps : (above names : List (List ℕ)) → AllByRecursion IsElement above → AllByRecursion NoSlash names → AllByRecursion IsElement (steps above names)
 all_steps above [] all apart = all
@@ -88,8 +88,8 @@ slashes-elements (b ∷ rest) = step (eqb b slash) refl (slashes-elements rest) 
 
 proper_step : (above : List (List ℕ)) (name : List ℕ) → is_proper name ≡ true → with_element above name ≡ name ∷ above
 proper_step above name proper =
-    let parts = and_parts (not (same name [] || same name (codes "."))) (not (same name (codes ".."))) proper in
-    ap (λ t. cond t above (cond (same name (codes "..")) (drop 1 above) (name ∷ above))) (not-true _ parts.0)
+    let parts = and_parts (not (bytes_eq name [] || bytes_eq name (codes "."))) (not (bytes_eq name (codes ".."))) proper in
+    ap (λ t. cond t above (cond (bytes_eq name (codes "..")) (drop 1 above) (name ∷ above))) (not-true _ parts.0)
     ∙ ap (λ t. cond t (drop 1 above) (name ∷ above)) (not-true _ parts.1)
 
 slashed-steps : (above names : List (List ℕ)) → list_all is_proper names ≡ true → with_slashes (steps above names) ≡ with_slashes above ++ after_slashes names
@@ -135,7 +135,7 @@ starts_either : (path : List ℕ) → (path ≡ slash ∷ []) ⊎ (is_proper_pat
 starts_either path (inl is) = subst (λ p. begins (slash ∷ []) p ≡ true) (sym is) refl
 starts_either path (inr clean) = starts_proper path clean
 
-filled_begins : (path : List ℕ) → begins (slash ∷ []) path ≡ true → same path [] ≡ false
+filled_begins : (path : List ℕ) → begins (slash ∷ []) path ≡ true → bytes_eq path [] ≡ false
 filled_begins [] h = absurd (true≢false (sym h))
 filled_begins (b ∷ rest) h = refl
 
@@ -157,12 +157,12 @@ none_is (Some fault) h = absurd (true≢false (sym h))
 
 -- ---- by a test
 
-either_test : (path : List ℕ) → (same path (slash ∷ []) || is_proper_path path) ≡ true → (path ≡ slash ∷ []) ⊎ (is_proper_path path ≡ true)
-either_test path h = elim (or_cases (same path (slash ∷ [])) (is_proper_path path) h) [ inl is ↦ inl ((bytes_decides path (slash ∷ [])).0 is) | inr proper ↦ inr proper ]
+either_test : (path : List ℕ) → (bytes_eq path (slash ∷ []) || is_proper_path path) ≡ true → (path ≡ slash ∷ []) ⊎ (is_proper_path path ≡ true)
+either_test path h = elim (or_cases (bytes_eq path (slash ∷ [])) (is_proper_path path) h) [ inl is ↦ inl ((bytes_decides path (slash ∷ [])).0 is) | inr proper ↦ inr proper ]
 
-test_either : (path : List ℕ) → (path ≡ slash ∷ []) ⊎ (is_proper_path path ≡ true) → (same path (slash ∷ []) || is_proper_path path) ≡ true
-test_either path (inl is) = or_left (same path (slash ∷ [])) _ ((bytes_decides path (slash ∷ [])).1 is)
-test_either path (inr proper) = or_right (same path (slash ∷ [])) _ proper
+test_either : (path : List ℕ) → (path ≡ slash ∷ []) ⊎ (is_proper_path path ≡ true) → (bytes_eq path (slash ∷ []) || is_proper_path path) ≡ true
+test_either path (inl is) = or_left (bytes_eq path (slash ∷ [])) _ ((bytes_decides path (slash ∷ [])).1 is)
+test_either path (inr proper) = or_right (bytes_eq path (slash ∷ [])) _ proper
 
 -- what cleaning leaves alone from the root, it leaves alone from any folder
 pub clean_stays : (path : List ℕ) → is_clean path ≡ true → (folder : List ℕ) → clean_path folder path ≡ path
@@ -174,13 +174,13 @@ pub stays_clean : (path : List ℕ) → clean_path (slash ∷ []) path ≡ path 
 stays_clean path stays = (bytes_decides (clean_path (slash ∷ []) path) path).1 stays
 
 -- by its elements
-pub clean_by_elements : (path : List ℕ) → (same path (slash ∷ []) || is_proper_path path) ≡ is_clean path
-clean_by_elements path = same_tests (same path (slash ∷ []) || is_proper_path path) (is_clean path)
+pub clean_by_elements : (path : List ℕ) → (bytes_eq path (slash ∷ []) || is_proper_path path) ≡ is_clean path
+clean_by_elements path = same_tests (bytes_eq path (slash ∷ []) || is_proper_path path) (is_clean path)
     (λ h. stays_clean path (settled_either path (either_test path h) (slash ∷ [])))
     (λ h. test_either path (either_settled path (clean_stays path h)))
 
 -- below the root
-pub clean_below : (path : List ℕ) → same path (slash ∷ []) ≡ false → is_proper_path path ≡ is_clean path
+pub clean_below : (path : List ℕ) → bytes_eq path (slash ∷ []) ≡ false → is_proper_path path ≡ is_clean path
 clean_below path below = ap (λ b. b || is_proper_path path) (sym below) ∙ clean_by_elements path
 
 pub clean_starts : (path : List ℕ) → is_clean path ≡ true → begins (slash ∷ []) path ≡ true
@@ -191,7 +191,7 @@ clean_starts path h = starts_either path (either_settled path (clean_stays path 
 pub settled_from : (path : List ℕ) → ((folder : List ℕ) → clean_path folder path ≡ path) → has_nul path ≡ false → length path ≤ longest_path → is_settled path ≡ true
 settled_from path unchanged plain short =
     let starts = starts_either path (either_settled path unchanged) in
-    let accepted = no_fault (same path []) (has_nul (absolute (slash ∷ []) path)) (nat_lt longest_path (length (clean_path (slash ∷ []) path))) (filled_begins path starts)
+    let accepted = no_fault (bytes_eq path []) (has_nul (absolute (slash ∷ []) path)) (nat_lt longest_path (length (clean_path (slash ∷ []) path))) (filled_begins path starts)
     (ap has_nul (path_absolute (slash ∷ []) path starts) ∙ plain)
     (ap (λ p. nat_lt longest_path (length p)) (unchanged (slash ∷ [])) ∙ le-ltb longest_path (length path) short) in
     and_from (is_none (clean_fault (slash ∷ []) path)) (is_clean path) (ap is_none accepted) (stays_clean path (unchanged (slash ∷ [])))
@@ -214,15 +214,15 @@ settled_accepted path h folder =
     let starts = settled_starts path h in
     let now = ap has_nul (path_absolute folder path starts ∙ sym (path_absolute root path starts)) in
     let long = ap (λ p. nat_lt longest_path (length p)) (settled_stays path h folder ∙ sym (settled_stays path h root)) in
-    ap (λ nul. fault_at (same path []) nul (nat_lt longest_path (length (clean_path folder path)))) now
-    ∙ ap (λ more. fault_at (same path []) (has_nul (absolute root path)) more) long
+    ap (λ nul. fault_at (bytes_eq path []) nul (nat_lt longest_path (length (clean_path folder path)))) now
+    ∙ ap (λ more. fault_at (bytes_eq path []) (has_nul (absolute root path)) more) long
     ∙ none_is (clean_fault root path) (settled_parts path h).0
 
 -- no NUL, and not too long
 settled_whole : (path : List ℕ) → is_settled path ≡ true → (has_nul path ≡ false) × (length path ≤ longest_path)
 settled_whole path h =
     let starts = settled_starts path h in
-    let parts = no_fault_parts (same path []) (has_nul (absolute [] path)) (nat_lt longest_path (length (clean_path [] path))) (settled_accepted path h []) in
+    let parts = no_fault_parts (bytes_eq path []) (has_nul (absolute [] path)) (nat_lt longest_path (length (clean_path [] path))) (settled_accepted path h []) in
     (sym (ap has_nul (path_absolute [] path starts)) ∙ parts.0, ltb-false longest_path (length path) (sym (ap (λ p. nat_lt longest_path (length p)) (settled_stays path h [])) ∙ parts.1))
 
 pub settled_no_nul : (path : List ℕ) → is_settled path ≡ true → has_nul path ≡ false

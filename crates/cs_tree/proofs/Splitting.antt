@@ -1,7 +1,8 @@
 -- Paths taken apart at their slashes.
+use Rattle.std.specs.Prelude.{bytes_eq}
+use Rattle.std.specs.Path.{slash}
 use lib.Utf8.{encode}
 use Rattle.cs_tree.specs.Folders.{stem_of, child, is_element, last_element}
-use Rattle.cs_tree.specs.Pieces.{onto_first}
 use Rattle.std.proofs.Common.{◌≡◌, ◌≢◌, ℕ, zero, suc, ◌+◌, ◌-◌, ◌<◌, Bool, true, false, not, ◌&&◌, ◌||◌, List, [], ◌∷◌, ◌++◌, length, take, drop, get_or, refl, sym, ap, subst, ◌∙◌, eqb, cond, Option, Some, None, Bor, inl, inr, arith, length-append, take-append-drop}
 use Rattle.std.proofs.lemmas.Bool.{false_from_ne_true, true≢false, and_parts, and_from, or_cases, or_parts, or_left, eqb-true, ne_eqb}
 use Rattle.std.proofs.lemmas.List.Folds.{list_all-append}
@@ -13,10 +14,9 @@ use Rattle.std.proofs.lemmas.Slice.Eq.{strip_prefix_is}
 use Rattle.std.proofs.lemmas.Str.Pattern.{split_parts, IsSplitOnceResult, NoCharPasses-char}
 use Rattle.std.specs.Cmp.{both_ways as same_tests}
 use Rattle.std.specs.Cmp.Lexicographic.{bytes_decides, pointwise}
-use Rattle.std.specs.List.{list_any, list_all, before_last, suffix_len}
+use Rattle.std.specs.List.{list_any, list_all, before_last, suffix_len, onto_first}
 use Rattle.std.specs.Option.{MatchOption}
 use Rattle.std.specs.Str.Pattern.{RFindsChar, SplitsAroundMatch}
-use Rattle.cs_tree.specs.Cover.{slash, same}
 use Rattle.cs_tree.specs.Clean.{elements, has_nul}
 use Rattle.cs_tree.specs.Proper.{is_proper, is_proper_path}
 use Rattle.cs_tree.specs.Changes.{parent_of}
@@ -26,16 +26,16 @@ use Rattle.cs_tree.specs.Changes.{parent_of}
 abbrev pub AfterStem : List ℕ → List ℕ → Option (Bor (List ℕ)) → Type 0
 AfterStem path folder result = MatchOption result ((rest : List ℕ) → path ≢ stem_of folder ++ rest) (λ rest. path ≡ stem_of folder ++ rest.now)
 
-pub stem-other : (folder : List ℕ) → same folder (slash ∷ []) ≡ false → stem_of folder ≡ folder
+pub stem-other : (folder : List ℕ) → bytes_eq folder (slash ∷ []) ≡ false → stem_of folder ≡ folder
 stem-other folder other = ap (λ b. cond b [] folder) other
 
-after_bytes : (path folder : List ℕ) (cut : Option (Bor (List ℕ))) → same folder (slash ∷ []) ≡ false → MatchOption cut (pointwise eqb (take (length folder) path) folder ≡ false) (λ rest. (pointwise eqb (take (length folder) path) folder ≡ true) × (rest.now ≡ drop (length folder) path) × (length rest.now + length folder ≡ length path)) → AfterStem path folder cut
+after_bytes : (path folder : List ℕ) (cut : Option (Bor (List ℕ))) → bytes_eq folder (slash ∷ []) ≡ false → MatchOption cut (pointwise eqb (take (length folder) path) folder ≡ false) (λ rest. (pointwise eqb (take (length folder) path) folder ≡ true) × (rest.now ≡ drop (length folder) path) × (length rest.now + length folder ≡ length path)) → AfterStem path folder cut
 after_bytes path folder None other h = λ rest e. strip_prefix_is Decides-eqb path folder None h rest (e ∙ ap (λ stem. stem ++ rest) (stem-other folder other))
 after_bytes path folder (Some rest) other h = strip_prefix_is Decides-eqb path folder (Some rest) h ∙ ap (λ stem. stem ++ rest.now) (sym (stem-other folder other))
 
-pub after_other : (path folder : List ℕ) {q m : List ℕ} (cut : Option (Bor (List ℕ))) → q ≡ folder → m ≡ path → same folder (slash ∷ []) ≡ false → MatchOption cut (pointwise eqb (take (length q) m) q ≡ false) (λ rest. (pointwise eqb (take (length q) m) q ≡ true) × (rest.now ≡ drop (length q) m) × (length rest.now + length q ≡ length m)) → AfterStem path folder cut
+pub after_other : (path folder : List ℕ) {q m : List ℕ} (cut : Option (Bor (List ℕ))) → q ≡ folder → m ≡ path → bytes_eq folder (slash ∷ []) ≡ false → MatchOption cut (pointwise eqb (take (length q) m) q ≡ false) (λ rest. (pointwise eqb (take (length q) m) q ≡ true) × (rest.now ≡ drop (length q) m) × (length rest.now + length q ≡ length m)) → AfterStem path folder cut
 after_other path folder {q} {m} cut e f other h =
-    subst (λ p. AfterStem p folder cut) f (subst (λ q'. same q' (slash ∷ []) ≡ false → AfterStem m q' cut) e (λ apart. after_bytes m q cut apart h) other)
+    subst (λ p. AfterStem p folder cut) f (subst (λ q'. bytes_eq q' (slash ∷ []) ≡ false → AfterStem m q' cut) e (λ apart. after_bytes m q cut apart h) other)
 
 -- ---- slashes
 
@@ -86,11 +86,11 @@ elements-one (b ∷ text) h =
 
 -- ---- a folder's children
 
-pub child_same : (path folder name last : List ℕ) → path ≡ stem_of folder ++ slash ∷ last → same last name ≡ same (child folder name) path
+pub child_same : (path folder name last : List ℕ) → path ≡ stem_of folder ++ slash ∷ last → bytes_eq last name ≡ bytes_eq (child folder name) path
 child_same path folder name last e = same_tests _ _ (λ h. (bytes_decides (child folder name) path).1 (ap (λ n. stem_of folder ++ slash ∷ n) (sym ((bytes_decides last name).0 h)) ∙ sym e))
     (λ h. (bytes_decides last name).1 (sym (ap (drop 1) (append_cancel_left (stem_of folder) (slash ∷ name) (slash ∷ last) ((bytes_decides (child folder name) path).0 h ∙ e)))))
 
-pub child_apart : (path folder name last : List ℕ) (b : ℕ) → path ≡ stem_of folder ++ b ∷ last → b ≢ slash → same (child folder name) path ≡ false
+pub child_apart : (path folder name last : List ℕ) (b : ℕ) → path ≡ stem_of folder ++ b ∷ last → b ≢ slash → bytes_eq (child folder name) path ≡ false
 child_apart path folder name last b e apart = false_from_ne_true _ (λ h.
     apart (ap (λ xs. get_or xs 0 0) (sym (append_cancel_left (stem_of folder) (slash ∷ name) (b ∷ last) ((bytes_decides (child folder name) path).0 h ∙ e)))))
 
@@ -101,12 +101,12 @@ pub record LastSlash (path front name : List ℕ) : Type 0 where
   pub whole : path ≡ front ++ slash ∷ name
   pub last : NoSlash name
 
-apart_without : (path : List ℕ) → ((i : ℕ) → i < length path → get_or path i 0 ≢ slash) → (same path (slash ∷ []) || is_proper_path path) ≡ false
+apart_without : (path : List ℕ) → ((i : ℕ) → i < length path → get_or path i 0 ≢ slash) → (bytes_eq path (slash ∷ []) || is_proper_path path) ≡ false
 apart_without [] h = refl
-apart_without (b ∷ rest) h = ap (λ t. (t && same rest []) || (t && list_all is_proper (elements rest))) (ne_eqb b slash (h zero (omega arith)))
+apart_without (b ∷ rest) h = ap (λ t. (t && bytes_eq rest []) || (t && list_all is_proper (elements rest))) (ne_eqb b slash (h zero (omega arith)))
 
 abbrev pub RSplitSays : List ℕ → Option (Bor (List ℕ) × Bor (List ℕ)) → Type 0
-RSplitSays path result = MatchOption result ((same path (slash ∷ []) || is_proper_path path) ≡ false) (λ parts. LastSlash path parts.0.now parts.1.now)
+RSplitSays path result = MatchOption result ((bytes_eq path (slash ∷ []) || is_proper_path path) ≡ false) (λ parts. LastSlash path parts.0.now parts.1.now)
 
 pub rsplit_says : (path : List ℕ) (result : Option (Bor (List ℕ) × Bor (List ℕ))) → MatchOption result (RFindsChar slash path None) (λ x. SplitsAroundMatch (RFindsChar slash) path x.0.now x.1.now) → RSplitSays path result
 unfolding encode
@@ -150,8 +150,8 @@ front_of-last path front name h =
     rest : suffix_len (λ b. not (eqb b slash)) (front ++ slash ∷ name) ≡ length (front ++ slash ∷ name) - (length front + 1) → length (front ++ slash ∷ name) ≡ length front + length (slash ∷ name) → length (front ++ slash ∷ name) - suffix_len (λ b. not (eqb b slash)) (front ++ slash ∷ name) - 1 ≡ length front
     rest far long = omega (arith, far, long)
 
-pub parent_of-last : (path front name : List ℕ) → LastSlash path front name → parent_of path ≡ cond (same front []) (slash ∷ []) front
-parent_of-last path front name h = ap (λ f. cond (same f []) (slash ∷ []) f) (front_of-last path front name h)
+pub parent_of-last : (path front name : List ℕ) → LastSlash path front name → parent_of path ≡ cond (bytes_eq front []) (slash ∷ []) front
+parent_of-last path front name h = ap (λ f. cond (bytes_eq f []) (slash ∷ []) f) (front_of-last path front name h)
 
 pub parent_root : (path front name : List ℕ) → LastSlash path front name → length front ≡ 0 → slash ∷ [] ≡ parent_of path
 parent_root path [] name h e = sym (parent_of-last path [] name h)
@@ -218,7 +218,7 @@ clean_slash : (path : List ℕ) → is_proper_path path ≡ true → list_any (�
 clean_slash [] h = absurd (true≢false (sym h))
 clean_slash (b ∷ rest) h = or_left (eqb b slash) _ (and_parts (eqb b slash) _ h).0
 
-proper_some : (name : List ℕ) → is_proper name ≡ true → same name [] ≡ false
+proper_some : (name : List ℕ) → is_proper name ≡ true → bytes_eq name [] ≡ false
 proper_some [] h = absurd (true≢false (sym h))
 proper_some (b ∷ name) h = refl
 

@@ -1,15 +1,17 @@
 -- What a walk has gathered lies under its paths.
-use Rattle.std.proofs.Common.{◌≡◌, ℕ, Bool, true, false, cond, List, [], ◌∷◌, ◌++◌, sym, subst, ◌∙◌}
+use Rattle.std.proofs.Common.{◌≡◌, ℕ, Bool, true, false, cond, ◌||◌, List, [], ◌∷◌, ◌++◌, sym, ap, subst, ◌∙◌}
 use Rattle.std.proofs.lemmas.Bool.{or_left, or_right}
 use Rattle.std.proofs.lemmas.List.Folds.{list_any-append}
 use Rattle.std.specs.Prelude.{filter, map}
 use Rattle.std.specs.List.{AllByRecursion}
 use Rattle.cs_tree.specs.Folders.{child}
-use Rattle.cs_tree.specs.Cover.{covers}
+use Rattle.cs_tree.specs.Cover.{covers, is_covered}
+use Rattle.cs_tree.specs.PathSet as set
 use Rattle.cs_tree.specs.Walks.{names_walked}
-use Rattle.cs_tree.specs.Visits.{KeepsTo, covered_by, children, is_walked, named_if}
+use Rattle.cs_tree.specs.Visits.{KeepsTo, children, is_walked, named_if}
 use Rattle.cs_tree.specs.declared.walking.Walked.{Walked}
 use Rattle.cs_tree.proofs.Covering.{covers_itself, covers_chain}
+use Rattle.cs_tree.proofs.ReduceLemmas.{any-from_list}
 use Rattle.cs_tree.proofs.NameLemmas.{folder_covers_child}
 
 keeps_wider : (p q : List ℕ → Bool) (old new : Walked) → ((name : List ℕ) → p name ≡ true → q name ≡ true) → KeepsTo p old new → KeepsTo q old new
@@ -47,9 +49,15 @@ keeps_path path named old mid new e keeps = λ test h all.
 
 -- ---- under all of them
 
-pub keeps_more : (paths : List (List ℕ)) (path : List ℕ) (old mid new : Walked) → KeepsTo (covered_by paths) old mid → KeepsTo (covers path) mid new → KeepsTo (covered_by (paths ++ path ∷ [])) old new
+-- one more path covers what it covers
+covered_more : (paths : List (List ℕ)) (path name : List ℕ) → is_covered (set.from_list (paths ++ path ∷ [])) name ≡ (is_covered (set.from_list paths) name || (covers path name || false))
+covered_more paths path name =
+    sym (any-from_list (λ one. covers one name) (paths ++ path ∷ []))
+    ∙ list_any-append (λ one. covers one name) paths (path ∷ [])
+    ∙ ap (λ b. b || (covers path name || false)) (any-from_list (λ one. covers one name) paths)
+
+pub keeps_more : (paths : List (List ℕ)) (path : List ℕ) (old mid new : Walked) → KeepsTo (is_covered (set.from_list paths)) old mid → KeepsTo (covers path) mid new → KeepsTo (is_covered (set.from_list (paths ++ path ∷ []))) old new
 keeps_more paths path old mid new first second = λ test h all.
-    let split = λ (name : List ℕ). list_any-append (λ one. covers one name) paths (path ∷ []) in
-    let wide = λ (name : List ℕ) (is : covered_by paths name ≡ true). h name (split name ∙ or_left (covered_by paths name) _ is) in
-    let last = λ (name : List ℕ) (is : covers path name ≡ true). h name (split name ∙ or_right (covered_by paths name) _ (or_left (covers path name) false is)) in
+    let wide = λ (name : List ℕ) (is : is_covered (set.from_list paths) name ≡ true). h name (covered_more paths path name ∙ or_left (is_covered (set.from_list paths) name) _ is) in
+    let last = λ (name : List ℕ) (is : covers path name ≡ true). h name (covered_more paths path name ∙ or_right (is_covered (set.from_list paths) name) _ (or_left (covers path name) false is)) in
     second test last (first test wide all)

@@ -1,13 +1,14 @@
 -- A walk whose paths wait in a list: what it has gathered, what it comes to by those that wait, and that it ends.
+use Rattle.std.specs.Prelude.{bytes_eq}
 use Rattle.std.proofs.Common.{◌≡◌, ℕ, ◌+◌, ◌-◌, ◌*◌, ◌^◌, ◌<◌, ◌≤◌, Bool, true, false, ◌||◌, List, [], ◌∷◌, ◌++◌, length, refl, sym, ap, subst, ◌∙◌, arith, Option, Some, None, pow_pos, pow_mono, pow-add}
 use Rattle.std.proofs.Math.Nat.{mul-lt-mul_of_pos_right}
 use Rattle.std.proofs.lemmas.List.Folds.{list_any-append}
 use Rattle.std.specs.List.{AllByRecursion}
-use Rattle.cs_tree.specs.Cover.{same, covers}
+use Rattle.cs_tree.specs.Cover.{covers}
 use Rattle.cs_tree.specs.Folders.{IsTree}
 use Rattle.cs_tree.specs.Snapshot.{Snapshot}
 use Rattle.cs_tree.specs.Walks.{names_walked, faults_walked}
-use Rattle.cs_tree.specs.Visits.{comes, Gathers, GathersIn, KeepsTo, ShowsIn, Shows, is_file_seen, fault_seen, names_seen, children, named_if, left_if}
+use Rattle.cs_tree.specs.Visits.{comes, Gathers, GathersIn, KeepsTo, IsSightIn, IsSightOf, is_file_seen, fault_seen, names_seen, children, named_if, left_if}
 use Rattle.cs_tree.specs.declared.walking.Walked.{Walked}
 use Rattle.cs_tree.specs.declared.walking.Sight.{Sight}
 use Rattle.cs_tree.proofs.Coming.{comes_by, comes_unfolds}
@@ -40,16 +41,16 @@ starts_in (Some tree) start walked = λ good. record {
     right_false false = refl
 
 -- one more path is looked at, and what it leads to waits
-goes_on : (tree : Snapshot) (start path : List ℕ) (sight : Sight) (rest : List (List ℕ)) (old mid new : Walked) → IsTree tree → Shows tree path sight → names_walked new ≡ names_walked mid ++ named_if (is_file_seen sight) path → faults_walked new ≡ faults_walked mid ++ left_if (fault_seen sight) path → Underway tree start (rest ++ path ∷ []) old mid → Underway tree start (rest ++ children path (names_seen sight)) old new
+goes_on : (tree : Snapshot) (start path : List ℕ) (sight : Sight) (rest : List (List ℕ)) (old mid new : Walked) → IsTree tree → IsSightOf tree path sight → names_walked new ≡ names_walked mid ++ named_if (is_file_seen sight) path → faults_walked new ≡ faults_walked mid ++ left_if (fault_seen sight) path → Underway tree start (rest ++ path ∷ []) old mid → Underway tree start (rest ++ children path (names_seen sight)) old new
 goes_on tree start path sight rest old mid new good shows names faults so_far = record {
-  seen = λ q. so_far.seen q || same path q;
+  seen = λ q. so_far.seen q || bytes_eq path q;
   gathered = gathers_chain tree so_far.gathered (gathers_one tree path sight mid new shows names faults);
   rest = λ q.
       so_far.rest q
       ∙ ap (λ b. so_far.seen q || b) (list_any-append (λ p. comes tree p q) rest (path ∷ []))
-      ∙ ap (λ b. so_far.seen q || (comes_by tree rest q || (b || false))) (comes_unfolds tree path q good ∙ ap (λ names. same path q || comes_by tree (children path names) q) (sym shows.names))
-      ∙ turned (so_far.seen q) (comes_by tree rest q) (same path q) (comes_by tree (children path (names_seen sight)) q)
-      ∙ ap (λ b. (so_far.seen q || same path q) || b) (sym (list_any-append (λ p. comes tree p q) rest (children path (names_seen sight))));
+      ∙ ap (λ b. so_far.seen q || (comes_by tree rest q || (b || false))) (comes_unfolds tree path q good ∙ ap (λ names. bytes_eq path q || comes_by tree (children path names) q) (sym shows.names))
+      ∙ turned (so_far.seen q) (comes_by tree rest q) (bytes_eq path q) (comes_by tree (children path (names_seen sight)) q)
+      ∙ ap (λ b. (so_far.seen q || bytes_eq path q) || b) (sym (list_any-append (λ p. comes tree p q) rest (children path (names_seen sight))));
 }
   where
     turned : (s r p c : Bool) → (s || (r || ((p || c) || false))) ≡ ((s || p) || (r || c))
@@ -60,11 +61,11 @@ goes_on tree start path sight rest old mid new good shows names faults so_far = 
     turned false false false true = refl
     turned false false false false = refl
 
-pub goes_on_in : (told later : Option Snapshot) (start path : List ℕ) (sight : Sight) (rest waiting : List (List ℕ)) (old mid new : Walked) → later ≡ told → ShowsIn later path sight → names_walked new ≡ names_walked mid ++ named_if (is_file_seen sight) path → faults_walked new ≡ faults_walked mid ++ left_if (fault_seen sight) path → waiting ≡ rest ++ children path (names_seen sight) → UnderwayIn told start (rest ++ path ∷ []) old mid → UnderwayIn told start waiting old new
+pub goes_on_in : (told later : Option Snapshot) (start path : List ℕ) (sight : Sight) (rest waiting : List (List ℕ)) (old mid new : Walked) → later ≡ told → IsSightIn later path sight → names_walked new ≡ names_walked mid ++ named_if (is_file_seen sight) path → faults_walked new ≡ faults_walked mid ++ left_if (fault_seen sight) path → waiting ≡ rest ++ children path (names_seen sight) → UnderwayIn told start (rest ++ path ∷ []) old mid → UnderwayIn told start waiting old new
 goes_on_in told later start path sight rest waiting old mid new e shows names faults waits so_far =
-    subst (λ paths. UnderwayIn told start paths old new) (sym waits) (by_told told (subst (λ o. ShowsIn o path sight) e shows) so_far)
+    subst (λ paths. UnderwayIn told start paths old new) (sym waits) (by_told told (subst (λ o. IsSightIn o path sight) e shows) so_far)
   where
-    by_told : (o : Option Snapshot) → ShowsIn o path sight → UnderwayIn o start (rest ++ path ∷ []) old mid → UnderwayIn o start (rest ++ children path (names_seen sight)) old new
+    by_told : (o : Option Snapshot) → IsSightIn o path sight → UnderwayIn o start (rest ++ path ∷ []) old mid → UnderwayIn o start (rest ++ children path (names_seen sight)) old new
     by_told None shows so_far = tt
     by_told (Some tree) shows so_far = λ good. goes_on tree start path sight rest old mid new good shows names faults (so_far good)
 

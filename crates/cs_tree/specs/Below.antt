@@ -1,11 +1,7 @@
 -- Where an element of a name ends, so that a path may cover it.
 -- docs/FORMAT.md, "Paths and names".
-use Rattle.std.specs.Prelude.{ℕ, Bool, true, nat_eq, List, [], ◌∷◌, ◌++◌}
-use Rattle.cs_tree.specs.Cover.{slash, begins}
-
--- whether the path lies below the other one: it goes on by a slash after it
-abbrev pub lies_below : List ℕ → List ℕ → Bool
-lies_below path other = begins (other ++ slash ∷ []) path
+use Rattle.std.specs.Prelude.{ℕ, Bool, true, nat_eq, List, [], ◌∷◌}
+use Rattle.std.specs.Path.{slash}
 
 -- whether an element ends before the rest of a text
 abbrev pub ends_element : List ℕ → Bool

@@ -1,15 +1,16 @@
 -- What putting an item into a tree and taking a path away change. docs/FORMAT.md, "Paths and names".
-use Rattle.std.specs.Prelude.{ℕ, Bool, true, false, not, ◌&&◌, ◌||◌, nat_eq, cond, if◌then◌else◌, List, [], ◌∷◌, ◌++◌, Option, None, option_map, filter, length}
+use Rattle.std.specs.Prelude.{ℕ, Bool, true, false, not, ◌&&◌, ◌||◌, nat_eq, cond, if◌then◌else◌, List, [], ◌∷◌, ◌++◌, Option, None, option_map, filter, length, bytes_eq}
+use Rattle.std.specs.Path.{slash}
 use Rattle.cs_tree.specs.Folders.{child, last_element}
 use Rattle.std.specs.List.{before_last}
 use Rattle.std.specs.FinMap as map
-use Rattle.cs_tree.specs.Cover.{slash, same, is_among, covers}
+use Rattle.cs_tree.specs.Cover.{is_among, covers}
 use Rattle.cs_tree.specs.Snapshot.{Snapshot, Item, folder, item_at}
 
 -- the folder that lists a path: what stands before its last slash, or the root
 abbrev pub parent_of : List ℕ → List ℕ
 parent_of path =
-    let front = before_last (λ b. nat_eq b slash) path in if same front [] then slash ∷ [] else front
+    let front = before_last (λ b. nat_eq b slash) path in if bytes_eq front [] then slash ∷ [] else front
 
 abbrev pub is_folder : Item → Bool
 is_folder (folder names unnamed) = true
@@ -28,13 +29,13 @@ abbrev pub names_with : List ℕ → List (List ℕ) → List (List ℕ)
 names_with name names = if is_among names name then names else names ++ name ∷ []
 
 -- the item lists one more name, if it is a folder and does not list it
-abbrev pub listing : List ℕ → Item → Item
-listing name (folder names unnamed) = folder (names_with name names) unnamed
-listing name item = item
+abbrev pub with_listed_name : List ℕ → Item → Item
+with_listed_name name (folder names unnamed) = folder (names_with name names) unnamed
+with_listed_name name item = item
 
 -- the tree whose folder at the path lists one more name
 abbrev pub with_name : Snapshot → List ℕ → List ℕ → Snapshot
-with_name tree path name = map.insert tree path (listing name (item_at tree path))
+with_name tree path name = map.insert tree path (with_listed_name name (item_at tree path))
 
 -- the tree with an item put at a path, and listed by the folder that the path stands in; a folder put
 -- over a folder changes nothing there
@@ -48,14 +49,14 @@ abbrev pub names_left : List ℕ → List ℕ → List (List ℕ) → List (List
 names_left path at names = filter (λ name. not (covers path (child at name))) names
 
 -- an item that no longer lists what the path covers
-abbrev pub unlisting : List ℕ → List ℕ → Item → Item
-unlisting path at (folder names unnamed) = folder (names_left path at names) unnamed
-unlisting path at item = item
+abbrev pub without_listed_names : List ℕ → List ℕ → Item → Item
+without_listed_names path at (folder names unnamed) = folder (names_left path at names) unnamed
+without_listed_names path at item = item
 
 -- whether a path is taken away with another one: all that this covers, but for the root
 abbrev pub goes_with : List ℕ → List ℕ → Bool
-goes_with path at = covers path at && not (same at (slash ∷ []))
+goes_with path at = covers path at && not (bytes_eq at (slash ∷ []))
 
 -- what is left at a path where another one is taken away, with all that it covers
 abbrev pub left_without : Snapshot → List ℕ → List ℕ → Option Item
-left_without tree path at = cond (goes_with path at) None (option_map (unlisting path at) (map.get tree at))
+left_without tree path at = cond (goes_with path at) None (option_map (without_listed_names path at) (map.get tree at))

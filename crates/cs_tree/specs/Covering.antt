@@ -1,7 +1,7 @@
 -- Covering as a relation, which `covers` of Cover decides.
 -- docs/FORMAT.md, "Paths and names".
 use Rattle.std.specs.Prelude.{◌≡◌, ℕ, List, [], ◌∷◌, ◌++◌}
-use Rattle.cs_tree.specs.Cover.{slash}
+use Rattle.std.specs.Path.{slash}
 
 -- the path covers the name: it is the name, the name lies below it, or it is the root
 pub data Covers (path name : List ℕ) : Type 0 where

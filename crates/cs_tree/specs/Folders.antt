@@ -1,26 +1,32 @@
 -- What folders list, and which snapshots are trees.
 -- docs/FORMAT.md, "Paths and names".
-use Rattle.std.specs.Prelude.{◌≡◌, ℕ, Bool, true, false, not, ◌&&◌, nat_eq, if◌then◌else◌, List, [], ◌∷◌, ◌++◌, Option, Some, None, IsUtf8}
+use Rattle.std.specs.Prelude.{◌≡◌, ℕ, Bool, true, not, ◌&&◌, nat_eq, if◌then◌else◌, List, [], ◌∷◌, ◌++◌, Option, Some, None, IsUtf8, bytes_eq}
+use Rattle.std.specs.Path.{slash}
 use Rattle.std.specs.List.{list_any, list_all, AllByRecursion, after_last}
-use Rattle.cs_tree.specs.Cover.{slash, same, is_among}
+use Rattle.cs_tree.specs.Cover.{is_among}
+use Rattle.cs_tree.specs.Clean.{has_nul}
 use Rattle.cs_tree.specs.Snapshot.{Item, Snapshot, item_at, folder}
 
 -- a folder's path as its children's begin: the root adds nothing to the slash
 abbrev pub stem_of : List ℕ → List ℕ
-stem_of folder_path = if same folder_path (slash ∷ []) then [] else folder_path
+stem_of folder_path = if bytes_eq folder_path (slash ∷ []) then [] else folder_path
 
 -- the path of what a folder lists under a name
 abbrev pub child : List ℕ → List ℕ → List ℕ
 child folder_path name = stem_of folder_path ++ slash ∷ name
 
+-- the names that an item lists: none where it is no folder
+abbrev pub names_listed : Item → List (List ℕ)
+names_listed (folder names unnamed) = names
+names_listed _ = []
+
 -- whether an item is a folder that lists the name
 abbrev pub lists : Item → List ℕ → Bool
-lists (folder names unnamed) name = is_among names name
-lists _ name = false
+lists item name = is_among (names_listed item) name
 
 -- whether a name is not empty, and has no `/` and no NUL
 abbrev pub is_element : List ℕ → Bool
-is_element name = not (same name []) && (not (list_any (λ b. nat_eq b slash) name) && not (list_any (λ b. nat_eq b 0) name))
+is_element name = not (bytes_eq name []) && (not (list_any (λ b. nat_eq b slash) name) && not (has_nul name))
 
 abbrev pub are_distinct : List (List ℕ) → Bool
 are_distinct [] = true

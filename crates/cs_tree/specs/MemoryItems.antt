@@ -5,11 +5,11 @@ use Rattle.cs_tree.specs.Snapshot.{Snapshot, Item, folder, file, cut, other, bad
 use Rattle.cs_tree.specs.Told.{Told, told_of}
 use Rattle.cs_tree.specs.declared.mem_tree.Item.{Item as Put}
 use Rattle.cs_tree.specs.declared.mem_tree.Item.TheVariants as put
-use Rattle.cs_tree.specs.declared.stored.MemTree.{MemTree}
-use Rattle.cs_tree.specs.declared.stored.Names.{Names}
-use Rattle.cs_tree.specs.declared.stored.Stored.{Stored}
-use Rattle.cs_tree.specs.declared.stored.StoredItem.{StoredItem}
-use Rattle.cs_tree.specs.declared.stored.StoredItem.TheVariants.{Folder, File, Cut, Other, Denied}
+use Rattle.cs_tree.specs.declared.in_memory.MemTree.{MemTree}
+use Rattle.cs_tree.specs.declared.in_memory.Names.{Names}
+use Rattle.cs_tree.specs.declared.in_memory.Stored.{Stored}
+use Rattle.cs_tree.specs.declared.in_memory.StoredItem.{StoredItem}
+use Rattle.cs_tree.specs.declared.in_memory.StoredItem.TheVariants.{Folder, File, Cut, Other, Denied}
 
 -- what is put, as a snapshot has it
 abbrev pub item_put : Put → Item
@@ -19,11 +19,11 @@ item_put (put.Cut bytes) = cut bytes.items
 item_put put.Other = other
 item_put put.Denied = bad denied
 
-abbrev pub listed_names : Names → List (List ℕ)
-listed_names names = map string_bytes names.list.items
+abbrev pub stored_names : Names → List (List ℕ)
+stored_names names = map string_bytes names.list.items
 
 abbrev pub item_of : StoredItem → Item
-item_of (Folder names) = folder (listed_names names) false
+item_of (Folder names) = folder (stored_names names) false
 item_of (File bytes) = file bytes.items
 item_of (Cut bytes) = cut bytes.items
 item_of Other = other
@@ -48,13 +48,13 @@ left_at items taken (Some i) = option_and_then (λ (s : Stored). left_of taken s
 -- ---- the tree
 
 -- what stands in a tree in memory
-abbrev pub tree_of : MemTree → Snapshot
-tree_of tree = snapshot_of tree.items.items
+abbrev pub mem_snapshot : MemTree → Snapshot
+mem_snapshot tree = snapshot_of tree.items.items
 
 -- what is left of the file that is open
 abbrev pub left_open : MemTree → Option Told
 left_open tree = left_at tree.items.items tree.taken tree.opened
 
 -- the most that one read gives
-abbrev pub step_of : MemTree → ℕ
-step_of tree = tree.step
+abbrev pub mem_tree_step : MemTree → ℕ
+mem_tree_step tree = tree.step

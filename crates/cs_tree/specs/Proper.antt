@@ -1,13 +1,13 @@
 -- Clean paths by their elements, without cleaning. Laws say that cleaning leaves these alone.
 -- docs/FORMAT.md, "Paths and names".
-use Rattle.std.specs.Prelude.{ℕ, Bool, false, not, ◌&&◌, ◌||◌, nat_eq, List, [], ◌∷◌, codes}
+use Rattle.std.specs.Prelude.{ℕ, Bool, false, not, ◌&&◌, ◌||◌, nat_eq, List, [], ◌∷◌, codes, bytes_eq}
+use Rattle.std.specs.Path.{slash}
 use Rattle.std.specs.List.{list_all}
-use Rattle.cs_tree.specs.Cover.{slash, same}
 use Rattle.cs_tree.specs.Clean.{elements}
 
 -- an element that cleaning keeps
 abbrev pub is_proper : List ℕ → Bool
-is_proper element = not (same element [] || same element (codes ".")) && not (same element (codes ".."))
+is_proper element = not (bytes_eq element [] || bytes_eq element (codes ".")) && not (bytes_eq element (codes ".."))
 
 -- whether a path begins with a slash, and has proper elements alone after it: the root has not
 abbrev pub is_proper_path : List ℕ → Bool

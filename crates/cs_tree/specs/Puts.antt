@@ -1,6 +1,6 @@
 -- When an item can be put into a tree in memory. docs/FORMAT.md, "Paths and names".
-use Rattle.std.specs.Prelude.{◌≡◌, not, ◌&&◌, ◌||◌, ℕ, List, [], ◌∷◌, if◌then◌else◌, Option, Some, None, Result, Ok, Err}
-use Rattle.cs_tree.specs.Cover.{slash, same}
+use Rattle.std.specs.Prelude.{◌≡◌, not, ◌&&◌, ◌||◌, ℕ, List, [], ◌∷◌, if◌then◌else◌, Option, Some, None, Result, Ok, Err, bytes_eq}
+use Rattle.std.specs.Path.{slash}
 use Rattle.cs_tree.specs.Clean.{is_clean, has_nul}
 use Rattle.cs_tree.specs.Snapshot.{Snapshot, Item, item_at}
 use Rattle.cs_tree.specs.Changes.{is_folder, has_entries, parent_of}
@@ -10,7 +10,7 @@ use Rattle.cs_tree.specs.declared.mem_tree.PutFault.TheVariants.{BadPath, NoFold
 -- the first test that fails, if one does: nothing is put at the root
 abbrev pub put_fault : Snapshot → List ℕ → Item → Option PutFault
 put_fault tree path item =
-    if same path (slash ∷ []) || not (is_clean path) || has_nul path then Some BadPath
+    if bytes_eq path (slash ∷ []) || not (is_clean path) || has_nul path then Some BadPath
     else (if not (is_folder (item_at tree (parent_of path))) then Some NoFolder
     else (if has_entries (item_at tree path) && not (is_folder item) then Some HasEntries else None))
 

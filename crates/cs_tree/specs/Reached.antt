@@ -1,31 +1,27 @@
 -- What a walk of a tree finds: what it comes to from the paths that it is given, by names that are
 -- listed and not left out. docs/FORMAT.md, "Paths and names".
-use Rattle.std.specs.Prelude.{ℕ, ◌+◌, Bool, true, false, not, ◌&&◌, ◌||◌, nat_eq, nat_le, cond, if◌then◌else◌, List, [], ◌∷◌, length, drop, Option, None, option_map, filter_map}
+use Rattle.std.specs.Prelude.{ℕ, ◌+◌, Bool, true, false, not, ◌&&◌, ◌||◌, nat_eq, nat_le, cond, if◌then◌else◌, List, [], ◌∷◌, length, drop, Option, None, option_map, filter_map, codes, bytes_eq}
+use Rattle.std.specs.Path.{slash}
 use Rattle.cs_tree.specs.Folders.{child, lists, last_element}
 use Rattle.cs_tree.specs.PathSet.{Paths}
 use Rattle.cs_tree.specs.NameOrder.{bytes_cmp}
-use Rattle.std.specs.List.{list_any}
+use Rattle.std.specs.List.{list_any, ends_with}
 use Rattle.std.specs.FinMap as map
 use Rattle.cs_tree.specs.PathSet as set
-use Rattle.cs_tree.specs.Cover.{slash, same, covers}
+use Rattle.cs_tree.specs.Cover.{covers}
 use Rattle.cs_tree.specs.Clean.{elements, longest_path}
 use Rattle.cs_tree.specs.Snapshot.{Snapshot, Item, file, item_at}
 
 -- ---- what is left out: a name that begins with `.`, `#` or `~`, or ends with `~`
 
-abbrev pub ends_in_tilde : List ℕ → Bool
-ends_in_tilde [] = false
-ends_in_tilde (b ∷ []) = nat_eq b 126
-ends_in_tilde (b ∷ c ∷ rest) = ends_in_tilde (c ∷ rest)
-
 abbrev pub is_left_out : List ℕ → Bool
 is_left_out [] = false
-is_left_out (b ∷ rest) = nat_eq b 46 || (nat_eq b 35 || (nat_eq b 126 || ends_in_tilde (b ∷ rest)))
+is_left_out (b ∷ rest) = nat_eq b 46 || (nat_eq b 35 || (nat_eq b 126 || ends_with nat_eq (b ∷ rest) (codes "~")))
 
 -- the elements of a name after those of a path that covers it
 abbrev pub elements_under : List ℕ → List ℕ → List (List ℕ)
 elements_under path name =
-    if same path name then [] else elements (drop (if same path (slash ∷ []) then 1 else length path + 1) name)
+    if bytes_eq path name then [] else elements (drop (if bytes_eq path (slash ∷ []) then 1 else length path + 1) name)
 
 -- ---- what is reached
 

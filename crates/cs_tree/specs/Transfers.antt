@@ -1,6 +1,7 @@
 -- How reads and writes change what is told of a source and of a sink. Where nothing is told nothing is asked.
 -- docs/PROMISES.md, "Sources and sinks".
-use Rattle.std.specs.Prelude.{◌≡◌, ℕ, ◌+◌, ◌<◌, ◌≤◌, List, [], ◌++◌, length, take, Option, Some, None, Result, Ok, Err, MatchResult, Vec, Bool, true, false}
+use Rattle.std.specs.Prelude.{◌≡◌, ℕ, ◌+◌, ◌<◌, ◌≤◌, List, [], ◌++◌, length, take, Option, Some, None, Result, MatchResult, Vec, Bool, true, false}
+use Rattle.std.specs.Result.{result_map_both}
 use Rattle.std.specs.declared.alloc.Global.{Global}
 use Rattle.cs_tree.specs.declared.fault.IoFault.{IoFault}
 use Rattle.cs_tree.specs.declared.fault.IoFault.TheVariants.{Failed, Memory}
@@ -41,20 +42,14 @@ ReadGivesAll told later limit answer =
     MatchResult answer (λ bytes. Loses told later bytes × (length bytes ≤ limit → IsAt ends later))
     (λ fault. LosesAtMost (limit + 1) told later × FailsWithin limit fault told)
 
+-- the answer, with a vector as the list of its items
 abbrev pub items_of : Result (Vec ℕ Global) IoFault → Result (List ℕ) IoFault
-items_of (Ok v) = Ok v.items
-items_of (Err fault) = Err fault
+items_of answer = result_map_both (λ v. v.items) (λ fault. fault) answer
 
 -- A write takes a front of its bytes. A refused one takes none.
 abbrev pub Writes : Option Taken → Option Taken → Result ℕ IoFault → List ℕ → Type 0
 Writes taken later answer buf =
     MatchResult answer (λ n. Grows taken later (take n buf)) (λ fault. Grows taken later [])
-
--- All of the bytes are taken, and where the call was refused, a front of them.
-abbrev pub WritesFront : Option Taken → Option Taken → Result (Unit {0}) IoFault → List ℕ → Type 0
-WritesFront taken later answer bytes =
-    MatchResult answer (λ _. Grows taken later bytes)
-    (λ fault. (n : ℕ) × (n ≤ length bytes) × Grows taken later (take n bytes))
 
 -- A flush passes on all that was taken. A refused one passes on nothing.
 abbrev pub Flushes : {A E : Type 0} → Option Taken → Option Taken → Result A E → Type 0

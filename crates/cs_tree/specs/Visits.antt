@@ -1,12 +1,13 @@
 -- What a walk gathers on its way: from the paths that it has come to so far, on top of what it had.
-use Rattle.std.specs.Prelude.{◌≡◌, ◌≤◌, ℕ, Bool, true, false, not, ◌&&◌, ◌||◌, nat_le, if◌then◌else◌, List, [], ◌∷◌, map, filter, length, is_some, Option, Some, None, string_bytes}
-use Rattle.cs_tree.specs.Folders.{child, IsTree}
-use Rattle.std.specs.List.{list_any, AllByRecursion}
-use Rattle.cs_tree.specs.Cover.{same, covers}
+use Rattle.std.specs.Prelude.{◌≡◌, ◌≤◌, ℕ, Bool, true, false, not, ◌&&◌, ◌||◌, nat_le, if◌then◌else◌, List, [], ◌∷◌, map, filter, length, is_some, Option, Some, None, bytes_eq}
+use Rattle.cs_tree.specs.Folders.{child, names_listed, IsTree}
+use Rattle.std.specs.List.{AllByRecursion}
+use Rattle.cs_tree.specs.Cover.{covers}
 use Rattle.cs_tree.specs.Clean.{longest_path}
-use Rattle.cs_tree.specs.Snapshot.{Snapshot, Item, item_at, folder, file, cut, other, bad}
-use Rattle.cs_tree.specs.Reached.{elements_under, is_left_out, leads, reaches}
-use Rattle.cs_tree.specs.Walks.{Left, trouble_at, is_file, is_among, left_paths, names_walked, faults_walked, CountsFault, CountsFaults}
+use Rattle.cs_tree.specs.Snapshot.{Snapshot, item_at}
+use Rattle.cs_tree.specs.Trees.{listing_names}
+use Rattle.cs_tree.specs.Reached.{elements_under, is_left_out, leads}
+use Rattle.cs_tree.specs.Walks.{LeftPath, trouble_at, is_taken, is_among, left_paths, names_walked, faults_walked, CountsFault, CountsFaults}
 use Rattle.cs_tree.specs.declared.walking.Walked.{Walked}
 use Rattle.cs_tree.specs.declared.walking.WalkFault.{WalkFault}
 use Rattle.cs_tree.specs.declared.walking.WalkFault.TheVariants.{Unnamed}
@@ -19,13 +20,7 @@ use Rattle.cs_tree.specs.declared.walking.Sight.TheVariants as sight
 abbrev pub comes : Snapshot → List ℕ → List ℕ → Bool
 comes tree path name = covers path name && leads tree path (elements_under path name)
 
-abbrev pub reaches_by : Snapshot → List (List ℕ) → List ℕ → Bool
-reaches_by tree paths name = list_any (λ path. reaches tree path name) paths
-
--- whether a file stands at a path that is short enough
-abbrev pub is_taken : Snapshot → List ℕ → Bool
-is_taken tree path = nat_le (length path) longest_path && is_file (item_at tree path)
-
+-- whether a walk that comes to the path has to leave it
 abbrev pub is_left : Snapshot → List ℕ → Bool
 is_left tree path = is_some (trouble_at path (item_at tree path))
 
@@ -35,15 +30,15 @@ is_left tree path = is_some (trouble_at path (item_at tree path))
 abbrev pub Gains : List (List ℕ) → List (List ℕ) → (List ℕ → Bool) → Type 0
 Gains old new test = (name : List ℕ) → is_among new name ≡ (is_among old name || test name)
 
-abbrev pub AreRight : Snapshot → List Left → Type 0
-AreRight tree faults =
-    AllByRecursion (λ (left : Left). trouble_at left.0 (item_at tree left.0) ≡ Some left.1) faults
+abbrev pub AreTroublesOf : Snapshot → List LeftPath → Type 0
+AreTroublesOf tree faults =
+    AllByRecursion (λ (left : LeftPath). trouble_at left.0 (item_at tree left.0) ≡ Some left.1) faults
 
 pub record Gathers (tree : Snapshot) (come : List ℕ → Bool) (old new : Walked) : Type 0 where
   pub names : Gains (names_walked old) (names_walked new) (λ name. come name && is_taken tree name)
   pub paths : Gains (left_paths (faults_walked old)) (left_paths (faults_walked new))
       (λ path. come path && is_left tree path)
-  pub right : AreRight tree (faults_walked old) → AreRight tree (faults_walked new)
+  pub right : AreTroublesOf tree (faults_walked old) → AreTroublesOf tree (faults_walked new)
 
 abbrev pub GathersIn : Option Snapshot → (Snapshot → List ℕ → Bool) → Walked → Walked → Type 0
 GathersIn None come old new = Unit {0}
@@ -55,10 +50,6 @@ KeepsTo passes old new =
     (test : List ℕ → Bool) → ((name : List ℕ) → passes name ≡ true → test name ≡ true)
     → AllByRecursion (λ name. test name ≡ true) (names_walked old)
     → AllByRecursion (λ name. test name ≡ true) (names_walked new)
-
--- whether one of the paths covers the name
-abbrev pub covered_by : List (List ℕ) → List ℕ → Bool
-covered_by paths name = list_any (λ path. covers path name) paths
 
 -- where each fault was counted from a start on, each is still
 abbrev pub KeepsCounts : ℕ → ℕ → Walked → Walked → Type 0
@@ -80,29 +71,23 @@ fault_seen (sight.Folder listing) = if listing.unnamed then Some Unnamed else No
 fault_seen sight.Other = None
 fault_seen (sight.Left fault) = Some fault
 
+-- the names that were listed: none where no folder was seen
 abbrev pub names_seen : Sight → List (List ℕ)
 names_seen sight.File = []
-names_seen (sight.Folder listing) = map string_bytes listing.names.items
+names_seen (sight.Folder listing) = listing_names listing
 names_seen sight.Other = []
 names_seen (sight.Left fault) = []
 
-abbrev pub names_listed : Item → List (List ℕ)
-names_listed (folder names unnamed) = names
-names_listed (file bytes) = []
-names_listed (cut bytes) = []
-names_listed other = []
-names_listed (bad fault) = []
-
 -- what is seen is what stands there
-pub record Shows (tree : Snapshot) (path : List ℕ) (sight : Sight) : Type 0 where
+pub record IsSightOf (tree : Snapshot) (path : List ℕ) (sight : Sight) : Type 0 where
   pub file : is_file_seen sight ≡ is_taken tree path
   pub fault : fault_seen sight ≡ trouble_at path (item_at tree path)
   pub names : names_seen sight ≡
       (if nat_le (length path) longest_path then names_listed (item_at tree path) else [])
 
-abbrev pub ShowsIn : Option Snapshot → List ℕ → Sight → Type 0
-ShowsIn None path sight = Unit {0}
-ShowsIn (Some tree) path sight = Shows tree path sight
+abbrev pub IsSightIn : Option Snapshot → List ℕ → Sight → Type 0
+IsSightIn None path sight = Unit {0}
+IsSightIn (Some tree) path sight = IsSightOf tree path sight
 
 -- only a path that is short enough is entered
 abbrev pub IsEntered : List ℕ → Sight → Type 0
@@ -120,7 +105,7 @@ CountsSight (sight.Left fault) old new = CountsFault fault old new
 -- ---- where it goes on
 
 abbrev pub is_walked : List ℕ → Bool
-is_walked name = not (same name []) && not (is_left_out name)
+is_walked name = not (bytes_eq name []) && not (is_left_out name)
 
 -- the paths of what a folder lists, without what is left out
 abbrev pub children : List ℕ → List (List ℕ) → List (List ℕ)
@@ -130,6 +115,6 @@ abbrev pub named_if : Bool → List ℕ → List (List ℕ)
 named_if true path = path ∷ []
 named_if false path = []
 
-abbrev pub left_if : Option WalkFault → List ℕ → List Left
+abbrev pub left_if : Option WalkFault → List ℕ → List LeftPath
 left_if None path = []
 left_if (Some fault) path = (path, fault) ∷ []

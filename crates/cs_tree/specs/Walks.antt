@@ -1,6 +1,6 @@
 -- What a walk finds below its paths: the files that it comes to, and why other paths are left.
 -- docs/FORMAT.md, "Paths and names".
-use Rattle.std.specs.Prelude.{◌≡◌, ◌≤◌, ℕ, Bool, true, false, ◌&&◌, nat_le, if◌then◌else◌, List, [], ◌∷◌, map, length, Option, Some, None, String, string_bytes}
+use Rattle.std.specs.Prelude.{◌≡◌, ◌≤◌, ℕ, Bool, true, false, ◌&&◌, nat_le, if◌then◌else◌, List, [], ◌∷◌, map, length, Option, Some, None, String, string_bytes, bytes_eq}
 use Rattle.cs_tree.specs.FailureCount.{HasFailed}
 use Rattle.cs_tree.specs.TreeAnswers.{fault_of}
 use Rattle.cs_tree.specs.Folders.{child, lists, IsTree, last_element}
@@ -9,7 +9,6 @@ use Rattle.cs_tree.specs.NamesAscending.{are_ascending}
 use Rattle.std.specs.List.{AllByRecursion}
 use Rattle.std.specs.declared.alloc.Global.{Global}
 use Rattle.cs_tree.specs.PathSet as set
-use Rattle.cs_tree.specs.Cover.{same}
 pub use Rattle.cs_tree.specs.Cover.{is_among}
 use Rattle.cs_tree.specs.Clean.{longest_path}
 use Rattle.cs_tree.specs.Snapshot.{Snapshot, Item, item_at, folder, file, cut, other, bad}
@@ -50,10 +49,13 @@ is_file (cut bytes) = true
 is_file other = false
 is_file (bad fault) = false
 
+-- whether a file stands at a path that is short enough
+abbrev pub is_taken : Snapshot → List ℕ → Bool
+is_taken tree path = nat_le (length path) longest_path && is_file (item_at tree path)
+
 -- whether a walk from the paths finds the name: it comes to it, and a file stands there
 abbrev pub is_found : Snapshot → Paths → List ℕ → Bool
-is_found tree paths name =
-    is_reached tree paths name && (nat_le (length name) longest_path && is_file (item_at tree name))
+is_found tree paths name = is_reached tree paths name && is_taken tree name
 
 -- why a walk from the paths leaves the path, if it comes to it and has to leave it
 abbrev pub fault_at : Snapshot → Paths → List ℕ → Option WalkFault
@@ -62,27 +64,27 @@ fault_at tree paths path = if is_reached tree paths path then trouble_at path (i
 -- ---- lists of what was found
 
 -- a path, and why it is left
-abbrev pub Left : Type 0
-Left = List ℕ × WalkFault
+abbrev pub LeftPath : Type 0
+LeftPath = List ℕ × WalkFault
 
 -- why the path is left, by the first entry that has it
-abbrev pub fault_among : List Left → List ℕ → Option WalkFault
+abbrev pub fault_among : List LeftPath → List ℕ → Option WalkFault
 fault_among [] path = None
-fault_among (left ∷ faults) path = if same left.0 path then Some left.1 else fault_among faults path
+fault_among (left ∷ faults) path = if bytes_eq left.0 path then Some left.1 else fault_among faults path
 
-abbrev pub left_paths : List Left → List (List ℕ)
-left_paths faults = map (λ (left : Left). left.0) faults
+abbrev pub left_paths : List LeftPath → List (List ℕ)
+left_paths faults = map (λ (left : LeftPath). left.0) faults
 
 -- The names are those that a walk finds, and the faults those of the paths that it leaves, each once
 -- and in order.
-pub record Finds (tree : Snapshot) (paths : Paths) (names : List (List ℕ)) (faults : List Left) : Type 0 where
+pub record Finds (tree : Snapshot) (paths : Paths) (names : List (List ℕ)) (faults : List LeftPath) : Type 0 where
   pub names_ascend : are_ascending names ≡ true
   pub names_are : (name : List ℕ) → is_among names name ≡ is_found tree paths name
   pub faults_ascend : are_ascending (left_paths faults) ≡ true
   pub faults_are : (path : List ℕ) → fault_among faults path ≡ fault_at tree paths path
 
 -- Where a tree tells nothing, nothing is asked.
-abbrev pub FindsIn : Option Snapshot → Paths → List (List ℕ) → List Left → Type 0
+abbrev pub FindsIn : Option Snapshot → Paths → List (List ℕ) → List LeftPath → Type 0
 FindsIn None paths names faults = Unit {0}
 FindsIn (Some tree) paths names faults = IsTree tree → Finds tree paths names faults
 
@@ -94,16 +96,16 @@ CountsFault (Tree fault) old new = HasFailed old new
 CountsFault Unnamed old new = Unit {0}
 CountsFault TooLong old new = Unit {0}
 
-abbrev pub CountsFaults : List Left → ℕ → ℕ → Type 0
-CountsFaults faults old new = AllByRecursion (λ (left : Left). CountsFault left.1 old new) faults
+abbrev pub CountsFaults : List LeftPath → ℕ → ℕ → Type 0
+CountsFaults faults old new = AllByRecursion (λ (left : LeftPath). CountsFault left.1 old new) faults
 
 -- ---- what the code has found
 
-abbrev pub left_entry : String Global × WalkFault → Left
+abbrev pub left_entry : String Global × WalkFault → LeftPath
 left_entry entry = (string_bytes entry.0, entry.1)
 
 abbrev pub names_walked : Walked → List (List ℕ)
 names_walked walked = map string_bytes walked.names.items
 
-abbrev pub faults_walked : Walked → List Left
+abbrev pub faults_walked : Walked → List LeftPath
 faults_walked walked = map left_entry walked.faults.items

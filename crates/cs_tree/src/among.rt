@@ -1,18 +1,17 @@
 // What a path is among paths that ascend: what covers it is searched among its fronts.
-ghost use Rattle.std.specs.Prelude.{◌≡◌, ◌∷◌, [], ◌&&◌, not, map};
+ghost use Rattle.std.specs.Prelude.{◌≡◌, ◌∷◌, [], true, ◌&&◌, not, map, bytes_eq};
+ghost use Rattle.std.specs.Path.{slash};
 ghost use Rattle.std.specs.List.{list_any};
-ghost use Rattle.std.specs.List.Sorted.{IsStrictlySortedBy};
-ghost use Rattle.cs_tree.specs.NameOrder.{bytes_cmp};
+ghost use Rattle.cs_tree.specs.NamesAscending.{are_ascending};
 ghost use Rattle.cs_tree.specs.PathSet as set;
-ghost use Rattle.cs_tree.specs.Cover.{begins, is_alone as is_alone', is_among, is_covered as is_covered', same, slash};
-ghost use Rattle.cs_tree.specs.Below.{lies_below};
+ghost use Rattle.cs_tree.specs.Cover.{begins, lies_below, is_alone as is_alone', is_among, is_covered as is_covered'};
 
 use crate::paths::is_absolute;
 use std::convert::AsStr;
 
 /// Whether no other one of the paths, which ascend, covers the path. Takes no memory.
 pub fn is_alone<P: AsStr>(paths: &[P], path: &str) -> bool
-    requires { IsStrictlySortedBy bytes_cmp (map P.text paths.now) }
+    requires { are_ascending (map P.text paths.now) ≡ true }
     ensures { result ≡ is_alone' (map P.text paths.now) path.now }
 {
     if is_below_one(paths, path) {
@@ -26,7 +25,7 @@ pub fn is_alone<P: AsStr>(paths: &[P], path: &str) -> bool
 
 /// Whether some of the paths, which ascend, covers the name. Takes no memory.
 pub fn is_covered<P: AsStr>(paths: &[P], name: &str) -> bool
-    requires { IsStrictlySortedBy bytes_cmp (map P.text paths.now) }
+    requires { are_ascending (map P.text paths.now) ≡ true }
     ensures { result ≡ is_covered' (set.from_list (map P.text paths.now)) name.now }
 {
     if is_listed(paths, name) {
@@ -40,14 +39,14 @@ pub fn is_covered<P: AsStr>(paths: &[P], name: &str) -> bool
 
 /// Whether the path begins with a slash and goes on.
 fn is_below_root(path: &str) -> bool
-    ensures { result ≡ (begins (slash ∷ []) path.now && not (same path.now (slash ∷ []))) }
+    ensures { result ≡ (begins (slash ∷ []) path.now && not (bytes_eq path.now (slash ∷ []))) }
 {
     is_absolute(path) && path != "/"
 }
 
 /// Whether the path goes on by a slash after one of the paths.
 fn is_below_one<P: AsStr>(paths: &[P], path: &str) -> bool
-    requires { IsStrictlySortedBy bytes_cmp (map P.text paths.now) }
+    requires { are_ascending (map P.text paths.now) ≡ true }
     ensures { result ≡ list_any (lies_below path.now) (map P.text paths.now) }
 {
     // Paths between a path and the one that covers it may be others: `/a`, `/a-b`, `/a/b`.
@@ -63,7 +62,7 @@ fn is_below_one<P: AsStr>(paths: &[P], path: &str) -> bool
 
 /// Whether the path is one of the paths.
 fn is_listed<P: AsStr>(paths: &[P], path: &str) -> bool
-    requires { IsStrictlySortedBy bytes_cmp (map P.text paths.now) }
+    requires { are_ascending (map P.text paths.now) ≡ true }
     ensures { result ≡ is_among (map P.text paths.now) path.now }
 {
     let found = paths.binary_search_by(|one| one.as_str().cmp(&path));

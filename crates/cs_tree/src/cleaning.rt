@@ -1,7 +1,8 @@
 // Paths made absolute and clean.
 ghost use Rattle.std.specs.Prelude.{◌≡◌, ◌≤◌, ◌↔◌, ◌||◌, ◌∷◌, [], true, false, IsTrue, reverse, map, string_bytes, length, vec_len, OnOk, OnErr, IfOk};
+ghost use Rattle.std.specs.Path.{slash};
 ghost use Rattle.cs_tree.specs.CleanAnswers.{CleanAnswers};
-ghost use Rattle.cs_tree.specs.Cover.{begins, slash};
+ghost use Rattle.cs_tree.specs.Cover.{begins};
 ghost use Rattle.cs_tree.specs.Clean.{absolute, clean_path, elements, with_element, steps, path_of, longest_path, has_nul as has_nul'};
 ghost use Rattle.cs_tree.specs.Cleaning.{clean_fault, is_settled as is_settled'};
 ghost use Rattle.cs_tree.specs.PathParts.{parts_fault, parts_path, texts};

@@ -4,7 +4,7 @@ ghost use Rattle.std.specs.IoError.{error_kind};
 ghost use Rattle.std.specs.List.{list_all};
 ghost use Rattle.cs_tree.specs.Folders.{is_element as is_element', are_elements};
 ghost use Rattle.cs_tree.specs.FailureCount.{count_after};
-ghost use Rattle.cs_tree.specs.Trees.{is_tree_failure, names_told, IsReadFault};
+ghost use Rattle.cs_tree.specs.Trees.{is_tree_failure, listing_names, IsReadFault};
 
 use crate::again::{gave_up, is_interrupted, read_again};
 use crate::disk_store::DiskStore;
@@ -185,7 +185,7 @@ fn list_folder<R: Files + AllocGlobal + Clone + Drop>(
     rt: &R,
     path: &str,
 ) -> io::Result<Listing>
-    ensures names { IfOk result (λ listing. are_elements (names_told listing) ≡ true) }
+    ensures names { IfOk result (λ listing. are_elements (listing_names listing) ≡ true) }
     ensures again { IfErr result (λ error. error_kind error ≢ ErrorKind.Interrupted) }
 {
     'tries: for _ in 0..u64::MAX {
@@ -202,7 +202,7 @@ fn list_once<R: Files + AllocGlobal + Clone + Drop>(
     rt: &R,
     path: &str,
 ) -> io::Result<Listing>
-    ensures { IfOk result (λ listing. are_elements (names_told listing) ≡ true) }
+    ensures { IfOk result (λ listing. are_elements (listing_names listing) ≡ true) }
 {
     let mut listing = Listing {
         names: Vec::new(alloc),
@@ -222,8 +222,8 @@ fn list_entry<R: Files + AllocGlobal + Clone + Drop>(
     listing: &mut Listing,
     entry: io::Result<DirEntry<R, Global>>,
 ) -> io::Result<()>
-    requires { list_all is_element' (names_told listing.old) ≡ true }
-    ensures { OnOk result (list_all is_element' (names_told listing.new) ≡ true) }
+    requires { list_all is_element' (listing_names listing.old) ≡ true }
+    ensures { OnOk result (list_all is_element' (listing_names listing.new) ≡ true) }
 {
     match entry {
         Ok(entry) if is_element(entry.file_name()) => {

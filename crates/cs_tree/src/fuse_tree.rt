@@ -3,7 +3,7 @@ ghost use Rattle.std.specs.Prelude.{◌≡◌, ◌≢◌, ◌≤◌, ◌-◌, �
 ghost use Rattle.cs_tree.specs.FailureCount.{count_after};
 ghost use Rattle.cs_tree.specs.Folders.{are_elements};
 ghost use Rattle.cs_tree.specs.Fuses.{Blows, calls_left, inner_tree};
-ghost use Rattle.cs_tree.specs.Trees.{Answers, Opens, TreeReadGives, IsReadFault, is_tree_failure, kind_of, listing_of, listing_told, names_told};
+ghost use Rattle.cs_tree.specs.Trees.{Answers, OpensFile, TreeReadGives, IsReadFault, is_tree_failure, kind_of, listing_of, listing_value, listing_names};
 
 use crate::fault::{TreeFault, counted_answer};
 use crate::tree::{Kind, Listing, Tree};
@@ -65,8 +65,8 @@ impl<T: Tree + Drop> Tree for FuseTree<T> {
 
     fn entries(&mut self, alloc: Global, path: &str) -> Result<Listing, TreeFault>
         ensures blows { Blows self.old self.new result
-            (Answers listing_told (T.snapshot (inner_tree self.old)) listing_of path.now result) }
-        ensures names { IfOk result (λ listing. are_elements (names_told listing) ≡ true) }
+            (Answers listing_value (T.snapshot (inner_tree self.old)) listing_of path.now result) }
+        ensures names { IfOk result (λ listing. are_elements (listing_names listing) ≡ true) }
         ensures left { calls_left self.new ≡ calls_left self.old - 1 }
         ensures failed { ⟦<FuseTree<T> as Tree>⟧.failed self.new
             ≡ count_after is_tree_failure result (⟦<FuseTree<T> as Tree>⟧.failed self.old) }
@@ -81,7 +81,7 @@ impl<T: Tree + Drop> Tree for FuseTree<T> {
 
     fn open(&mut self, path: &str) -> Result<(), TreeFault>
         ensures blows { Blows self.old self.new result
-            (Opens (T.snapshot (inner_tree self.old)) path.now result
+            (OpensFile (T.snapshot (inner_tree self.old)) path.now result
             (T.opened (inner_tree self.new))) }
         ensures left { calls_left self.new ≡ calls_left self.old - 1 }
         ensures failed { ⟦<FuseTree<T> as Tree>⟧.failed self.new

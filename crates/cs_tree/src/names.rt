@@ -1,18 +1,19 @@
 // The names that a folder in memory lists.
-ghost use Rattle.std.specs.Prelude.{◌≡◌, ◌++◌, [], ◌∷◌, true, not, map, filter, string_bytes, length, nat_eq, OnOk, OnErr, IfOk, if◌then◌else◌};
+ghost use Rattle.std.specs.Prelude.{◌≡◌, ◌++◌, [], ◌∷◌, true, not, map, filter, string_bytes, length, nat_eq, OnOk, OnErr, IfOk, if◌then◌else◌, bytes_eq};
+ghost use Rattle.std.specs.Path.{slash};
 ghost use Rattle.cs_tree.specs.Folders.{is_element};
 ghost use Rattle.std.specs.List.{list_any};
-ghost use Rattle.cs_tree.specs.Cover.{same, begins, slash};
+ghost use Rattle.cs_tree.specs.Cover.{begins};
 ghost use Rattle.cs_tree.specs.Changes.{names_with, names_left};
-ghost use Rattle.cs_tree.specs.MemoryItems.{listed_names};
+ghost use Rattle.cs_tree.specs.MemoryItems.{stored_names};
 
+use crate::in_memory::Names;
 use crate::paths::{covers, is_child};
-use crate::stored::Names;
 use std::alloc::{AllocError, Global};
 
 impl Names {
     pub(crate) fn new(alloc: Global) -> Names
-        ensures { listed_names result ≡ [] }
+        ensures { stored_names result ≡ [] }
     {
         Names {
             list: Vec::new(alloc),
@@ -20,14 +21,14 @@ impl Names {
     }
 
     pub(crate) fn is_empty(&self) -> bool
-        ensures { result ≡ nat_eq (length (listed_names self.now)) 0 }
+        ensures { result ≡ nat_eq (length (stored_names self.now)) 0 }
     {
         self.list.is_empty()
     }
 
     fn lists(&self, name: &str) -> bool
         ensures { result
-            ≡ list_any (λ listed. same (string_bytes listed) name.now) self.now.list.items }
+            ≡ list_any (λ listed. bytes_eq (string_bytes listed) name.now) self.now.list.items }
     {
         self.list.iter().any(|listed| listed.as_str() == name)
     }
@@ -35,9 +36,9 @@ impl Names {
     /// Lists the name, unless it does already.
     pub(crate) fn add(&mut self, alloc: Global, name: &str) -> Result<(), AllocError>
         requires { is_element name.now ≡ true }
-        ensures ok { OnOk result (listed_names self.new
-            ≡ names_with name.now (listed_names self.old)) }
-        ensures err { OnErr result (listed_names self.new ≡ listed_names self.old) }
+        ensures ok { OnOk result (stored_names self.new
+            ≡ names_with name.now (stored_names self.old)) }
+        ensures err { OnErr result (stored_names self.new ≡ stored_names self.old) }
     {
         if self.lists(name) {
             return Ok(());
@@ -50,8 +51,8 @@ impl Names {
     /// Takes away each name under which the folder lists what the path covers.
     pub(crate) fn remove(&mut self, folder: &str, path: &str)
         requires { begins (slash ∷ []) folder.now ≡ true }
-        ensures { listed_names self.new
-            ≡ names_left path.now folder.now (listed_names self.old) }
+        ensures { stored_names self.new
+            ≡ names_left path.now folder.now (stored_names self.old) }
     {
         if covers(path, folder) {
             self.list.clear();
@@ -63,7 +64,7 @@ impl Names {
 
     /// The names, in their order.
     pub(crate) fn copy(&self, alloc: Global) -> Result<Vec<String>, AllocError>
-        ensures { IfOk result (λ names. map string_bytes names.items ≡ listed_names self.now) }
+        ensures { IfOk result (λ names. map string_bytes names.items ≡ stored_names self.now) }
     {
         let mut names = Vec::new(alloc);
         for name in &self.list {

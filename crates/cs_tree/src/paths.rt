@@ -1,9 +1,10 @@
 // What a path covers, and the elements of a path.
-ghost use Rattle.std.specs.Prelude.{◌≡◌, ◌≢◌, ◌++◌, ◌∷◌, [], true, false, MatchOption, IsTrue, ◌↔◌, List, ℕ, length, ◌<◌, ◌&&◌, not, nat_eq};
+ghost use Rattle.std.specs.Prelude.{◌≡◌, ◌≢◌, ◌++◌, ◌∷◌, [], true, false, MatchOption, IsTrue, ◌↔◌, List, ℕ, length, ◌<◌, ◌&&◌, not, nat_eq, bytes_eq};
+ghost use Rattle.std.specs.Path.{slash};
 ghost use Rattle.cs_tree.specs.Below.{ends_element as ends_element'};
 ghost use Rattle.cs_tree.specs.Folders.{stem_of, child, last_element, is_element as is_element'};
 ghost use Rattle.std.specs.List.{list_any};
-ghost use Rattle.cs_tree.specs.Cover.{covers as covers', same, begins, slash};
+ghost use Rattle.cs_tree.specs.Cover.{covers as covers', begins};
 ghost use Rattle.cs_tree.specs.Changes.{parent_of};
 ghost use Rattle.cs_tree.specs.Clean.{is_clean as is_clean', has_nul as has_nul'};
 ghost use Rattle.cs_tree.specs.Proper.{is_proper as is_proper', is_proper_path as is_proper_path'};
@@ -31,7 +32,7 @@ fn ends_element(rest: &[u8]) -> bool
 
 /// Whether the path is that of what the folder lists under the name.
 pub(crate) fn is_child(path: &str, folder: &str, name: &str) -> bool
-    ensures { result ≡ same (child folder.now name.now) path.now }
+    ensures { result ≡ bytes_eq (child folder.now name.now) path.now }
 {
     let Some(rest) = after_folder(path, folder) else {
         return false;

@@ -1,7 +1,6 @@
 // Which of some paths are left when those that others cover are taken away.
-ghost use Rattle.std.specs.Prelude.{◌≡◌, map, filter, string_bytes, IfOk};
-ghost use Rattle.cs_tree.specs.NameOrder.{bytes_cmp};
-ghost use Rattle.std.specs.List.Sorted.{IsStrictlySortedBy};
+ghost use Rattle.std.specs.Prelude.{◌≡◌, true, map, filter, string_bytes, IfOk};
+ghost use Rattle.cs_tree.specs.NamesAscending.{are_ascending};
 ghost use Rattle.cs_tree.specs.Cover.{is_alone as is_alone'};
 ghost use Rattle.cs_tree.specs.LeastPaths.{least_of};
 ghost use Rattle.cs_tree.specs.PathParts.{texts};
@@ -44,7 +43,7 @@ fn texts_of(alloc: Global, paths: &[String]) -> Result<Vec<&str>, AllocError>
 
 /// Those of the paths that no other one covers.
 fn paths_alone(alloc: Global, ordered: &[&str]) -> Result<Vec<String>, AllocError>
-    requires { IsStrictlySortedBy bytes_cmp (texts ordered.now) }
+    requires { are_ascending (texts ordered.now) ≡ true }
     ensures { IfOk result (λ kept. map string_bytes kept.items
         ≡ filter (is_alone' (texts ordered.now)) (texts ordered.now)) }
 {

@@ -26,7 +26,7 @@ pub(crate) fn counted_read(failed: &mut u64, answer: io::Result<usize>) -> Resul
 #[derive(Drop)]
 pub struct StdSource<R: Drop> {
     inner: R,
-    failed: u64,
+    read_failures: u64,
 }
 
 impl<R: Read + Drop> StdSource<R> {
@@ -34,12 +34,15 @@ impl<R: Read + Drop> StdSource<R> {
     pub fn new(inner: R) -> StdSource<R>
         ensures { ⟦<StdSource<R> as Source>⟧.failed result ≡ 0 }
     {
-        StdSource { inner, failed: 0 }
+        StdSource {
+            inner,
+            read_failures: 0,
+        }
     }
 }
 
 impl<R: Read + Drop> Source for StdSource<R> {
-    ghost failed = { λ s. s.failed };
+    ghost failed = { λ s. s.read_failures };
 
     ghost keeps_itself = { λ _. tt };
 
@@ -52,11 +55,11 @@ impl<R: Read + Drop> Source for StdSource<R> {
         ensures no_memory { result ≢ Err IoFault.Memory }
     {
         let answer = read_again(&mut self.inner, buf);
-        counted_read(&mut self.failed, answer)
+        counted_read(&mut self.read_failures, answer)
     }
 
     fn failures(&self) -> u64 {
-        self.failed
+        self.read_failures
     }
 }
 

@@ -1,15 +1,15 @@
 // What stands below paths.
-ghost use Rattle.std.specs.Prelude.{◌≡◌, ◌≢◌, ◌≤◌, ◌++◌, ℕ, List, true, map, string_bytes, OnOk, IfOk, MatchResult, Contains, ◌<◌, ◌^◌, length};
+ghost use Rattle.std.specs.Prelude.{◌≡◌, ◌≢◌, ◌≤◌, ◌++◌, ℕ, List, true, map, string_bytes, OnOk, IfOk, MatchResult, Contains, ◌<◌, ◌^◌, length, nat_eq, codes};
 ghost use Rattle.cs_tree.specs.Folders.{child, last_element as last_element'};
 ghost use Rattle.cs_tree.specs.Clean.{longest_path};
 ghost use Rattle.cs_tree.specs.NamesAscending.{are_ascending};
 ghost use Rattle.cs_tree.specs.Trees.{AsksWithin};
 ghost use Rattle.cs_tree.specs.PathSet as set;
-ghost use Rattle.cs_tree.specs.Reached.{reaches, is_left_out as is_left_out', ends_in_tilde as ends_in_tilde'};
-ghost use Rattle.cs_tree.specs.Walks.{FindsIn, Left, CountsFaults, is_among, left_entry, left_paths, names_walked, faults_walked};
-ghost use Rattle.std.specs.List.{AllByRecursion};
+ghost use Rattle.cs_tree.specs.Reached.{reaches, is_reached, is_left_out as is_left_out'};
+ghost use Rattle.cs_tree.specs.Walks.{FindsIn, LeftPath, CountsFaults, is_among, left_entry, left_paths, names_walked, faults_walked};
+ghost use Rattle.std.specs.List.{AllByRecursion, ends_with};
 ghost use Rattle.cs_tree.specs.Cover.{covers, is_covered};
-ghost use Rattle.cs_tree.specs.Visits.{covered_by, GathersIn, KeepsCounts, KeepsTo, ShowsIn, CountsSight, IsEntered, comes, reaches_by, is_file_seen, fault_seen, names_seen, children, named_if, left_if, is_walked as is_walked'};
+ghost use Rattle.cs_tree.specs.Visits.{GathersIn, KeepsCounts, KeepsTo, IsSightIn, CountsSight, IsEntered, comes, is_file_seen, fault_seen, names_seen, children, named_if, left_if, is_walked as is_walked'};
 
 use crate::cleaning::LONGEST_PATH;
 use crate::fault::TreeFault;
@@ -86,9 +86,10 @@ fn visit_all<T: Tree>(
     walked: &mut Walked,
 ) -> Result<(), AllocError>
     ensures gathers { OnOk result (GathersIn (T.snapshot tree.old)
-        (λ told. reaches_by told (map string_bytes paths.now)) walked.old walked.new) }
+        (λ told. is_reached told (set.from_list (map string_bytes paths.now)))
+        walked.old walked.new) }
     ensures under { OnOk result
-        (KeepsTo (covered_by (map string_bytes paths.now)) walked.old walked.new) }
+        (KeepsTo (is_covered (set.from_list (map string_bytes paths.now))) walked.old walked.new) }
     ensures counted { OnOk result
         (KeepsCounts (T.failed tree.old) (T.failed tree.new) walked.old walked.new) }
     ensures rises { T.failed tree.old ≤ T.failed tree.new }
@@ -151,7 +152,7 @@ fn visit<T: Tree>(
 
 /// Looks at what stands at a path, once. A folder's names are listed, once.
 fn look<T: Tree>(alloc: Global, tree: &mut T, path: &str) -> Result<Sight, AllocError>
-    ensures shows { IfOk result (λ sight. ShowsIn (T.snapshot tree.old) path.now sight) }
+    ensures shows { IfOk result (λ sight. IsSightIn (T.snapshot tree.old) path.now sight) }
     ensures entered { IfOk result (λ sight. IsEntered path.now sight) }
     ensures counted { IfOk result
         (λ sight. CountsSight sight (T.failed tree.old) (T.failed tree.new)) }
@@ -229,7 +230,8 @@ fn wait_for_children(
 ) -> Result<(), AllocError>
     ensures waiting { OnOk result (map string_bytes waiting.new.items
         ≡ map string_bytes waiting.old.items ++ children folder.now (map string_bytes names.now)) }
-    ensures bound { OnOk result (length (children folder.now (map string_bytes names.now)) < 2 ^ 64) }
+    ensures bound { OnOk result
+        (length (children folder.now (map string_bytes names.now)) < 2 ^ 64) }
 {
     'names: for name in names {
         if is_walked(name.as_str()) {
@@ -271,7 +273,7 @@ fn is_left_out(name: &str) -> bool
 }
 
 fn ends_in_tilde(name: &str) -> bool
-    ensures { result ≡ ends_in_tilde' name.now }
+    ensures { result ≡ ends_with nat_eq name.now (codes "~") }
 {
     match name.as_bytes().last() {
         Some(byte) => *byte == b'~',
@@ -294,7 +296,7 @@ fn order_faults(faults: &mut Vec<(String, WalkFault)>)
     ensures ascend { are_ascending (left_paths (map left_entry faults.new.items)) ≡ true }
     ensures same { (path : List ℕ) → is_among (left_paths (map left_entry faults.new.items)) path
         ≡ is_among (left_paths (map left_entry faults.old.items)) path }
-    ensures kept { (left : Left) → Contains (map left_entry faults.new.items) left
+    ensures kept { (left : LeftPath) → Contains (map left_entry faults.new.items) left
         → Contains (map left_entry faults.old.items) left }
 {
     faults.sort_unstable_by(|a, b| a.0.cmp(&b.0));

@@ -1,16 +1,16 @@
 -- Affixes of concatenated texts, and of trees.
 use Rattle.std.proofs.Common.{◌≡◌, ℕ, zero, suc, ◌+◌, ◌-◌, ◌<◌, ◌≤◌, ◌⊎◌, inl, inr, not, true, false, List, [], ◌∷◌, ◌++◌, take, drop, length, get_or, refl, sym, ◌∙◌, ap, subst, arith, append_assoc, drop-cons, drop_of_length-le}
-use Rattle.std.specs.Prelude.{Option}
+use Rattle.std.specs.Prelude.{Option, slice_range}
 use Rattle.std.specs.List.{list_all}
 use Rattle.std.proofs.lemmas.Bool.{and_parts, not-true}
 use Rattle.std.proofs.lemmas.List.{append-nil, take-append-drop}
 use Rattle.cs_syntax.specs.Matching.{Tree, Trees, empty, one_of, one_char, cat, alt, rep, line_start, line_end, word_edge, not_word_edge, none, more, Chain, Takes, TakesAll, TakesSome}
-use Rattle.cs_trigram.specs.Affixes.{part, concatenation, near_part, HasAffix, HasSomeAffix, AreAffixes, AreAffixesOfAll}
+use Rattle.cs_trigram.specs.Affixes.{concatenation, near_part, HasAffix, HasSomeAffix, AreAffixes, AreAffixesOfAll}
 use Rattle.cs_trigram.specs.ShortWord.{bytes_of}
 use Rattle.cs_trigram.specs.declared.affixes.Side.{Side}
 use Rattle.cs_trigram.specs.declared.affixes.Side.TheVariants.{Prefix, Suffix}
 use Rattle.cs_trigram.specs.declared.affixes.Affix.{Affix}
-use Rattle.cs_trigram.proofs.SpellingLemmas.{part_split, part_empty}
+use Rattle.cs_trigram.proofs.TreeWordLemmas.{part_split, part_empty}
 
 pub concatenation-assoc : (side : Side) (a b c : List ℕ) → concatenation side (concatenation side a b) c ≡ concatenation side a (concatenation side b c)
 concatenation-assoc Prefix a b c = append_assoc a b c
@@ -130,7 +130,7 @@ module _ (s : List ℕ) where
 
 -- a sequence from its front, and from its back
 pub affixes_none : (side : Side) (affixes : List Affix) → HasSomeAffix side affixes [] → AreAffixesOfAll side affixes none
-affixes_none side affixes h = λ s i j e. subst (HasSomeAffix side affixes) (sym (part_empty s i) ∙ ap (part s i) e) h
+affixes_none side affixes h = λ s i j e. subst (HasSomeAffix side affixes) (sym (part_empty s i) ∙ ap (slice_range s i) e) h
 
 -- one tree more in front of a sequence
 pub affixes_before : (side : Side) (fronts backs affixes : List Affix) (t : Tree) (ts : Trees) →
@@ -138,11 +138,11 @@ pub affixes_before : (side : Side) (fronts backs affixes : List Affix) (t : Tree
     AreAffixes side fronts t → AreAffixesOfAll side backs ts → AreAffixesOfAll side affixes (more t ts)
 affixes_before side fronts backs affixes t ts both a b = λ s i j h.
     subst (HasSomeAffix side affixes) (sym (part_split s i h.0 j (rises s t i h.0 h.1) (rises_all s ts h.0 j h.2)))
-    (both (part s i h.0) (part s h.0 j) (a s i h.0 h.1) (b s h.0 j h.2))
+    (both (slice_range s i h.0) (slice_range s h.0 j) (a s i h.0 h.1) (b s h.0 j h.2))
 
 -- rounds
 abbrev pub AreAffixesOfRounds : Side → List Affix → Tree → ℕ → Type 0
-AreAffixesOfRounds side affixes t n = (s : List ℕ) (k i j : ℕ) → n ≤ k → Chain (Takes s t) k i j → HasSomeAffix side affixes (part s i j)
+AreAffixesOfRounds side affixes t n = (s : List ℕ) (k i j : ℕ) → n ≤ k → Chain (Takes s t) k i j → HasSomeAffix side affixes (slice_range s i j)
 
 chain_last : (R : ℕ → ℕ → Type 0) (k i j : ℕ) → Chain R (suc k) i j → (l : ℕ) × Chain R k i l × R l j
 chain_last R zero i j c = (i, refl, subst (R i) c.2 c.1)
@@ -154,15 +154,15 @@ pub round_more : (side : Side) (once fars affixes : List Affix) (t : Tree) (n : 
 round_more side once fars affixes t n both a b = λ s k i j le c. by side both a b s k i j le c
   where
     by : (side : Side) → ((u v : List ℕ) → HasSomeAffix side once u → HasSomeAffix side fars v → HasSomeAffix side affixes (concatenation side u v)) →
-        AreAffixes side once t → AreAffixesOfRounds side fars t n → (s : List ℕ) (k i j : ℕ) → n + 1 ≤ k → Chain (Takes s t) k i j → HasSomeAffix side affixes (part s i j)
+        AreAffixes side once t → AreAffixesOfRounds side fars t n → (s : List ℕ) (k i j : ℕ) → n + 1 ≤ k → Chain (Takes s t) k i j → HasSomeAffix side affixes (slice_range s i j)
     by side both a b s zero i j le c = absurd (omega arith)
     by Prefix both a b s (suc k) i j le c =
         subst (HasSomeAffix Prefix affixes) (sym (part_split s i c.0 j (rises s t i c.0 c.1) (chain_rises (Takes s t) (rises s t) k c.0 j c.2)))
-        (both (part s i c.0) (part s c.0 j) (a s i c.0 c.1) (b s k c.0 j (omega arith) c.2))
+        (both (slice_range s i c.0) (slice_range s c.0 j) (a s i c.0 c.1) (b s k c.0 j (omega arith) c.2))
     by Suffix both a b s (suc k) i j le c =
         let r = chain_last (Takes s t) k i j c in
         subst (HasSomeAffix Suffix affixes) (sym (part_split s i r.0 j (chain_rises (Takes s t) (rises s t) k i r.0 r.1) (rises s t r.0 j r.2)))
-        (both (part s r.0 j) (part s i r.0) (a s r.0 j r.2) (b s k i r.0 (omega arith) r.1))
+        (both (slice_range s r.0 j) (slice_range s i r.0) (a s r.0 j r.2) (b s k i r.0 (omega arith) r.1))
 
 -- any number of rounds: none, or one and anything
 pub rounds_any : (side : Side) (once any loose affixes : List Affix) (t : Tree) → ((text : List ℕ) → HasSomeAffix side any text) →
@@ -171,10 +171,10 @@ pub rounds_any : (side : Side) (once any loose affixes : List Affix) (t : Tree) 
     AreAffixes side once t → AreAffixesOfRounds side affixes t 0
 rounds_any side once any loose affixes t all both none_fits keep a = λ s k i j le c. by s k i j c
   where
-    by : (s : List ℕ) (k i j : ℕ) → Chain (Takes s t) k i j → HasSomeAffix side affixes (part s i j)
-    by s zero i j c = subst (HasSomeAffix side affixes) (sym (part_empty s i) ∙ ap (part s i) c) none_fits
+    by : (s : List ℕ) (k i j : ℕ) → Chain (Takes s t) k i j → HasSomeAffix side affixes (slice_range s i j)
+    by s zero i j c = subst (HasSomeAffix side affixes) (sym (part_empty s i) ∙ ap (slice_range s i) c) none_fits
     by s (suc k) i j c =
-        keep (part s i j) (round_more side once any loose t 0 both a (λ r l x y le d. all (part r x y)) s (suc k) i j (omega arith) c)
+        keep (slice_range s i j) (round_more side once any loose t 0 both a (λ r l x y le d. all (slice_range r x y)) s (suc k) i j (omega arith) c)
 
 pub affixes_rounds : (side : Side) (affixes : List Affix) (t : Tree) (n least : ℕ) (m : Option ℕ) → n ≤ least → AreAffixesOfRounds side affixes t n → AreAffixes side affixes (rep t least m)
 affixes_rounds side affixes t n least m le r = λ s i j h. r s h.0 i j (omega (arith, h.1, le)) h.3

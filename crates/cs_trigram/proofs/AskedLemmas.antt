@@ -1,36 +1,35 @@
 -- What a sequence asks, part by part from the last to the first.
 use Rattle.std.proofs.Common.{◌≡◌, ℕ, ◌-◌, ◌<◌, ◌≤◌, ◌⊎◌, ◌&&◌, inl, inr, Bool, true, List, [], ◌∷◌, ◌++◌, length, refl, sym, ◌∙◌, ap, subst, arith}
 use Rattle.cs_syntax.specs.TreeList.{append}
-use Rattle.std.specs.List.{list_all}
+use Rattle.cs_tree.specs.Cover.{is_among}
+use Rattle.cs_trigram.proofs.MemberLemmas.{no_member, first_member, later_member, member_cases}
 use Rattle.std.proofs.lemmas.Bool.{and_parts, and_from, or_cases, or_left, or_right}
 use Rattle.cs_syntax.specs.Matching.{Tree, Trees, cat, none, more, Takes, TakesAll}
-use Rattle.cs_trigram.specs.Trigram.{trigram_sequence}
-use Rattle.cs_trigram.specs.Affixes.{part}
-use Rattle.cs_trigram.specs.Query.{HasTrigrams}
-use Rattle.cs_trigram.specs.PlainRuns.{IsMember, IsPlainRun, Shows, ShowsRuns, ShowsPlainRuns}
+use Rattle.std.specs.Prelude.{slice_range}
+use Rattle.cs_trigram.specs.Query.{has_trigrams, HasTrigrams}
+use Rattle.cs_trigram.specs.PlainRuns.{IsPlainRun, Shows, ShowsRuns, ShowsPlainRuns}
 use Rattle.cs_trigram.specs.FiniteWords.{is_finite, are_finite, HasWord, ConcatenatesWords, HaveFewWords}
 use Rattle.cs_trigram.specs.Sample.{with_words, concatenations, IsSample, AreWords, IsBlocked, IsFront, TreeWords, has_any, IsAsked}
 use Rattle.cs_trigram.proofs.FewLemmas.{empty_words, few_front, few_back, front_begins, whole_words, words_sample, before_sample, concatenates_one, spells_one}
 use Rattle.cs_trigram.proofs.PlainTreeLemmas.{run_has_few, words_concatenate}
-use Rattle.cs_trigram.proofs.PartTrigramLemmas.{all_trigrams_tri, has_part, has_front, has_back}
-use Rattle.cs_trigram.proofs.SpellingLemmas.{spelled_all, taken_front, spelled_plain_runs}
+use Rattle.cs_trigram.proofs.PartTrigramLemmas.{has_part, has_front, has_back}
+use Rattle.cs_trigram.proofs.TreeWordLemmas.{spelled_all, taken_front, spelled_plain_runs}
 
 module _ (set : ℕ → Bool) where
-  pub any_shown : (ws : List (List ℕ)) → has_any set ws ≡ true → (w : List ℕ) × IsMember w ws × HasTrigrams set w
+  pub any_shown : (ws : List (List ℕ)) → has_any set ws ≡ true → (w : List ℕ) × (is_among ws w ≡ true) × HasTrigrams set w
   any_shown [] h = (cc)
   any_shown (w ∷ ws) h =
-      elim (or_cases (list_all set (trigram_sequence w)) (has_any set ws) h) [
-        | inl a ↦ (w, inl refl, all_trigrams_tri set w ∙ a)
-        | inr b ↦ let r = any_shown ws b in (r.0, inr r.1, r.2)
+      elim (or_cases (has_trigrams set w) (has_any set ws) h) [
+        | inl a ↦ (w, first_member w w ws refl, a)
+        | inr b ↦ let r = any_shown ws b in (r.0, later_member r.0 w ws r.1, r.2)
       ]
 
-  pub shown_any : (ws : List (List ℕ)) (w : List ℕ) → IsMember w ws → HasTrigrams set w → has_any set ws ≡ true
-  shown_any [] w m h = absurd m
+  pub shown_any : (ws : List (List ℕ)) (w : List ℕ) → is_among ws w ≡ true → HasTrigrams set w → has_any set ws ≡ true
+  shown_any [] w m h = absurd (no_member w m)
   shown_any (x ∷ ws) w m h =
-      elim m [
-        | inl e ↦
-            or_left (list_all set (trigram_sequence x)) (has_any set ws) (ap (λ (y : List ℕ). list_all set (trigram_sequence y)) (sym e) ∙ (sym (all_trigrams_tri set w) ∙ h))
-        | inr n ↦ or_right (list_all set (trigram_sequence x)) (has_any set ws) (shown_any ws w n h)
+      elim (member_cases w x ws m) [
+        | inl e ↦ or_left (has_trigrams set x) (has_any set ws) (subst (HasTrigrams set) e h)
+        | inr n ↦ or_right (has_trigrams set x) (has_any set ws) (shown_any ws w n h)
       ]
 
   -- a line in which the sequence takes a part has a word of the run at its front
@@ -38,7 +37,7 @@ module _ (set : ℕ → Bool) where
   front_held ts ws f s i j h has =
       let r = taken_front s f.run f.after i j (subst (λ (x : Trees). TakesAll s x i j) f.is h) in
       let word = spelled_all s f.run i r.0 f.finite r.1 in
-      shown_any ws (part s i r.0) ((f.each.each (part s i r.0)).0 word.1) (has_part set (r.0 - i) i s has)
+      shown_any ws (slice_range s i r.0) ((f.each.each (slice_range s i r.0)).0 word.1) (has_part set (r.0 - i) i s has)
 
   runs_more : (t : Tree) (ts : Trees) → ShowsRuns set ts → ((run after : Trees) → more t ts ≡ append run after → IsPlainRun run → Shows set run) → ShowsRuns set (more t ts)
   runs_more t ts old new none run after e few = new run after e few
@@ -127,12 +126,12 @@ module _ (front : List (List ℕ)) (needs later : (ℕ → Bool) → Bool) (t : 
       blocked_before run none b = tt
       blocked_before run (more u rest) b = λ few. b (few_back (more t none) (append run (more u none)) few)
 
-      first_of_list : (xs : List (List ℕ)) → 0 < length xs → (x : List ℕ) × IsMember x xs
+      first_of_list : (xs : List (List ℕ)) → 0 < length xs → (x : List ℕ) × (is_among xs x ≡ true)
       first_of_list [] h = absurd (omega arith)
-      first_of_list (x ∷ xs) h = (x, inl refl)
+      first_of_list (x ∷ xs) h = (x, first_member x x xs refl)
 
-      not_empty : (xs : List (List ℕ)) (x : List ℕ) → IsMember x xs → 0 < length xs
-      not_empty [] x m = absurd m
+      not_empty : (xs : List (List ℕ)) (x : List ℕ) → is_among xs x ≡ true → 0 < length xs
+      not_empty [] x m = absurd (no_member x m)
       not_empty (y ∷ xs) x m = omega arith
 
       some_word : (us vs ws : List (List ℕ)) → AreWords us (HasWord t) → AreWords vs (ConcatenatesWords asked.run.run) → IsSample ws (ConcatenatesWords (more t asked.run.run)) → 0 < length ws
@@ -176,13 +175,15 @@ asked_whole front needs whole ts asked is = (
 pub few_tree : (us : List (List ℕ)) (t : Tree) → TreeWords us t → HaveFewWords (more t none)
 few_tree us t words = (
   and_from (is_finite t) true words.0 refl,
-  some us words.1.some (λ w m. (words.1.each w).1 m),
-  (us, words.1.few, λ w j. (words.1.each w).0 (spells_one t w j)),
+  (
+    some us words.1.some (λ w m. (words.1.each w).1 m),
+    (us, words.1.few, λ w j. (words.1.each w).0 (spells_one t w j)),
+  ),
 )
   where
-    some : (xs : List (List ℕ)) → 0 < length xs → ((w : List ℕ) → IsMember w xs → HasWord t w) → (w : List ℕ) × ConcatenatesWords (more t none) w
+    some : (xs : List (List ℕ)) → 0 < length xs → ((w : List ℕ) → is_among xs w ≡ true → HasWord t w) → (w : List ℕ) × ConcatenatesWords (more t none) w
     some [] h each = absurd (omega arith)
-    some (x ∷ xs) h each = (x, concatenates_one t x (each x (inl refl)))
+    some (x ∷ xs) h each = (x, concatenates_one t x (each x (first_member x x xs refl)))
 
 -- one more demand, which each line meets in which the sequence takes a part
 pub asked_more : (front : List (List ℕ)) (needs query later : (ℕ → Bool) → Bool) (ts : Trees) → IsAsked front needs ts →

@@ -8,15 +8,15 @@ use Rattle.std.proofs.lemmas.List.{drop_more, drop_all}
 use Rattle.cs_syntax.specs.Ranges.{is_in_ranges}
 use Rattle.cs_syntax.specs.Characters.{is_scalar}
 use Rattle.cs_syntax.specs.Matching.{one_char}
-use Rattle.cs_trigram.specs.PlainRuns.{IsMember}
+use Rattle.cs_tree.specs.Cover.{is_among}
 use Rattle.cs_trigram.specs.FiniteWords.{HasWord}
 use Rattle.cs_trigram.specs.Sample.{with_word, with_words, IsSample}
-use Rattle.cs_trigram.specs.CharWords.{forms_from, run_forms, all_forms, with_char}
-use Rattle.cs_trigram.proofs.MemberLemmas.{member_append, member_left, member_right}
+use Rattle.cs_trigram.specs.CharWords.{forms_from, run_forms, all_forms, with_form}
+use Rattle.cs_trigram.proofs.MemberLemmas.{member_append, member_left, member_right, no_member, first_member, later_member, member_cases}
 use Rattle.cs_trigram.proofs.SampleLemmas.{with_words_append, with_words_full, sample_same, sample_of}
 
 -- a number more
-char_more : (words : List (List ℕ)) (c n : ℕ) → with_words words (forms_from c (suc n)) ≡ with_words (with_char words c) (forms_from (c + 1) n)
+char_more : (words : List (List ℕ)) (c n : ℕ) → with_words words (forms_from c (suc n)) ≡ with_words (with_form words c) (forms_from (c + 1) n)
 char_more words c n = by (is_scalar c)
   where
     by : (b : Bool) → with_words words (if b then encode_utf8 c ∷ forms_from (c + 1) n else forms_from (c + 1) n)
@@ -26,7 +26,7 @@ char_more words c n = by (is_scalar c)
 
 -- what is kept while the words of a run are added
 pub run_more : (words new : List (List ℕ)) (c end : ℕ) (whole : List (List ℕ)) → c < end → with_words words (forms_from c (end - c)) ≡ whole →
-    new ≡ with_char words c → with_words new (forms_from (c + 1) (end - (c + 1))) ≡ whole
+    new ≡ with_form words c → with_words new (forms_from (c + 1) (end - (c + 1))) ≡ whole
 run_more words new c end whole lt h is =
     let one : end - c ≡ suc (end - (c + 1)) = omega arith in
     ap (λ ws. with_words ws (forms_from (c + 1) (end - (c + 1)))) is
@@ -53,39 +53,39 @@ runs_end runs i words whole past h = sym (ap (λ rest. with_words words (all_for
 
 -- ---- the forms are the words
 
-form_of : (w : List ℕ) (c n : ℕ) → IsMember w (forms_from c n) → (d : ℕ) × (is_scalar d ≡ true) × (c ≤ d) × (d < c + n) × (w ≡ encode_utf8 d)
-form_of w c zero m = absurd m
+form_of : (w : List ℕ) (c n : ℕ) → is_among (forms_from c n) w ≡ true → (d : ℕ) × (is_scalar d ≡ true) × (c ≤ d) × (d < c + n) × (w ≡ encode_utf8 d)
+form_of w c zero m = absurd (no_member w m)
 form_of w c (suc n) m =
     elim (cases_Bool (is_scalar c)) [
       | inl here_too ↦
-          let here : IsMember w (encode_utf8 c ∷ forms_from (c + 1) n) = subst (IsMember w) (cond-true (is_scalar c) _ _ here_too) m in
-          elim here [
+          let here : is_among (encode_utf8 c ∷ forms_from (c + 1) n) w ≡ true = subst (λ (ws : List (List ℕ)). is_among ws w ≡ true) (cond-true (is_scalar c) _ _ here_too) m in
+          elim (member_cases w (encode_utf8 c) (forms_from (c + 1) n) here) [
             | inl e ↦ (c, here_too, omega arith, omega arith, e)
             | inr later ↦ let f = form_of w (c + 1) n later in (f.0, f.1, omega (arith, f.2), omega (arith, f.3), f.4)
           ]
       | inr out ↦
-          let f = form_of w (c + 1) n (subst (IsMember w) (cond-false (is_scalar c) _ _ out) m) in
+          let f = form_of w (c + 1) n (subst (λ (ws : List (List ℕ)). is_among ws w ≡ true) (cond-false (is_scalar c) _ _ out) m) in
           (f.0, f.1, omega (arith, f.2), omega (arith, f.3), f.4)
     ]
 
-form_in : (c n d : ℕ) → is_scalar d ≡ true → c ≤ d → d < c + n → IsMember (encode_utf8 d) (forms_from c n)
+form_in : (c n d : ℕ) → is_scalar d ≡ true → c ≤ d → d < c + n → is_among (forms_from c n) (encode_utf8 d) ≡ true
 form_in c zero d scalar from to = absurd (omega arith)
 form_in c (suc n) d scalar from to =
-    let P : List (List ℕ) → Type 0 = IsMember (encode_utf8 d) in
+    let P : List (List ℕ) → Type 0 = λ ws. is_among ws (encode_utf8 d) ≡ true in
     elim (cases_lt c d) [
       | inl lt ↦
           let later = form_in (c + 1) n d scalar (omega arith) (omega arith) in
           elim (cases_Bool (is_scalar c)) [
-            | inl here_too ↦ subst P (sym (cond-true (is_scalar c) _ _ here_too)) (inr later)
+            | inl here_too ↦ subst P (sym (cond-true (is_scalar c) _ _ here_too)) (later_member (encode_utf8 d) (encode_utf8 c) (forms_from (c + 1) n) later)
             | inr out ↦ subst P (sym (cond-false (is_scalar c) _ _ out)) later
           ]
       | inr le ↦
           let same : d ≡ c = omega arith in
-          subst P (sym (cond-true (is_scalar c) _ _ (ap is_scalar (sym same) ∙ scalar))) (inl (ap encode_utf8 same))
+          subst P (sym (cond-true (is_scalar c) _ _ (ap is_scalar (sym same) ∙ scalar))) (first_member (encode_utf8 d) (encode_utf8 c) (forms_from (c + 1) n) (ap encode_utf8 same))
     ]
 
-all_of : (w : List ℕ) (runs : List (ℕ × ℕ)) → IsMember w (all_forms runs) → HasWord (one_char runs) w
-all_of w [] m = absurd m
+all_of : (w : List ℕ) (runs : List (ℕ × ℕ)) → is_among (all_forms runs) w ≡ true → HasWord (one_char runs) w
+all_of w [] m = absurd (no_member w m)
 all_of w (run ∷ runs) m =
     elim (member_append w (run_forms run) (all_forms runs) m) [
       | inl here ↦
@@ -98,7 +98,7 @@ all_of w (run ∷ runs) m =
           (h.0, ap₂ ◌&&◌ both.0 (or_right (nat_le run.0 h.0 && nat_le h.0 run.1) (is_in_ranges runs h.0) both.1), h.2)
     ]
 
-all_in : (c : ℕ) (runs : List (ℕ × ℕ)) → is_scalar c ≡ true → is_in_ranges runs c ≡ true → IsMember (encode_utf8 c) (all_forms runs)
+all_in : (c : ℕ) (runs : List (ℕ × ℕ)) → is_scalar c ≡ true → is_in_ranges runs c ≡ true → is_among (all_forms runs) (encode_utf8 c) ≡ true
 all_in c [] scalar e = absurd (true≢false (sym e))
 all_in c (run ∷ runs) scalar e =
     elim (cases_Bool (nat_le run.0 c && nat_le c run.1)) [
@@ -111,8 +111,8 @@ all_in c (run ∷ runs) scalar e =
 
 pub chars_sample : (runs : List (ℕ × ℕ)) → IsSample (with_words [] (all_forms runs)) (HasWord (one_char runs))
 chars_sample runs =
-    sample_same (with_words [] (all_forms runs)) (λ w. IsMember w (all_forms runs)) (HasWord (one_char runs)) (sample_of (all_forms runs))
+    sample_same (with_words [] (all_forms runs)) (λ w. is_among (all_forms runs) w ≡ true) (HasWord (one_char runs)) (sample_of (all_forms runs))
     (λ w m. all_of w runs m)
     (λ w h. let both = and_parts (is_scalar h.0) (is_in_ranges runs h.0) h.1 in
-    let P : List ℕ → Type 0 = λ x. IsMember x (all_forms runs) in
+    let P : List ℕ → Type 0 = λ x. is_among (all_forms runs) x ≡ true in
     subst P (sym h.2) (all_in h.0 runs both.0 both.1))

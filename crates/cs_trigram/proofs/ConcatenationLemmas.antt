@@ -1,7 +1,7 @@
 -- Concatenations of words that differ.
 use Rattle.std.proofs.Common.{◌≡◌, ℕ, ◌+◌, ◌-◌, ◌*◌, ◌<◌, ◌≤◌, ◌&&◌, inl, inr, not, Bool, true, false, List, [], ◌∷◌, ◌++◌, take, drop, length, map, refl, sym, ◌∙◌, ap, subst, arith, append_assoc, length-append, length-drop}
 use Rattle.std.specs.Prelude.{nat_le, nat_eq, if◌then◌else◌}
-use Rattle.std.specs.List.{list_any, list_all}
+use Rattle.std.specs.List.{list_all}
 use Rattle.std.specs.Str.{bytes_eq}
 use Rattle.std.specs.Cmp.{both_ways as both_imply}
 use Rattle.std.proofs.Math.Nat.{suc-mul}
@@ -9,60 +9,61 @@ use Rattle.std.proofs.Math.Seq.{take-append_seam}
 use Rattle.std.proofs.lemmas.Bool.{and_parts, le-leb, cases_lt, eqb-true, both_ways}
 use Rattle.std.proofs.lemmas.List.{append-nil, append_cancel_left, length-map, take-append-drop, take_all}
 use Rattle.std.proofs.lemmas.Slice.Eq.{bytes_eq-Decides}
-use Rattle.cs_trigram.specs.PlainRuns.{IsMember}
-use Rattle.cs_trigram.specs.Sample.{with_word, with_words, concatenations, AreDifferent}
-use Rattle.cs_trigram.proofs.MemberLemmas.{member_append, member_right, member_map, any_member, different_within, different_map}
+use Rattle.cs_tree.specs.Cover.{is_among}
+use Rattle.cs_tree.specs.Folders.{are_distinct}
+use Rattle.cs_trigram.specs.Sample.{with_word, with_words, concatenations}
+use Rattle.cs_trigram.proofs.MemberLemmas.{member_append, member_right, member_map, different_within, different_map, no_member, first_member, later_member, member_cases, distinct_head, distinct_tail, distinct_more}
 use Rattle.cs_trigram.proofs.SampleLemmas.{sample_of, concatenation_parts}
 
 -- a word that is not there, where there is room
-with_word_new : (ws : List (List ℕ)) (w : List ℕ) → length ws ≤ 20 → (IsMember w ws → ⊥) → with_word ws w ≡ ws ++ w ∷ []
-with_word_new ws w le new = by (nat_le (length ws) 20) (list_any (λ v. bytes_eq v w) ws) (le-leb (length ws) 20 le) (λ e. new (any_member w ws e))
+with_word_new : (ws : List (List ℕ)) (w : List ℕ) → length ws ≤ 20 → (is_among ws w ≡ true → ⊥) → with_word ws w ≡ ws ++ w ∷ []
+with_word_new ws w le new = by (nat_le (length ws) 20) (is_among ws w) (le-leb (length ws) 20 le) new
   where
     by : (room there : Bool) → room ≡ true → (there ≡ true → ⊥) → (if room && not there then ws ++ w ∷ [] else ws) ≡ ws ++ w ∷ []
     by true false r t = refl
     by true true r t = absurd (t refl)
     by false there r t = let odd : false ≡ true = r in (cc)
 
-apart : (ws vs : List (List ℕ)) (v : List ℕ) → AreDifferent (ws ++ v ∷ vs) → IsMember v ws → ⊥
-apart [] vs v d m = m
+apart : (ws vs : List (List ℕ)) (v : List ℕ) → are_distinct (ws ++ v ∷ vs) ≡ true → is_among ws v ≡ true → ⊥
+apart [] vs v d m = no_member v m
 apart (w ∷ ws) vs v d m =
-    elim m [
-      | inl e ↦ d.0 (subst (λ (x : List ℕ). IsMember x (ws ++ v ∷ vs)) e (member_right v ws (v ∷ vs) (inl refl)))
-      | inr n ↦ apart ws vs v d.1 n
+    elim (member_cases v w ws m) [
+      | inl e ↦ distinct_head w (ws ++ v ∷ vs) d (subst (λ (x : List ℕ). is_among (ws ++ v ∷ vs) x ≡ true) e (member_right v ws (v ∷ vs) (first_member v v vs refl)))
+      | inr n ↦ apart ws vs v (distinct_tail w (ws ++ v ∷ vs) d) n
     ]
 
 -- different words are all added, where there is room
-pub with_words_all : (ws vs : List (List ℕ)) → AreDifferent (ws ++ vs) → length ws + length vs ≤ 20 → with_words ws vs ≡ ws ++ vs
+pub with_words_all : (ws vs : List (List ℕ)) → are_distinct (ws ++ vs) ≡ true → length ws + length vs ≤ 20 → with_words ws vs ≡ ws ++ vs
 with_words_all ws [] d le = sym (append-nil ws)
 with_words_all ws (v ∷ vs) d le =
     let seam : (ws ++ v ∷ []) ++ vs ≡ ws ++ v ∷ vs = append_assoc ws (v ∷ []) vs in
     ap (λ (xs : List (List ℕ)). with_words xs vs) (with_word_new ws v (omega arith) (apart ws vs v d))
-    ∙ with_words_all (ws ++ v ∷ []) vs (subst AreDifferent (sym seam) d) (omega (arith, length-append ws (v ∷ []), le))
+    ∙ with_words_all (ws ++ v ∷ []) vs (subst (λ (xs : List (List ℕ)). are_distinct xs ≡ true) (sym seam) d) (omega (arith, length-append ws (v ∷ []), le))
     ∙ seam
 
 -- the concatenations of one word
-pub concatenations_of_one : (u : List ℕ) (vs : List (List ℕ)) → AreDifferent vs → length vs ≤ 20 → with_words [] (concatenations (u ∷ []) vs) ≡ map (λ v. u ++ v) vs
+pub concatenations_of_one : (u : List ℕ) (vs : List (List ℕ)) → are_distinct vs ≡ true → length vs ≤ 20 → with_words [] (concatenations (u ∷ []) vs) ≡ map (λ v. u ++ v) vs
 concatenations_of_one u vs d le =
     let same : concatenations (u ∷ []) vs ≡ map (λ v. u ++ v) vs = append-nil (map (λ v. u ++ v) vs) in
     ap (with_words []) same
     ∙ with_words_all [] (map (λ v. u ++ v) vs) (different_map (λ v. u ++ v) (λ a b e. append_cancel_left u a b e) vs d) (omega (arith, length-map vs (λ (v : List ℕ). u ++ v), le))
 
-different_both : (xs ys : List (List ℕ)) → AreDifferent xs → AreDifferent ys → ((w : List ℕ) → IsMember w xs → IsMember w ys → ⊥) → AreDifferent (xs ++ ys)
+different_both : (xs ys : List (List ℕ)) → are_distinct xs ≡ true → are_distinct ys ≡ true → ((w : List ℕ) → is_among xs w ≡ true → is_among ys w ≡ true → ⊥) → are_distinct (xs ++ ys) ≡ true
 different_both [] ys d e apart = e
-different_both (x ∷ xs) ys d e apart = (
-  λ m. elim (member_append x xs ys m) [ inl a ↦ d.0 a | inr b ↦ apart x (inl refl) b ],
-  different_both xs ys d.1 e (λ w m n. apart w (inr m) n),
-)
+different_both (x ∷ xs) ys d e apart =
+    distinct_more x (xs ++ ys)
+    (λ m. elim (member_append x xs ys m) [ inl a ↦ distinct_head x xs d a | inr b ↦ apart x (first_member x x xs refl) b ])
+    (different_both xs ys (distinct_tail x xs d) e (λ w m n. apart w (later_member w x xs m) n))
 
 -- of words of one length
 abbrev HaveLength : ℕ → List (List ℕ) → Type 0
 HaveLength n us = list_all (λ (w : List ℕ). nat_eq (length w) n) us ≡ true
 
-length_of : (n : ℕ) (us : List (List ℕ)) (u : List ℕ) → HaveLength n us → IsMember u us → length u ≡ n
-length_of n [] u h m = absurd m
+length_of : (n : ℕ) (us : List (List ℕ)) (u : List ℕ) → HaveLength n us → is_among us u ≡ true → length u ≡ n
+length_of n [] u h m = absurd (no_member u m)
 length_of n (x ∷ us) u h m =
     let p = and_parts (nat_eq (length x) n) (list_all (λ (w : List ℕ). nat_eq (length w) n) us) h in
-    elim m [
+    elim (member_cases u x us m) [
       | inl e ↦ ap length e ∙ eqb-true (length x) n p.0
       | inr k ↦ length_of n us u p.1 k
     ]
@@ -70,19 +71,19 @@ length_of n (x ∷ us) u h m =
 same_front : (u v x y : List ℕ) → length u ≡ length x → u ++ v ≡ x ++ y → u ≡ x
 same_front u v x y len e = sym (take-append_seam u v) ∙ ap (λ n. take n (u ++ v)) len ∙ ap (take (length x)) e ∙ take-append_seam x y
 
-different_concatenations : (n : ℕ) (us vs : List (List ℕ)) → HaveLength n us → AreDifferent us → AreDifferent vs → AreDifferent (concatenations us vs)
-different_concatenations n [] vs h d e = tt
+different_concatenations : (n : ℕ) (us vs : List (List ℕ)) → HaveLength n us → are_distinct us ≡ true → are_distinct vs ≡ true → are_distinct (concatenations us vs) ≡ true
+different_concatenations n [] vs h d e = refl
 different_concatenations n (u ∷ us) vs h d e =
     let p = and_parts (nat_eq (length u) n) (list_all (λ (w : List ℕ). nat_eq (length w) n) us) h in
     different_both (map (λ v. u ++ v) vs) (concatenations us vs)
     (different_map (λ v. u ++ v) (λ a b k. append_cancel_left u a b k) vs e)
-    (different_concatenations n us vs p.1 d.1 e)
+    (different_concatenations n us vs p.1 (distinct_tail u us d) e)
     (λ w m k.
     let a = member_map (λ v. u ++ v) w vs m in
     let b = concatenation_parts w us vs k in
     let len : length u ≡ length b.0 = eqb-true (length u) n p.0 ∙ sym (length_of n us b.0 p.1 b.2) in
     let same : u ≡ b.0 = same_front u a.0 b.0 b.1 len (sym a.2 ∙ b.4) in
-    d.0 (subst (λ (x : List ℕ). IsMember x us) (sym same) b.2))
+    distinct_head u us d (subst (λ (x : List ℕ). is_among us x ≡ true) (sym same) b.2))
 
 count_concatenations : (us vs : List (List ℕ)) → length (concatenations us vs) ≡ length us * length vs
 count_concatenations [] vs = omega arith
@@ -90,7 +91,7 @@ count_concatenations (u ∷ us) vs =
     omega (arith, length-append (map (λ v. u ++ v) vs) (concatenations us vs), length-map vs (λ (v : List ℕ). u ++ v), count_concatenations us vs, suc-mul (length us) (length vs))
 
 -- concatenations of different words of one length with different words are as many as the pairs
-pub many_concatenations : (n : ℕ) (us vs : List (List ℕ)) → HaveLength n us → AreDifferent us → AreDifferent vs → 20 < length us * length vs →
+pub many_concatenations : (n : ℕ) (us vs : List (List ℕ)) → HaveLength n us → are_distinct us ≡ true → are_distinct vs ≡ true → 20 < length us * length vs →
     20 < length (with_words [] (concatenations us vs))
 many_concatenations n us vs h d e lt =
     let all = sample_of (concatenations us vs) in

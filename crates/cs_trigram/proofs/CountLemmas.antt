@@ -6,15 +6,15 @@ use Rattle.std.proofs.lemmas.List.{append_cancel_left, length-map, reverse-appen
 use Rattle.std.proofs.lemmas.Bool.{and_from, and_left, and_right, cases_lt, le-leb}
 use Rattle.std.specs.Prelude.{Some, nat_le}
 use Rattle.cs_syntax.specs.Matching.{Tree, Trees, cat, alt, rep, empty, none, more}
-use Rattle.cs_trigram.specs.PlainRuns.{IsMember}
+use Rattle.cs_tree.specs.Cover.{is_among}
 use Rattle.cs_trigram.specs.FiniteWords.{HaveFewWords, Rounds, is_finite, are_finite, HasWord, ConcatenatesWords, SomeHasWord}
 use Rattle.cs_trigram.specs.Sample.{with_words, concatenations, IsSample, SamplesTree, SamplesRun, SamplesChoice, TreeWords}
 use Rattle.cs_trigram.specs.Counted.{HasMany, Counts, CountEach, AreCounted}
 use Rattle.cs_trigram.specs.declared.counted.Counted.{Counted}
 use Rattle.cs_trigram.specs.declared.counted.Counted.TheVariants.{Endless, Many, Few}
-use Rattle.cs_trigram.proofs.MemberLemmas.{member_map, map_member, different_map, different_within}
+use Rattle.cs_trigram.proofs.MemberLemmas.{member_map, map_member, different_map, different_within, first_member, only_member}
 use Rattle.cs_trigram.proofs.SampleLemmas.{sample_same, sample_words, fronts_few, backs_few}
-use Rattle.cs_trigram.specs.declared.words.Word.{Word}
+use Rattle.cs_trigram.specs.declared.tree_words.Word.{Word}
 use Rattle.cs_trigram.proofs.RoundLemmas.{longer_rounds, rounds_longer}
 use Rattle.cs_trigram.proofs.FewLemmas.{concatenates_one, spells_one, run_step, choice_step, not_few, tree_not_finite, whole_words}
 
@@ -46,14 +46,14 @@ pub samples_one : (u : List ℕ) (vs : List (List ℕ)) (t r : Tree) → Samples
 samples_one u vs t r s b = (
   pair_finite t r s.0 b.0,
   record {
-    right = λ w m. let p = member_map (λ v. u ++ v) w vs m in (u, p.0, s.1.right u (inl refl), concatenates_one r p.0 (b.1.right p.0 p.1), p.2);
+    right = λ w m. let p = member_map (λ v. u ++ v) w vs m in (u, p.0, s.1.right u (first_member u u [] refl), concatenates_one r p.0 (b.1.right p.0 p.1), p.2);
     different = different_map (λ v. u ++ v) (λ x y e. append_cancel_left u x y e) vs b.1.different;
     whole = λ le w j.
         let one : 1 ≤ 20 = omega arith in
         let few : length vs ≤ 20 = omega (arith, le, length-map vs (λ (v : List ℕ). u ++ v)) in
-        let same : j.0 ≡ u = elim (s.1.whole one j.0 j.2) [ inl e ↦ e | inr n ↦ absurd n ] in
+        let same : j.0 ≡ u = only_member j.0 u (s.1.whole one j.0 j.2) in
         let back = b.1.whole few j.1 (spells_one r j.1 j.3) in
-        subst (λ (x : List ℕ). IsMember x (map (λ v. u ++ v) vs)) (ap (λ (x : List ℕ). x ++ j.1) (sym same) ∙ sym j.4) (map_member (λ v. u ++ v) j.1 vs back);
+        subst (λ (x : List ℕ). is_among (map (λ v. u ++ v) vs) x ≡ true) (ap (λ (x : List ℕ). x ++ j.1) (sym same) ∙ sym j.4) (map_member (λ v. u ++ v) j.1 vs back);
   },
 )
 
@@ -66,9 +66,9 @@ no_backs : (us : List (List ℕ)) → concatenations us [] ≡ []
 no_backs [] = refl
 no_backs (u ∷ us) = no_backs us
 
-first_of : (ws : List (List ℕ)) → 0 < length ws → (w : List ℕ) × IsMember w ws
+first_of : (ws : List (List ℕ)) → 0 < length ws → (w : List ℕ) × (is_among ws w ≡ true)
 first_of [] lt = absurd (omega arith)
-first_of (w ∷ ws) lt = (w, inl refl)
+first_of (w ∷ ws) lt = (w, first_member w w ws refl)
 
 none_left : (ws : List (List ℕ)) → length ws ≡ 0 → ws ≡ []
 none_left [] e = refl
@@ -119,7 +119,7 @@ endless_back t u e = and_right (is_finite t) (is_finite u && true) (and_left (is
 -- many of either
 within : (us vs : List (List ℕ)) (t u : Tree) (s : SamplesTree us t) (r : SamplesTree vs u) → length (with_words vs us) ≤ 20 → (length us ≤ 20) × (length vs ≤ 20)
 within us vs t u s r le =
-    let all = sample_words vs us (HasWord u) (λ w. HasWord u w ⊎ IsMember w us) r.1 (λ v p. inl p) (λ v m. inr m) (λ v q. q) in
+    let all = sample_words vs us (HasWord u) (λ w. HasWord u w ⊎ (is_among us w ≡ true)) r.1 (λ v p. inl p) (λ v m. inr m) (λ v q. q) in
     let one = different_within us (with_words vs us) s.1.different (λ v n. all.whole le v (inr n)) in
     let two = different_within vs (with_words vs us) r.1.different (λ v n. all.whole le v (inl (r.1.right v n))) in
     (omega (arith, one, le), omega (arith, two, le))
@@ -148,9 +148,9 @@ counts_as (Few words) t u h e to from = (samples_as words.items t u h.0 (sym e �
 pub bare_words : (words : Vec Word Global) (t : Tree) → words.items ≡ [] ∷ [] → is_finite t ≡ true → ((w : List ℕ) → HasWord t w → w ≡ []) → HasWord t [] → Counts (Few words) t
 bare_words words t e f only has =
     let sample : IsSample ([] ∷ []) (HasWord t) = record {
-      right = λ w m. elim m [ inl e ↦ subst (HasWord t) (sym e) has | inr n ↦ absurd n ];
-      different = (λ m. m, tt);
-      whole = λ le w h. inl (only w h);
+      right = λ w m. subst (HasWord t) (sym (only_member w [] m)) has;
+      different = refl;
+      whole = λ le w h. first_member w [] [] (only w h);
     } in
     let small : length words.items ≤ 20 = omega (arith, ap length e) in
     ((f, subst (λ (ws : List (List ℕ)). IsSample ws (HasWord t)) (sym e) sample), small)

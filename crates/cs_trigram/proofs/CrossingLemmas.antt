@@ -1,19 +1,18 @@
 -- What stands across the seam of two texts.
 use Rattle.std.proofs.Common.{◌≡◌, ℕ, ◌-◌, Bool, true, List, [], ◌∷◌, ◌++◌, refl, sym, ◌∙◌, ap, subst, append_assoc}
-use Rattle.std.specs.List.{list_all}
 use Rattle.std.proofs.lemmas.Bool.{or_left, or_right}
 use Rattle.cs_syntax.specs.Matching.{Tree, Trees, more, TakesAll}
-use Rattle.cs_trigram.specs.Trigram.{trigram_sequence}
 use Rattle.cs_trigram.specs.Query.{holds, HasTrigrams}
 use Rattle.cs_trigram.specs.Sample.{some_holds, AsksForText}
-use Rattle.cs_trigram.specs.Affixes.{part, HasAffix, HasSomeAffix, AreAffixes, AreAffixesOfAll, StandsIn}
+use Rattle.std.specs.Prelude.{slice_range}
+use Rattle.cs_trigram.specs.Affixes.{HasAffix, HasSomeAffix, AreAffixes, AreAffixesOfAll, StandsIn}
 use Rattle.cs_trigram.specs.ShortWord.{bytes_of}
 use Rattle.cs_trigram.specs.declared.affixes.Side.TheVariants.{Prefix, Suffix}
 use Rattle.cs_trigram.specs.declared.affixes.Affix.{Affix}
 use Rattle.cs_trigram.specs.declared.queries.Query.{Query}
 use Rattle.cs_trigram.proofs.QueryLemmas.{some_holds_push}
-use Rattle.cs_trigram.proofs.PartTrigramLemmas.{all_trigrams_tri, has_part, has_front, has_back}
-use Rattle.cs_trigram.proofs.SpellingLemmas.{part_split}
+use Rattle.cs_trigram.proofs.PartTrigramLemmas.{has_part, has_front, has_back}
+use Rattle.cs_trigram.proofs.TreeWordLemmas.{part_split}
 use Rattle.cs_trigram.proofs.AffixLemmas.{rises, rises_all}
 
 -- a suffix and a prefix behind it
@@ -26,10 +25,9 @@ stands_across suffix prefix word u v is a b = (
 )
 
 module _ (set : ℕ → Bool) where
-  standing_there : (word text : List ℕ) → StandsIn word text → HasTrigrams set text → list_all set (trigram_sequence word) ≡ true
+  standing_there : (word text : List ℕ) → StandsIn word text → HasTrigrams set text → HasTrigrams set word
   standing_there word text stands has =
-      let there : HasTrigrams set word = has_front set word stands.1 (has_back set stands.0 (word ++ stands.1) (subst (HasTrigrams set) stands.2 has)) in
-      sym (all_trigrams_tri set word) ∙ there
+      has_front set word stands.1 (has_back set stands.0 (word ++ stands.1) (subst (HasTrigrams set) stands.2 has))
 
   -- one concatenation more
   pub concatenation_held : (queries : List Query) (q : Query) (suffix prefix : Affix) (u v : List ℕ) → AsksForText q ((bytes_of suffix.word) ++ (bytes_of prefix.word)) →
@@ -48,5 +46,5 @@ module _ (set : ℕ → Bool) where
       AreAffixes Suffix suffixes t → AreAffixesOfAll Prefix prefixes ts →
       (s : List ℕ) (i j : ℕ) → TakesAll s (more t ts) i j → HasTrigrams set s → query set ≡ true
   seam_held query suffixes prefixes t ts asks a b s i j h has =
-      asks (part s i h.0) (part s h.0 j) (a s i h.0 h.1) (b s h.0 j h.2)
+      asks (slice_range s i h.0) (slice_range s h.0 j) (a s i h.0 h.1) (b s h.0 j h.2)
       (subst (HasTrigrams set) (part_split s i h.0 j (rises s t i h.0 h.1) (rises_all s ts h.0 j h.2)) (has_part set (j - i) i s has))

@@ -8,10 +8,10 @@ use Rattle.std.proofs.lemmas.Bool.{and_parts, and_from, leb-true, le-leb, lt-ltb
 use Rattle.std.proofs.lemmas.List.{append-nil, length-map}
 use Rattle.cs_syntax.specs.Matching.{Tree, Trees, none, more}
 use Rattle.cs_syntax.proofs.TreeListLemmas.{append_assoc_trees}
-use Rattle.cs_trigram.specs.PlainRuns.{IsMember}
+use Rattle.cs_tree.specs.Cover.{is_among}
 use Rattle.cs_trigram.specs.FiniteWords.{is_finite, are_finite, HasWord, ConcatenatesWords, SomeHasWord, HaveFewWords}
 use Rattle.cs_trigram.specs.Sample.{with_words, concatenations, is_few, IsSample, AreWords, IsBlocked, IsFront, SamplesTree, SamplesRun, SamplesChoice, TreeWords, RunWords}
-use Rattle.cs_trigram.proofs.MemberLemmas.{map_member, different_within}
+use Rattle.cs_trigram.proofs.MemberLemmas.{map_member, different_within, no_member, first_member, only_member}
 use Rattle.cs_trigram.proofs.SampleLemmas.{sample_same, sample_words, sample_concatenations}
 
 pub finite_append : (a b : Trees) → are_finite (append a b) ≡ (are_finite a && are_finite b)
@@ -42,36 +42,40 @@ spells_one t w j =
 pub few_front : (a b : Trees) → HaveFewWords (append a b) → HaveFewWords a
 few_front a b few =
     let parts = and_parts (are_finite a) (are_finite b) (sym (finite_append a b) ∙ few.0) in
-    let first = concatenates_split a b few.1.0 few.1.1 in
+    let first = concatenates_split a b few.1.0.0 few.1.0.1 in
     let v = first.1 in
     let cut : List ℕ → List ℕ = λ x. take (length x - length v) x in (
       parts.0,
-      (first.0, first.2),
       (
-        map cut few.2.0,
-        rw (length-map few.2.0 cut) few.2.1,
-        λ u j.
-            let whole = few.2.2 (u ++ v) (concatenates_both a b u v j first.3) in
-            let long : length (u ++ v) - length v ≡ length u = omega (arith, length-append u v) in
-            let same : cut (u ++ v) ≡ u = ap (λ n. take n (u ++ v)) long ∙ take-append_seam u v in
-            subst (λ (x : List ℕ). IsMember x (map cut few.2.0)) same (map_member cut (u ++ v) few.2.0 whole),
+        (first.0, first.2),
+        (
+          map cut few.1.1.0,
+          rw (length-map few.1.1.0 cut) few.1.1.1,
+          λ u j.
+              let whole = few.1.1.2 (u ++ v) (concatenates_both a b u v j first.3) in
+              let long : length (u ++ v) - length v ≡ length u = omega (arith, length-append u v) in
+              let same : cut (u ++ v) ≡ u = ap (λ n. take n (u ++ v)) long ∙ take-append_seam u v in
+              subst (λ (x : List ℕ). is_among (map cut few.1.1.0) x ≡ true) same (map_member cut (u ++ v) few.1.1.0 whole),
+        ),
       ),
     )
 
 pub few_back : (a b : Trees) → HaveFewWords (append a b) → HaveFewWords b
 few_back a b few =
     let parts = and_parts (are_finite a) (are_finite b) (sym (finite_append a b) ∙ few.0) in
-    let first = concatenates_split a b few.1.0 few.1.1 in
+    let first = concatenates_split a b few.1.0.0 few.1.0.1 in
     let u = first.0 in
     let cut : List ℕ → List ℕ = λ x. drop (length u) x in (
       parts.1,
-      (first.1, first.3),
       (
-        map cut few.2.0,
-        rw (length-map few.2.0 cut) few.2.1,
-        λ v j.
-            let whole = few.2.2 (u ++ v) (concatenates_both a b u v first.2 j) in
-            subst (λ (x : List ℕ). IsMember x (map cut few.2.0)) (drop-append_seam u v) (map_member cut (u ++ v) few.2.0 whole),
+        (first.1, first.3),
+        (
+          map cut few.1.1.0,
+          rw (length-map few.1.1.0 cut) few.1.1.1,
+          λ v j.
+              let whole = few.1.1.2 (u ++ v) (concatenates_both a b u v first.2 j) in
+              subst (λ (x : List ℕ). is_among (map cut few.1.1.0) x ≡ true) (drop-append_seam u v) (map_member cut (u ++ v) few.1.1.0 whole),
+        ),
       ),
     )
 
@@ -90,7 +94,7 @@ fronts_compare (more t a) x (more u b) y e =
     ]
 
 -- each word of the longest run at the front begins with a word of each run at the front that has few
-pub front_begins : (ts : Trees) (ws : List (List ℕ)) → IsFront ts ws → (w : List ℕ) → IsMember w ws → (run after : Trees) → ts ≡ append run after → HaveFewWords run →
+pub front_begins : (ts : Trees) (ws : List (List ℕ)) → IsFront ts ws → (w : List ℕ) → is_among ws w ≡ true → (run after : Trees) → ts ≡ append run after → HaveFewWords run →
     (u rest : List ℕ) × ConcatenatesWords run u × (w ≡ u ++ rest)
 front_begins ts ws f w m run after e few =
     let j = (f.each.each w).1 m in
@@ -132,12 +136,12 @@ words_sample ws P a =
 -- one that is empty or large shows that a run has not few words
 pub not_few : (ws : List (List ℕ)) (ts : Trees) → IsSample ws (ConcatenatesWords ts) → (length ws ≤ 20 → length ws ≡ 0) → HaveFewWords ts → ⊥
 not_few ws ts s odd few =
-    let fits = different_within ws few.2.0 s.different (λ w m. few.2.2 w (s.right w m)) in
-    let small : length ws ≤ 20 = omega (arith, fits, few.2.1) in
-    empty ws (odd small) (s.whole small few.1.0 few.1.1)
+    let fits = different_within ws few.1.1.0 s.different (λ w m. few.1.1.2 w (s.right w m)) in
+    let small : length ws ≤ 20 = omega (arith, fits, few.1.1.1) in
+    empty ws (odd small) (s.whole small few.1.0.0 few.1.0.1)
   where
-    empty : (xs : List (List ℕ)) → length xs ≡ 0 → IsMember few.1.0 xs → ⊥
-    empty [] e m = m
+    empty : (xs : List (List ℕ)) → length xs ≡ 0 → is_among xs few.1.0.0 ≡ true → ⊥
+    empty [] e m = no_member few.1.0.0 m
     empty (x ∷ xs) e m = absurd (omega arith)
 
 -- the words of a run, with those of a tree before it or behind it
@@ -156,8 +160,8 @@ run_step t ts us vs s r = (and_from (is_finite t) (are_finite ts) s.0 r.0, befor
 
 pub choice_step : (t : Tree) (ts : Trees) (us vs : List (List ℕ)) → SamplesTree us t → SamplesChoice vs ts → SamplesChoice (with_words vs us) (more t ts)
 choice_step t ts us vs s r =
-    let all : IsSample (with_words vs us) (λ w. SomeHasWord ts w ⊎ IsMember w us) =
-    sample_words vs us (SomeHasWord ts) (λ w. SomeHasWord ts w ⊎ IsMember w us) r.1 (λ v p. inl p) (λ v m. inr m) (λ v q. q) in (
+    let all : IsSample (with_words vs us) (λ w. SomeHasWord ts w ⊎ (is_among us w ≡ true)) =
+    sample_words vs us (SomeHasWord ts) (λ w. SomeHasWord ts w ⊎ (is_among us w ≡ true)) r.1 (λ v p. inl p) (λ v m. inr m) (λ v q. q) in (
       and_from (is_finite t) (are_finite ts) s.0 r.0,
       record {
         right = λ w m. elim (all.right w m) [ inl p ↦ inr p | inr n ↦ inl (s.1.right w n) ];
@@ -224,6 +228,6 @@ pub empty_words : AreWords ([] ∷ []) (ConcatenatesWords none)
 empty_words = record {
   some = omega arith;
   few = omega arith;
-  different = (λ m. m, tt);
-  each = λ w. (λ e. inl e, λ m. elim m [ inl e ↦ e | inr n ↦ absurd n ]);
+  different = refl;
+  each = λ w. (λ e. first_member w [] [] e, λ m. only_member w [] m);
 }

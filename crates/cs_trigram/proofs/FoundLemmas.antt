@@ -2,14 +2,14 @@
 use Rattle.std.proofs.Common.{◌≡◌, ◌≤◌, ◌<◌, ℕ, ◌+◌, true, false, List, [], ◌∷◌, ◌++◌, length, take, drop, refl, sym, ap, subst, ◌∙◌, inl, inr, ◌⊎◌, arith, length-take-le}
 use Rattle.std.proofs.lemmas.Bool.{cases_Bool, true≢false}
 use Rattle.std.proofs.lemmas.List.{append_assoc, append-nil}
-use Rattle.cs_trigram.specs.declared.found.Found.{Found}
+use Rattle.cs_trigram.specs.declared.found.FoundTrigrams.{FoundTrigrams}
 use Rattle.cs_trigram.specs.Trigram.{has, set_of_numbers, trigram_sequence}
-use Rattle.cs_trigram.specs.TrigramMarks.{Holds, CollectsOn}
-use Rattle.cs_trigram.specs.SixBytes.{parts_trigrams, AreAmong, Remembers, AreFresh, IsLast}
-use Rattle.cs_trigram.specs.Found.{Keeps}
+use Rattle.cs_trigram.specs.TrigramMarks.{HoldsSet, CollectsOn}
+use Rattle.cs_trigram.specs.SixBytes.{parts_trigrams, AreMembers, Remembers, AreFresh, IsLast}
+use Rattle.cs_trigram.specs.Found.{KeepsTrigrams}
 use Rattle.cs_trigram.proofs.SetLemmas.{has-set_of_numbers, ascends_set, ascends_same, set_of_numbers-push, length-with_number-ge}
-use Rattle.cs_trigram.proofs.BlockLemmas.{sequence-split}
-use Rattle.cs_trigram.proofs.PartsLemmas.{among_both, among_left, among_right, among_behind, among_same}
+use Rattle.cs_trigram.proofs.SplitTrigramLemmas.{sequence-split}
+use Rattle.cs_trigram.proofs.FilePartsLemmas.{among_both, among_left, among_right, among_behind, among_same}
 
 -- more numbers have no smaller set
 pub set-grows : (xs ys : List ℕ) → length (set_of_numbers xs) ≤ length (set_of_numbers (xs ++ ys))
@@ -19,7 +19,7 @@ set-grows xs (y ∷ ys) =
     omega (arith, on, ap (λ ns. length (set_of_numbers ns)) (append_assoc xs (y ∷ []) ys), ap length (set_of_numbers-push xs y), length-with_number-ge y (set_of_numbers xs))
 
 -- lists that have each other's numbers have one set
-pub same_set : (xs ys : List ℕ) → AreAmong xs ys → AreAmong ys xs → set_of_numbers xs ≡ set_of_numbers ys
+pub same_set : (xs ys : List ℕ) → AreMembers xs ys → AreMembers ys xs → set_of_numbers xs ≡ set_of_numbers ys
 same_set xs ys there back =
     ascends_same (set_of_numbers xs) (set_of_numbers ys) (ascends_set xs) (ascends_set ys) (λ n.
     has-set_of_numbers n xs ∙ at n (cases_Bool (has xs n)) (cases_Bool (has ys n)) ∙ sym (has-set_of_numbers n ys))
@@ -40,19 +40,19 @@ module _ (file : ℕ) (known tags bytes : List ℕ) (at : ℕ) (fresh : List ℕ
   whole : trigram_sequence bytes ≡ gone ++ rest
   whole = sequence-split at bytes
 
-  rest-inside : AreAmong rest (trigram_sequence bytes)
+  rest-inside : AreMembers rest (trigram_sequence bytes)
   rest-inside n h = among_same (gone ++ rest) (trigram_sequence bytes) (sym whole) n (among_right gone rest n h)
 
-  there : AreAmong (known ++ (parts_trigrams fresh ++ rest)) (known ++ trigram_sequence bytes)
+  there : AreMembers (known ++ (parts_trigrams fresh ++ rest)) (known ++ trigram_sequence bytes)
   there = among_behind known (parts_trigrams fresh ++ rest) (trigram_sequence bytes) (among_both (parts_trigrams fresh) rest (trigram_sequence bytes) are.inside rest-inside)
 
-  front-back : AreAmong (known ++ parts_trigrams fresh) (known ++ (parts_trigrams fresh ++ rest))
+  front-back : AreMembers (known ++ parts_trigrams fresh) (known ++ (parts_trigrams fresh ++ rest))
   front-back = among_behind known (parts_trigrams fresh) (parts_trigrams fresh ++ rest) (among_left (parts_trigrams fresh) rest)
 
-  rest-back : AreAmong rest (known ++ (parts_trigrams fresh ++ rest))
+  rest-back : AreMembers rest (known ++ (parts_trigrams fresh ++ rest))
   rest-back n h = among_right known (parts_trigrams fresh ++ rest) n (among_right (parts_trigrams fresh) rest n h)
 
-  back : AreAmong (known ++ trigram_sequence bytes) (known ++ (parts_trigrams fresh ++ rest))
+  back : AreMembers (known ++ trigram_sequence bytes) (known ++ (parts_trigrams fresh ++ rest))
   back = among_both known (trigram_sequence bytes) (known ++ (parts_trigrams fresh ++ rest)) (among_left known (parts_trigrams fresh ++ rest)) (λ n h.
       among_both gone rest (known ++ (parts_trigrams fresh ++ rest)) (λ m e. front-back m (are.covers m e)) rest-back n (among_same (trigram_sequence bytes) (gone ++ rest) whole n h))
 
@@ -65,7 +65,7 @@ module _ (file : ℕ) (known tags bytes : List ℕ) (at : ℕ) (fresh : List ℕ
   all-remembered i low mine n h =
       among_behind known (parts_trigrams fresh) (trigram_sequence bytes) are.inside n (are.remembers i low mine n h)
 
-holds-itself : (cells numbers set : List ℕ) → Holds cells numbers set → Holds cells numbers (set_of_numbers numbers)
+holds-itself : (cells numbers set : List ℕ) → HoldsSet cells numbers set → HoldsSet cells numbers (set_of_numbers numbers)
 holds-itself cells numbers set holds = record {
   same = refl;
   once = holds.once ∙ ap length (sym holds.same);
@@ -73,13 +73,13 @@ holds-itself cells numbers set holds = record {
 }
 
 -- what is kept where there is room for a block more
-pub Keeps-more : (most : ℕ) (old found : Found) (trigrams bytes : List ℕ) (at : ℕ) (fresh : List ℕ) →
-    Keeps most old trigrams → old.len ≤ most → length found.list.items ≡ length old.list.items → found.len ≤ length found.list.items →
+pub KeepsTrigrams-more : (most : ℕ) (old found : FoundTrigrams) (trigrams bytes : List ℕ) (at : ℕ) (fresh : List ℕ) →
+    KeepsTrigrams most old trigrams → old.len ≤ most → length found.list.items ≡ length old.list.items → found.len ≤ length found.list.items →
     (Remembers old.parts.file old.parts.tags.items trigrams → AreFresh old.parts.file trigrams found.parts.tags.items bytes at fresh) →
     (found.parts.file ≡ old.parts.file) → (IsLast old.parts.file old.parts.tags.items → IsLast old.parts.file found.parts.tags.items) →
     CollectsOn old.cells.items old.list.items old.len found.cells.items found.list.items found.len (parts_trigrams fresh ++ trigram_sequence (drop at bytes)) →
-    Keeps most found (trigrams ++ trigram_sequence bytes)
-Keeps-more most old found trigrams bytes at fresh keeps short same within are file last collects = record {
+    KeepsTrigrams most found (trigrams ++ trigram_sequence bytes)
+KeepsTrigrams-more most old found trigrams bytes at fresh keeps short same within are file last collects = record {
   room = same ∙ keeps.room;
   sound = (
     holds-itself found.cells.items (take found.len found.list.items) _ (collects (take old.len old.list.items) keeps.sound.0),
@@ -92,12 +92,12 @@ Keeps-more most old found trigrams bytes at fresh keeps short same within are fi
     split : AreFresh old.parts.file trigrams found.parts.tags.items bytes at fresh
     split = are (keeps.within short).1
 
-    holds : Holds found.cells.items (take found.len found.list.items) (set_of_numbers (trigrams ++ trigram_sequence bytes))
-    holds = subst (Holds found.cells.items (take found.len found.list.items)) (all-found old.parts.file trigrams found.parts.tags.items bytes at fresh split) (collects trigrams (keeps.within short).0)
+    holds : HoldsSet found.cells.items (take found.len found.list.items) (set_of_numbers (trigrams ++ trigram_sequence bytes))
+    holds = subst (HoldsSet found.cells.items (take found.len found.list.items)) (all-found old.parts.file trigrams found.parts.tags.items bytes at fresh split) (collects trigrams (keeps.within short).0)
 
 -- what is kept where there are too many already
-pub Keeps-over : (most : ℕ) (found : Found) (trigrams more : List ℕ) → Keeps most found trigrams → most < found.len → Keeps most found (trigrams ++ more)
-Keeps-over most found trigrams more keeps over = record {
+pub KeepsTrigrams-over : (most : ℕ) (found : FoundTrigrams) (trigrams more : List ℕ) → KeepsTrigrams most found trigrams → most < found.len → KeepsTrigrams most found (trigrams ++ more)
+KeepsTrigrams-over most found trigrams more keeps over = record {
   room = keeps.room;
   sound = keeps.sound;
   within = λ fits. absurd (omega (arith, over, fits));

@@ -1,6 +1,6 @@
 -- What follows from the definitions alone.
 use Rattle.std.proofs.Common.{◌≡◌, ℕ, true, eqb, List, [], ◌∷◌, ◌++◌, length, Option, Some, None, refl, sym, ap, ◌∙◌, inl, inr}
-use Rattle.cs_trigram.specs.Scans.{found_or, found_at, text, left_out}
+use Rattle.cs_trigram.specs.Scans.{found_or, finding_at, text, left_out}
 use Rattle.std.proofs.lemmas.Bool.{false≢true, or_cases, or_left, or_right, eq-eqb}
 use Rattle.cs_tree.specs.Told.{ends}
 use Rattle.cs_trigram.specs.declared.limits.Limits.{Limits}
@@ -45,7 +45,7 @@ found_text None set trigrams long count h =
     (ap Some (sym same), cc)
 found_text (Some r) set trigrams long count h = absurd (cc)
 
-pub text-found : (most : Limits) (bytes trigrams : List ℕ) (count : ℕ) → text trigrams count ≡ found_at most bytes ends → (text_trigrams most bytes ≡ Some trigrams) × (count ≡ length bytes)
+pub text-found : (most : Limits) (bytes trigrams : List ℕ) (count : ℕ) → text trigrams count ≡ finding_at most bytes ends → (text_trigrams most bytes ≡ Some trigrams) × (count ≡ length bytes)
 text-found most bytes trigrams count h = found_text (skip most bytes) (tri bytes) trigrams (length bytes) count h
 
 found_left_out : (o : Option Reason) (set : List ℕ) (long : ℕ) (reason : Reason) → left_out reason ≡ found_or o (text set long) → (o ≡ Some reason) × (none_skipped o set ≡ None)
@@ -54,5 +54,5 @@ found_left_out (Some r) set long reason h =
     let same : reason ≡ r = cc in
     (ap Some (sym same), refl)
 
-pub left_out-found : (most : Limits) (bytes : List ℕ) (reason : Reason) → left_out reason ≡ found_at most bytes ends → (skip most bytes ≡ Some reason) × (text_trigrams most bytes ≡ None)
+pub left_out-found : (most : Limits) (bytes : List ℕ) (reason : Reason) → left_out reason ≡ finding_at most bytes ends → (skip most bytes ≡ Some reason) × (text_trigrams most bytes ≡ None)
 left_out-found most bytes reason h = found_left_out (skip most bytes) (tri bytes) (length bytes) reason h

@@ -1,32 +1,32 @@
-pub mod PlaceLemmas
-pub mod SetLemmas
-pub mod BlockLemmas
-pub mod PartsLemmas
-pub mod MarkLemmas
-pub mod FoundLemmas
-pub mod SortLemmas
-pub mod TextLemmas
-pub mod ScanLemmas
-mod Examples
-mod QueryExamples
-pub mod QuickTestLemmas
-pub mod OrderLemmas
-pub mod SorterLemmas
 pub mod LawLemmas
-mod MemberLemmas
-mod NodeLemmas
-mod SampleLemmas
+pub mod RuleLemmas
+pub mod SetLemmas
+mod AffixLemmas
+mod AskedLemmas
 mod CharWordLemmas
-mod RoundLemmas
-mod PlainTreeLemmas
-mod FewLemmas
-mod PartTrigramLemmas
-mod SpellingLemmas
-mod PlainRunLemmas
 mod ConcatenationLemmas
 mod CountLemmas
-mod AffixLemmas
 mod CrossingLemmas
-mod AskedLemmas
+mod DigitOrderLemmas
+mod Examples
+mod FewLemmas
+mod FilePartsLemmas
+mod FoundLemmas
+mod MemberLemmas
+mod NodeListLemmas
+mod PartTrigramLemmas
+mod PlaceLemmas
+mod PlainRunLemmas
+mod PlainTreeLemmas
+mod QueryExamples
 mod QueryLemmas
+mod QuickTestLemmas
 mod RightLemmas
+mod RoundLemmas
+mod SampleLemmas
+mod ScanLemmas
+mod SortLemmas
+mod SorterLemmas
+mod SplitTrigramLemmas
+mod TreeWordLemmas
+mod TrigramMarkLemmas

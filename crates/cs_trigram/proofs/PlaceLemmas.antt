@@ -10,7 +10,7 @@ use Rattle.cs_trigram.specs.declared.scan.Reason.{Reason}
 use Rattle.cs_trigram.specs.Text.{last_byte, line_so_far, rule_broken, first_broken}
 use Rattle.std.specs.Option.{option_or}
 use Rattle.cs_trigram.specs.declared.place.Place.{Place}
-use Rattle.cs_trigram.specs.Place.{Stands, Passes}
+use Rattle.cs_trigram.specs.Place.{StandsBehind, Passes}
 
 pub last_byte-push : (front : List ℕ) (b : ℕ) → last_byte (front ++ b ∷ []) ≡ b
 last_byte-push [] b = refl
@@ -46,8 +46,8 @@ first_broken-append most front (x ∷ xs) ys =
     option_or_assoc (Some r) b c = refl
 
 -- a place behind one more byte
-pub Stands-push : (place : Place) (front : List ℕ) (b : ℕ) → Stands place front → Stands (record { count = place.count + 1; column = cond (nat_eq b 10) 0 (place.column + 1); before = b }) (front ++ b ∷ [])
-Stands-push place front b stands = record {
+pub StandsBehind-push : (place : Place) (front : List ℕ) (b : ℕ) → StandsBehind place front → StandsBehind (record { count = place.count + 1; column = cond (nat_eq b 10) 0 (place.column + 1); before = b }) (front ++ b ∷ [])
+StandsBehind-push place front b stands = record {
   count = omega (arith, stands.count, length-append front (b ∷ []));
   column = ap (λ n. cond (nat_eq b 10) 0 (n + 1)) stands.column ∙ sym (length-line-push front b);
   before = sym (last_byte-push front b);

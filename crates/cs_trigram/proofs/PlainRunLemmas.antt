@@ -3,11 +3,11 @@ use Rattle.std.proofs.Common.{ℕ, zero, suc, ◌-◌, ◌≤◌, inl, inr, Bool
 use Rattle.cs_syntax.specs.TreeList.{append}
 use Rattle.cs_syntax.specs.Matching.{Tree, Trees, empty, one_of, one_char, cat, alt, rep, line_start, line_end, word_edge, not_word_edge, none, more, Chain, Takes, TakesAll, TakesSome}
 use Rattle.cs_trigram.specs.Query.{HasTrigrams}
-use Rattle.cs_trigram.specs.Affixes.{part}
+use Rattle.std.specs.Prelude.{slice_range}
 use Rattle.cs_trigram.specs.PlainRuns.{ShowsRuns, ShowsPlainRuns, AllShowPlainRuns, SomeShowsPlainRuns}
 use Rattle.cs_trigram.proofs.PlainTreeLemmas.{all_finite, words_concatenate}
 use Rattle.cs_trigram.proofs.PartTrigramLemmas.{has_part}
-use Rattle.cs_trigram.proofs.SpellingLemmas.{spelled_all}
+use Rattle.cs_trigram.proofs.TreeWordLemmas.{spelled_all}
 
 -- what a sequence takes, cut in two
 taken_both : (s : List ℕ) (a b : Trees) (i j : ℕ) → TakesAll s (append a b) i j → (l : ℕ) × TakesAll s a i l × TakesAll s b l j
@@ -26,7 +26,7 @@ module _ (s : List ℕ) (set : ℕ → Bool) (known : HasTrigrams set s) where
       let first = taken_both s before (append run after) i j (subst (λ (x : Trees). TakesAll s x i j) e h) in
       let second = taken_both s run after first.0 j first.2 in
       let word = spelled_all s run first.0 second.0 (all_finite run few.0) second.1 in
-      (part s first.0 second.0, words_concatenate run few.0 (part s first.0 second.0) word.1, has_part set (second.0 - first.0) first.0 s known)
+      (slice_range s first.0 second.0, words_concatenate run few.0 (slice_range s first.0 second.0) word.1, has_part set (second.0 - first.0) first.0 s known)
 
   mutual
     pub taken_plain_runs : (t : Tree) (i j : ℕ) → Takes s t i j → ShowsPlainRuns set t

@@ -2,7 +2,7 @@
 use Rattle.std.proofs.Common.{◌≡◌, ℕ, inl, inr, true, List, refl, arith}
 use Rattle.std.proofs.lemmas.Bool.{and_parts, and_from}
 use Rattle.cs_syntax.specs.Matching.{Tree, Trees, empty, one_of, one_char, cat, alt, rep, line_start, line_end, word_edge, not_word_edge, none, more}
-use Rattle.cs_trigram.specs.PlainRuns.{is_plain, are_plain, Spells, Concatenates, SomeSpells, IsPlainRun}
+use Rattle.cs_trigram.specs.PlainRuns.{is_plain, are_plain, IsPlainWord, Concatenates, SomePlainWord, IsPlainRun}
 use Rattle.cs_trigram.specs.FiniteWords.{is_finite, are_finite, HasWord, ConcatenatesWords, SomeHasWord, HaveFewWords}
 
 mutual
@@ -25,7 +25,7 @@ mutual
       and_from (is_finite t) (are_finite ts) (plain_finite t q.0) (all_finite ts q.1)
 
 mutual
-  spells_has : (t : Tree) → is_plain t ≡ true → (w : List ℕ) → Spells t w → HasWord t w
+  spells_has : (t : Tree) → is_plain t ≡ true → (w : List ℕ) → IsPlainWord t w → HasWord t w
   spells_has empty p w s = s
   spells_has (one_of set) p w s = s
   spells_has (one_char runs) p w s = absurd s
@@ -43,14 +43,14 @@ mutual
       let q = and_parts (is_plain t) (are_plain ts) p in
       (s.0, s.1, spells_has t q.0 s.0 s.2, concatenates_words ts q.1 s.1 s.3, s.4)
 
-  some_has : (ts : Trees) → are_plain ts ≡ true → (w : List ℕ) → SomeSpells ts w → SomeHasWord ts w
+  some_has : (ts : Trees) → are_plain ts ≡ true → (w : List ℕ) → SomePlainWord ts w → SomeHasWord ts w
   some_has none p w s = absurd s
   some_has (more t ts) p w s =
       let q = and_parts (is_plain t) (are_plain ts) p in
       elim s [ inl a ↦ inl (spells_has t q.0 w a) | inr b ↦ inr (some_has ts q.1 w b) ]
 
 mutual
-  has_spells : (t : Tree) → is_plain t ≡ true → (w : List ℕ) → HasWord t w → Spells t w
+  has_spells : (t : Tree) → is_plain t ≡ true → (w : List ℕ) → HasWord t w → IsPlainWord t w
   has_spells empty p w s = s
   has_spells (one_of set) p w s = s
   has_spells (one_char runs) p w s = (cc)
@@ -68,7 +68,7 @@ mutual
       let q = and_parts (is_plain t) (are_plain ts) p in
       (s.0, s.1, has_spells t q.0 s.0 s.2, words_concatenate ts q.1 s.1 s.3, s.4)
 
-  has_some : (ts : Trees) → are_plain ts ≡ true → (w : List ℕ) → SomeHasWord ts w → SomeSpells ts w
+  has_some : (ts : Trees) → are_plain ts ≡ true → (w : List ℕ) → SomeHasWord ts w → SomePlainWord ts w
   has_some none p w s = absurd s
   has_some (more t ts) p w s =
       let q = and_parts (is_plain t) (are_plain ts) p in
@@ -78,6 +78,8 @@ mutual
 pub run_has_few : (ts : Trees) → IsPlainRun ts → HaveFewWords ts
 run_has_few ts few = (
   all_finite ts few.0,
-  (few.1.0, concatenates_words ts few.0 few.1.0 few.1.1),
-  (few.2.0, omega (arith, few.2.1), λ w r. few.2.2 w (words_concatenate ts few.0 w r)),
+  (
+    (few.1.0.0, concatenates_words ts few.0 few.1.0.0 few.1.0.1),
+    (few.1.1.0, omega (arith, few.1.1.1), λ w r. few.1.1.2 w (words_concatenate ts few.0 w r)),
+  ),
 )

@@ -4,9 +4,11 @@ use Rattle.std.specs.Prelude.{◌↔◌}
 use Rattle.std.specs.List.{list_all}
 use Rattle.std.proofs.lemmas.Bool.{true≢false}
 use Rattle.cs_syntax.specs.Matching.{Tree, Trees, one_of, cat, alt, rep, none, more, member, Found, TakesAll}
+use Rattle.cs_tree.specs.Cover.{is_among}
+use Rattle.cs_trigram.proofs.MemberLemmas.{first_member, later_member, member_cases, only_member}
 use Rattle.cs_trigram.specs.Trigram.{tri}
 use Rattle.cs_trigram.specs.Query.{HasTrigrams, LosesNoLine}
-use Rattle.cs_trigram.specs.PlainRuns.{Concatenates, IsMember, IsPlainRun, ShowsPlainRuns, IsSharp}
+use Rattle.cs_trigram.specs.PlainRuns.{Concatenates, IsPlainRun, ShowsPlainRuns, IsSharp}
 use Rattle.cs_trigram.specs.declared.queries.Query.TheVariants.{All, Tri}
 use Rattle.cs_trigram.proofs.QueryLemmas.{holds-All, holds-Tri}
 use Rattle.cs_trigram.proofs.PlainRunLemmas.{taken_plain_runs}
@@ -48,7 +50,13 @@ abbrev hello : List ℕ
 hello = codes "hello"
 
 hello_is_a_run : IsPlainRun (letters hello)
-hello_is_a_run = (refl, (hello, concatenates hello), (hello ∷ [], omega arith, λ word j. inl (concatenates_no_other hello word j)))
+hello_is_a_run = (
+  refl,
+  (
+    (hello, concatenates hello),
+    (hello ∷ [], omega arith, λ word j. first_member word hello [] (concatenates_no_other hello word j)),
+  ),
+)
 
 hello_takes_hello : TakesAll hello (letters hello) 0 5
 hello_takes_hello = (
@@ -83,13 +91,13 @@ plain_runs_of_hello set = (
 abbrev choice : Trees
 choice = more (alt (more (cat (letters (codes "ab"))) (more (cat (letters (codes "cd"))) none))) (letters (codes "ef"))
 
-choice_concatenates : (word : List ℕ) → Concatenates choice word → IsMember word (codes "abef" ∷ codes "cdef" ∷ [])
+choice_concatenates : (word : List ℕ) → Concatenates choice word → is_among (codes "abef" ∷ codes "cdef" ∷ []) word ≡ true
 choice_concatenates word j =
     let back = concatenates_no_other (codes "ef") j.1 j.3 in
     elim j.2 [
-      | inl first ↦ let front = concatenates_no_other (codes "ab") j.0 first in inl (j.4 ∙ (λ i. front i ++ back i))
+      | inl first ↦ let front = concatenates_no_other (codes "ab") j.0 first in first_member word (codes "abef") (codes "cdef" ∷ []) (j.4 ∙ (λ i. front i ++ back i))
       | inr rest ↦ elim rest [
-        | inl second ↦ let front = concatenates_no_other (codes "cd") j.0 second in inr (inl (j.4 ∙ (λ i. front i ++ back i)))
+        | inl second ↦ let front = concatenates_no_other (codes "cd") j.0 second in later_member word (codes "abef") (codes "cdef" ∷ []) (first_member word (codes "cdef") [] (j.4 ∙ (λ i. front i ++ back i)))
         | inr neither ↦ absurd neither
       ]
     ]
@@ -97,19 +105,18 @@ choice_concatenates word j =
 choice_is_a_run : IsPlainRun choice
 choice_is_a_run = (
   refl,
-  (codes "abef", (codes "ab", codes "ef", inl (concatenates (codes "ab")), concatenates (codes "ef"), refl)),
-  (codes "abef" ∷ codes "cdef" ∷ [], omega arith, choice_concatenates),
+  (
+    (codes "abef", (codes "ab", codes "ef", inl (concatenates (codes "ab")), concatenates (codes "ef"), refl)),
+    (codes "abef" ∷ codes "cdef" ∷ [], omega arith, choice_concatenates),
+  ),
 )
 
 asking_nothing_is_not_sharp : IsSharp All (cat choice) → ⊥
 asking_nothing_is_not_sharp sharp =
     let shown = (sharp (λ n. false) (holds-All (λ n. false))).0 none choice none refl choice_is_a_run in
-    elim (choice_concatenates shown.0 shown.1) [
+    elim (member_cases shown.0 (codes "abef") (codes "cdef" ∷ []) (choice_concatenates shown.0 shown.1)) [
       | inl first ↦ true≢false (sym (subst (HasTrigrams (λ n. false)) first shown.2))
-      | inr rest ↦ elim rest [
-        | inl second ↦ true≢false (sym (subst (HasTrigrams (λ n. false)) second shown.2))
-        | inr neither ↦ absurd neither
-      ]
+      | inr rest ↦ true≢false (sym (subst (HasTrigrams (λ n. false)) (only_member shown.0 (codes "cdef") rest) shown.2))
     ]
 
 -- ---- `abc?`: to ask for `abc` loses the line `ab`

@@ -7,8 +7,8 @@ use Rattle.std.proofs.Math.Bool.{and-true, or-false, or-true, or_assoc}
 use Rattle.std.proofs.lemmas.Bool.{and_from}
 use Rattle.std.proofs.lemmas.List.Folds.{list_all-map, list_all-append, list_any-append}
 use Rattle.cs_tree.proofs.NameLemmas.{list_any-map}
-use Rattle.cs_trigram.specs.Trigram.{trigram_sequence}
-use Rattle.cs_trigram.specs.Query.{holds, holds_step}
+use Rattle.cs_trigram.specs.Trigram.{trigram_sequence, set_of_numbers}
+use Rattle.cs_trigram.specs.Query.{holds, holds_step, has_trigrams}
 use Rattle.cs_trigram.specs.Sample.{all_hold, some_holds, has_any}
 use Rattle.cs_trigram.specs.declared.queries.Query.{Query, Query-F, fold-roll-Query}
 use Rattle.cs_trigram.specs.declared.queries.Query.TheVariants.{All, Nothing, Tri, And, Or, rolls-All, rolls-Nothing, rolls-Tri, rolls-And, rolls-Or}
@@ -76,11 +76,11 @@ trigram_end set members text at le =
     ap (λ (ns : List ℕ). all_hold members set && list_all set ns) (trigrams_short (drop at text) (omega (arith, length-drop at text))) ∙ and-true (all_hold members set)
 
 -- one word more
-pub word_step : (set : ℕ → Bool) (members : List Query) (q : Query) (w : List ℕ) (ws : List (List ℕ)) → holds q set ≡ list_all set (trigram_sequence w) →
+pub word_step : (set : ℕ → Bool) (members : List Query) (q : Query) (w : List ℕ) (ws : List (List ℕ)) → holds q set ≡ has_trigrams set w →
     (some_holds (members ++ q ∷ []) set || has_any set ws) ≡ (some_holds members set || has_any set (w ∷ ws))
 word_step set members q w ws e =
     ap (λ b. b || has_any set ws) (some_holds_push set members q ∙ ap (λ b. some_holds members set || b) e)
-    ∙ or_assoc (some_holds members set) (list_all set (trigram_sequence w)) (has_any set ws)
+    ∙ or_assoc (some_holds members set) (has_trigrams set w) (has_any set ws)
 
 pub word_end : (set : ℕ → Bool) (members : List Query) → (some_holds members set || has_any set []) ≡ some_holds members set
 word_end set members = or-false (some_holds members set)
@@ -88,4 +88,4 @@ word_end set members = or-false (some_holds members set)
 -- a word without trigrams is always there
 pub short_there : (set : ℕ → Bool) (rest : List (List ℕ)) (w : List ℕ) (b : Bool) → length w ≤ 2 → (b || has_any set (w ∷ rest)) ≡ true
 short_there set rest w b le =
-    ap (λ (ns : List ℕ). b || (list_all set ns || has_any set rest)) (trigrams_short w le) ∙ or-true b
+    ap (λ (ns : List ℕ). b || (list_all set (set_of_numbers ns) || has_any set rest)) (trigrams_short w le) ∙ or-true b

@@ -8,7 +8,7 @@ use Rattle.cs_trigram.specs.declared.scan.Reason.TheVariants.{Nul, Utf8, TooLong
 use Rattle.cs_trigram.specs.Text.{may_follow, last_byte, line_so_far, rule_broken, first_broken}
 use Rattle.std.specs.Option.{option_or}
 use Rattle.cs_trigram.proofs.PlaceLemmas.{last_byte-push, length-line-push}
-use Rattle.cs_trigram.specs.QuickTest.{IsAsciiByte, Follow, next_column, column_behind, LinesFit}
+use Rattle.cs_trigram.specs.QuickTest.{IsAsciiByte, AllMayFollow, next_column, column_behind, LinesFit}
 
 next_column_le : (column b : ℕ) → next_column column b ≤ column + 1
 next_column_le column b = elim (eqb b 10) as (λ t. cond t 0 (column + 1) ≤ column + 1) [ true ↦ omega arith | false ↦ omega arith ]
@@ -64,7 +64,7 @@ ascii_follows before b early some low =
     ]
 
 -- ASCII bytes follow each other
-pub ascii_follow : (before : ℕ) (bytes : List ℕ) → before < 192 → AllByRecursion IsAsciiByte bytes → Follow before bytes
+pub ascii_follow : (before : ℕ) (bytes : List ℕ) → before < 192 → AllByRecursion IsAsciiByte bytes → AllMayFollow before bytes
 ascii_follow before [] early plain = tt
 ascii_follow before (b ∷ rest) early plain =
     (plain.0.0, ascii_follows before b early plain.0.0 plain.0.1, ascii_follow b rest (omega (arith, plain.0.1)) plain.1)
@@ -74,8 +74,8 @@ above_zero zero some = absurd (some refl)
 above_zero (suc n) some = omega arith
 
 -- one byte more before those that follow it
-pub Follow-more : (before b : ℕ) (fit may : Bool) (rest : List ℕ) → (fit && not (eqb b 0)) && may ≡ true → may ≡ may_follow before b → Follow b rest → (fit ≡ true) × Follow before (b ∷ rest)
-Follow-more before b fit may rest all is follow =
+pub AllMayFollow-more : (before b : ℕ) (fit may : Bool) (rest : List ℕ) → (fit && not (eqb b 0)) && may ≡ true → may ≡ may_follow before b → AllMayFollow b rest → (fit ≡ true) × AllMayFollow before (b ∷ rest)
+AllMayFollow-more before b fit may rest all is follow =
     let parts = and_parts (fit && not (eqb b 0)) may all in
     let first = and_parts fit (not (eqb b 0)) parts.0 in
     (first.0, (above_zero b (eqb-false b 0 (not-true (eqb b 0) first.1)), sym is ∙ parts.1, follow))
@@ -87,11 +87,11 @@ follow_unbroken most front b some may room fits =
     ∙ ap (λ t. cond t (Some TooLong) (cond (leb most.line (length (line_so_far front))) (Some LongLine) None)) (lt-leb most.bytes (length front) room)
     ∙ ap (λ t. cond t (Some LongLine) None) (lt-leb most.line (length (line_so_far front)) fits)
 
-pub follow_passes : (most : Limits) (front bytes : List ℕ) → Follow (last_byte front) bytes → length front + length bytes ≤ most.bytes → LinesFit most.line (length (line_so_far front)) bytes → first_broken most front bytes ≡ None
+pub follow_passes : (most : Limits) (front bytes : List ℕ) → AllMayFollow (last_byte front) bytes → length front + length bytes ≤ most.bytes → LinesFit most.line (length (line_so_far front)) bytes → first_broken most front bytes ≡ None
 follow_passes most front [] follow room fits = refl
 follow_passes most front (b ∷ rest) follow room fits =
     let here : rule_broken most front b ≡ None = follow_unbroken most front b follow.0 follow.1 (omega (arith, room)) fits.0 in
-    let follow_rest : Follow (last_byte (front ++ b ∷ [])) rest = rw (last_byte-push front b) follow.2 in
+    let follow_rest : AllMayFollow (last_byte (front ++ b ∷ [])) rest = rw (last_byte-push front b) follow.2 in
     let fits_rest : LinesFit most.line (length (line_so_far (front ++ b ∷ []))) rest = rw (length-line-push front b) fits.1 in
     ap (λ r. option_or r (first_broken most (front ++ b ∷ []) rest)) here
     ∙ follow_passes most (front ++ b ∷ []) rest follow_rest (omega (arith, room, length-append front (b ∷ []))) fits_rest

@@ -1,18 +1,17 @@
 -- Queries that are right for a tree.
 use Rattle.std.proofs.Common.{◌≡◌, ℕ, zero, suc, ◌-◌, ◌<◌, ◌≤◌, inl, inr, Bool, true, false, List, [], ◌∷◌, ◌++◌, Vec, Global, sym, ◌∙◌, ap, subst, arith}
 use Rattle.cs_trigram.specs.QueryNumbers.{are_trigrams}
-use Rattle.std.specs.Prelude.{Option}
+use Rattle.std.specs.Prelude.{Option, slice_range}
 use Rattle.std.specs.List.{list_all}
 use Rattle.std.proofs.lemmas.Bool.{or_cases, or_left, or_right}
 use Rattle.cs_syntax.specs.Matching.{Tree, Trees, alt, rep, none, more, Chain, Takes}
-use Rattle.cs_trigram.specs.Affixes.{part}
 use Rattle.cs_trigram.specs.Query.{holds, HasTrigrams, LosesNoLine}
 use Rattle.cs_trigram.specs.PlainRuns.{ShowsPlainRuns}
 use Rattle.cs_trigram.specs.Sample.{some_holds, has_any, TreeWords, IsRight, AreRight}
 use Rattle.cs_trigram.specs.declared.queries.Query.{Query}
 use Rattle.cs_trigram.specs.declared.queries.Query.TheVariants.{All, Or}
 use Rattle.cs_trigram.proofs.AskedLemmas.{any_shown, shown_any}
-use Rattle.cs_trigram.proofs.SpellingLemmas.{spelled, spelled_plain_runs}
+use Rattle.cs_trigram.proofs.TreeWordLemmas.{spelled, spelled_plain_runs}
 use Rattle.cs_trigram.proofs.PartTrigramLemmas.{has_part}
 use Rattle.cs_trigram.proofs.QueryLemmas.{holds-All, holds-Or, some_holds_push, numbers-All, numbers-Or, numbers_more, numbers_push}
 
@@ -41,7 +40,7 @@ pub right_words : (q : Query) (ws : List (List ℕ)) (t : Tree) → TreeWords ws
 right_words q ws t words asks numbers = record {
   holding = λ s set i j h has.
       let r = spelled s t i j words.0 h in
-      asks set ∙ shown_any set ws (part s i j) ((words.1.each (part s i j)).0 r.1) (has_part set (j - i) i s has);
+      asks set ∙ shown_any set ws (slice_range s i j) ((words.1.each (slice_range s i j)).0 r.1) (has_part set (j - i) i s has);
   sharp = λ set h.
       let w = any_shown set ws (sym (asks set) ∙ h) in
       spelled_plain_runs set t w.0 ((words.1.each w.0).1 w.1) w.2;

@@ -1,15 +1,13 @@
 -- Samples of words that are added one after another, and of concatenations.
 use Rattle.std.proofs.Common.{◌≡◌, ℕ, zero, suc, ◌+◌, ◌<◌, ◌≤◌, ◌⊎◌, ◌&&◌, inl, inr, not, Bool, true, false, List, [], ◌∷◌, ◌++◌, drop, length, map, get_or, refl, sym, ◌∙◌, ap, subst, arith, drop-cons}
 use Rattle.std.specs.Prelude.{nat_le, if◌then◌else◌}
-use Rattle.std.specs.List.{list_any}
-use Rattle.std.specs.Str.{bytes_eq}
 use Rattle.std.proofs.lemmas.Bool.{leb-true, le-leb, both_ways, cases_lt}
 use Rattle.std.proofs.lemmas.List.{append_cancel_left, append_cancel_right, length-map}
 use Rattle.cs_syntax.specs.Matching.{one_of, member}
-use Rattle.cs_trigram.specs.PlainRuns.{IsMember}
+use Rattle.cs_tree.specs.Cover.{is_among}
 use Rattle.cs_trigram.specs.FiniteWords.{HasWord}
 use Rattle.cs_trigram.specs.Sample.{with_word, with_words, concatenations, IsSample}
-use Rattle.cs_trigram.proofs.MemberLemmas.{member_append, member_left, member_right, member_map, map_member, any_member, member_any, different_within, different_push, different_map}
+use Rattle.cs_trigram.proofs.MemberLemmas.{different_push, member_append, member_left, member_right, member_map, map_member, different_within, different_map, no_member, first_member, later_member, member_cases, only_member}
 
 -- the byte words of a set below n
 abbrev pub SpellsBelow : List Bool → ℕ → List ℕ → Type 0
@@ -29,7 +27,7 @@ with_words_full words (v ∷ vs) lt = ap (λ (ws : List (List ℕ)). with_words 
     full false there e = refl
 
     same : with_word words v ≡ words
-    same = full (nat_le (length words) 20) (list_any (λ w. bytes_eq w v) words) refl
+    same = full (nat_le (length words) 20) (is_among words v) refl
 
 pub words_from : (words : List (List ℕ)) (i : ℕ) (word : List ℕ) → i < length words → word ≡ get_or words i word →
     drop i words ≡ word ∷ drop (i + 1) words
@@ -43,17 +41,17 @@ sample_same ws P R s to from =
 
 module _ (ws : List (List ℕ)) (w : List ℕ) (P R : List ℕ → Type 0) (s : IsSample ws P)
     (to : (v : List ℕ) → P v → R v) (new : R w) (from : (v : List ℕ) → R v → P v ⊎ (v ≡ w)) where
-  more_by : (room there : Bool) → nat_le (length ws) 20 ≡ room → list_any (λ v. bytes_eq v w) ws ≡ there →
+  more_by : (room there : Bool) → nat_le (length ws) 20 ≡ room → is_among ws w ≡ there →
       IsSample (if room && not there then ws ++ w ∷ [] else ws) R
   more_by true false r t = record {
     right = λ v m. elim (member_append v ws (w ∷ []) m) [
       | inl a ↦ to v (s.right v a)
-      | inr b ↦ elim b [ inl e ↦ subst R (sym e) new | inr n ↦ absurd n ]
+      | inr b ↦ subst R (sym (only_member v w b)) new
     ];
-    different = different_push ws w s.different (λ m. both_ways (list_any (λ v. bytes_eq v w) ws) t (member_any w ws m));
+    different = different_push ws w s.different (λ m. both_ways (is_among ws w) t m);
     whole = λ le v h. elim (from v h) [
       | inl p ↦ member_left v ws (w ∷ []) (s.whole (leb-true (length ws) 20 r) v p)
-      | inr e ↦ member_right v ws (w ∷ []) (inl e)
+      | inr e ↦ member_right v ws (w ∷ []) (first_member v w [] e)
     ];
   }
   more_by true true r t = record {
@@ -61,7 +59,7 @@ module _ (ws : List (List ℕ)) (w : List ℕ) (P R : List ℕ → Type 0) (s : 
     different = s.different;
     whole = λ le v h. elim (from v h) [
       | inl p ↦ s.whole le v p
-      | inr e ↦ subst (λ (x : List ℕ). IsMember x ws) (sym e) (any_member w ws t)
+      | inr e ↦ subst (λ (x : List ℕ). is_among ws x ≡ true) (sym e) t
     ];
   }
   more_by false there r t = record {
@@ -72,42 +70,42 @@ module _ (ws : List (List ℕ)) (w : List ℕ) (P R : List ℕ → Type 0) (s : 
 
   -- a word more
   pub sample_more : IsSample (with_word ws w) R
-  sample_more = more_by (nat_le (length ws) 20) (list_any (λ v. bytes_eq v w) ws) refl refl
+  sample_more = more_by (nat_le (length ws) 20) (is_among ws w) refl refl
 
 -- more words
-pub sample_words : (ws us : List (List ℕ)) (P R : List ℕ → Type 0) → IsSample ws P → ((v : List ℕ) → P v → R v) → ((v : List ℕ) → IsMember v us → R v) →
-    ((v : List ℕ) → R v → P v ⊎ IsMember v us) → IsSample (with_words ws us) R
+pub sample_words : (ws us : List (List ℕ)) (P R : List ℕ → Type 0) → IsSample ws P → ((v : List ℕ) → P v → R v) → ((v : List ℕ) → is_among us v ≡ true → R v) →
+    ((v : List ℕ) → R v → P v ⊎ (is_among us v ≡ true)) → IsSample (with_words ws us) R
 sample_words ws [] P R s to new from =
-    sample_same ws P R s to (λ v r. elim (from v r) [ inl p ↦ p | inr n ↦ absurd n ])
+    sample_same ws P R s to (λ v r. elim (from v r) [ inl p ↦ p | inr n ↦ absurd (no_member v n) ])
 sample_words ws (u ∷ us) P R s to new from =
     let Q : List ℕ → Type 0 = λ v. P v ⊎ (v ≡ u) in
     let t : IsSample (with_word ws u) Q = sample_more ws u P Q s (λ v p. inl p) (inr refl) (λ v q. q) in
     sample_words (with_word ws u) us Q R t
-    (λ v q. elim q [ inl p ↦ to v p | inr e ↦ new v (inl e) ])
-    (λ v m. new v (inr m))
-    (λ v r. elim (from v r) [ inl p ↦ inl (inl p) | inr m ↦ elim m [ inl e ↦ inl (inr e) | inr n ↦ inr n ] ])
+    (λ v q. elim q [ inl p ↦ to v p | inr e ↦ new v (first_member v u us e) ])
+    (λ v m. new v (later_member v u us m))
+    (λ v r. elim (from v r) [ inl p ↦ inl (inl p) | inr m ↦ elim (member_cases v u us m) [ inl e ↦ inl (inr e) | inr n ↦ inr n ] ])
 
 -- no words
 pub no_sample : IsSample [] (λ w. ⊥)
-no_sample = record { right = λ v m. m; different = tt; whole = λ le v p. p }
+no_sample = record { right = λ v m. no_member v m; different = refl; whole = λ le v p. absurd p }
 
-pub sample_of : (us : List (List ℕ)) → IsSample (with_words [] us) (λ w. IsMember w us)
-sample_of us = sample_words [] us (λ w. ⊥) (λ w. IsMember w us) no_sample (λ v p. absurd p) (λ v m. m) (λ v m. inr m)
+pub sample_of : (us : List (List ℕ)) → IsSample (with_words [] us) (λ w. is_among us w ≡ true)
+sample_of us = sample_words [] us (λ w. ⊥) (λ w. is_among us w ≡ true) no_sample (λ v p. absurd p) (λ v m. m) (λ v m. inr m)
 
-pub concatenation_parts : (w : List ℕ) (us vs : List (List ℕ)) → IsMember w (concatenations us vs) →
-    (u v : List ℕ) × IsMember u us × IsMember v vs × (w ≡ u ++ v)
-concatenation_parts w [] vs m = absurd m
+pub concatenation_parts : (w : List ℕ) (us vs : List (List ℕ)) → is_among (concatenations us vs) w ≡ true →
+    (u v : List ℕ) × (is_among us u ≡ true) × (is_among vs v ≡ true) × (w ≡ u ++ v)
+concatenation_parts w [] vs m = absurd (no_member w m)
 concatenation_parts w (u ∷ us) vs m =
     elim (member_append w (map (λ v. u ++ v) vs) (concatenations us vs) m) [
-      | inl a ↦ let r = member_map (λ v. u ++ v) w vs a in (u, r.0, inl refl, r.1, r.2)
-      | inr b ↦ let r = concatenation_parts w us vs b in (r.0, r.1, inr r.2, r.3, r.4)
+      | inl a ↦ let r = member_map (λ v. u ++ v) w vs a in (u, r.0, first_member u u us refl, r.1, r.2)
+      | inr b ↦ let r = concatenation_parts w us vs b in (r.0, r.1, later_member r.0 u us r.2, r.3, r.4)
     ]
 
-pub concatenation_member : (u v : List ℕ) (us vs : List (List ℕ)) → IsMember u us → IsMember v vs → IsMember (u ++ v) (concatenations us vs)
-concatenation_member u v [] vs m n = absurd m
+pub concatenation_member : (u v : List ℕ) (us vs : List (List ℕ)) → is_among us u ≡ true → is_among vs v ≡ true → is_among (concatenations us vs) (u ++ v) ≡ true
+concatenation_member u v [] vs m n = absurd (no_member u m)
 concatenation_member u v (x ∷ us) vs m n =
-    elim m [
-      | inl e ↦ member_left (u ++ v) (map (λ y. x ++ y) vs) (concatenations us vs) (subst (λ (y : List ℕ). IsMember (y ++ v) (map (λ z. x ++ z) vs)) (sym e) (map_member (λ z. x ++ z) v vs n))
+    elim (member_cases u x us m) [
+      | inl e ↦ member_left (u ++ v) (map (λ y. x ++ y) vs) (concatenations us vs) (subst (λ (y : List ℕ). is_among (map (λ z. x ++ z) vs) (y ++ v) ≡ true) (sym e) (map_member (λ z. x ++ z) v vs n))
       | inr k ↦ member_right (u ++ v) (map (λ y. x ++ y) vs) (concatenations us vs) (concatenation_member u v us vs k n)
     ]
 
@@ -119,27 +117,27 @@ module _ (us vs : List (List ℕ)) (P Q : List ℕ → Type 0) (s : IsSample us 
   few_of = with_words [] (concatenations us vs)
 
   -- where one may stand behind, those in front are as few as the concatenations
-  pub fronts_few : (v : List ℕ) → IsMember v vs → length few_of ≤ 20 → length us ≤ 20
+  pub fronts_few : (v : List ℕ) → is_among vs v ≡ true → length few_of ≤ 20 → length us ≤ 20
   fronts_few v m le =
       let fits = different_within (map (λ u. u ++ v) us) few_of
       (different_map (λ u. u ++ v) (λ a b e. append_cancel_right a b v e) us s.different)
       (λ w n. let r = member_map (λ u. u ++ v) w us n in
-      (sample_of (concatenations us vs)).whole le w (subst (λ (x : List ℕ). IsMember x (concatenations us vs)) (sym r.2) (concatenation_member r.0 v us vs r.1 m))) in
+      (sample_of (concatenations us vs)).whole le w (subst (λ (x : List ℕ). is_among (concatenations us vs) x ≡ true) (sym r.2) (concatenation_member r.0 v us vs r.1 m))) in
       omega (arith, fits, length-map us (λ (u : List ℕ). u ++ v))
 
-  pub backs_few : (u : List ℕ) → IsMember u us → length few_of ≤ 20 → length vs ≤ 20
+  pub backs_few : (u : List ℕ) → is_among us u ≡ true → length few_of ≤ 20 → length vs ≤ 20
   backs_few u m le =
       let fits = different_within (map (λ v. u ++ v) vs) few_of
       (different_map (λ v. u ++ v) (λ a b e. append_cancel_left u a b e) vs t.different)
       (λ w n. let r = member_map (λ v. u ++ v) w vs n in
-      (sample_of (concatenations us vs)).whole le w (subst (λ (x : List ℕ). IsMember x (concatenations us vs)) (sym r.2) (concatenation_member u r.0 us vs m r.1))) in
+      (sample_of (concatenations us vs)).whole le w (subst (λ (x : List ℕ). is_among (concatenations us vs) x ≡ true) (sym r.2) (concatenation_member u r.0 us vs m r.1))) in
       omega (arith, fits, length-map vs (λ (v : List ℕ). u ++ v))
 
   -- where a word has the property, the other list has a member, if it is whole
   fronts_whole : (xs : List (List ℕ)) → vs ≡ xs → (v : List ℕ) → Q v → length few_of ≤ 20 → length us ≤ 20
   fronts_whole [] e v q le =
-      let short : length vs ≤ 20 = rw e (omega arith) in absurd (subst (IsMember v) e (t.whole short v q))
-  fronts_whole (x ∷ xs) e v q le = fronts_few x (subst (IsMember x) (sym e) (inl refl)) le
+      let short : length vs ≤ 20 = rw e (omega arith) in absurd (no_member v (subst (λ (ws : List (List ℕ)). is_among ws v ≡ true) e (t.whole short v q)))
+  fronts_whole (x ∷ xs) e v q le = fronts_few x (subst (λ (ws : List (List ℕ)). is_among ws x ≡ true) (sym e) (first_member x x xs refl)) le
 
   pub sample_concatenations : IsSample few_of Concatenated
   sample_concatenations =
@@ -150,7 +148,7 @@ module _ (us vs : List (List ℕ)) (P Q : List ℕ → Type 0) (s : IsSample us 
         whole = λ le w j.
             let front = s.whole (fronts_whole vs refl j.1 j.3 le) j.0 j.2 in
             let back = t.whole (backs_few j.0 front le) j.1 j.3 in
-            all.whole le w (subst (λ (x : List ℕ). IsMember x (concatenations us vs)) (sym j.4) (concatenation_member j.0 j.1 us vs front back));
+            all.whole le w (subst (λ (x : List ℕ). is_among (concatenations us vs) x ≡ true) (sym j.4) (concatenation_member j.0 j.1 us vs front back));
       }
 
 -- the words of a set

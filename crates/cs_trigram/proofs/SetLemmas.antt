@@ -173,18 +173,6 @@ pub length-set_of_numbers-le : (xs : List ℕ) → length (set_of_numbers xs) �
 length-set_of_numbers-le [] = omega arith
 length-set_of_numbers-le (x ∷ xs) = omega (arith, length-with_number-le x (set_of_numbers xs), length-set_of_numbers-le xs)
 
--- numbers of which each is no member of those behind it
-abbrev pub AreDistinct : List ℕ → Type 0
-AreDistinct [] = Unit {0}
-AreDistinct (n ∷ ns) = (has ns n ≡ false) × AreDistinct ns
-
-pub length-set_of_numbers : (ns : List ℕ) → AreDistinct ns → length (set_of_numbers ns) ≡ length ns
-length-set_of_numbers [] apart = refl
-length-set_of_numbers (n ∷ ns) apart =
-    let front : length (with_number n (set_of_numbers ns)) ≡ length (set_of_numbers ns) + 1 = length-with_number n (set_of_numbers ns) (has-set_of_numbers n ns ∙ apart.0) in
-    let rest = length-set_of_numbers ns apart.1 in
-    omega (arith, front, rest)
-
 -- ---- what holds of each member
 
 -- a property of each member holds of all numbers of the list

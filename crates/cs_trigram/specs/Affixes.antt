@@ -1,16 +1,12 @@
 -- How texts begin or end, as the analysis keeps it: an affix is a prefix or a suffix.
 -- The article "Regular Expression Matching with a Trigram Index".
-use Rattle.std.specs.Prelude.{ℕ, ◌≡◌, ◌-◌, ◌⊎◌, ◌++◌, ◌∷◌, [], Bool, true, List, length, take, drop, nat_eq, Option}
+use Rattle.std.specs.Prelude.{ℕ, ◌≡◌, ◌-◌, ◌⊎◌, ◌++◌, ◌∷◌, [], Bool, true, List, length, take, drop, nat_eq, slice_range, Option}
 use Rattle.std.specs.List.{list_all}
 use Rattle.cs_syntax.specs.Matching.{Tree, Trees, rep, Takes, TakesAll, TakesSome}
 use Rattle.cs_trigram.specs.ShortWord.{bytes_of}
 use Rattle.cs_trigram.specs.declared.affixes.Side.{Side}
 use Rattle.cs_trigram.specs.declared.affixes.Side.TheVariants.{Prefix, Suffix}
 use Rattle.cs_trigram.specs.declared.affixes.Affix.{Affix}
-
--- the part of a line from i to j
-abbrev pub part : List ℕ → ℕ → ℕ → List ℕ
-part s i j = take (j - i) (drop i s)
 
 -- the one text at the side, and the other behind it
 abbrev pub concatenation : Side → List ℕ → List ℕ → List ℕ
@@ -61,15 +57,15 @@ AreAffixesOfTwo side nears fars affixes =
 
 -- each part of a line that the tree takes has some affix
 abbrev pub AreAffixes : Side → List Affix → Tree → Type 0
-AreAffixes side affixes t = (s : List ℕ) (i j : ℕ) → Takes s t i j → HasSomeAffix side affixes (part s i j)
+AreAffixes side affixes t = (s : List ℕ) (i j : ℕ) → Takes s t i j → HasSomeAffix side affixes (slice_range s i j)
 
 abbrev pub AreAffixesOfAll : Side → List Affix → Trees → Type 0
 AreAffixesOfAll side affixes ts =
-    (s : List ℕ) (i j : ℕ) → TakesAll s ts i j → HasSomeAffix side affixes (part s i j)
+    (s : List ℕ) (i j : ℕ) → TakesAll s ts i j → HasSomeAffix side affixes (slice_range s i j)
 
 abbrev pub AreAffixesOfSome : Side → List Affix → Trees → Type 0
 AreAffixesOfSome side affixes ts =
-    (s : List ℕ) (i j : ℕ) → TakesSome s ts i j → HasSomeAffix side affixes (part s i j)
+    (s : List ℕ) (i j : ℕ) → TakesSome s ts i j → HasSomeAffix side affixes (slice_range s i j)
 
 -- the same of at least so many rounds of the tree
 abbrev pub AreAffixesOfRepeat : Side → List Affix → Tree → ℕ → Type 0

@@ -16,5 +16,5 @@ all_forms [] = []
 all_forms (run ∷ runs) = run_forms run ++ all_forms runs
 
 -- the form of the number too, where it is that of a character
-abbrev pub with_char : List (List ℕ) → ℕ → List (List ℕ)
-with_char words c = if is_scalar c then with_word words (encode_utf8 c) else words
+abbrev pub with_form : List (List ℕ) → ℕ → List (List ℕ)
+with_form words c = if is_scalar c then with_word words (encode_utf8 c) else words

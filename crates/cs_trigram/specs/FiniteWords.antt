@@ -1,9 +1,9 @@
 -- The words of a finite tree, which are all texts that it takes, wherever they stand.
 -- docs/PATTERNS.md, "Queries".
-use Rattle.std.specs.Prelude.{ℕ, zero, suc, ◌≡◌, ◌≤◌, ◌⊎◌, ◌&&◌, ◌++◌, ◌∷◌, [], Bool, true, false, List, length, nat_le, Some, None, encode_utf8}
+use Rattle.std.specs.Prelude.{ℕ, zero, suc, ◌≡◌, ◌≤◌, ◌⊎◌, ◌&&◌, ◌++◌, ◌∷◌, [], Bool, true, false, List, nat_le, Some, None, encode_utf8}
 use Rattle.cs_syntax.specs.Characters.{has_char}
 use Rattle.cs_syntax.specs.Matching.{Tree, Trees, empty, one_of, one_char, cat, alt, rep, line_start, line_end, word_edge, not_word_edge, none, more, member}
-use Rattle.cs_trigram.specs.PlainRuns.{IsMember}
+use Rattle.cs_trigram.specs.PlainRuns.{HasWordsUpTo}
 
 -- each repeat in it has a most
 abbrev mutual
@@ -60,12 +60,7 @@ abbrev mutual
 
 -- the trees are finite, and the words that concatenate theirs are few: at least one and at most twenty
 abbrev pub HaveFewWords : Trees → Type 0
-HaveFewWords ts =
-    (are_finite ts ≡ true)
-    × ((word : List ℕ) × ConcatenatesWords ts word)
-    × ((words : List (List ℕ))
-    × (length words ≤ 20)
-    × ((word : List ℕ) → ConcatenatesWords ts word → IsMember word words))
+HaveFewWords ts = (are_finite ts ≡ true) × HasWordsUpTo 20 (ConcatenatesWords ts)
 
 -- the tree is finite, and its words are few
 abbrev pub HasFewWords : Tree → Type 0

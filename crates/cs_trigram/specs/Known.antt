@@ -6,7 +6,7 @@ use Rattle.cs_trigram.specs.Ends.{AreEnds, AreEndsOfAll, AreEndsOfSome}
 use Rattle.cs_trigram.specs.Sample.{IsOwn, AreOwn}
 use Rattle.cs_trigram.specs.declared.known.Known.{Known}
 use Rattle.cs_trigram.specs.declared.sequence.Sequence.{Sequence}
-use Rattle.cs_trigram.specs.declared.choice.Choice.{Choice}
+use Rattle.cs_trigram.specs.declared.branches.AskedChoice.{AskedChoice}
 
 pub record IsKnown (known : Known) (t : Tree) : Type 0 where
   pub words : Counts known.words t
@@ -19,7 +19,7 @@ pub record IsSequence (known : Sequence) (ts : Trees) : Type 0 where
   pub parts : AreCounted known.asked.parts.items ts
   pub asks : IsAskedOf known.asked ts
 
-pub record IsChoice (known : Choice) (ts : Trees) : Type 0 where
+pub record IsChoice (known : AskedChoice) (ts : Trees) : Type 0 where
   pub words : Counts known.words (alt ts)
   pub ends : AreEndsOfSome known.ends ts
   pub members : AreOwn known.members.items ts

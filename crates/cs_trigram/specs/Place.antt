@@ -11,7 +11,7 @@ pub record IsWithin (most : Limits) (place : Place) : Type 0 where
   pub column : place.column < most.line
 
 -- a place stands behind these bytes
-pub record Stands (place : Place) (front : List ℕ) : Type 0 where
+pub record StandsBehind (place : Place) (front : List ℕ) : Type 0 where
   pub count : place.count ≡ length front
   pub column : place.column ≡ length (line_so_far front)
   pub before : place.before ≡ last_byte front
@@ -23,9 +23,9 @@ IsBehind most place n next = (next.count ≡ place.count + n) × (next.count ≤
 -- The bytes break no rule, and the place stands behind them; or they break this rule first.
 abbrev pub Passes : Limits → List ℕ → List ℕ → Result Place Reason → Type 0
 Passes most front bytes answer =
-    MatchResult answer (λ next. (first_broken most front bytes ≡ None) × Stands next (front ++ bytes))
+    MatchResult answer (λ next. (first_broken most front bytes ≡ None) × StandsBehind next (front ++ bytes))
     (λ reason. first_broken most front bytes ≡ Some reason)
 
 -- whatever the place stands behind
 abbrev pub PassesFrom : Limits → Place → List ℕ → Result Place Reason → Type 0
-PassesFrom most place bytes answer = (front : List ℕ) → Stands place front → Passes most front bytes answer
+PassesFrom most place bytes answer = (front : List ℕ) → StandsBehind place front → Passes most front bytes answer

@@ -1,6 +1,7 @@
 -- What the plain parts of a tree ask of a set of trigrams, which a query has to ask at least.
 -- docs/PATTERNS.md, "Queries".
 use Rattle.std.specs.Prelude.{ℕ, zero, suc, ◌≡◌, ◌≤◌, ◌⊎◌, ◌&&◌, ◌++◌, ◌∷◌, [], Bool, true, false, List, length, IsTrue}
+use Rattle.cs_tree.specs.Cover.{is_among}
 use Rattle.cs_syntax.specs.TreeList.{append}
 use Rattle.cs_syntax.specs.Matching.{Tree, Trees, empty, one_of, one_char, cat, alt, rep, line_start, line_end, word_edge, not_word_edge, none, more, member}
 use Rattle.cs_trigram.specs.Query.{holds, HasTrigrams}
@@ -26,37 +27,36 @@ abbrev mutual
 
 -- the word is one that a plain tree spells
 abbrev mutual
-  pub Spells : Tree → List ℕ → Type 0
-  Spells empty word = word ≡ []
-  Spells (one_of set) word = (b : ℕ) × (member set b ≡ true) × (word ≡ b ∷ [])
-  Spells (one_char runs) word = ⊥
-  Spells (cat ts) word = Concatenates ts word
-  Spells (alt ts) word = SomeSpells ts word
-  Spells (rep x n m) word = ⊥
-  Spells line_start word = ⊥
-  Spells line_end word = ⊥
-  Spells word_edge word = ⊥
-  Spells not_word_edge word = ⊥
+  pub IsPlainWord : Tree → List ℕ → Type 0
+  IsPlainWord empty word = word ≡ []
+  IsPlainWord (one_of set) word = (b : ℕ) × (member set b ≡ true) × (word ≡ b ∷ [])
+  IsPlainWord (one_char runs) word = ⊥
+  IsPlainWord (cat ts) word = Concatenates ts word
+  IsPlainWord (alt ts) word = SomePlainWord ts word
+  IsPlainWord (rep x n m) word = ⊥
+  IsPlainWord line_start word = ⊥
+  IsPlainWord line_end word = ⊥
+  IsPlainWord word_edge word = ⊥
+  IsPlainWord not_word_edge word = ⊥
 
   -- the word concatenates a word of each tree, in order
   pub Concatenates : Trees → List ℕ → Type 0
   Concatenates none word = word ≡ []
-  Concatenates (more t ts) word = (front back : List ℕ) × Spells t front × Concatenates ts back × (word ≡ front ++ back)
+  Concatenates (more t ts) word = (front back : List ℕ) × IsPlainWord t front × Concatenates ts back × (word ≡ front ++ back)
 
-  pub SomeSpells : Trees → List ℕ → Type 0
-  SomeSpells none word = ⊥
-  SomeSpells (more t ts) word = Spells t word ⊎ SomeSpells ts word
+  pub SomePlainWord : Trees → List ℕ → Type 0
+  SomePlainWord none word = ⊥
+  SomePlainWord (more t ts) word = IsPlainWord t word ⊎ SomePlainWord ts word
 
-abbrev pub IsMember : List ℕ → List (List ℕ) → Type 0
-IsMember word [] = ⊥
-IsMember word (w ∷ ws) = (word ≡ w) ⊎ IsMember word ws
+-- some word has the property, and at most so many words have it
+abbrev pub HasWordsUpTo : ℕ → (List ℕ → Type 0) → Type 0
+HasWordsUpTo most P =
+    ((word : List ℕ) × P word)
+    × ((words : List (List ℕ)) × (length words ≤ most) × ((word : List ℕ) → P word → IsTrue (is_among words word)))
 
 -- the trees are plain, and the words that concatenate theirs are at least one and at most eight
 abbrev pub IsPlainRun : Trees → Type 0
-IsPlainRun ts =
-    (are_plain ts ≡ true)
-    × ((word : List ℕ) × Concatenates ts word)
-    × ((words : List (List ℕ)) × (length words ≤ 8) × ((word : List ℕ) → Concatenates ts word → IsMember word words))
+IsPlainRun ts = (are_plain ts ≡ true) × HasWordsUpTo 8 (Concatenates ts)
 
 -- the set has the trigrams of a word that concatenates words of the trees
 abbrev pub Shows : (ℕ → Bool) → Trees → Type 0

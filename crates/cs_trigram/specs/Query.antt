@@ -20,9 +20,13 @@ holds_step set (Query-F.Or members) = list_any (λ holds. holds) members.items
 abbrev pub holds : Query → (ℕ → Bool) → Bool
 holds query set = fold-Query Bool (holds_step set) query
 
+-- whether the set has all trigrams of the text
+abbrev pub has_trigrams : (ℕ → Bool) → List ℕ → Bool
+has_trigrams set text = list_all set (tri text)
+
 -- the set has all trigrams of the text
 abbrev pub HasTrigrams : (ℕ → Bool) → List ℕ → Type 0
-HasTrigrams set text = IsTrue (list_all set (tri text))
+HasTrigrams set text = IsTrue (has_trigrams set text)
 
 -- the query loses no line: it holds of each set that has the trigrams of a line in which the tree finds
 -- something

@@ -7,9 +7,9 @@ abbrev pub IsAsciiByte : ℕ → Type 0
 IsAsciiByte b = (0 < b) × (b < 128)
 
 -- no byte is 00, and each may stand behind the one before it, the first behind this one
-abbrev pub Follow : ℕ → List ℕ → Type 0
-Follow before [] = Unit {0}
-Follow before (b ∷ rest) = (0 < b) × (may_follow before b ≡ true) × Follow b rest
+abbrev pub AllMayFollow : ℕ → List ℕ → Type 0
+AllMayFollow before [] = Unit {0}
+AllMayFollow before (b ∷ rest) = (0 < b) × (may_follow before b ≡ true) × AllMayFollow b rest
 
 -- the column behind one more byte
 abbrev pub next_column : ℕ → ℕ → ℕ

@@ -1,21 +1,21 @@
 -- Samples of words: at most twenty-one different words, which are all there are where they are at most
 -- twenty.
-use Rattle.std.specs.Prelude.{ℕ, ◌≡◌, ◌≤◌, ◌<◌, ◌↔◌, ◌&&◌, ◌++◌, ◌∷◌, [], Bool, true, not, List, length, map, nat_le, nat_lt, if◌then◌else◌, Option}
+use Rattle.std.specs.Prelude.{ℕ, ◌≡◌, ◌≤◌, ◌<◌, ◌↔◌, ◌&&◌, ◌++◌, ◌∷◌, [], Bool, true, not, List, length, map, nat_le, nat_lt, if◌then◌else◌, Option, IsTrue}
 use Rattle.cs_trigram.specs.QueryNumbers.{are_trigrams}
 use Rattle.cs_syntax.specs.TreeList.{append}
 use Rattle.std.specs.List.{list_any, list_all}
-use Rattle.std.specs.Str.{bytes_eq}
+use Rattle.cs_tree.specs.Cover.{is_among}
+use Rattle.cs_tree.specs.Folders.{are_distinct}
 use Rattle.cs_syntax.specs.Matching.{Tree, Trees, none, more, cat, alt, rep, member, Takes, TakesAll, TakesSome}
-use Rattle.cs_trigram.specs.Trigram.{trigram_sequence}
-use Rattle.cs_trigram.specs.Query.{holds, HasTrigrams}
-use Rattle.cs_trigram.specs.PlainRuns.{IsMember, ShowsPlainRuns, SomeShowsPlainRuns}
+use Rattle.cs_trigram.specs.Query.{holds, has_trigrams, HasTrigrams}
+use Rattle.cs_trigram.specs.PlainRuns.{ShowsPlainRuns, SomeShowsPlainRuns, IsSharp}
 use Rattle.cs_trigram.specs.FiniteWords.{HasWord, ConcatenatesWords, SomeHasWord, HaveFewWords, HasFewWords, is_finite, are_finite}
 use Rattle.cs_trigram.specs.declared.queries.Query.{Query}
 
 -- a word more, where there are at most twenty and it is not there
 abbrev pub with_word : List (List ℕ) → List ℕ → List (List ℕ)
 with_word words word =
-    if nat_le (length words) 20 && not (list_any (λ w. bytes_eq w word) words) then words ++ word ∷ []
+    if nat_le (length words) 20 && not (is_among words word) then words ++ word ∷ []
     else words
 
 abbrev pub with_words : List (List ℕ) → List (List ℕ) → List (List ℕ)
@@ -27,15 +27,11 @@ abbrev pub concatenations : List (List ℕ) → List (List ℕ) → List (List �
 concatenations [] backs = []
 concatenations (u ∷ us) backs = map (λ v. u ++ v) backs ++ concatenations us backs
 
-abbrev pub AreDifferent : List (List ℕ) → Type 0
-AreDifferent [] = Unit {0}
-AreDifferent (w ∷ ws) = (IsMember w ws → ⊥) × AreDifferent ws
-
 -- different words that have the property, and all of those where they are at most twenty
 pub record IsSample (words : List (List ℕ)) (P : List ℕ → Type 0) : Type 0 where
-  pub right : (word : List ℕ) → IsMember word words → P word
-  pub different : AreDifferent words
-  pub whole : length words ≤ 20 → (word : List ℕ) → P word → IsMember word words
+  pub right : (word : List ℕ) → IsTrue (is_among words word) → P word
+  pub different : IsTrue (are_distinct words)
+  pub whole : length words ≤ 20 → (word : List ℕ) → P word → IsTrue (is_among words word)
 
 -- the words are the concatenations, which are at most twenty
 abbrev pub AreFewConcatenations : List (List ℕ) → List (List ℕ) → List (List ℕ) → Type 0
@@ -50,8 +46,8 @@ is_few n = nat_lt 0 n && nat_le n 20
 pub record AreWords (words : List (List ℕ)) (P : List ℕ → Type 0) : Type 0 where
   pub some : 0 < length words
   pub few : length words ≤ 20
-  pub different : AreDifferent words
-  pub each : (word : List ℕ) → P word ↔ IsMember word words
+  pub different : IsTrue (are_distinct words)
+  pub each : (word : List ℕ) → P word ↔ IsTrue (is_among words word)
 
 -- a run at the front cannot go on
 abbrev pub IsBlocked : Trees → Trees → Type 0
@@ -86,7 +82,7 @@ NumbersToo old queries small = list_all are_trigrams queries ≡ (list_all are_t
 pub record IsRight (query : Query) (t : Tree) : Type 0 where
   pub holding : (s : List ℕ) (set : ℕ → Bool) (i j : ℕ) → Takes s t i j → HasTrigrams set s →
       holds query set ≡ true
-  pub sharp : (set : ℕ → Bool) → holds query set ≡ true → ShowsPlainRuns set t
+  pub sharp : IsSharp query t
   pub numbers : are_trigrams query ≡ true
 
 -- the queries are right for the trees, one of which is taken
@@ -131,11 +127,11 @@ RunWords words ts = (are_finite ts ≡ true) × AreWords words (ConcatenatesWord
 
 -- the set has the trigrams of one of the words
 abbrev pub has_any : (ℕ → Bool) → List (List ℕ) → Bool
-has_any set words = list_any (λ w. list_all set (trigram_sequence w)) words
+has_any set words = list_any (λ w. has_trigrams set w) words
 
 -- the query asks for the trigrams of a text, and for those of one of the words
 abbrev pub AsksForText : Query → List ℕ → Type 0
-AsksForText query text = (set : ℕ → Bool) → holds query set ≡ list_all set (trigram_sequence text)
+AsksForText query text = (set : ℕ → Bool) → holds query set ≡ has_trigrams set text
 
 abbrev pub AsksForWord : Query → List (List ℕ) → Type 0
 AsksForWord query words = (set : ℕ → Bool) → holds query set ≡ has_any set words

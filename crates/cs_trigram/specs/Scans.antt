@@ -11,7 +11,7 @@ use Rattle.cs_trigram.specs.declared.scan.ScanFault.TheVariants as fault
 use Rattle.cs_trigram.specs.declared.scan.Gathered.{Gathered}
 use Rattle.cs_trigram.specs.declared.scan.Gathered.TheVariants as gathered
 use Rattle.cs_trigram.specs.Trigram.{tri, set_of_numbers}
-use Rattle.cs_trigram.specs.TrigramSets.{IsTrigramSet}
+use Rattle.cs_trigram.specs.TrigramSets.{IsTrigramSet, HasNoneTwice}
 use Rattle.cs_trigram.specs.Text.{first_broken, skip}
 
 -- a text, with its trigrams and how many bytes it has; why a file is left out; or that a read failed
@@ -25,13 +25,13 @@ abbrev pub found_or : Option Reason → Finding → Finding
 found_or None finding = finding
 found_or (Some reason) finding = left_out reason
 
-abbrev pub found_at : Limits → List ℕ → Ending → Finding
-found_at most bytes ends = found_or (skip most bytes) (text (tri bytes) (length bytes))
-found_at most bytes fails = found_or (first_broken most [] bytes) unread
+abbrev pub finding_at : Limits → List ℕ → Ending → Finding
+finding_at most bytes ends = found_or (skip most bytes) (text (tri bytes) (length bytes))
+finding_at most bytes fails = found_or (first_broken most [] bytes) unread
 
 -- what there is to find in a source
 abbrev pub finding : Limits → Told → Finding
-finding most told = found_at most told.bytes told.ending
+finding most told = finding_at most told.bytes told.ending
 
 -- an answer says what was found; want of memory says nothing
 abbrev pub Says : Result Scan ScanFault → Finding → Type 0
@@ -41,9 +41,9 @@ Says (Err fault.Read) found = unread ≡ found
 Says (Err fault.Memory) found = Unit {0}
 
 -- an answer is right of a source, where the source tells its bytes
-abbrev pub IsRight : Limits → Option Told → Result Scan ScanFault → Type 0
-IsRight most None answer = Unit {0}
-IsRight most (Some told) answer = Says answer (finding most told)
+abbrev pub IsScanOf : Limits → Option Told → Result Scan ScanFault → Type 0
+IsScanOf most None answer = Unit {0}
+IsScanOf most (Some told) answer = Says answer (finding most told)
 
 -- the trigrams that are answered ascend, and none is ff ff ff, whatever the source was
 abbrev pub HasTrigramSet : Scan → Type 0
@@ -52,9 +52,9 @@ HasTrigramSet (answer.Skip reason) = Unit {0}
 
 -- the numbers of a set of trigrams, each once, in any order
 abbrev pub AreTrigramsOnce : List ℕ → Type 0
-AreTrigramsOnce numbers = IsTrigramSet (set_of_numbers numbers) × (length numbers ≡ length (set_of_numbers numbers))
+AreTrigramsOnce numbers = IsTrigramSet (set_of_numbers numbers) × HasNoneTwice numbers
 
--- the same of an answer that lends its trigrams in any order: their set is that of the text
+-- what an answer says (`Says`) where it lends its trigrams in any order: their set is that of the text
 abbrev pub SaysInAnyOrder : Result Gathered ScanFault → Finding → Type 0
 SaysInAnyOrder (Ok (gathered.Text trigrams bytes)) found = text (set_of_numbers trigrams.now) bytes ≡ found
 SaysInAnyOrder (Ok (gathered.Skip reason)) found = left_out reason ≡ found

@@ -20,14 +20,14 @@ abbrev pub file_of : ℕ → ℕ
 file_of part = part / 2 ^ 48
 
 -- each number of the one list is in the other
-abbrev pub AreAmong : List ℕ → List ℕ → Type 0
-AreAmong numbers others = (n : ℕ) → has numbers n ≡ true → has others n ≡ true
+abbrev pub AreMembers : List ℕ → List ℕ → Type 0
+AreMembers numbers others = (n : ℕ) → has numbers n ≡ true → has others n ≡ true
 
 -- the trigrams of each part that is remembered of this file are among these
 abbrev pub Remembers : ℕ → List ℕ → List ℕ → Type 0
 Remembers file tags trigrams =
     (i : ℕ) → i < length tags → file_of (slice_index tags i) ≡ file →
-    AreAmong (part_trigrams (slice_index tags i)) trigrams
+    AreMembers (part_trigrams (slice_index tags i)) trigrams
 
 -- nothing is remembered of a later file
 abbrev pub IsLast : ℕ → List ℕ → Type 0
@@ -37,5 +37,5 @@ IsLast file tags = (i : ℕ) → i < length tags → file_of (slice_index tags i
 -- remembered.
 pub record AreFresh (file : ℕ) (known tags bytes : List ℕ) (at : ℕ) (parts : List ℕ) : Type 0 where
   pub remembers : Remembers file tags (known ++ parts_trigrams parts)
-  pub covers : AreAmong (trigram_sequence (take (at + 2) bytes)) (known ++ parts_trigrams parts)
-  pub inside : AreAmong (parts_trigrams parts) (trigram_sequence bytes)
+  pub covers : AreMembers (trigram_sequence (take (at + 2) bytes)) (known ++ parts_trigrams parts)
+  pub inside : AreMembers (parts_trigrams parts) (trigram_sequence bytes)

@@ -1,13 +1,13 @@
-// How the texts that a tree takes begin and end.
-ghost use Rattle.std.specs.Prelude.{not, ◌≡◌, ◌<◌, ◌≤◌, ◌⊎◌, [], ◌∷◌, ℕ, true, List, length, IfOk, IfSome, OnOk};
+// Affixes: the prefixes and suffixes of texts, put together and cut.
+ghost use Rattle.std.specs.Prelude.{not, ◌≡◌, ◌<◌, ◌≤◌, ◌⊎◌, [], ◌∷◌, ℕ, true, List, length, IfOk, IfSome, OnOk, IsTrue};
 ghost use Rattle.std.specs.List.{list_all};
-ghost use Rattle.cs_trigram.specs.PlainRuns.{IsMember};
+ghost use Rattle.cs_tree.specs.Cover.{is_among};
 ghost use Rattle.cs_trigram.specs.Affixes.{concatenation, near_part, are_bare, HasAffix, HasSomeAffix, IsWider, HaveWider, AreWider, IsAffixOfTwo, AreAffixesOfTwo};
 ghost use Rattle.cs_trigram.specs.Cuts.{AreCutsOf};
 ghost use Rattle.cs_trigram.specs.ShortWord.{bytes_of};
 
 use crate::short_word::ShortWord;
-use crate::words::Word;
+use crate::tree_words::Word;
 use std::alloc::{AllocError, Global};
 
 /// So many affixes are kept at most.
@@ -407,7 +407,7 @@ pub(crate) fn affixes_of_words(
     side: Side,
     words: &[Word],
 ) -> Result<Vec<Affix>, AllocError>
-    ensures { IfOk result (λ affixes. (text : List ℕ) → IsMember text words.now →
+    ensures { IfOk result (λ affixes. (text : List ℕ) → IsTrue (is_among words.now text) →
         HasSomeAffix side affixes.items text) }
 {
     let mut affixes = Vec::with_capacity(alloc, words.len())?;

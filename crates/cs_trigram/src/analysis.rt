@@ -8,7 +8,7 @@ ghost use Rattle.cs_trigram.specs.Query.{LosesNoLine};
 ghost use Rattle.cs_trigram.specs.PlainRuns.{IsSharp};
 ghost use Rattle.cs_trigram.specs.Known.{IsKnown};
 
-use crate::choice::Choice;
+use crate::branches::AskedChoice;
 use crate::counted::Counted;
 use crate::known::{Known, known_of_rounds, known_of_words, query_of_words};
 use crate::queries::Query;
@@ -66,7 +66,7 @@ fn known_of_sequence(alloc: Global, parts: &[Node]) -> Result<Known, AllocError>
 fn known_of_choice(alloc: Global, parts: &[Node]) -> Result<Known, AllocError>
     ensures { IfOk result (λ known. IsKnown known (alt (trees_of parts.now))) }
 {
-    let mut choice = Choice::new(alloc);
+    let mut choice = AskedChoice::new(alloc);
     let mut at = parts.len();
     'parts: while at > 0 {
         at -= 1;

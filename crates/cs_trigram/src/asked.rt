@@ -16,7 +16,7 @@ use crate::crossings::any_crossing;
 use crate::fronts::longest_front;
 use crate::queries::Query;
 use crate::spelling::no_bytes;
-use crate::words::{Word, are_longer, few_concatenations, words_put_behind};
+use crate::tree_words::{Word, are_longer, few_concatenations, words_put_behind};
 use std::alloc::{AllocError, Global};
 use std::mem;
 

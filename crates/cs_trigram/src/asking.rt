@@ -9,7 +9,7 @@ ghost use Rattle.cs_trigram.specs.declared.queries.Query.TheVariants.{Tri};
 ghost use Rattle.cs_trigram.specs.Sample.{all_hold, some_holds, AsksToo, NumbersToo, AsksForText, AsksForWord};
 
 use crate::queries::Query;
-use crate::words::Word;
+use crate::tree_words::Word;
 use std::alloc::{AllocError, Global};
 use std::mem;
 

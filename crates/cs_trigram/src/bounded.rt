@@ -1,7 +1,7 @@
 // A scanner with limits of its own.
 ghost use Rattle.std.specs.Prelude.{◌≡◌, ◌+◌, IfOk};
 ghost use Rattle.cs_tree.specs.Loss.{LosesAtMost};
-ghost use Rattle.cs_trigram.specs.Scans.{IsRight, HasTrigramSet, IsRightGathering, GathersOnce, is_scan_failure};
+ghost use Rattle.cs_trigram.specs.Scans.{IsScanOf, HasTrigramSet, IsRightGathering, GathersOnce, is_scan_failure};
 ghost use Rattle.cs_tree.specs.FailureCount.{count_after};
 ghost use Rattle.cs_trigram.specs.Small.{IsSmall};
 
@@ -27,11 +27,11 @@ impl Model for BoundedScanner {
 
     ghost Value = { Limits };
 
-    ghost use Rattle.cs_trigram.specs.Scanning.{IsReady};
+    ghost use Rattle.cs_trigram.specs.Scanning.{IsPrepared};
 
     ghost view = { λ s. s.gatherer.limits };
 
-    ghost invariant = { λ s. IsReady s.gatherer };
+    ghost invariant = { λ s. IsPrepared s.gatherer };
 }
 
 impl BoundedScanner {
@@ -49,7 +49,7 @@ impl BoundedScanner {
 
     /// What the file is that the source gives.
     pub fn scan<R: Source>(&mut self, source: &mut R) -> Result<Scan, ScanFault>
-        ensures told { IsRight self.old (R.told source.old) result }
+        ensures told { IsScanOf self.old (R.told source.old) result }
         ensures trigrams { IfOk result HasTrigramSet }
         ensures failed { R.failed source.new ≡
             count_after is_scan_failure result (R.failed source.old) }

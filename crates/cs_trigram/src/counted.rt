@@ -5,7 +5,7 @@ ghost use Rattle.cs_trigram.specs.FiniteWords.{is_finite, HasFewWords};
 ghost use Rattle.cs_trigram.specs.Sample.{SamplesTree, TreeWords};
 ghost use Rattle.cs_trigram.specs.Counted.{HasMany, Counts};
 
-use crate::words::{FEW, Word, add_words, concatenate_words, copies, words_put_behind};
+use crate::tree_words::{FEW, Word, add_words, concatenate_words, copies, words_put_behind};
 use std::alloc::{AllocError, Global};
 
 /// What is known of the words of a tree.

@@ -3,10 +3,11 @@ ghost use Rattle.std.specs.Prelude.{◌≡◌, ◌+◌, ◌*◌, ◌-◌, ◌<�
 ghost use Rattle.cs_trigram.specs.Trigram.{trigram_sequence};
 ghost use Rattle.cs_trigram.specs.TrigramSets.{trigram_count};
 ghost use Rattle.cs_trigram.specs.TrigramMarks.{Marks, Collects, CollectsOn};
+ghost use Rattle.cs_trigram.specs.declared.found.TheConstants.{WITH_TWO};
 ghost use Rattle.cs_trigram.specs.SixBytes.{part_trigrams, parts_trigrams};
 
 use crate::asking::trigram;
-use crate::parts::Parts;
+use crate::parts::RememberedParts;
 use std::alloc::{AllocError, Global};
 
 /// So many bytes are read at a time, at most.
@@ -101,13 +102,13 @@ fn put_split(cells: &mut [u64], list: &mut [u32], len: usize, parts: &[u64], byt
 /// `list` are those whose bit is set, in the order in which they were found. Where there are more
 /// than `list` has room for beside those of one block, no more is known than that.
 #[derive(Drop)]
-pub(crate) struct Found {
+pub(crate) struct FoundTrigrams {
     cells: Vec<u64>,
     list: Vec<u32>,
     len: usize,
-    parts: Parts,
+    parts: RememberedParts,
     ghost all_numbers: { vec_len cells ≡ 262144 },
-    ghost room: { 65538 ≤ vec_len list },
+    ghost room: { WITH_TWO ≤ vec_len list },
     ghost within: { len ≤ vec_len list },
     ghost fits: { vec_len list < 2 ^ 33 },
 }
@@ -129,25 +130,25 @@ fn unmark(cells: &mut [u64], numbers: &[u32])
     }
 }
 
-impl Found {
+impl FoundTrigrams {
     ghost use Rattle.cs_trigram.specs.Found.{Knows, KeepsOn, IsSound, IsOver, numbers_of};
 
     /// None yet, with room for `most`.
-    pub(crate) fn new(alloc: Global, most: usize) -> Result<Found, AllocError>
+    pub(crate) fn new(alloc: Global, most: usize) -> Result<FoundTrigrams, AllocError>
         requires { most < 2 ^ 32 }
         ensures { IfOk result (λ found. Knows most found []) }
     {
-        Ok(Found {
+        Ok(FoundTrigrams {
             cells: clear_cells(alloc, 262_144)?,
             list: vec![in alloc; 0u32; most + WITH_TWO]?,
             len: 0,
-            parts: Parts::new(alloc)?,
+            parts: RememberedParts::new(alloc)?,
         })
     }
 
     /// Takes the bytes of a block, and the last two before it.
     pub(crate) fn take(&mut self, bytes: &[u8])
-        requires { length bytes.now ≤ 65538 }
+        requires { length bytes.now ≤ WITH_TWO }
         ensures { KeepsOn self.old self.new (trigram_sequence bytes.now) }
     {
         if self.is_over() {
@@ -162,7 +163,7 @@ impl Found {
     /// Whether there are more than there is room for.
     pub(crate) fn is_over(&self) -> bool
         ensures over { IsOver self.now result }
-        ensures room { result ≡ nat_lt (length self.now.list.items) (self.now.len + 65538) }
+        ensures room { result ≡ nat_lt (length self.now.list.items) (self.now.len + WITH_TWO) }
     {
         self.list.len() < self.len + WITH_TWO
     }
@@ -177,7 +178,8 @@ impl Found {
     /// Forgets all.
     pub(crate) fn clear(&mut self)
         requires { IsSound self.old }
-        ensures { (most : ℕ) → length self.old.list.items ≡ most + 65538 → Knows most self.new [] }
+        ensures { (most : ℕ) → length self.old.list.items ≡ most + WITH_TWO →
+            Knows most self.new [] }
     {
         unmark(&mut self.cells, &self.list[..self.len]);
         self.len = 0;

@@ -7,7 +7,7 @@ ghost use Rattle.cs_trigram.specs.Sample.{TreeWords, RunWords, IsFront};
 ghost use Rattle.cs_trigram.specs.Counted.{AreCounted};
 
 use crate::counted::Counted;
-use crate::words::{Word, copies, few_concatenations};
+use crate::tree_words::{Word, copies, few_concatenations};
 use std::alloc::{AllocError, Global};
 
 /// The words of a run and a part behind it, where these are few.

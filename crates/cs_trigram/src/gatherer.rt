@@ -4,16 +4,17 @@ ghost use Rattle.std.specs.List.{AllByRecursion};
 ghost use Rattle.cs_tree.specs.Loss.{LosesAtMost};
 ghost use Rattle.cs_tree.specs.FailureCount.{count_after};
 ghost use Rattle.cs_tree.specs.Told.{ends};
-ghost use Rattle.cs_trigram.specs.Scans.{Finding, found_at, is_scan_failure, SaysInAnyOrder, GathersOnce, IsRight, HasTrigramSet};
+ghost use Rattle.cs_trigram.specs.Scans.{Finding, finding_at, is_scan_failure, SaysInAnyOrder, GathersOnce, IsScanOf, HasTrigramSet};
 ghost use Rattle.cs_trigram.specs.Text.{first_broken};
 ghost use Rattle.cs_trigram.specs.Trigram.{set_of_numbers};
-ghost use Rattle.cs_trigram.specs.TrigramSets.{trigram_count};
+ghost use Rattle.cs_trigram.specs.TrigramSets.{trigram_count, HasNoneTwice};
 ghost use Rattle.cs_trigram.specs.Small.{IsSmall};
+ghost use Rattle.cs_trigram.specs.declared.found.TheConstants.{WITH_TWO};
 ghost use Rattle.cs_trigram.specs.Found.{Knows, IsSound, numbers_of};
 ghost use Rattle.cs_trigram.specs.Ended.{SaysOf, IsRightOf, HasNumbers};
 
 use crate::blocks::{block, carry, read_block, with_two_before};
-use crate::found::{BLOCK, Found};
+use crate::found::{BLOCK, FoundTrigrams};
 use crate::limits::Limits;
 use crate::place::Place;
 use crate::quick::pass;
@@ -31,10 +32,10 @@ pub(crate) enum Ended {
 }
 
 /// What there is to say of a file that was read to its end.
-fn at_end(found: &Found, bytes: u64) -> Ended
+fn at_end(found: &FoundTrigrams, bytes: u64) -> Ended
     ensures says { (most : Limits) (front : List ℕ) → Knows most.trigrams found.now front →
         first_broken most [] front ≡ None → bytes ≡ length front →
-        SaysOf (numbers_of found.now) (Ok result) (found_at most front ends) }
+        SaysOf (numbers_of found.now) (Ok result) (finding_at most front ends) }
     ensures trigrams { (most : Limits) (front : List ℕ) → Knows most.trigrams found.now front →
         first_broken most [] front ≡ None → HasNumbers (numbers_of found.now) result }
 {
@@ -48,11 +49,11 @@ fn at_end(found: &Found, bytes: u64) -> Ended
 fn read_through<R: Source>(
     limits: &Limits,
     buffer: &mut [u8],
-    found: &mut Found,
+    found: &mut FoundTrigrams,
     source: &mut R,
 ) -> Result<Ended, ScanFault>
     requires small { IsSmall limits.now }
-    requires room { length buffer.old ≡ 65538 }
+    requires room { length buffer.old ≡ WITH_TWO }
     requires empty { Knows limits.now.trigrams found.old [] }
     ensures told { IsRightOf limits.now (numbers_of found.new) (R.told source.old) result }
     ensures trigrams { IfOk result (HasNumbers (numbers_of found.new)) }
@@ -61,7 +62,7 @@ fn read_through<R: Source>(
     ensures bounded { LosesAtMost (limits.now.bytes + 1) (R.told source.old) (R.told source.new) }
     ensures keeps { R.Keeps source.old source.new }
     ensures sound { IsSound found.new }
-    ensures list { length found.new.list.items ≡ limits.now.trigrams + 65538 }
+    ensures list { length found.new.list.items ≡ limits.now.trigrams + WITH_TWO }
 {
     let mut place = Place::START;
     'pieces: loop {
@@ -89,7 +90,7 @@ fn read_through<R: Source>(
 fn set_of(alloc: Global, sorter: &mut Sorter, numbers: &[u32]) -> Result<Vec<u32>, AllocError>
     requires fits { length numbers.now < 2 ^ 32 }
     requires below { AllByRecursion (λ n. n < trigram_count) numbers.now }
-    requires once { length numbers.now ≡ length (set_of_numbers numbers.now) }
+    requires once { HasNoneTwice numbers.now }
     ensures { IfOk result (λ set. set.items ≡ set_of_numbers numbers.now) }
 {
     let mut set = Vec::from_slice(alloc, numbers)?;
@@ -103,27 +104,27 @@ fn set_of(alloc: Global, sorter: &mut Sorter, numbers: &[u32]) -> Result<Vec<u32
 pub(crate) struct Gatherer {
     limits: Limits,
     buffer: Vec<u8>,
-    found: Found,
+    found: FoundTrigrams,
 }
 
 impl Gatherer {
-    ghost use Rattle.cs_trigram.specs.Scanning.{IsReady, IsReadyFor};
+    ghost use Rattle.cs_trigram.specs.Scanning.{IsPrepared, IsPreparedFor};
 
     /// A gatherer that has its buffer and its table, about 2.6 MB.
     pub(crate) fn new(alloc: Global, limits: Limits) -> Result<Gatherer, AllocError>
         requires { IsSmall limits }
-        ensures { IfOk result (IsReadyFor limits) }
+        ensures { IfOk result (IsPreparedFor limits) }
     {
         Ok(Gatherer {
             limits,
             buffer: vec![in alloc; 0u8; BLOCK + 2]?,
-            found: Found::new(alloc, limits.trigrams)?,
+            found: FoundTrigrams::new(alloc, limits.trigrams)?,
         })
     }
 
     /// Reads a file, and says what it is.
     pub(crate) fn read<R: Source>(&mut self, source: &mut R) -> Result<Ended, ScanFault>
-        requires { IsReady self.old }
+        requires { IsPrepared self.old }
         ensures told { IsRightOf self.old.limits (numbers_of self.new.found)
             (R.told source.old) result }
         ensures trigrams { IfOk result (HasNumbers (numbers_of self.new.found)) }
@@ -132,7 +133,7 @@ impl Gatherer {
         ensures bounded { LosesAtMost (self.old.limits.bytes + 1)
             (R.told source.old) (R.told source.new) }
         ensures keeps { R.Keeps source.old source.new }
-        ensures ready { IsReadyFor self.old.limits self.new }
+        ensures ready { IsPreparedFor self.old.limits self.new }
     {
         self.found.clear();
         read_through(&self.limits, &mut self.buffer, &mut self.found, source)
@@ -160,15 +161,15 @@ impl Gatherer {
         sorter: &mut Sorter,
         source: &mut R,
     ) -> Result<Scan, ScanFault>
-        requires { IsReady self.old }
-        ensures told { IsRight self.old.limits (R.told source.old) result }
+        requires { IsPrepared self.old }
+        ensures told { IsScanOf self.old.limits (R.told source.old) result }
         ensures trigrams { IfOk result HasTrigramSet }
         ensures failed { R.failed source.new ≡
             count_after is_scan_failure result (R.failed source.old) }
         ensures bounded { LosesAtMost (self.old.limits.bytes + 1)
             (R.told source.old) (R.told source.new) }
         ensures keeps { R.Keeps source.old source.new }
-        ensures ready { IsReadyFor self.old.limits self.new }
+        ensures ready { IsPreparedFor self.old.limits self.new }
     {
         match self.read(source)? {
             Ended::Text(bytes) => {

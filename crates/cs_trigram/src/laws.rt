@@ -1,6 +1,6 @@
 //! What follows from the definitions alone.
 ghost use Rattle.std.specs.Prelude.{◌≡◌, ◌<◌, ◌++◌, ◌∷◌, ℕ, Bool, List, [], Option, Some, None, length, true, false};
-ghost use Rattle.cs_trigram.specs.Scans.{found_at, text, left_out};
+ghost use Rattle.cs_trigram.specs.Scans.{finding_at, text, left_out};
 ghost use Rattle.std.specs.List.{AllByRecursion};
 ghost use Rattle.cs_tree.specs.Told.{ends};
 ghost use Rattle.cs_syntax.specs.Matching.{Tree, Found};
@@ -33,10 +33,10 @@ pub fn no_trigram_of_a_text_is_the_last()
 /// What is found of bytes that end is whether they are text, and their trigrams.
 pub fn what_is_found_of_a_whole_file()
     ensures text { (most : Limits) (bytes trigrams : List ℕ) (count : ℕ) →
-        text trigrams count ≡ found_at most bytes ends →
+        text trigrams count ≡ finding_at most bytes ends →
         text_trigrams most bytes ≡ Some trigrams × count ≡ length bytes }
     ensures left_out { (most : Limits) (bytes : List ℕ) (reason : Reason) →
-        left_out reason ≡ found_at most bytes ends →
+        left_out reason ≡ finding_at most bytes ends →
         skip most bytes ≡ Some reason × text_trigrams most bytes ≡ None }
 {}
 

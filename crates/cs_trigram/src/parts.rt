@@ -1,7 +1,8 @@
 // The parts of six bytes that are remembered of a file, so that what it repeats is not looked at again.
 ghost use Rattle.std.specs.Prelude.{◌≡◌, ◌+◌, ◌*◌, ◌<◌, ◌≤◌, ◌^◌, ◌++◌, ◌∷◌, [], ℕ, List, length, vec_len, take, drop, IfOk};
 ghost use Rattle.cs_trigram.specs.Trigram.{trigram_sequence};
-ghost use Rattle.cs_trigram.specs.SixBytes.{part_trigrams, parts_trigrams, file_of, Remembers, IsLast, AreFresh, AreAmong};
+ghost use Rattle.cs_trigram.specs.declared.found.TheConstants.{WITH_TWO};
+ghost use Rattle.cs_trigram.specs.SixBytes.{part_trigrams, parts_trigrams, file_of, Remembers, IsLast, AreFresh, AreMembers};
 
 use std::alloc::{AllocError, Global};
 
@@ -77,7 +78,7 @@ fn split_bytes(tags: &mut [u64], fresh: &mut [u64], file: u64, bytes: &[u8]) -> 
 
 /// The parts that are remembered: each with the number of its file, at a place that its number gives.
 #[derive(Drop)]
-pub(crate) struct Parts {
+pub(crate) struct RememberedParts {
     tags: Vec<u64>,
     fresh: Vec<u64>,
     file: u64,
@@ -101,14 +102,14 @@ fn forget_all(tags: &mut [u64])
     tags.fill(0);
 }
 
-impl Parts {
+impl RememberedParts {
     ghost use Rattle.cs_trigram.specs.Remembered.{AreNone, Splits, IsStillLast};
 
     /// Of a first file.
-    pub(crate) fn new(alloc: Global) -> Result<Parts, AllocError>
+    pub(crate) fn new(alloc: Global) -> Result<RememberedParts, AllocError>
         ensures { IfOk result AreNone }
     {
-        Ok(Parts {
+        Ok(RememberedParts {
             tags: no_parts(alloc, 4096)?,
             fresh: vec![in alloc; 0u64; 16_384]?,
             file: 1,
@@ -117,7 +118,7 @@ impl Parts {
 
     /// Goes through bytes of the file.
     pub(crate) fn split(&mut self, bytes: &[u8]) -> Split
-        requires { length bytes.now ≤ 65538 }
+        requires { length bytes.now ≤ WITH_TWO }
         ensures splits { Splits self.old self.new bytes.now result }
         ensures last { IsStillLast self.old self.new }
         ensures counted { 4 * result.count ≤ result.at }

@@ -2,7 +2,7 @@
 ghost use Rattle.std.specs.Prelude.{◌≡◌, ◌+◌, ◌<◌, ◌≤◌, ◌^◌, ℕ, List, [], ◌∷◌, ◌++◌, None, length, IfOk};
 ghost use Rattle.cs_trigram.specs.Text.{is_lead, may_follow, rule_broken};
 ghost use Rattle.cs_trigram.specs.Small.{IsSmall};
-ghost use Rattle.cs_trigram.specs.Place.{IsWithin, Stands, IsBehind, PassesFrom};
+ghost use Rattle.cs_trigram.specs.Place.{IsWithin, StandsBehind, IsBehind, PassesFrom};
 
 use crate::limits::Limits;
 use crate::scan::Reason;
@@ -49,7 +49,7 @@ pub(crate) fn may_follow(before: u8, byte: u8) -> bool
 
 /// The rule that a byte breaks at its place.
 fn rule_broken(limits: &Limits, place: Place, byte: u8) -> Option<Reason>
-    ensures rule { (front : List ℕ) → Stands place front →
+    ensures rule { (front : List ℕ) → StandsBehind place front →
         result ≡ rule_broken limits.now front byte }
     ensures within { result ≡ None → IsWithin limits.now place }
 {
@@ -70,7 +70,8 @@ fn rule_broken(limits: &Limits, place: Place, byte: u8) -> Option<Reason>
 fn behind(place: Place, byte: u8) -> Place
     requires count { place.count < 2 ^ 32 }
     requires column { place.column < 2 ^ 32 }
-    ensures stands { (front : List ℕ) → Stands place front → Stands result (front ++ byte ∷ []) }
+    ensures stands { (front : List ℕ) → StandsBehind place front
+        → StandsBehind result (front ++ byte ∷ []) }
     ensures count { result.count ≡ place.count + 1 }
     ensures column { result.column ≤ place.column + 1 }
 {

@@ -3,7 +3,7 @@ ghost use Rattle.std.specs.Prelude.{◌≡◌, ◌+◌, ◌-◌, ◌<◌, ◌≤
 ghost use Rattle.std.specs.List.{AllByRecursion};
 ghost use Rattle.cs_trigram.specs.Small.{IsSmall};
 ghost use Rattle.cs_trigram.specs.Place.{IsBehind, PassesFrom};
-ghost use Rattle.cs_trigram.specs.QuickTest.{LinesFit, column_behind, IsAsciiByte, Follow};
+ghost use Rattle.cs_trigram.specs.QuickTest.{LinesFit, column_behind, IsAsciiByte, AllMayFollow};
 
 use crate::limits::Limits;
 use crate::place::{Place, may_follow, pass_each};
@@ -20,7 +20,7 @@ fn is_ascii(bytes: &[u8]) -> bool
 /// Whether no byte is 00, and each may stand behind the one before it. It goes on behind one that may
 /// not, since without a branch many bytes are tested at once.
 fn follow(before: u8, bytes: &[u8]) -> bool
-    ensures { IsTrue result → Follow before bytes.now }
+    ensures { IsTrue result → AllMayFollow before bytes.now }
 {
     let mut fit = true;
     let mut last = before;
@@ -34,7 +34,7 @@ fn follow(before: u8, bytes: &[u8]) -> bool
 /// Whether the bytes are a text as far as the pairs of bytes tell, with a shorter way for ASCII.
 #[tactic(auto, using(crate::proofs::QuickTestLemmas::ascii_follow))]
 fn is_text(before: u8, bytes: &[u8]) -> bool
-    ensures { IsTrue result → Follow before bytes.now }
+    ensures { IsTrue result → AllMayFollow before bytes.now }
 {
     before < 0xc0 && is_ascii(bytes) || follow(before, bytes)
 }

@@ -1,7 +1,7 @@
 // The scanner of files that are indexed.
 ghost use Rattle.std.specs.Prelude.{◌≡◌, ◌+◌, IfOk};
 ghost use Rattle.cs_tree.specs.Loss.{LosesAtMost};
-ghost use Rattle.cs_trigram.specs.Scans.{IsRight, HasTrigramSet, IsRightGathering, GathersOnce, is_scan_failure};
+ghost use Rattle.cs_trigram.specs.Scans.{IsScanOf, HasTrigramSet, IsRightGathering, GathersOnce, is_scan_failure};
 ghost use Rattle.cs_tree.specs.FailureCount.{count_after};
 ghost use Rattle.cs_trigram.specs.Text.{limits};
 
@@ -24,13 +24,13 @@ pub struct Scanner {
 
 impl Model for Scanner {
     ghost use Rattle.cs_trigram.specs.Text.{limits};
-    ghost use Rattle.cs_trigram.specs.Scanning.{IsReadyFor};
+    ghost use Rattle.cs_trigram.specs.Scanning.{IsPreparedFor};
 
     ghost Value = { Unit {0} };
 
     ghost view = { λ _. tt };
 
-    ghost invariant = { λ s. IsReadyFor limits s.gatherer };
+    ghost invariant = { λ s. IsPreparedFor limits s.gatherer };
 }
 
 impl Scanner {
@@ -51,7 +51,7 @@ impl Scanner {
     /// `Read` where a read failed, after bytes that break no rule; `Memory` where a growth was
     /// refused.
     pub fn scan<R: Source>(&mut self, source: &mut R) -> Result<Scan, ScanFault>
-        ensures told { IsRight limits (R.told source.old) result }
+        ensures told { IsScanOf limits (R.told source.old) result }
         ensures trigrams { IfOk result HasTrigramSet }
         ensures failed { R.failed source.new ≡
             count_after is_scan_failure result (R.failed source.old) }

@@ -3,12 +3,12 @@ ghost use Rattle.std.specs.Prelude.{◌≡◌, ◌≤◌, ◌+◌, [], ◌∷◌
 ghost use Rattle.cs_syntax.specs.Matching.{Tree, one_of, one_char, rep};
 ghost use Rattle.cs_trigram.specs.FiniteWords.{is_finite, HasWord};
 ghost use Rattle.cs_trigram.specs.Sample.{with_byte, with_words, IsSample};
-ghost use Rattle.cs_trigram.specs.CharWords.{run_forms, with_char};
+ghost use Rattle.cs_trigram.specs.CharWords.{run_forms, with_form};
 ghost use Rattle.cs_syntax.specs.CharRuns.{IsRun};
 ghost use Rattle.cs_trigram.specs.Counted.{Counts};
 
 use crate::counted::Counted;
-use crate::words::{FEW, Word, add_word};
+use crate::tree_words::{FEW, Word, add_word};
 use cs_syntax::{ByteSet, CharSet};
 use std::alloc::{AllocError, Global};
 
@@ -48,7 +48,7 @@ pub(crate) fn words_of_set(alloc: Global, set: &ByteSet) -> Result<Vec<Word>, Al
 
 /// Adds the word of a character, where the number is that of one.
 fn add_char(alloc: Global, n: u32, words: &mut Vec<Word>) -> Result<(), AllocError>
-    ensures { OnOk result (words.new.items ≡ with_char words.old.items n) }
+    ensures { OnOk result (words.new.items ≡ with_form words.old.items n) }
 {
     let Some(char) = char::from_u32(n) else {
         return Ok(());

@@ -1,4 +1,4 @@
-mod WordExamples
-pub mod MessageLemmas
-pub mod WordsLemmas
 pub mod DivisionLemmas
+mod MessageLemmas
+mod WordExamples
+mod WordsLemmas

@@ -3,7 +3,7 @@ use Rattle.std.proofs.Common.{◌≡◌, ℕ, List, [], ◌∷◌, Some, None, R
 use Rattle.cs_words.specs.SkipLines.{skip_line_of}
 use Rattle.cs_words.specs.FileFaults.{fault_line_of}
 use Rattle.std.specs.Prelude.{codes}
-use Rattle.cs_words.specs.Words.{name_of, value_of, is_option, items_from, meaning}
+use Rattle.cs_words.specs.Words.{name_of, value_of, is_option, word_items_from, meaning}
 use Rattle.cs_words.specs.Wanted.{Wanted, index, search, grep}
 use Rattle.cs_words.specs.declared.jobs.Tool.TheVariants.{Cindex, Csearch, Cgrep}
 use Rattle.cs_words.specs.declared.jobs.Style.{Style}
@@ -38,50 +38,50 @@ no_options = (refl, refl, refl, refl)
 
 -- cgrep: `-n -n=false x` gives no numbers
 last_counts : cgrep (codes "-n" ∷ codes "-n=false" ∷ codes "x" ∷ []) ≡ Ok (grep plain false (codes "x") true [])
-unfolding cgrep plain meaning items_from
+unfolding cgrep plain meaning word_items_from
 last_counts = refl
 
 bad_truth : cgrep (codes "-n=yes" ∷ codes "x" ∷ []) ≡ Err (BadTruth 0)
-unfolding cgrep meaning items_from
+unfolding cgrep meaning word_items_from
 bad_truth = refl
 
 empty_truth : cgrep (codes "-n=" ∷ codes "x" ∷ []) ≡ Err (BadTruth 0)
-unfolding cgrep meaning items_from
+unfolding cgrep meaning word_items_from
 empty_truth = refl
 
 -- letters are not combined
 combined : cgrep (codes "-cn" ∷ codes "x" ∷ []) ≡ Err (UnknownOption 0)
-unfolding cgrep meaning items_from
+unfolding cgrep meaning word_items_from
 combined = refl
 
 three_dashes : cgrep (codes "---n" ∷ codes "x" ∷ []) ≡ Err (UnknownOption 0)
-unfolding cgrep meaning items_from
+unfolding cgrep meaning word_items_from
 three_dashes = refl
 
 no_name : cgrep (codes "-n" ∷ codes "-=v" ∷ []) ≡ Err (UnknownOption 1)
-unfolding cgrep meaning items_from
+unfolding cgrep meaning word_items_from
 no_name = refl
 
 nothing : cgrep [] ≡ Err NoPattern
-unfolding cgrep meaning items_from
+unfolding cgrep meaning word_items_from
 nothing = refl
 
 -- `--` ends the options, and is gone
 ended : cgrep (codes "--" ∷ codes "-x" ∷ []) ≡ Ok (grep plain false (codes "-x") true [])
-unfolding cgrep plain meaning items_from
+unfolding cgrep plain meaning word_items_from
 ended = refl
 
 ended_once : cgrep (codes "-n" ∷ codes "--" ∷ codes "--" ∷ []) ≡ Ok (grep (record { count = false; list = false; number = true; bare = false }) false (codes "--") true [])
-unfolding cgrep plain meaning items_from
+unfolding cgrep plain meaning word_items_from
 ended_once = refl
 
 dash : cgrep (codes "-" ∷ []) ≡ Ok (grep plain false (codes "-") true [])
-unfolding cgrep plain meaning items_from
+unfolding cgrep plain meaning word_items_from
 dash = refl
 
 -- behind the pattern nothing is an option
 files : cgrep (codes "-i" ∷ codes "x" ∷ codes "-n" ∷ []) ≡ Ok (grep plain true (codes "x") false (codes "-n" ∷ []))
-unfolding cgrep plain meaning items_from
+unfolding cgrep plain meaning word_items_from
 files = refl
 
 csearch : List (List ℕ) → Result Wanted WordFault
@@ -89,42 +89,42 @@ unfolding meaning
 csearch words = meaning Csearch [] words
 
 no_value : csearch (codes "-f" ∷ []) ≡ Err (NoValue 0)
-unfolding csearch meaning items_from
+unfolding csearch meaning word_items_from
 no_value = refl
 
 empty_file : csearch (codes "-f=" ∷ codes "x" ∷ []) ≡ Ok (search plain false false (Some []) (codes "x"))
-unfolding csearch plain meaning items_from
+unfolding csearch plain meaning word_items_from
 empty_file = refl
 
 -- the next word is the value, whatever it is
 next_word : csearch (codes "-f" ∷ codes "-n" ∷ codes "x" ∷ []) ≡ Ok (search plain false false (Some (codes "-n")) (codes "x"))
-unfolding csearch plain meaning items_from
+unfolding csearch plain meaning word_items_from
 next_word = refl
 
 extra_word : csearch (codes "x" ∷ codes "y" ∷ []) ≡ Err (ExtraWord 1)
-unfolding csearch meaning items_from
+unfolding csearch meaning word_items_from
 extra_word = refl
 
 later_extra_word : csearch (codes "-f" ∷ codes "p" ∷ codes "--" ∷ codes "x" ∷ codes "y" ∷ codes "z" ∷ []) ≡ Err (ExtraWord 4)
-unfolding csearch meaning items_from
+unfolding csearch meaning word_items_from
 later_extra_word = refl
 
 brute : csearch (codes "--brute" ∷ codes "x" ∷ []) ≡ Ok (search plain false true None (codes "x"))
-unfolding csearch plain meaning items_from
+unfolding csearch plain meaning word_items_from
 brute = refl
 
 -- the first fault counts, also before a missing pattern
 first_fault_counts : csearch (codes "-n=no" ∷ codes "-x" ∷ []) ≡ Err (BadTruth 0)
-unfolding csearch meaning items_from
+unfolding csearch meaning word_items_from
 first_fault_counts = refl
 
 -- `cindex /t -list`, where the current folder is /w
 paths : meaning Cindex (codes "/w") (codes "/t" ∷ codes "-list" ∷ []) ≡ Ok (index false false false (codes "/w") (codes "/t" ∷ codes "-list" ∷ []))
-unfolding meaning items_from
+unfolding meaning word_items_from
 paths = refl
 
 reset : meaning Cindex (codes "/w") (codes "-reset" ∷ codes "-logskip=T" ∷ []) ≡ Ok (index false true true (codes "/w") [])
-unfolding meaning items_from
+unfolding meaning word_items_from
 reset = refl
 
 -- lines of refusals, and of files that are left out

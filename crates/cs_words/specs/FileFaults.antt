@@ -1,5 +1,5 @@
 -- Why a file or a path is left out, and the line that is printed then.
--- docs/PROMISES.md, "What is printed".
+-- docs/PROMISES.md, "Words and messages" and "What is printed".
 use Rattle.std.specs.Prelude.{ℕ, Bool, true, false, List, ◌++◌, codes}
 use Rattle.cs_tree.specs.declared.fault.TreeFault.TheVariants as tree
 use Rattle.cs_tree.specs.declared.fault.TreeFault.{TreeFault}

@@ -1,4 +1,4 @@
--- The lines that the tools print where they refuse, and where a file or a path is left out.
+-- The lines that the tools print where they refuse.
 use Rattle.std.specs.Prelude.{ℕ, List, ◌++◌, codes, decimal}
 use Rattle.cs_words.specs.FileFaults.{tool_name}
 use Rattle.cs_syntax.specs.declared.fault.PatternFault.{PatternFault}

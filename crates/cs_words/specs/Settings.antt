@@ -1,6 +1,7 @@
 -- What an item sets, and what the settings that are read say.
 use Rattle.std.specs.Prelude.{◌≡◌, ℕ, Bool, true, false, List, [], ◌∷◌, Option, Some, None, Result, Ok, Err, codes, slice_get, if◌then◌else◌, option_copied, MatchResult}
-use Rattle.cs_words.specs.Words.{Item, item, is_among, is_option, words_in, fault_in, switches_of, valued_of, name_of, takes_next, truth_in, value_in, is_on, value_for}
+use Rattle.cs_tree.specs.Cover.{is_among}
+use Rattle.cs_words.specs.Words.{WordItem, item, is_option, words_in, fault_in, switches_of, valued_of, name_of, takes_next, truth_in, value_in, is_on, value_for}
 use Rattle.cs_words.specs.Wanted.{Wanted, job_wanted}
 use Rattle.cs_words.specs.declared.jobs.Job.{Job}
 use Rattle.cs_words.specs.declared.fault.WordFault.{WordFault}
@@ -36,27 +37,27 @@ IsFlag tool name (Some File) =
     (is_among (switches_of tool) name ≡ false) × (is_among (valued_of tool) name ≡ true) × (name ≡ codes "f")
 
 -- the item that begins with an option word, before the words behind it
-abbrev pub item_of : Tool → ℕ → List ℕ → List (List ℕ) → Item
-item_of tool at word behind = item word at (if takes_next tool word then slice_get behind 0 else None)
+abbrev pub item_in_front : Tool → ℕ → List ℕ → List (List ℕ) → WordItem
+item_in_front tool at word behind = item word at (if takes_next tool word then slice_get behind 0 else None)
 
 -- what an item sets that breaks no rule
-abbrev pub Sets : Item → Setting → Type 0
+abbrev pub Sets : WordItem → Setting → Type 0
 Sets item (Turns switch on) = (name_of item.word ≡ switch_name switch) × (truth_in item ≡ Some on)
 Sets item (A_pattern pattern) = (name_of item.word ≡ codes "f") × (value_in item ≡ Some pattern.now)
 
 -- what is read of the item at the front of the words, the first of which stands at a place
-abbrev pub IsNext : Tool → ℕ → List (List ℕ) → Option ReadItem → Type 0
-IsNext tool at [] next = next ≡ None
-IsNext tool at (word ∷ behind) None = is_option word ≡ false
-IsNext tool at (word ∷ behind) (Some read) =
-    (is_option word ≡ true) × (fault_in tool (item_of tool at word behind) ≡ None)
-    × (read.words ≡ words_in (item_of tool at word behind)) × Sets (item_of tool at word behind) read.setting
+abbrev pub IsFrontItem : Tool → ℕ → List (List ℕ) → Option ReadItem → Type 0
+IsFrontItem tool at [] next = next ≡ None
+IsFrontItem tool at (word ∷ behind) None = is_option word ≡ false
+IsFrontItem tool at (word ∷ behind) (Some read) =
+    (is_option word ≡ true) × (fault_in tool (item_in_front tool at word behind) ≡ None)
+    × (read.words ≡ words_in (item_in_front tool at word behind)) × Sets (item_in_front tool at word behind) read.setting
 
 -- the item at the front of the words breaks a rule
 abbrev pub BreaksRule : Tool → ℕ → List (List ℕ) → WordFault → Type 0
 BreaksRule tool at [] fault = ⊥
 BreaksRule tool at (word ∷ behind) fault =
-    (is_option word ≡ true) × (fault_in tool (item_of tool at word behind) ≡ Some fault)
+    (is_option word ≡ true) × (fault_in tool (item_in_front tool at word behind) ≡ Some fault)
 
 -- what the settings say of a switch
 abbrev pub is_set : Switch → Settings → Bool
@@ -87,11 +88,11 @@ with_setting (Turns switch on) settings = with_switch switch on settings
 with_setting (A_pattern pattern) settings = record settings { file = Some pattern }
 
 -- the settings are those of the items
-pub record AreOf (settings : Settings) (items : List Item) : Type 0 where
+pub record AreOf (settings : Settings) (items : List WordItem) : Type 0 where
   pub switches : (switch : Switch) → is_set switch settings ≡ is_on (switch_name switch) items
   pub file : option_copied settings.file ≡ value_for (codes "f") items
 
 -- Where the words mean a job, the answer is that job or Memory; where they mean a fault, it is that fault.
-abbrev pub Answers : Result Wanted WordFault → Result Job WordFault → Type 0
-Answers (Ok job) answer = MatchResult answer (λ found. job_wanted found ≡ job) (λ fault. fault ≡ Memory)
-Answers (Err fault) answer = answer ≡ Err fault
+abbrev pub GivesJob : Result Wanted WordFault → Result Job WordFault → Type 0
+GivesJob (Ok job) answer = MatchResult answer (λ found. job_wanted found ≡ job) (λ fault. fault ≡ Memory)
+GivesJob (Err fault) answer = answer ≡ Err fault

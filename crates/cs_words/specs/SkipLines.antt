@@ -1,5 +1,5 @@
 -- Why a file is no text that is indexed, and the line that is printed then where it is asked for.
--- docs/PROMISES.md, "What is printed"; docs/FORMAT.md, "Which files are text".
+-- docs/PROMISES.md, "Words and messages"; docs/FORMAT.md, "Which files are text".
 use Rattle.std.specs.Prelude.{ℕ, List, ◌++◌, codes}
 use Rattle.cs_words.specs.declared.jobs.Tool.TheVariants.{Cindex}
 use Rattle.cs_trigram.specs.declared.scan.Reason.{Reason}

@@ -1,4 +1,4 @@
-// Why a tool refuses.
+// Why a tool refuses, and why a file or a path is left out.
 use cs_index::IndexFault;
 use cs_syntax::{PatternError, PatternFault};
 use cs_tree::{IoFault, TreeFault};

@@ -1,8 +1,8 @@
 // The words of a command read as a job.
 ghost use Rattle.std.specs.Prelude.{◌≡◌, ◌∷◌, ◌≤◌, ◌↔◌, ◌≢◌, List, None, Some, Ok, Err, true, length, map, string_bytes, option_map, option_copied, IfOk, IfErr, IsOk};
 ghost use Rattle.cs_words.specs.Wanted.{job_wanted};
-ghost use Rattle.cs_words.specs.Words.{Item, is_option, items, rest, without_end, first_fault, index_job as index_by, search_job as search_by, grep_job as grep_by, job_by, meaning};
-ghost use Rattle.cs_words.specs.Settings.{IsNext, BreaksRule, AreOf, Answers};
+ghost use Rattle.cs_words.specs.Words.{WordItem, is_option, word_items, operands, without_end, first_fault, index_job as index_by, search_job as search_by, grep_job as grep_by, job_by, meaning};
+ghost use Rattle.cs_words.specs.Settings.{IsFrontItem, BreaksRule, AreOf, GivesJob};
 ghost use Rattle.cs_words.specs.declared.fault.WordFault.{WordFault as A_fault};
 ghost use Rattle.cs_words.specs.declared.fault.WordFault.TheVariants.{Memory};
 
@@ -50,8 +50,8 @@ fn make_job(
     all: usize,
 ) -> Result<Job, WordFault>
     requires { length options.now.rest.now ≤ all }
-    ensures { (items : List Item) → AreOf options.now.settings items →
-        Answers (job_by tool cwd.now all items (map string_bytes options.now.rest.now)) result }
+    ensures { (items : List WordItem) → AreOf options.now.settings items →
+        GivesJob (job_by tool cwd.now all items (map string_bytes options.now.rest.now)) result }
 {
     match tool {
         Tool::Cindex => index_job(alloc, &options.settings, cwd, options.rest),
@@ -63,14 +63,15 @@ fn make_job(
 /// All options, up to a word that is none or behind `--`.
 fn read_options<'a>(tool: Tool, words: &'a [String]) -> Result<ReadOptions<'a>, WordFault>
     ensures settings { IfOk result
-        (λ options. AreOf options.settings (items tool (map string_bytes words.now))) }
+        (λ options. AreOf options.settings (word_items tool (map string_bytes words.now))) }
     ensures rest { IfOk result
-        (λ options. map string_bytes options.rest.now ≡ rest tool (map string_bytes words.now)) }
+        (λ options. map string_bytes options.rest.now
+        ≡ operands tool (map string_bytes words.now)) }
     ensures within { IfOk result (λ options. length options.rest.now ≤ length words.now) }
     ensures sound { IfOk result
-        (λ _. first_fault tool (items tool (map string_bytes words.now)) ≡ None) }
+        (λ _. first_fault tool (word_items tool (map string_bytes words.now)) ≡ None) }
     ensures fault { IfErr result
-        (λ fault. first_fault tool (items tool (map string_bytes words.now)) ≡ Some fault) }
+        (λ fault. first_fault tool (word_items tool (map string_bytes words.now)) ≡ Some fault) }
 {
     let mut settings = NOTHING;
     let mut at = 0;
@@ -101,7 +102,7 @@ fn next_item<'a>(
     words: &'a [String],
     at: usize,
 ) -> Result<Option<ReadItem<'a>>, WordFault>
-    ensures item { IfOk result (λ next. IsNext tool at (map string_bytes words.now) next) }
+    ensures item { IfOk result (λ next. IsFrontItem tool at (map string_bytes words.now) next) }
     ensures fault { IfErr result (λ fault. BreaksRule tool at (map string_bytes words.now) fault) }
 {
     match words.split_first() {
@@ -121,7 +122,7 @@ fn read_item<'a>(
 ) -> Result<ReadItem<'a>, WordFault>
     requires { is_option word.now ≡ true }
     ensures item { IfOk result
-        (λ item. IsNext tool at (word.now ∷ map string_bytes behind.now) (Some item)) }
+        (λ item. IsFrontItem tool at (word.now ∷ map string_bytes behind.now) (Some item)) }
     ensures fault { IfErr result
         (λ fault. BreaksRule tool at (word.now ∷ map string_bytes behind.now) fault) }
 {
@@ -157,8 +158,8 @@ fn index_job(
     cwd: &str,
     paths: &[String],
 ) -> Result<Job, WordFault>
-    ensures { (items : List Item) → AreOf settings.now items →
-        Answers (index_by cwd.now items (map string_bytes paths.now)) result }
+    ensures { (items : List WordItem) → AreOf settings.now items →
+        GivesJob (index_by cwd.now items (map string_bytes paths.now)) result }
 {
     Ok(Job::Index(IndexJob {
         list: settings.list,
@@ -176,8 +177,8 @@ fn search_job(
     all: usize,
 ) -> Result<Job, WordFault>
     requires { length rest.now ≤ all }
-    ensures { (items : List Item) → AreOf settings.now items →
-        Answers (search_by all items (map string_bytes rest.now)) result }
+    ensures { (items : List WordItem) → AreOf settings.now items →
+        GivesJob (search_by all items (map string_bytes rest.now)) result }
 {
     match rest {
         [] => Err(WordFault::NoPattern),
@@ -193,8 +194,8 @@ fn search_job(
 }
 
 fn grep_job(alloc: Global, settings: &Settings<'_>, rest: &[String]) -> Result<Job, WordFault>
-    ensures { (items : List Item) → AreOf settings.now items →
-        Answers (grep_by items (map string_bytes rest.now)) result }
+    ensures { (items : List WordItem) → AreOf settings.now items →
+        GivesJob (grep_by items (map string_bytes rest.now)) result }
 {
     match rest.split_first() {
         None => Err(WordFault::NoPattern),

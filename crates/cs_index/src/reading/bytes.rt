@@ -1,10 +1,9 @@
 // Numbers and strings in the bytes of an index.
-ghost use Rattle.std.specs.Prelude.{◌≡◌, ◌≢◌, ◌≤◌, ◌<◌, ◌+◌, ◌++◌, [], ◌∷◌, ℕ, List, Option, length, IfSome, IfNone, slice_get, true, false, ◌||◌};
+ghost use Rattle.std.specs.Prelude.{◌≡◌, ◌≢◌, ◌≤◌, ◌<◌, ◌+◌, ◌++◌, [], ◌∷◌, ℕ, List, Option, length, IfSome, IfNone, slice_get, true, false, ◌||◌, bytes_eq};
 ghost use Rattle.cs_tree.specs.NamesAscending.{are_ascending};
 ghost use Rattle.cs_index.specs.SectionsRead.{HasNoText};
 ghost use Rattle.std.specs.List.{AllByRecursion};
 ghost use Rattle.std.specs.Option.{option_copied};
-ghost use Rattle.cs_tree.specs.Cover.{same};
 ghost use Rattle.cs_index.specs.Image.{with_nul};
 ghost use Rattle.cs_index.specs.Opening.{number_at, trigram_at, is_names_section, is_section, texts_of};
 
@@ -45,8 +44,8 @@ pub(crate) fn first_text(section: &[u8]) -> Option<(&[u8], &[u8])>
 /// What follows the strings of a section, if each is UTF-8.
 pub(crate) fn after_texts(section: &[u8]) -> Option<&[u8]>
     ensures some { IfSome result
-        (λ rest. (is_section (0 ∷ []) section.now ≡ same rest.now (0 ∷ [])) ×
-        (is_section [] section.now ≡ same rest.now [])) }
+        (λ rest. (is_section (0 ∷ []) section.now ≡ bytes_eq rest.now (0 ∷ [])) ×
+        (is_section [] section.now ≡ bytes_eq rest.now [])) }
     ensures none { IfNone result
         ((is_section (0 ∷ []) section.now ≡ false) × (is_section [] section.now ≡ false)) }
 {

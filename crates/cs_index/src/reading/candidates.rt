@@ -11,10 +11,10 @@ ghost use Rattle.cs_trigram.specs.declared.queries.Query.{Query as Query'};
 ghost use Rattle.cs_trigram.specs.declared.queries.Query.TheVariants.{Tri};
 
 use crate::fault::IndexFault;
+use crate::reading::id_marks::{mark_ids, mark_list, marked_ids};
 use crate::reading::index::Index;
-use crate::reading::marks::{mark_ids, mark_list, marked_ids};
+use crate::reading::intersection::Sifter;
 use crate::reading::postings::Postings;
-use crate::reading::sieve::Sieve;
 use cs_trigram::Query;
 use std::alloc::{AllocError, Global};
 
@@ -43,7 +43,7 @@ fn ids_meeting(index: &Index, alloc: Global, query: &Query) -> Result<Vec<u32>, 
     match query {
         Query::All => Ok(every_id(alloc, index.len())?),
         Query::Nothing => Ok(Vec::new(alloc)),
-        Query::Tri(trigram) => ids_of(alloc, list_of(index, *trigram)),
+        Query::Tri(trigram) => ids_of(alloc, trigram_postings(index, *trigram)),
         Query::And(members) => ids_meeting_each(index, alloc, members),
         Query::Or(members) => ids_meeting_some(index, alloc, members),
     }
@@ -80,7 +80,7 @@ fn narrow(
     ensures fault { IfErr result (IsListFault (is_answerable index.now member.now)) }
 {
     match member {
-        Query::Tri(trigram) => keep_listed(ids, list_of(index, *trigram)),
+        Query::Tri(trigram) => keep_listed(ids, trigram_postings(index, *trigram)),
         _ => Ok(keep_common(ids, &ids_meeting(index, alloc, member)?)),
     }
 }
@@ -111,7 +111,7 @@ fn mark(index: &Index, alloc: Global, marks: &mut [bool], member: &Query) -> Res
     ensures fault { IfErr result (IsListFault (is_answerable index.now member.now)) }
 {
     match member {
-        Query::Tri(trigram) => mark_list(marks, list_of(index, *trigram)),
+        Query::Tri(trigram) => mark_list(marks, trigram_postings(index, *trigram)),
         _ => {
             mark_ids(marks, &ids_meeting(index, alloc, member)?);
             Ok(())
@@ -128,7 +128,7 @@ fn first_ids(index: &Index, alloc: Global, members: &[Query]) -> Result<Vec<u32>
     ensures fault { IfErr result (IsListFault (list_all (is_answerable index.now) members.now)) }
 {
     match rarest(index, members) {
-        Some(trigram) => ids_of(alloc, list_of(index, trigram)),
+        Some(trigram) => ids_of(alloc, trigram_postings(index, trigram)),
         None => Ok(every_id(alloc, index.len())?),
     }
 }
@@ -152,7 +152,7 @@ fn rarest(index: &Index, members: &[Query]) -> Option<u32>
 }
 
 /// The list of a trigram, without ids where it has no entry.
-fn list_of<'a>(index: &Index<'a>, trigram: u32) -> Postings<'a>
+fn trigram_postings<'a>(index: &Index<'a>, trigram: u32) -> Postings<'a>
     ensures { result ≡ read_for index.now trigram }
 {
     match index.postings(trigram) {
@@ -182,11 +182,11 @@ fn keep_listed(ids: Vec<u32>, list: Postings) -> Result<Vec<u32>, IndexFault>
     ensures whole { IfOk result (λ _. list.entry.whole ≡ true) }
     ensures fault { IfErr result (IsListFault list.entry.whole) }
 {
-    let mut sieve = Sieve::new(ids);
+    let mut sifter = Sifter::new(ids);
     for id in list {
-        sieve.pass(id?);
+        sifter.pass(id?);
     }
-    Ok(sieve.finish())
+    Ok(sifter.finish())
 }
 
 /// The ids that others have too.
@@ -195,11 +195,11 @@ fn keep_common(ids: Vec<u32>, others: &[u32]) -> Vec<u32>
     requires others { Ascends others.now }
     ensures { result.items ≡ filter (has others.now) ids.items }
 {
-    let mut sieve = Sieve::new(ids);
+    let mut sifter = Sifter::new(ids);
     for id in others {
-        sieve.pass(*id);
+        sifter.pass(*id);
     }
-    sieve.finish()
+    sifter.finish()
 }
 
 /// Each id below a number.

@@ -78,7 +78,7 @@ fn entries_fit(list_index: &[u8], room: usize) -> bool
 
 /// Whether the entry has room for its list.
 fn entry_fits(list_index: &[u8], at: usize, room: usize) -> bool
-    requires { at + 11 ≤ length list_index.now }
+    requires { at + ENTRY_LEN ≤ length list_index.now }
     ensures { result ≡ is_entry room (entry_at list_index.now at) }
 {
     let trigram = read_trigram(list_index, at);
@@ -92,7 +92,7 @@ pub(crate) fn place_of(list_index: &[u8], trigram: u32) -> Option<usize>
     requires { rises (entries_in list_index.now) ≡ true }
     ensures some { IfSome result
         (λ at. entry_of (entries_in list_index.now) trigram ≡ Some (entry_at list_index.now at)) }
-    ensures within { IfSome result (λ at. at + 11 ≤ length list_index.now) }
+    ensures within { IfSome result (λ at. at + ENTRY_LEN ≤ length list_index.now) }
     ensures none { IfNone result (entry_of (entries_in list_index.now) trigram ≡ None) }
 {
     let count = list_index.len() / ENTRY_LEN;
@@ -109,12 +109,12 @@ pub(crate) fn place_of(list_index: &[u8], trigram: u32) -> Option<usize>
 
 /// The first place whose trigram is not below one, among some entries.
 fn first_from(list_index: &[u8], trigram: u32, count: usize) -> usize
-    requires count { count ≡ length list_index.now / 11 }
+    requires count { count ≡ length list_index.now / ENTRY_LEN }
     requires rise { rises (entries_in list_index.now) ≡ true }
     ensures within { result ≤ count }
-    ensures below { (k : ℕ) → k < result → trigram_at list_index.now (11 * k) < trigram }
+    ensures below { (k : ℕ) → k < result → trigram_at list_index.now (ENTRY_LEN * k) < trigram }
     ensures above { (k : ℕ) → result ≤ k → k < count →
-        trigram ≤ trigram_at list_index.now (11 * k) }
+        trigram ≤ trigram_at list_index.now (ENTRY_LEN * k) }
 {
     let mut low = 0;
     let mut high = count;
@@ -130,13 +130,13 @@ fn first_from(list_index: &[u8], trigram: u32, count: usize) -> usize
 }
 
 /// The ids of the entry that begins at a place.
-pub(crate) fn list_of<'a>(
+pub(crate) fn entry_postings<'a>(
     postings: &'a [u8],
     list_index: &[u8],
     at: usize,
     name_count: u32,
 ) -> Postings<'a>
-    requires within { at + 11 ≤ length list_index.now }
+    requires within { at + ENTRY_LEN ≤ length list_index.now }
     requires bound { name_count < most_ids }
     ensures { result ≡ read_list postings.now name_count (entry_at list_index.now at) }
 {

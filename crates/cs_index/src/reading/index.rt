@@ -2,19 +2,19 @@
 ghost use Rattle.std.specs.Prelude.{◌≡◌, ◌==◌, ◌<◌, ◌^◌, ℕ, List, Err, IfOk, IfErr, length, slice_get, option_map};
 ghost use Rattle.cs_index.specs.Postings.{entry_of};
 ghost use Rattle.cs_tree.specs.NamesAscending.{are_ascending};
-ghost use Rattle.cs_index.specs.SectionsRead.{IsRead};
+ghost use Rattle.cs_index.specs.SectionsRead.{AreRead, IsRead};
 ghost use Rattle.std.specs.Option.{option_copied, option_map_or};
 ghost use Rattle.cs_index.specs.Image.{ListEntry};
 ghost use Rattle.cs_index.specs.Opening.{opening, read_sections};
 ghost use Rattle.cs_index.specs.OpenedParts.{ids_read};
 ghost use Rattle.cs_index.specs.Cut.{lent_sections};
 ghost use Rattle.cs_index.specs.Parts.{AreParts};
-ghost use Rattle.cs_index.specs.Starts.{AreRead, with_lists};
+ghost use Rattle.cs_index.specs.Starts.{with_lists};
 
 use crate::fault::IndexFault;
 use crate::reading::bytes::{ascend, is_closed, is_complete, read_number, read_trigram};
 use crate::reading::cutting::{Cut, split};
-use crate::reading::entries::{has_entries, has_offsets, list_of, place_of};
+use crate::reading::entries::{entry_postings, has_entries, has_offsets, place_of};
 use crate::reading::postings::Postings;
 use crate::reading::texts::Texts;
 use std::marker::Model;
@@ -124,7 +124,7 @@ impl<'a> Index<'a> {
         let at = 11 * place as usize;
         Some((
             read_trigram(self.cut.list_index, at),
-            list_of(self.cut.postings, self.cut.list_index, at, self.len()),
+            entry_postings(self.cut.postings, self.cut.list_index, at, self.len()),
         ))
     }
 
@@ -133,7 +133,7 @@ impl<'a> Index<'a> {
         ensures { result ≡ option_map (ids_read self.now) (entry_of self.now.entries trigram) }
     {
         let at = place_of(self.cut.list_index, trigram)?;
-        Some(list_of(self.cut.postings, self.cut.list_index, at, self.len()))
+        Some(entry_postings(self.cut.postings, self.cut.list_index, at, self.len()))
     }
 
     /// How many ids the list of a trigram is said to have.

@@ -1,7 +1,8 @@
 // The ids of an index in the order of their names.
 ghost use Rattle.std.specs.Prelude.{◌≡◌, IfOk, List, ℕ, option_map, map};
 ghost use Rattle.cs_tree.specs.NamesAscending.{are_ascending};
-ghost use Rattle.cs_index.specs.Order.{IsOrderOf, with_ids, lent_names, name_in, id_in};
+ghost use Rattle.cs_index.specs.Order.{IsOrderOf, with_ids, name_in, id_in};
+ghost use Rattle.cs_index.specs.LentNames.{lent_names};
 
 use crate::reading::index::Index;
 use std::alloc::{AllocError, Global};

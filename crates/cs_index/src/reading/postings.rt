@@ -23,18 +23,18 @@ pub struct Postings<'a> {
 
 impl<'a> Model for Postings<'a> {
     ghost use Rattle.cs_index.specs.PostingLists.{Ids};
-    ghost use Rattle.cs_index.specs.ListRest.{left_of, IsLeft};
+    ghost use Rattle.cs_index.specs.ListRest.{ids_left, IsLeft};
 
     ghost Value = { Ids };
 
-    ghost view = { λ s. left_of s.has_ended s.name_count s.left s.next s.bytes.now };
+    ghost view = { λ s. ids_left s.has_ended s.name_count s.left s.next s.bytes.now };
 
     ghost invariant = { λ s. IsLeft s.name_count s.next };
 }
 
 impl<'a> Postings<'a> {
     /// The ids at the front of the bytes: so many of them, each below the number of names.
-    pub fn new(bytes: &'a [u8], count: u32, name_count: u32) -> Self
+    pub fn new(bytes: &'a [u8], count: u32, name_count: u32) -> Postings<'a>
         requires { name_count < most_ids }
         ensures { result ≡ read_ids name_count count 0 bytes.now }
     {
@@ -48,7 +48,7 @@ impl<'a> Postings<'a> {
     }
 
     /// A list without ids.
-    pub(crate) fn empty() -> Self
+    pub(crate) fn empty() -> Postings<'a>
         ensures { result ≡ nothing_read }
     {
         Postings {
@@ -80,7 +80,7 @@ impl<'a> Postings<'a> {
     }
 
     /// A list that is damaged at once.
-    pub(crate) fn damage() -> Self
+    pub(crate) fn damage() -> Postings<'a>
         ensures { result ≡ damage }
     {
         Postings::new(&[], 0, 0)

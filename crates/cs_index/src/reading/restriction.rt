@@ -5,9 +5,9 @@ ghost use Rattle.cs_tree.specs.Transfers.{is_io_failure};
 ghost use Rattle.cs_index.specs.Restriction.{AnswersAs};
 ghost use Rattle.cs_index.specs.Stored.{LiesBefore, whole_of};
 
-use crate::reading::asked::asked_trigrams;
 use crate::reading::cutting::Cut;
 use crate::reading::index::Index;
+use crate::reading::query_trigrams::asked_trigrams;
 use crate::reading::stored::StoredIndex;
 use cs_tree::{IoFault, Store};
 use cs_trigram::Query;

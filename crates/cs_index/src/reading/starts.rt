@@ -14,7 +14,7 @@ use std::alloc::Global;
 
 /// Where each section of an index begins, and its trailer.
 #[derive(Clone, Copy, Drop)]
-pub(crate) struct Starts {
+pub(crate) struct SectionStarts {
     pub(crate) paths: usize,
     pub(crate) names: usize,
     pub(crate) postings: usize,
@@ -27,7 +27,7 @@ pub(crate) struct Starts {
 pub(crate) fn find_starts<S: Store>(
     alloc: Global,
     store: &mut S,
-) -> Result<Result<Starts, IndexFault>, IoFault>
+) -> Result<Result<SectionStarts, IndexFault>, IoFault>
     ensures cut { IfSome (S.told store.old) (λ bytes. IfOk result (IsCutAt bytes)) }
     ensures order { IfOk result (λ answer. IfOk answer AreInOrder) }
     ensures keeps { S.told store.new ≡ S.told store.old }
@@ -41,7 +41,7 @@ pub(crate) fn find_starts<S: Store>(
 }
 
 /// Where sections begin, of so many bytes with these first ones and these last ones.
-fn starts_of(head: &[u8], tail: &[u8], len: usize) -> Result<Starts, IndexFault>
+fn starts_of(head: &[u8], tail: &[u8], len: usize) -> Result<SectionStarts, IndexFault>
     ensures cut { (bytes : List ℕ) → length bytes ≡ len → head.now ≡ part_of bytes 0 16 →
         tail.now ≡ part_of bytes (len - TRAILER_LEN) TRAILER_LEN → IsCutAt bytes result }
     ensures order { IfOk result AreInOrder }
@@ -66,7 +66,7 @@ fn is_trailer(tail: &[u8], len: usize) -> bool
 }
 
 /// Where a trailer that begins at a place says that the sections begin.
-fn starts_in(trailer: &[u8], at: usize) -> Result<Starts, IndexFault>
+fn starts_in(trailer: &[u8], at: usize) -> Result<SectionStarts, IndexFault>
     requires { 20 ≤ length trailer.now }
     ensures places { IfOk result (AreGiven trailer.now at) }
     ensures fault { IfErr result (AreDisordered trailer.now at) }
@@ -79,7 +79,7 @@ fn starts_in(trailer: &[u8], at: usize) -> Result<Starts, IndexFault>
     if !rise(paths, names, postings, name_index, list_index, at) {
         return Err(IndexFault::BadOffsets);
     }
-    Ok(Starts {
+    Ok(SectionStarts {
         paths,
         names,
         postings,

@@ -2,12 +2,12 @@
 ghost use Rattle.std.specs.Prelude.{◌≡◌, ◌≤◌, ◌<◌, ◌^◌, length, IfOk, IfSome};
 ghost use Rattle.cs_tree.specs.FailureCount.{count_after};
 ghost use Rattle.cs_tree.specs.Transfers.{is_io_failure};
-ghost use Rattle.cs_index.specs.Starts.{AreInOrder, sections_at};
-ghost use Rattle.cs_index.specs.Stored.{LiesBefore, OpensAs, SectionsOpenAs};
+ghost use Rattle.cs_index.specs.Starts.{AreInOrder, sections_at, SectionsOpenAs};
+ghost use Rattle.cs_index.specs.Stored.{LiesBefore, OpensAs};
 
 use crate::fault::IndexFault;
 use crate::reading::index::test_sections;
-use crate::reading::starts::{Starts, find_starts};
+use crate::reading::starts::{SectionStarts, find_starts};
 use crate::reading::texts::Texts;
 use cs_tree::{IoFault, Store, read_part};
 use std::alloc::Global;
@@ -30,9 +30,9 @@ impl Model for StoredIndex {
 
     ghost Value = { StoredParts };
 
-    ghost use Rattle.std.specs.Prelude.{◌<◌, ◌^◌, ◌+◌, length};
+    ghost use Rattle.std.specs.Prelude.{◌<◌, ◌^◌, ◌+◌};
     ghost use Rattle.cs_index.specs.Opening.{entries_in, texts_of};
-    ghost use Rattle.cs_index.specs.Starts.{AreRead};
+    ghost use Rattle.cs_index.specs.SectionsRead.{AreHeld};
 
     ghost view = { λ s. record {
       paths = texts_of s.paths.items;
@@ -43,8 +43,7 @@ impl Model for StoredIndex {
     } };
 
     ghost invariant = { λ s.
-        AreRead s.paths.items s.names.items s.name_index.items s.list_index.items s.room
-        × (length s.name_index.items < 2 ^ 32) × (length s.list_index.items < 2 ^ 32)
+        AreHeld s.paths.items s.names.items s.name_index.items s.list_index.items s.room
         × (s.start + s.room < 2 ^ 32) };
 }
 
@@ -79,7 +78,7 @@ impl StoredIndex {
 fn read_stored<S: Store>(
     alloc: Global,
     store: &mut S,
-    starts: Starts,
+    starts: SectionStarts,
 ) -> Result<Result<StoredIndex, IndexFault>, IoFault>
     requires { AreInOrder starts }
     ensures opens { IfSome (S.told store.old)
@@ -90,7 +89,7 @@ fn read_stored<S: Store>(
     ensures size { S.size store.new ≡ S.size store.old }
     ensures failed { S.failed store.new ≡ count_after is_io_failure result (S.failed store.old) }
 {
-    let Starts {
+    let SectionStarts {
         paths,
         names,
         postings,

@@ -27,7 +27,7 @@ impl<'a> Model for Texts<'a> {
 
 impl<'a> Texts<'a> {
     /// The strings of a section.
-    pub(crate) fn new(section: &'a [u8]) -> Self
+    pub(crate) fn new(section: &'a [u8]) -> Texts<'a>
         requires { is_names_section section.now ≡ true }
         ensures { result ≡ texts_of section.now }
     {

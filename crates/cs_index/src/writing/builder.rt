@@ -6,13 +6,13 @@ ghost use Rattle.std.specs.List.{AllByRecursion};
 ghost use Rattle.cs_index.specs.Image.{image, image_of, names_of};
 ghost use Rattle.cs_index.specs.Gathering.{AreDistinct};
 ghost use Rattle.cs_index.specs.Indexable.{IsIndexable};
-ghost use Rattle.cs_index.specs.Built.{with_name, are_paths, files_of, is_above, is_storable, IsBuilt, IsOneTooMany, IsOutOfOrder, most_names, paths_of};
+ghost use Rattle.cs_index.specs.Built.{with_entry, are_paths, file_map, is_above, is_storable, IsBuilt, IsOneTooMany, IsOutOfOrder, most_names, path_set};
 
 use crate::fault::BuildFault;
 use crate::writing::batch::Batch;
-use crate::writing::paths::{are_listed, is_text};
 use crate::writing::sections::Sections;
 use crate::writing::segments::Segments;
+use crate::writing::storable_texts::{are_listed, is_text};
 use crate::writing::strings::{Strings, strings_of};
 use std::alloc::{AllocError, Global};
 use std::marker::Model;
@@ -71,7 +71,7 @@ impl Builder {
     pub fn add(&mut self, name: &str, trigrams: &[u32]) -> Result<u32, BuildFault>
         requires once { AreTrigramsOnce trigrams.now }
         ensures ok { OnOk result
-            (self.new ≡ with_name self.old name.now (set_of_numbers trigrams.now)) }
+            (self.new ≡ with_entry self.old name.now (set_of_numbers trigrams.now)) }
         ensures id { IfOk result (λ id. id ≡ length self.old.entries) }
         ensures bad_name { (result ≡ Err BuildFault.BadName) ↔ (is_storable name.now ≡ false) }
         ensures out_of_order { (result ≡ Err BuildFault.OutOfOrder) ↔
@@ -87,7 +87,7 @@ impl Builder {
     /// The index of the paths and the names.
     pub fn finish(self) -> Result<Vec<u8>, BuildFault>
         ensures ok { IfOk result (λ index. index.items ≡ image_of self.paths self.entries) }
-        ensures image { IfOk result (λ index. index.items ≡ image (paths_of self) (files_of self)) }
+        ensures image { IfOk result (λ index. index.items ≡ image (path_set self) (file_map self)) }
         ensures indexable { IfOk result (λ _. IsIndexable self.paths self.entries) }
         ensures too_large { result ≡ Err BuildFault.TooLarge →
             2 ^ 32 ≤ length (image_of self.paths self.entries) }
@@ -121,7 +121,7 @@ impl Builder {
         requires once { AreTrigramsOnce trigrams.now }
         requires bound { most ≤ most_names }
         ensures ok { OnOk result
-            (self.new ≡ with_name self.old name.now (set_of_numbers trigrams.now)) }
+            (self.new ≡ with_entry self.old name.now (set_of_numbers trigrams.now)) }
         ensures id { IfOk result (λ id. id ≡ length self.old.entries) }
         ensures bad_name { (result ≡ Err BuildFault.BadName) ↔ (is_storable name.now ≡ false) }
         ensures out_of_order { (result ≡ Err BuildFault.OutOfOrder) ↔
@@ -165,7 +165,7 @@ impl Builder {
         requires above { is_above (names_of self.old.entries) name.now ≡ true }
         requires bound { length self.old.entries < most_names }
         ensures ok { OnOk result
-            (self.new ≡ with_name self.old name.now (set_of_numbers trigrams.now)) }
+            (self.new ≡ with_entry self.old name.now (set_of_numbers trigrams.now)) }
         ensures id { IfOk result (λ id. id ≡ length self.old.entries) }
         ensures err { OnErr result (self.new ≡ self.old) }
     {

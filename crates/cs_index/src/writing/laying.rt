@@ -1,7 +1,7 @@
 // The bytes of an index, section after section.
 ghost use Rattle.std.specs.Prelude.{◌≡◌, ◌<◌, ◌≤◌, ◌⊎◌, ◌^◌, ◌++◌, ◌∷◌, [], List, ℕ, length, map, flat_map, Err, IfOk, IfErr, OnOk, OnErr};
-ghost use Rattle.std.specs.List.{AllByRecursion};
-ghost use Rattle.cs_index.specs.Image.{concat, entry_bytes, four_bytes, layout, list_entries, posting_list, sections_of, trailer_magic, ListEntry};
+ghost use Rattle.std.specs.List.{AllByRecursion, concat};
+ghost use Rattle.cs_index.specs.Image.{entry_bytes, four_bytes, layout, list_entries, posting_list, sections_of, trailer_magic, ListEntry};
 ghost use Rattle.cs_index.specs.Laying.{entry_from, front_of, lists_at};
 
 use crate::fault::BuildFault;

@@ -7,12 +7,13 @@ ghost use Rattle.std.specs.List.{AllByRecursion};
 ghost use Rattle.cs_index.specs.Image.{image_of, IsString};
 ghost use Rattle.cs_index.specs.Indexable.{IsIndexable};
 ghost use Rattle.cs_index.specs.Built.{are_paths, is_above, is_storable};
-ghost use Rattle.cs_index.specs.Laid.{entries_laid, last_ids, with_laid_name, with_last_id, with_last_ids, with_list, with_posting, AllBelow};
+ghost use Rattle.cs_index.specs.Laid.{entries_laid, last_ids, with_laid_name, with_last_id, with_last_ids, with_list, AllBelow};
+ghost use Rattle.cs_index.specs.LaidLists.{with_posting};
 
 use crate::fault::BuildFault;
 use crate::stretch::Stretch;
 use crate::writing::laying::{ListAt, lay_back, lay_both, lay_front};
-use crate::writing::paths::are_listed;
+use crate::writing::storable_texts::are_listed;
 use crate::writing::strings::{Strings, strings_of};
 use crate::writing::varint::{groups_of, push_varint};
 use std::alloc::{AllocError, Global};

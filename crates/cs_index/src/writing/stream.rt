@@ -30,7 +30,7 @@ impl Model for IdStream {
 }
 
 impl IdStream {
-    pub(crate) fn new(alloc: Global) -> Self
+    pub(crate) fn new(alloc: Global) -> IdStream
         ensures { result ≡ [] }
     {
         IdStream {

@@ -1,9 +1,9 @@
 // Strings in a row.
 ghost use Rattle.std.specs.Prelude.{◌≡◌, ◌<◌, ◌+◌, ◌-◌, ◌^◌, ◌++◌, ◌∷◌, [], List, ℕ, Option, length, OnOk, OnErr, slice_get, true, IsTrue, ◌↔◌, flat_map, map, take, drop, string_bytes, IfOk};
 ghost use Rattle.std.specs.Option.{option_copied};
-ghost use Rattle.cs_index.specs.Image.{strings_section, name_offsets, concat, with_nul, four_bytes, IsString};
+ghost use Rattle.cs_index.specs.Image.{strings_section, name_offsets, with_nul, four_bytes, IsString};
 ghost use Rattle.cs_index.specs.Built.{are_paths, is_above, is_storable};
-ghost use Rattle.std.specs.List.{AllByRecursion};
+ghost use Rattle.std.specs.List.{AllByRecursion, concat};
 
 use crate::writing::numbers::{lay_number, lay_numbers};
 use std::alloc::{AllocError, Global};
@@ -19,17 +19,17 @@ pub(crate) struct Strings {
 impl Model for Strings {
     ghost use Rattle.std.specs.Prelude.{List, ℕ};
     ghost use Rattle.cs_index.specs.Strings.{texts_in};
-    ghost use Rattle.cs_index.specs.StringStarts.{AreStrings};
+    ghost use Rattle.cs_index.specs.StringStarts.{AreStringStarts};
 
     ghost Value = { List (List ℕ) };
 
     ghost view = { λ s. texts_in s.bytes.items };
 
-    ghost invariant = { λ s. AreStrings s.bytes.items s.starts.items };
+    ghost invariant = { λ s. AreStringStarts s.bytes.items s.starts.items };
 }
 
 impl Strings {
-    pub(crate) fn new(alloc: Global) -> Self
+    pub(crate) fn new(alloc: Global) -> Strings
         ensures { result ≡ [] }
     {
         Strings {

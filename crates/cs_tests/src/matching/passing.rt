@@ -1,5 +1,5 @@
 // Lines that are passed over: by a word, by windows of three sets, or by the table of state sets.
-ghost use Rattle.cs_match.specs.Skipping.{AreWhole};
+ghost use Rattle.cs_match.specs.Skipping.{AreWholeLines};
 
 use crate::matching::finding::program_of;
 use cs_match::Matcher;
@@ -8,7 +8,7 @@ use std::alloc::Global;
 
 /// The lines that end in the text.
 fn whole(text: &[u8]) -> &[u8]
-    ensures { AreWhole result.now }
+    ensures { AreWholeLines result.now }
 {
     match memrchr(b'\n', text) {
         Some(at) => &text[..at + 1],

@@ -1,6 +1,7 @@
 // Trees in memory and on the real disk, and readers and writers that fail in mid-stream.
 ghost use Rattle.std.specs.Prelude.{◌≡◌, ◌∷◌, [], true};
-ghost use Rattle.cs_tree.specs.Cover.{begins, slash};
+ghost use Rattle.std.specs.Path.{slash};
+ghost use Rattle.cs_tree.specs.Cover.{begins};
 
 use crate::fixtures::{spaced, strings, tree_of};
 use cs_tree::{

@@ -5,7 +5,7 @@ use Rattle.std.proofs.lemmas.List.{length-map, map-append}
 use Rattle.cs_tree.specs.Clean.{clean_path}
 use Rattle.cs_cindex.specs.JobPaths.{IsCleanFault}
 use Rattle.cs_tree.specs.Cleaning.{clean_fault}
-use Rattle.cs_cindex.proofs.PathLemmas.{refusal_at, none_bad, cleaned_more, text_at}
+use Rattle.cs_cindex.proofs.JobPathLemmas.{refusal_at, none_bad, cleaned_more, text_at}
 use Rattle.cs_cindex.proofs.cleaning.clean_all.Goals as goal
 
 pub returns-in_err-cleaned-clause-fault : goal.returns-in_err-cleaned-clause-fault

@@ -12,7 +12,7 @@ use Rattle.cs_cindex.specs.Notices.{left_line, text_of}
 use Rattle.cs_cindex.specs.Files.{HaveNamesOf}
 use Rattle.cs_index.proofs.ResultLemmas.{any_err}
 use Rattle.cs_cindex.proofs.LineLemmas.{Front-none}
-use Rattle.cs_cindex.proofs.IndexLemmas.{index_is, lies_under, index_built, too_large, too_many, many_found}
+use Rattle.cs_cindex.proofs.FoundIndexLemmas.{index_is, lies_under, index_built, too_large, too_many, many_found}
 use Rattle.cs_cindex.proofs.IndexingLemmas.{files_front, texts_walked, many_walked, front_left, front_files, front_whole, walk_printed}
 use Rattle.cs_cindex.proofs.indexing.index_paths.Goals as goal
 

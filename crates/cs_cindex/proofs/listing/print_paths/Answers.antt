@@ -2,7 +2,7 @@ use Rattle.std.proofs.Common.{◌≡◌, ◌∙◌, ◌++◌, refl, ap, rules, [
 use Rattle.std.specs.Prelude.{codes}
 use Rattle.std.proofs.lemmas.Result.{err_from_is_err_and}
 use Rattle.cs_cindex.specs.Output.{path_lines}
-use Rattle.cs_cindex.proofs.ToldLemmas.{lines_more, lines_cut, lines_end}
+use Rattle.cs_cindex.proofs.JobOutputLemmas.{lines_more, lines_cut, lines_end}
 use Rattle.cs_tree.proofs.Growing.{Grows-chain, Grows-same}
 use Rattle.cs_cindex.proofs.listing.print_paths.Goals as goal
 

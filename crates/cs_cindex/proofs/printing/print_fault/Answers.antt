@@ -10,7 +10,7 @@ returns-in_err-write_all-clause-prints g c =
     let line = faulted c.args.name.now c.args.fault in
     let told = c.in_err-write_all.ensures.told in
     let is = c.as_bytes.ensures.value ∙ c.in_ok-line.ensures ∙ fault_text c.args.name.now c.args.fault in
-    refused (line ∷ []) (g.E.Sink.taken c.args.err.now) (g.E.Sink.taken c.write_all.new.out) c.from_residual-in_err-write_all.result p.0 p.1 (line_front line c.as_bytes.result.now (g.E.Sink.taken c.args.err.now) (g.E.Sink.taken c.write_all.new.out) is told.0 told.2)
+    refused (line ∷ []) (g.E.Sink.taken c.args.err.now) (g.E.Sink.taken c.write_all.new.out) c.from_residual-in_err-write_all.result p.0 p.1 (line_front line c.as_bytes.result.now (g.E.Sink.taken c.args.err.now) (g.E.Sink.taken c.write_all.new.out) is told.count told.grows)
 
 pub returns-clause-prints : goal.returns-clause-prints
 returns-clause-prints g c =

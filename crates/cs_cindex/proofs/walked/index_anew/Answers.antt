@@ -6,7 +6,7 @@ use Rattle.cs_tree.specs.PathSet as set
 use Rattle.cs_words.specs.declared.jobs.IndexJob.{IndexJob}
 use Rattle.cs_words.specs.declared.fault.CindexFault.TheVariants.{NoIndex}
 use Rattle.cs_cindex.specs.Refusals.{EarlyOr, IsWalkFault, base_fault}
-use Rattle.cs_cindex.proofs.ToldLemmas.{own_walked, front_over, prints_over}
+use Rattle.cs_cindex.proofs.JobOutputLemmas.{own_walked, front_over, prints_over}
 use Rattle.cs_cindex.proofs.GoingLemmas.{own_paths, some_path}
 use Rattle.cs_cindex.proofs.NextLemmas.{own_index, next_anew, index_refusal}
 use Rattle.cs_cindex.proofs.walked.index_anew.Goals as goal

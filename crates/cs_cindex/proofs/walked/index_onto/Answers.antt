@@ -6,7 +6,7 @@ use Rattle.cs_tree.specs.PathSet as set
 use Rattle.cs_index.specs.Opening.{opening}
 use Rattle.cs_cindex.specs.Refusals.{IsWalkFault, EarlyOr, base_fault, opening_fault, unfit_parts_fault}
 use Rattle.cs_cindex.specs.Joins.{IsJoinRefusal, JoinsTo}
-use Rattle.cs_cindex.proofs.ToldLemmas.{start_walk, front_over, whole_over, prints_over}
+use Rattle.cs_cindex.proofs.JobOutputLemmas.{start_walk, front_over, whole_over, prints_over}
 use Rattle.cs_cindex.proofs.GoingLemmas.{start_paths, sound_own}
 use Rattle.cs_cindex.proofs.NextLemmas.{own_index, next_onto, index_refusal, join_refusal}
 use Rattle.cs_cindex.proofs.walked.index_onto.Goals as goal

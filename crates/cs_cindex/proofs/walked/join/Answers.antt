@@ -8,17 +8,22 @@ use Rattle.cs_merge.specs.declared.fault.MergeFault.{MergeFault}
 use Rattle.cs_merge.specs.declared.fault.MergeFault.TheVariants.{Unsorted, Uncovered, Index, TooLarge, Memory}
 use Rattle.cs_merge.specs.Joinable.{are_covered, both_distinct, both_whole, joined_index, AreJoinable, AreTested}
 use Rattle.cs_words.specs.Faults.{index_refusal}
-use Rattle.cs_cindex.specs.Joins.{refusal_of, IsJoinRefusal, IsSound}
+use Rattle.cs_history.specs.WellFormed.{IsJoinable}
+use Rattle.cs_cindex.specs.Joins.{refusal_of, IsJoinRefusal}
 use Rattle.cs_cindex.proofs.walked.join.Goals as goal
 
 abbrev refused : MergeFault → Result (Vec ℕ Global) MergeFault
 refused fault = Err fault
 
 module _ (old newer : Parts) (once : are_distinct old.names ≡ true) where
-  distinct : IsSound newer → both_distinct old newer ≡ true
+  distinct : IsJoinable newer → both_distinct old newer ≡ true
   distinct sound = and_from (are_distinct old.names) (are_distinct newer.names) once sound.distinct
 
-  old_damaged : IsSound newer → both_whole old newer ≡ false → are_whole old ≡ false
+  covered : IsJoinable newer → are_covered newer ≡ true
+  unfolding are_covered
+  covered sound = sound.covered
+
+  old_damaged : IsJoinable newer → both_whole old newer ≡ false → are_whole old ≡ false
   old_damaged sound fails = false_from_ne_true (are_whole old) (λ whole. true≢false (sym (and_from (are_whole old) (are_whole newer) whole sound.whole) ∙ fails))
 
   refusal : (fault : MergeFault) →
@@ -29,7 +34,7 @@ module _ (old newer : Parts) (once : are_distinct old.names ≡ true) where
       ((of : IndexFault) → refused fault ≡ refused (Index of) → of ≡ BadList) →
       IsJoinRefusal old (Ok newer) (refusal_of fault)
   refusal Unsorted unsorted uncovered bad_list too_large other = λ sound. true≢false (sym (distinct sound) ∙ unsorted refl)
-  refusal Uncovered unsorted uncovered bad_list too_large other = λ sound. absurd (true≢false (sym sound.covered ∙ (uncovered refl).1))
+  refusal Uncovered unsorted uncovered bad_list too_large other = λ sound. absurd (true≢false (sym (covered sound) ∙ (uncovered refl).1))
   refusal (Index of) unsorted uncovered bad_list too_large other =
       let is : of ≡ BadList = other of refl in
       subst (λ f. IsJoinRefusal old (Ok newer) (index_refusal f)) (sym is)

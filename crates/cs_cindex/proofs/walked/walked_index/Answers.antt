@@ -4,7 +4,7 @@ use Rattle.std.proofs.lemmas.Result.{err_from_is_err_and}
 use Rattle.cs_history.specs.Jobs.{given_texts}
 use Rattle.std.specs.Option.{option_copied}
 use Rattle.cs_cindex.specs.JobPaths.{AreCleanFault}
-use Rattle.cs_cindex.proofs.ToldLemmas.{unclean_printed}
+use Rattle.cs_cindex.proofs.JobOutputLemmas.{unclean_printed}
 use Rattle.cs_cindex.proofs.walked.walked_index.Goals as goal
 
 pub returns-in_err-given-clause-prints : goal.returns-in_err-given-clause-prints

@@ -1,7 +1,7 @@
 use Rattle.std.proofs.Common.{◌≡◌, ◌+◌, ◌-◌, ◌≤◌, length, take, drop, subst, arith, length-take, length-drop}
 use Rattle.std.proofs.lemmas.List.{take_all, take-take}
 use Rattle.cs_match.specs.Chains.{IsQuiet}
-use Rattle.cs_match.specs.Skipping.{AreWhole}
+use Rattle.cs_match.specs.Skipping.{AreWholeLines}
 use Rattle.cs_match.proofs.ChainLemmas.{passed_front}
 use Rattle.cs_match.proofs.chains.pass_run.Goals as goal
 
@@ -18,5 +18,5 @@ returns c =
     let back : from + n - from ≡ n = omega arith in
     let most : m ≤ n = omega (arith, c.whole_lines.ensures.within, length-take (from + n - from) rest) in
     passed_front c.args.cells.now block c.type_inv.cells c.type_inv.block from n m within most
-    (subst AreWhole (take-take m n rest most) (subst (λ k. AreWhole (take m (take k rest))) back c.whole_lines.ensures.whole))
+    (subst AreWholeLines (take-take m n rest most) (subst (λ k. AreWholeLines (take m (take k rest))) back c.whole_lines.ensures.whole))
     (subst (λ text. IsQuiet c.args.cells.now (take n text)) all c.quiet_len-quiet.ensures.quiet)

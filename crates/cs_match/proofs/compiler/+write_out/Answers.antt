@@ -10,7 +10,7 @@ use Rattle.cs_match.specs.Expansion.{expansion, expansions, copies, optional}
 use Rattle.cs_syntax.proofs.NodeLemmas.{tree_of-Cat}
 use Rattle.cs_syntax.proofs.TreeLemmas.{trees_last, trees_from}
 use Rattle.cs_syntax.proofs.TreeListLemmas.{append_assoc_trees, append_none}
-use Rattle.cs_match.proofs.CopiesLemmas.{append_copies, counted_loop}
+use Rattle.cs_match.proofs.WrittenOutLemmas.{append_copies, counted_loop}
 use Rattle.cs_match.proofs.compiler.+write_out.Goals as goal
 
 pub write_out_all-returns : goal.write_out_all-returns

@@ -1,10 +1,10 @@
 use Rattle.std.proofs.Common.{refl, arith}
-use Rattle.cs_match.specs.Counting.{count_after, nothing_counted}
+use Rattle.cs_match.specs.Counting.{count_through, nothing_counted}
 use Rattle.cs_match.proofs.CountingLemmas.{count_few_in, count_next, count_rest}
 use Rattle.cs_match.proofs.counting.four.Goals as goal
 
 pub loop-i-init : goal.loop-i-init
-unfolding count_after
+unfolding count_through
 loop-i-init c = record { a = refl; b = refl; c = refl; d = refl }
 
 pub step-s-requires-clause-room : goal.step-s-requires-clause-room

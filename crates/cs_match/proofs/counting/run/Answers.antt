@@ -1,11 +1,11 @@
 use Rattle.std.proofs.Common.{◌≡◌, length, length-take, take, refl, ap, ◌∙◌, arith}
 use Rattle.cs_match.specs.declared.counting.Count.{Count}
-use Rattle.cs_match.specs.Counting.{count_after}
+use Rattle.cs_match.specs.Counting.{count_through}
 use Rattle.cs_match.proofs.CountingLemmas.{count_all, count_few, count_next}
 use Rattle.cs_match.proofs.counting.run.Goals as goal
 
 pub loop-byte-init : goal.loop-byte-init
-unfolding count_after
+unfolding count_through
 loop-byte-init c = refl
 
 pub step-count-requires-clause-room : goal.step-count-requires-clause-room
@@ -20,4 +20,4 @@ loop-byte-preserved c =
 pub returns : goal.returns
 returns c =
     let end : c.loop-byte.byte-index ≡ length c.args.text.now = omega (arith, c.loop-byte-test.false, c.loop-byte.auto.byte-index-end) in
-    c.loop-byte.invariant ∙ ap (λ n. count_after c.args.cells.now c.args.from (take n c.args.text.now)) end ∙ count_all c.args.cells.now c.args.from c.args.text.now
+    c.loop-byte.invariant ∙ ap (λ n. count_through c.args.cells.now c.args.from (take n c.args.text.now)) end ∙ count_all c.args.cells.now c.args.from c.args.text.now

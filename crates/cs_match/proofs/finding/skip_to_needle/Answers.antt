@@ -2,14 +2,14 @@ use Rattle.std.proofs.Common.{◌≡◌, ℕ, List, ◌+◌, ◌-◌, length, ta
 use Rattle.std.proofs.lemmas.List.{take_all}
 use Rattle.cs_match.specs.Lines.{ended_lines}
 use Rattle.cs_match.specs.Needle.{AreWithout}
-use Rattle.cs_match.specs.Skipping.{AreWhole}
+use Rattle.cs_match.specs.Skipping.{AreWholeLines}
 use Rattle.cs_match.proofs.WithoutLemmas.{whole_drop}
 use Rattle.cs_match.proofs.finding.skip_to_needle.Goals as goal
 
 pub returns-clause-rest : goal.returns-clause-rest
 returns-clause-rest c =
     let n = c.lines_without.result in
-    subst AreWhole (drop-drop n c.args.from c.args.block.now) (whole_drop n (drop c.args.from c.args.block.now) c.requires.whole)
+    subst AreWholeLines (drop-drop n c.args.from c.args.block.now) (whole_drop n (drop c.args.from c.args.block.now) c.requires.whole)
 
 pub returns-clause-none : goal.returns-clause-none
 returns-clause-none c =

@@ -3,7 +3,7 @@ use Rattle.std.specs.List.{cons_option}
 use Rattle.cs_index.specs.Postings.{ids_given}
 use Rattle.cs_merge.specs.Renumbering.{new_id, new_ids_of}
 use Rattle.cs_merge.proofs.ListingLemmas.{no_more}
-use Rattle.cs_merge.proofs.RunLemmas.{renumbered_none}
+use Rattle.cs_merge.proofs.IdRunLemmas.{renumbered_none}
 use Rattle.cs_merge.proofs.ReadLemmas.{told_no_id}
 use Rattle.cs_merge.proofs.carrying.next_kept.Goals as goal
 use Rattle.cs_index.proofs.ToldLemmas.{told_ok, told_none}

@@ -29,10 +29,10 @@ lay_lists-requires-clause-ids c =
     renumberings (is_covered (paths_in c.args.newer.now.parts)) c.args.old.now.parts.names c.args.newer.now.parts.names c.lay_names.new.sections.names c.in_ok-ids.ids.older c.in_ok-ids.ids.newer c.in_ok-ids.ensures.ids both.0 both.1 (all_covered c.args.newer.now.parts c.requires.tested.covered)
 
 pub lay_lists-requires-clause-older_bound : goal.lay_lists-requires-clause-older_bound
-lay_lists-requires-clause-older_bound c = omega (arith, c.in_ok-ids.ensures.ids.older_long, c.requires.old_ranked.are.few_names)
+lay_lists-requires-clause-older_bound c = omega (arith, c.in_ok-ids.ensures.ids.older_long, c.requires.old_ranked.are.names_bound)
 
 pub lay_lists-requires-clause-newer_bound : goal.lay_lists-requires-clause-newer_bound
-lay_lists-requires-clause-newer_bound c = omega (arith, c.in_ok-ids.ensures.ids.newer_long, c.requires.newer_ranked.are.few_names)
+lay_lists-requires-clause-newer_bound c = omega (arith, c.in_ok-ids.ensures.ids.newer_long, c.requires.newer_ranked.are.names_bound)
 
 pub returns : goal.returns
 returns c =

@@ -7,7 +7,7 @@ use Rattle.cs_tree.specs.Cover.{is_covered}
 use Rattle.cs_tree.specs.NameOrder.{bytes_cmp}
 use Rattle.cs_tree.specs.PathSet.{Paths}
 use Rattle.cs_merge.specs.Ranked.{names_by}
-use Rattle.cs_merge.proofs.LayingLemmas.{name_storable, naming_dropped, naming_newer, naming_older, none_past}
+use Rattle.cs_merge.proofs.LaidNamesLemmas.{name_storable, naming_dropped, naming_newer, naming_older, none_past}
 use Rattle.cs_merge.proofs.ListingLemmas.{no_more}
 use Rattle.cs_merge.proofs.naming.lay_next.Goals as goal
 use Rattle.cs_merge.proofs.naming.lay_next.Goals.{in-Some+else-is_below, in_default}

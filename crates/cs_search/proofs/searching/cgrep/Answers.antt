@@ -5,7 +5,7 @@ use Rattle.cs_tree.proofs.Growing.{Grows-same, leaves_flushed}
 use Rattle.cs_match.specs.Finding.{Decides}
 use Rattle.cs_tree.specs.Failures.{CountsOne}
 use Rattle.cs_tree.specs.Taken.{EndsAfter}
-use Rattle.cs_tree.specs.TakenAll.{TakesAll}
+use Rattle.cs_tree.specs.TakenAll.{TakesBytes}
 use Rattle.cs_index.proofs.ResultLemmas.{any_err}
 use Rattle.cs_search.proofs.PrintedLemmas.{done, PrintsSome-front, PrintsSome-all, PrintsFaults-flushed}
 use Rattle.cs_search.proofs.CgrepLemmas.{all_quiet, begun_refused, decides_program, PrintsStatus-flushed, PrintsFaultsOf-as, PrintsFaultsOf-nothing}
@@ -76,7 +76,7 @@ returns-in_err-status-clause-faults g c =
     let err = g.E.Sink.taken c.args.err.now in
     let now = g.E.Sink.taken c.search_job.new.err in
     let later = g.E.Sink.taken c.finish.new.err in
-    rw p.1 (PrintsFaultsOf-as c.args.job.now _ _ _ _ (λ lines. TakesAll lines err now done) (λ lines. EndsAfter {A = Unit {0}} lines err later (Err p.0))
+    rw p.1 (PrintsFaultsOf-as c.args.job.now _ _ _ _ (λ lines. TakesBytes lines err now done) (λ lines. EndsAfter {A = Unit {0}} lines err later (Err p.0))
     (λ tool names failed failed' told. PrintsFaults-flushed tool {A = Unit {0}} (Err p.0) names failed failed' err now later told c.in_err-status.ensures.err)
     c.in_ok-matched.ensures.faults)
 
@@ -113,7 +113,7 @@ returns-clause-faults g c =
     let err = g.E.Sink.taken c.args.err.now in
     let now = g.E.Sink.taken c.search_job.new.err in
     let later = g.E.Sink.taken c.finish.new.err in
-    PrintsFaultsOf-as c.args.job.now _ _ _ _ (λ lines. TakesAll lines err now done) (λ lines. EndsAfter lines err later done)
+    PrintsFaultsOf-as c.args.job.now _ _ _ _ (λ lines. TakesBytes lines err now done) (λ lines. EndsAfter lines err later done)
     (λ tool names failed failed' told. PrintsFaults-flushed tool done names failed failed' err now later told c.in_ok-status.ensures.err)
     c.in_ok-matched.ensures.faults
 

@@ -2,7 +2,7 @@ use Rattle.std.proofs.Common.{◌∷◌, [], List, refl, sym, subst, Option}
 use Rattle.std.proofs.lemmas.Result.{err_from_is_err_and}
 use Rattle.std.specs.Prelude.{option_map, map, string_bytes}
 use Rattle.cs_tree.specs.Snapshot.{Snapshot}
-use Rattle.cs_tree.specs.TakenAll.{TakesAll}
+use Rattle.cs_tree.specs.TakenAll.{TakesBytes}
 use Rattle.cs_search.specs.declared.report.TheConstants.{MOST_SEARCHED}
 use Rattle.cs_words.specs.declared.jobs.Tool.{Tool}
 use Rattle.cs_words.specs.declared.jobs.Tool.TheVariants.{Cgrep}
@@ -60,26 +60,26 @@ returns-in_err-matched-2-clause-front g c =
 
 pub returns-then-job-clause-faults : goal.returns-then-job-clause-faults
 returns-then-job-clause-faults g c =
-    PrintsFaultsOf-standard c.args.job.now _ _ _ _ (λ lines. TakesAll lines (g.E.Sink.taken c.args.err.now) (g.E.Sink.taken c.search.new.err) done) c.if-job.true refl
+    PrintsFaultsOf-standard c.args.job.now _ _ _ _ (λ lines. TakesBytes lines (g.E.Sink.taken c.args.err.now) (g.E.Sink.taken c.search.new.err) done) c.if-job.true refl
     (subst (λ tool. PrintsAllFaults tool (standard_name ∷ []) (g.R.Source.failed c.args.input.now) (g.R.Source.failed c.search.new.input) (g.E.Sink.taken c.args.err.now) (g.E.Sink.taken c.search.new.err) done) c.requires.tool c.in_ok-matched.ensures.faults)
 
 pub returns-in_err-matched-clause-faults : goal.returns-in_err-matched-clause-faults
 returns-in_err-matched-clause-faults g c =
     let p = err_from_is_err_and c.from_residual.result c.from_residual.ensures.1 in
-    PrintsFaultsOf-standard c.args.job.now _ _ _ _ (λ lines. TakesAll lines (g.E.Sink.taken c.args.err.now) (g.E.Sink.taken c.search.new.err) c.from_residual.result) c.if-job.true refl
+    PrintsFaultsOf-standard c.args.job.now _ _ _ _ (λ lines. TakesBytes lines (g.E.Sink.taken c.args.err.now) (g.E.Sink.taken c.search.new.err) c.from_residual.result) c.if-job.true refl
     (PrintsAllFaults-refused Cgrep c.from_residual.result p.0 (standard_name ∷ []) (g.R.Source.failed c.args.input.now) (g.R.Source.failed c.search.new.input) (g.E.Sink.taken c.args.err.now) (g.E.Sink.taken c.search.new.err) p.1
     (subst (λ tool. PrintsAllFaults tool (standard_name ∷ []) (g.R.Source.failed c.args.input.now) (g.R.Source.failed c.search.new.input) (g.E.Sink.taken c.args.err.now) (g.E.Sink.taken c.search.new.err) undone) c.requires.tool c.in_err-matched.ensures.faults))
 
 pub returns-clause-faults : goal.returns-clause-faults
 returns-clause-faults g c =
     let Tells = λ (tool : Tool) (names : List _). PrintsAllFaults tool (map string_bytes names) (g.T.Tree.failed c.args.tree.now) (g.T.Tree.failed c.search_files.new.tree) (g.E.Sink.taken c.args.err.now) (g.E.Sink.taken c.search_files.new.err) done in
-    PrintsFaultsOf-files c.args.job.now _ _ _ _ (λ lines. TakesAll lines (g.E.Sink.taken c.args.err.now) (g.E.Sink.taken c.search_files.new.err) done) c.if-job.false refl
+    PrintsFaultsOf-files c.args.job.now _ _ _ _ (λ lines. TakesBytes lines (g.E.Sink.taken c.args.err.now) (g.E.Sink.taken c.search_files.new.err) done) c.if-job.false refl
     (subst (Tells Cgrep) c.deref.ensures.value (subst (λ tool. Tells tool c.deref.result.now) c.requires.tool c.in_ok-matched-2.ensures.faults))
 
 pub returns-in_err-matched-2-clause-faults : goal.returns-in_err-matched-2-clause-faults
 returns-in_err-matched-2-clause-faults g c =
     let p = err_from_is_err_and c.from_residual-in_err-matched-2.result c.from_residual-in_err-matched-2.ensures.1 in
     let Tells = λ (tool : Tool) (names : List _). PrintsAllFaults tool (map string_bytes names) (g.T.Tree.failed c.args.tree.now) (g.T.Tree.failed c.search_files.new.tree) (g.E.Sink.taken c.args.err.now) (g.E.Sink.taken c.search_files.new.err) undone in
-    PrintsFaultsOf-files c.args.job.now _ _ _ _ (λ lines. TakesAll lines (g.E.Sink.taken c.args.err.now) (g.E.Sink.taken c.search_files.new.err) c.from_residual-in_err-matched-2.result) c.if-job.false refl
+    PrintsFaultsOf-files c.args.job.now _ _ _ _ (λ lines. TakesBytes lines (g.E.Sink.taken c.args.err.now) (g.E.Sink.taken c.search_files.new.err) c.from_residual-in_err-matched-2.result) c.if-job.false refl
     (PrintsAllFaults-refused Cgrep c.from_residual-in_err-matched-2.result p.0 (map string_bytes c.args.job.now.files.items) _ _ _ _ p.1
     (subst (Tells Cgrep) c.deref.ensures.value (subst (λ tool. Tells tool c.deref.result.now) c.requires.tool c.in_err-matched-2.ensures.faults)))

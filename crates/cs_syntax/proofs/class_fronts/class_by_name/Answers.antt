@@ -1,6 +1,6 @@
 use Rattle.std.proofs.Common.{refl}
 use Rattle.cs_syntax.specs.Classes.{class_by_name}
-use Rattle.cs_syntax.proofs.NameLemmas.{picked-here, picked-later, picked-nowhere}
+use Rattle.cs_syntax.proofs.ClassNameLemmas.{picked-here, picked-later, picked-nowhere}
 use Rattle.cs_syntax.proofs.class_fronts.class_by_name.Goals as goal
 
 pub loop-word-init : goal.loop-word-init

@@ -1,6 +1,6 @@
 use Rattle.std.proofs.Common.{◌≡◌, drop}
 use Rattle.cs_syntax.specs.Classes.{class_by_name}
-use Rattle.cs_syntax.proofs.NameLemmas.{picked}
+use Rattle.cs_syntax.proofs.ClassNameLemmas.{picked}
 use Rattle.cs_syntax.proofs.class_fronts.class_by_name.Given as goal
 
 abbrev pub invariant-loop-word : goal.invariant-loop-word

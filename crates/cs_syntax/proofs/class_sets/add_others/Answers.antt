@@ -1,6 +1,6 @@
 use Rattle.std.proofs.Common.{◌++◌, ap, ◌∙◌}
 use Rattle.cs_syntax.specs.ByteSet.{is_in_folded}
-use Rattle.cs_syntax.proofs.RunLemmas.{others_added}
+use Rattle.cs_syntax.proofs.CharRunLemmas.{others_added}
 use Rattle.cs_syntax.proofs.class_sets.add_others.Goals as goal
 
 pub returns : goal.returns

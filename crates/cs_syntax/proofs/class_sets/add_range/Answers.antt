@@ -1,4 +1,4 @@
-use Rattle.cs_syntax.proofs.RunLemmas.{range_folded, range_plain}
+use Rattle.cs_syntax.proofs.CharRunLemmas.{range_folded, range_plain}
 use Rattle.cs_syntax.proofs.class_sets.add_range.Goals as goal
 
 pub returns-then-fold : goal.returns-then-fold

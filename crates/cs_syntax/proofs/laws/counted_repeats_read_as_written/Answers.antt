@@ -1,5 +1,5 @@
 use Rattle.std.proofs.Common.{arith}
-use Rattle.cs_syntax.proofs.WrittenLemmas.{repeat_as_written, repeat_out_of_order}
+use Rattle.cs_syntax.proofs.WrittenRepeatLemmas.{repeat_as_written, repeat_out_of_order}
 use Rattle.cs_syntax.proofs.laws.counted_repeats_read_as_written.Goals as goal
 
 pub returns : goal.returns

@@ -1,7 +1,7 @@
 use Rattle.std.proofs.Common.{◌≡◌, IfOk, IfErr, List, ℕ, sym, ◌∙◌, ap, subst, arith}
 use Rattle.cs_syntax.specs.Reading.{Reading, reading, tree}
 use Rattle.cs_syntax.specs.Node.{tree_of}
-use Rattle.cs_syntax.specs.ParserState.{State, reading_on, reading_at_end, state_of, HasOperand, IsRefusal}
+use Rattle.cs_syntax.specs.ParserState.{ParserState, reading_on, reading_at_end, state_of, HasOperand, IsRefusal}
 use Rattle.cs_syntax.proofs.ParserLemmas.{reading_on-start, reading_on-end}
 use Rattle.cs_syntax.proofs.parser.read.Goals as goal
 
@@ -9,7 +9,7 @@ pub text-init : goal.text-init
 text-init c =
     let text = c.as_bytes-bytes.result.now in
     record {
-      same = ap (λ (s : State). reading_on s 0 0 text) c.new-parser.ensures ∙ reading_on-start text c.args.fold;
+      same = ap (λ (s : ParserState). reading_on s 0 0 text) c.new-parser.ensures ∙ reading_on-start text c.args.fold;
       kept = subst HasOperand (sym c.new-parser.ensures) tt;
       within = omega arith;
     }

@@ -1,5 +1,5 @@
 use Rattle.std.proofs.Common.{◌∙◌}
-use Rattle.cs_syntax.proofs.RunLemmas.{tree_of_runs}
+use Rattle.cs_syntax.proofs.CharRunLemmas.{tree_of_runs}
 use Rattle.cs_syntax.proofs.units.unit_node.Goals as goal
 
 pub returns-in_ok-one_item-in-Class : goal.returns-in_ok-one_item-in-Class

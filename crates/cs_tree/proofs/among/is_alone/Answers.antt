@@ -1,5 +1,7 @@
+use Rattle.std.specs.Prelude.{bytes_eq}
+use Rattle.std.specs.Path.{slash}
 use Rattle.std.proofs.Common.{not, ◌||◌, ◌&&◌, ◌∷◌, [], map, sym, ◌∙◌}
-use Rattle.cs_tree.specs.Cover.{slash, begins, is_among, same}
+use Rattle.cs_tree.specs.Cover.{begins, is_among}
 use Rattle.cs_tree.proofs.AmongLemmas.{alone_is}
 use Rattle.cs_tree.proofs.among.is_alone.Goals as goal
 
@@ -8,7 +10,7 @@ returns-then-is_below_one g c =
     let paths = map g.P.AsStr.text c.args.paths.now in
     let path = c.args.path.now in
     let below = sym c.is_below_one.ensures ∙ c.if-is_below_one.true in
-    sym (alone_is path paths ∙ (λ i. not (below i || ((begins (slash ∷ []) path && not (same path (slash ∷ []))) && is_among paths (slash ∷ [])))))
+    sym (alone_is path paths ∙ (λ i. not (below i || ((begins (slash ∷ []) path && not (bytes_eq path (slash ∷ []))) && is_among paths (slash ∷ [])))))
 
 pub returns-then-is_below_root : goal.returns-then-is_below_root
 returns-then-is_below_root g c =

@@ -1,6 +1,6 @@
 use Rattle.std.proofs.Common.{rules, ◌||◌, map, ap, sym, ◌∙◌}
 use Rattle.std.specs.List.{list_any}
-use Rattle.cs_tree.specs.Below.{lies_below}
+use Rattle.cs_tree.specs.Cover.{lies_below}
 use Rattle.cs_tree.proofs.AmongLemmas.{front_says}
 use Rattle.cs_tree.proofs.among.is_below_one.Goals as goal
 

@@ -2,7 +2,7 @@ use Rattle.std.proofs.Common.{◌≡◌, length, map}
 use denote.Text.{Utf8}
 use denote.Shadow.{shadow}
 use Rattle.std.specs.List.{list_any}
-use Rattle.cs_tree.specs.Below.{lies_below}
+use Rattle.cs_tree.specs.Cover.{lies_below}
 use Rattle.cs_tree.proofs.among.is_below_one.Given as goal
 
 -- the path lies below one of the paths exactly where what is left of it does

@@ -1,6 +1,6 @@
 use Rattle.std.proofs.Common.{sym, ◌∙◌, [], ◌∷◌}
-use Rattle.cs_tree.specs.Cover.{slash}
 use Rattle.std.specs.Cmp.{both_ways as same_tests}
+use Rattle.std.specs.Path.{slash}
 use Rattle.cs_tree.specs.Cleaning.{is_settled}
 use Rattle.std.proofs.lemmas.Bool.{true≢false, false_from_ne_true}
 use Rattle.cs_tree.proofs.SettledLemmas.{clean_stays, settled_from, settled_stays, settled_no_nul, settled_short, stays_clean}

@@ -4,9 +4,9 @@ use Rattle.std.specs.declared.alloc.Global.{Global}
 use Rattle.std.proofs.lemmas.Option.{slice_get_read, slice_get_past}
 use Rattle.cs_tree.specs.Told.{told_of}
 use Rattle.cs_tree.specs.MemoryItems.{left_at, left_of}
-use Rattle.cs_tree.specs.declared.stored.Stored.{Stored}
-use Rattle.cs_tree.specs.declared.stored.StoredItem.{StoredItem}
-use Rattle.cs_tree.specs.declared.stored.StoredItem.TheVariants.{Folder, File, Cut, Other, Denied}
+use Rattle.cs_tree.specs.declared.in_memory.Stored.{Stored}
+use Rattle.cs_tree.specs.declared.in_memory.StoredItem.{StoredItem}
+use Rattle.cs_tree.specs.declared.in_memory.StoredItem.TheVariants.{Folder, File, Cut, Other, Denied}
 use Rattle.cs_tree.proofs.mem_tree.open_source.Goals as goal
 
 left_in : (items : List Stored) (taken i : ℕ) (opened : Option ℕ) (s : Stored) → opened ≡ Some i → i < length items → s ≡ get_or items i s → left_at items taken opened ≡ left_of taken s.item

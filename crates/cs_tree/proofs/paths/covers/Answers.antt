@@ -1,5 +1,6 @@
+use Rattle.std.specs.Prelude.{bytes_eq}
+use Rattle.std.specs.Path.{slash}
 use Rattle.std.proofs.Common.{◌||◌, ◌∷◌, [], sym, ap, ◌∙◌}
-use Rattle.cs_tree.specs.Cover.{slash, same}
 use Rattle.cs_tree.proofs.Covering.{covers_cut}
 use Rattle.cs_tree.proofs.paths.covers.Goals as goal
 
@@ -8,8 +9,8 @@ returns-in_default c = let cut = covers_cut c.args.path.now c.args.name.now c.st
 
 pub returns-then-ends_element : goal.returns-then-ends_element
 returns-then-ends_element c = let cut = covers_cut c.args.path.now c.args.name.now c.strip_prefix.result c.as_bytes-2.ensures.value c.as_bytes.ensures.value c.strip_prefix.ensures.cases in
-    c.if-ends_element.true ∙ sym ((rw c.in-Some.is at cut) ∙ ap (λ t. t || same c.args.path.now (slash ∷ [])) (sym c.ends_element.ensures ∙ c.if-ends_element.true))
+    c.if-ends_element.true ∙ sym ((rw c.in-Some.is at cut) ∙ ap (λ t. t || bytes_eq c.args.path.now (slash ∷ [])) (sym c.ends_element.ensures ∙ c.if-ends_element.true))
 
 pub returns-else-ends_element : goal.returns-else-ends_element
 returns-else-ends_element c = let cut = covers_cut c.args.path.now c.args.name.now c.strip_prefix.result c.as_bytes-2.ensures.value c.as_bytes.ensures.value c.strip_prefix.ensures.cases in
-    c.eq.ensures ∙ sym ((rw c.in-Some.is at cut) ∙ ap (λ t. t || same c.args.path.now (slash ∷ [])) (sym c.ends_element.ensures ∙ c.if-ends_element.false))
+    c.eq.ensures ∙ sym ((rw c.in-Some.is at cut) ∙ ap (λ t. t || bytes_eq c.args.path.now (slash ∷ [])) (sym c.ends_element.ensures ∙ c.if-ends_element.false))

@@ -1,15 +1,14 @@
-use Rattle.std.proofs.Common.{◌≡◌, List, ℕ, map, ap, sym, subst, ◌∙◌}
-use Rattle.cs_tree.specs.NameOrder.{bytes_cmp}
+use Rattle.std.proofs.Common.{◌≡◌, List, ℕ, map, ap, subst, ◌∙◌}
+use Rattle.cs_tree.specs.NamesAscending.{are_ascending}
 use Rattle.std.specs.Prelude.{string_bytes, IfOk}
-use Rattle.std.specs.List.Sorted.{IsStrictlySortedBy}
 use Rattle.cs_tree.specs.PathParts.{texts}
 use Rattle.cs_tree.specs.PathSet as set
-use Rattle.cs_tree.proofs.ReduceLemmas.{sorted-items, filter-least}
+use Rattle.cs_tree.proofs.ReduceLemmas.{items_ascend, filter-least}
 use Rattle.cs_tree.proofs.reducing.reduce.Goals as goal
 
 pub paths_alone-requires : goal.paths_alone-requires
 paths_alone-requires c =
-    subst (IsStrictlySortedBy bytes_cmp) (sym (ap texts c.deref.ensures.value ∙ c.in_ok-ordered.ensures)) (sorted-items (set.from_list (map string_bytes c.args.paths.now)))
+    ap are_ascending (ap texts c.deref.ensures.value ∙ c.in_ok-ordered.ensures) ∙ items_ascend (set.from_list (map string_bytes c.args.paths.now))
 
 pub returns : goal.returns
 returns c =

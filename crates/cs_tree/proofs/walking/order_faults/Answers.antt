@@ -3,13 +3,12 @@ use Rattle.cs_tree.specs.NamesAscending.{are_ascending}
 use Rattle.std.proofs.lemmas.Fn.{dedup_same}
 use Rattle.std.proofs.lemmas.List.MinMax.{ranks_by}
 use Rattle.std.proofs.lemmas.List.Sorted.{list_any-IsPermutation, answers_always}
-use Rattle.std.specs.Prelude.{string_bytes, String, Contains}
+use Rattle.std.specs.Prelude.{string_bytes, String, Contains, bytes_eq}
 use Rattle.std.specs.Cmp.Lexicographic.{nat_list_cmp_total}
 use Rattle.std.specs.List.{list_any, dedup}
 use Rattle.std.specs.Ordering.{is_lt}
 use Rattle.std.specs.declared.alloc.Global.{Global}
-use Rattle.cs_tree.specs.Cover.{same}
-use Rattle.cs_tree.specs.Walks.{Left, is_among, left_paths, left_entry}
+use Rattle.cs_tree.specs.Walks.{LeftPath, is_among, left_paths, left_entry}
 use Rattle.cs_tree.specs.declared.walking.WalkFault.{WalkFault}
 use Rattle.cs_tree.proofs.InOrder.{sorted_once, once_same, same_key, by_key, kept_once}
 use Rattle.cs_tree.proofs.NameLemmas.{list_any-map}
@@ -38,11 +37,11 @@ returns-clause-same c =
     let once : c.dedup_by.new.self.items ≡ dedup (same_key path_of) sorted = dedup_same _ (same_key path_of) _ (λ x y b f' x' y' h. search rules) sorted _ c.dedup_by.ensures.filtered in
     λ path.
     ap (λ paths. is_among paths path) (paths_seen c.dedup_by.new.self.items)
-    ∙ list_any-map path_of (λ other. same other path) c.dedup_by.new.self.items
-    ∙ ap (list_any (λ x. same (path_of x) path)) once
-    ∙ once_same path_of (λ q. same q path) sorted
-    ∙ sym (list_any-IsPermutation (λ x. same (path_of x) path) c.args.faults.now.items sorted c.sort_unstable_by.ensures.permutation)
-    ∙ sym (list_any-map path_of (λ other. same other path) c.args.faults.now.items)
+    ∙ list_any-map path_of (λ other. bytes_eq other path) c.dedup_by.new.self.items
+    ∙ ap (list_any (λ x. bytes_eq (path_of x) path)) once
+    ∙ once_same path_of (λ q. bytes_eq q path) sorted
+    ∙ sym (list_any-IsPermutation (λ x. bytes_eq (path_of x) path) c.args.faults.now.items sorted c.sort_unstable_by.ensures.permutation)
+    ∙ sym (list_any-map path_of (λ other. bytes_eq other path) c.args.faults.now.items)
     ∙ ap (λ paths. is_among paths path) (sym (paths_seen c.args.faults.now.items))
 
 pub returns-clause-kept : goal.returns-clause-kept
@@ -50,5 +49,5 @@ returns-clause-kept c =
     let sorted = c.sort_unstable_by.new.self.items in
     let once : c.dedup_by.new.self.items ≡ dedup (same_key path_of) sorted = dedup_same _ (same_key path_of) _ (λ x y b f' x' y' h. search rules) sorted _ c.dedup_by.ensures.filtered in
     λ left h.
-    kept_once left_entry (λ (x y : Left). same x.0 y.0) c.args.faults.now.items sorted left c.sort_unstable_by.ensures.permutation
+    kept_once left_entry (λ (x y : LeftPath). bytes_eq x.0 y.0) c.args.faults.now.items sorted left c.sort_unstable_by.ensures.permutation
     (subst (λ entries. Contains (map left_entry entries) left) once h)

@@ -2,7 +2,7 @@ use Rattle.std.proofs.Common.{◌≡◌, [], ◌∷◌, ◌++◌, map, refl, ari
 use Rattle.std.proofs.lemmas.List.{map-append}
 use Rattle.std.specs.Prelude.{string_bytes}
 use Rattle.cs_tree.specs.Clean.{longest_path}
-use Rattle.cs_tree.specs.Visits.{IsEntered, ShowsIn, is_file_seen, names_seen}
+use Rattle.cs_tree.specs.Visits.{IsEntered, IsSightIn, is_file_seen, names_seen}
 use Rattle.cs_tree.proofs.Asking.{asks_nothing, asks_on}
 use Rattle.cs_tree.proofs.Covering.{covers_itself}
 use Rattle.cs_tree.proofs.Gathering.{counts_chain, counts_one, entered_deeper}
@@ -40,7 +40,7 @@ waiting-preserved g c =
       gathers =
           goes_on_in (g.T.Tree.snapshot c.args.tree.now) (g.T.Tree.snapshot c.waiting.tree) (string_bytes c.args.start) (string_bytes c.in-Some.path) c.in_ok-sight.sight (map string_bytes c.pop.new.self.items) (map string_bytes c.note.new.waiting.items) c.args.walked.now c.waiting.walked c.note.new.self
           c.waiting.invariant.keeps
-          (subst (λ path. ShowsIn (g.T.Tree.snapshot c.waiting.tree) path c.in_ok-sight.sight) c.as_str.ensures.value c.in_ok-sight.ensures.shows)
+          (subst (λ path. IsSightIn (g.T.Tree.snapshot c.waiting.tree) path c.in_ok-sight.sight) c.as_str.ensures.value c.in_ok-sight.ensures.shows)
           c.in_ok-note.ensures.names
           c.in_ok-note.ensures.faults
           c.in_ok-note.ensures.waiting

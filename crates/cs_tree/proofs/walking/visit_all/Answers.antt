@@ -3,11 +3,13 @@ use Rattle.std.specs.Prelude.{string_bytes}
 use Rattle.std.proofs.lemmas.List.{take_all}
 use Rattle.cs_tree.specs.Clean.{longest_path}
 use Rattle.cs_tree.proofs.Asking.{asks_nothing, asks_on}
-use Rattle.cs_tree.specs.Reached.{reaches}
-use Rattle.cs_tree.specs.Visits.{GathersIn, KeepsTo, covered_by, reaches_by}
-use Rattle.cs_tree.specs.Cover.{covers}
+use Rattle.cs_tree.specs.Reached.{reaches, is_reached}
+use Rattle.cs_tree.specs.Visits.{GathersIn, KeepsTo}
+use Rattle.cs_tree.specs.Cover.{covers, is_covered}
+use Rattle.cs_tree.specs.PathSet as set
+use Rattle.cs_tree.proofs.ReduceLemmas.{any-from_list}
 use Rattle.cs_tree.proofs.Under.{keeps_more}
-use Rattle.cs_tree.proofs.Gathering.{more_in, none_in, counts_chain}
+use Rattle.cs_tree.proofs.Gathering.{come_by, more_in, none_in, same_in, counts_chain}
 use Rattle.cs_tree.proofs.Finding.{named_more}
 use Rattle.cs_tree.proofs.walking.visit_all.Goals as goal
 
@@ -24,12 +26,12 @@ paths-init g c = record {
 pub paths-preserved : goal.paths-preserved
 paths-preserved g c = record {
   gathers =
-      subst (λ paths. GathersIn (g.T.Tree.snapshot c.args.tree.now) (λ told. reaches_by told paths) c.args.walked.now c.visit_named.new.walked)
+      subst (λ paths. GathersIn (g.T.Tree.snapshot c.args.tree.now) (come_by reaches paths) c.args.walked.now c.visit_named.new.walked)
       (sym (named_more c.args.paths.now c.paths.path-index c.path-item.result c.paths-test.true c.path-item.is))
       (more_in reaches (g.T.Tree.snapshot c.args.tree.now) (g.T.Tree.snapshot c.paths.tree) (map string_bytes (take c.paths.path-index c.args.paths.now)) (string_bytes c.path-item.result) c.args.walked.now c.paths.walked c.visit_named.new.walked c.paths.invariant.keeps c.paths.invariant.gathers
       (subst (λ path. GathersIn (g.T.Tree.snapshot c.paths.tree) (λ told. reaches told path) c.paths.walked c.visit_named.new.walked) c.as_str.ensures.value c.in_ok-visit_named.ensures.gathers));
   under =
-      subst (λ paths. KeepsTo (covered_by paths) c.args.walked.now c.visit_named.new.walked)
+      subst (λ paths. KeepsTo (is_covered (set.from_list paths)) c.args.walked.now c.visit_named.new.walked)
       (sym (named_more c.args.paths.now c.paths.path-index c.path-item.result c.paths-test.true c.path-item.is))
       (keeps_more (map string_bytes (take c.paths.path-index c.args.paths.now)) (string_bytes c.path-item.result) c.args.walked.now c.paths.walked c.visit_named.new.walked c.paths.invariant.under
       (subst (λ path. KeepsTo (covers path) c.paths.walked c.visit_named.new.walked) c.as_str.ensures.value c.in_ok-visit_named.ensures.under));
@@ -39,6 +41,14 @@ paths-preserved g c = record {
   keeps = c.visit_named.ensures.keeps ∙ c.paths.invariant.keeps;
 }
 
+pub returns-clause-gathers : goal.returns-clause-gathers
+returns-clause-gathers g c =
+    let tree = g.T.Tree.snapshot c.args.tree.now in
+    let paths = map string_bytes c.args.paths.now in
+    same_in tree (come_by reaches paths) (λ told. is_reached told (set.from_list paths)) c.args.walked.now c.paths.walked
+    (λ told name. any-from_list (λ path. reaches told path name) paths)
+    (subst (λ ps. GathersIn tree (come_by reaches (map string_bytes ps)) c.args.walked.now c.paths.walked) (take_all c.paths.path-index c.args.paths.now c.paths-test.false) c.paths.invariant.gathers)
+
 pub returns-clause-under : goal.returns-clause-under
 returns-clause-under g c =
-    subst (λ paths. KeepsTo (covered_by (map string_bytes paths)) c.args.walked.now c.paths.walked) (take_all c.paths.path-index c.args.paths.now c.paths-test.false) c.paths.invariant.under
+    subst (λ paths. KeepsTo (is_covered (set.from_list (map string_bytes paths))) c.args.walked.now c.paths.walked) (take_all c.paths.path-index c.args.paths.now c.paths-test.false) c.paths.invariant.under

@@ -1,6 +1,6 @@
 use Rattle.std.proofs.Common.{inl}
 use Rattle.cs_trigram.specs.Affixes.{concatenation}
-use Rattle.cs_trigram.proofs.NodeLemmas.{on_ok}
+use Rattle.cs_trigram.proofs.NodeListLemmas.{on_ok}
 use Rattle.cs_trigram.proofs.affixes.add_cut_concatenations.Goals as goal
 
 pub returns-then-not-near-clause-concatenates : goal.returns-then-not-near-clause-concatenates

@@ -1,5 +1,6 @@
-use Rattle.std.proofs.Common.{◌≡◌, ◌⊎◌, ◌+◌, drop, inl, inr, sym, subst, arith, drop_of_length-le}
-use Rattle.cs_trigram.specs.PlainRuns.{IsMember}
+use Rattle.std.proofs.Common.{◌≡◌, ◌+◌, ℕ, List, true, drop, inl, inr, sym, subst, arith, drop_of_length-le}
+use Rattle.cs_tree.specs.Cover.{is_among}
+use Rattle.cs_trigram.proofs.MemberLemmas.{member_cases, no_member}
 use Rattle.cs_trigram.specs.Affixes.{HasAffix}
 use Rattle.cs_trigram.proofs.SampleLemmas.{words_from}
 use Rattle.cs_trigram.proofs.affixes.affixes_of_words.Goals as goal
@@ -13,8 +14,8 @@ loop-word-preserved c = λ text h.
     elim (c.loop-word.invariant text h) [
       | inl x ↦ inl (c.in_ok-add_affix.ensures side text (inr x))
       | inr y ↦
-          let z : (text ≡ word) ⊎ IsMember text (drop (i + 1) words) = subst (IsMember text) (words_from words i word c.loop-word-test.true c.word-item.is) y in
-          elim z [
+          let behind = subst (λ (ws : List (List ℕ)). is_among ws text ≡ true) (words_from words i word c.loop-word-test.true c.word-item.is) y in
+          elim (member_cases text word (drop (i + 1) words) behind) [
             | inl e ↦ inl (c.in_ok-add_affix.ensures side text (inl (subst (HasAffix side c.affix_of_word.result) (sym e) c.affix_of_word.ensures)))
             | inr n ↦ inr n
           ]
@@ -24,5 +25,5 @@ pub returns : goal.returns
 returns c = λ text h.
     elim (c.loop-word.invariant text h) [
       | inl x ↦ x
-      | inr y ↦ absurd (subst (IsMember text) (drop_of_length-le c.args.words.now {i = c.loop-word.word-index} (omega arith)) y)
+      | inr y ↦ absurd (no_member text (subst (λ (ws : List (List ℕ)). is_among ws text ≡ true) (drop_of_length-le c.args.words.now {i = c.loop-word.word-index} (omega arith)) y))
     ]

@@ -1,6 +1,6 @@
 use Rattle.std.proofs.Common.{sym, ◌∙◌}
 use Rattle.cs_trigram.specs.Affixes.{concatenation}
-use Rattle.cs_trigram.proofs.NodeLemmas.{if_ok}
+use Rattle.cs_trigram.proofs.NodeListLemmas.{if_ok}
 use Rattle.cs_trigram.proofs.AffixLemmas.{fits_all_open, fits_via}
 use Rattle.cs_trigram.proofs.affixes.concatenate_affixes.Goals as goal
 

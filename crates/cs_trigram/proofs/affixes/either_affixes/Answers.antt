@@ -1,7 +1,7 @@
 use Rattle.std.proofs.Common.{false, inl, inr, arith}
 use Rattle.cs_trigram.specs.declared.affixes.Affix.{Affix}
 use Rattle.cs_trigram.specs.declared.short_word.ShortWord.TheVariants.{Empty}
-use Rattle.cs_trigram.proofs.NodeLemmas.{if_ok}
+use Rattle.cs_trigram.proofs.NodeListLemmas.{if_ok}
 use Rattle.cs_trigram.proofs.AffixLemmas.{fits_from, fits_end}
 use Rattle.cs_trigram.proofs.affixes.either_affixes.Goals as goal
 

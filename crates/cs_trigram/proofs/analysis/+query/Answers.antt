@@ -2,7 +2,7 @@ use Rattle.std.proofs.Common.{◌≡◌, drop, sym, subst, arith}
 use Rattle.cs_syntax.specs.Node.{tree_of}
 use Rattle.cs_syntax.specs.NodeList.{trees_of}
 use Rattle.cs_trigram.specs.Known.{IsSequence, IsChoice}
-use Rattle.cs_trigram.proofs.NodeLemmas.{trees_before}
+use Rattle.cs_trigram.proofs.NodeListLemmas.{trees_before}
 use Rattle.cs_trigram.proofs.analysis.+query.Goals as goal
 
 pub known_of_choice-parts-preserved : goal.known_of_choice-parts-preserved

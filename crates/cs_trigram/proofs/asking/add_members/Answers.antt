@@ -3,7 +3,7 @@ use Rattle.std.proofs.Math.Bool.{and_comm}
 use Rattle.std.specs.List.{list_all}
 use Rattle.cs_trigram.specs.QueryNumbers.{are_trigrams}
 use Rattle.cs_trigram.specs.Sample.{all_hold}
-use Rattle.cs_trigram.proofs.NodeLemmas.{on_ok}
+use Rattle.cs_trigram.proofs.NodeListLemmas.{on_ok}
 use Rattle.cs_trigram.proofs.asking.add_members.Goals as goal
 
 pub returns-clause-asks : goal.returns-clause-asks

@@ -4,7 +4,7 @@ use Rattle.std.specs.List.{list_all}
 use Rattle.cs_trigram.specs.Query.{holds}
 use Rattle.cs_trigram.specs.declared.queries.Query.{Query}
 use Rattle.cs_trigram.specs.Sample.{all_hold}
-use Rattle.cs_trigram.proofs.NodeLemmas.{on_ok}
+use Rattle.cs_trigram.proofs.NodeListLemmas.{on_ok}
 use Rattle.cs_trigram.proofs.QueryLemmas.{holds-And, numbers-And}
 use Rattle.cs_trigram.proofs.asking.add_need.Goals as goal
 

@@ -1,5 +1,5 @@
 use Rattle.std.proofs.Common.{◌≡◌, ◌≢◌, ◌+◌, ◌∷◌, [], get_or, set, arith, ap, ◌∙◌, refl, get_or-set_other}
-use Rattle.cs_trigram.proofs.BlockLemmas.{set-two, Carries-on}
+use Rattle.cs_trigram.proofs.SplitTrigramLemmas.{set-two, Carries-on}
 use Rattle.cs_trigram.proofs.blocks.carry.Goals as goal
 
 pub returns : goal.returns

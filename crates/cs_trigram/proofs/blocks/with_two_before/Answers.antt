@@ -1,5 +1,5 @@
 use Rattle.std.proofs.Common.{◌≡◌, ◌+◌, ◌-◌, ◌++◌, take, drop, length, arith, ap, ◌∙◌}
-use Rattle.cs_trigram.proofs.BlockLemmas.{with-two}
+use Rattle.cs_trigram.proofs.SplitTrigramLemmas.{with-two}
 use Rattle.cs_trigram.proofs.blocks.with_two_before.Goals as goal
 
 pub returns-clause-bytes : goal.returns-clause-bytes

@@ -1,5 +1,5 @@
 use Rattle.std.proofs.Common.{◌/◌, ◌%◌, get_or, arith}
-use Rattle.cs_trigram.proofs.MarkLemmas.{Collects-push, changed}
+use Rattle.cs_trigram.proofs.TrigramMarkLemmas.{Collects-push, changed}
 use Rattle.cs_trigram.proofs.found.put.Goals as goal
 
 pub returns-clause-collects : goal.returns-clause-collects

@@ -1,6 +1,6 @@
 use Rattle.std.proofs.Common.{arith, sym}
-use Rattle.cs_trigram.proofs.BlockLemmas.{sequence-more}
-use Rattle.cs_trigram.proofs.MarkLemmas.{Collects-chain}
+use Rattle.cs_trigram.proofs.SplitTrigramLemmas.{sequence-more}
+use Rattle.cs_trigram.proofs.TrigramMarkLemmas.{Collects-chain}
 use Rattle.cs_trigram.proofs.found.put_bytes.Goals as goal
 
 pub trigrams-preserved : goal.trigrams-preserved

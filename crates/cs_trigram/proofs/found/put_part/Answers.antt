@@ -1,4 +1,4 @@
-use Rattle.cs_trigram.proofs.MarkLemmas.{Collects-chain}
+use Rattle.cs_trigram.proofs.TrigramMarkLemmas.{Collects-chain}
 use Rattle.cs_trigram.proofs.found.put_part.Goals as goal
 
 pub returns-clause-collects : goal.returns-clause-collects

@@ -1,6 +1,6 @@
 use Rattle.std.proofs.Common.{arith}
-use Rattle.cs_trigram.proofs.PartsLemmas.{parts-more}
-use Rattle.cs_trigram.proofs.MarkLemmas.{Collects-chain}
+use Rattle.cs_trigram.proofs.FilePartsLemmas.{parts-more}
+use Rattle.cs_trigram.proofs.TrigramMarkLemmas.{Collects-chain}
 use Rattle.cs_trigram.proofs.found.put_parts.Goals as goal
 
 pub loop-part-preserved : goal.loop-part-preserved

@@ -1,5 +1,5 @@
 use Rattle.std.proofs.Common.{arith}
-use Rattle.cs_trigram.proofs.MarkLemmas.{Unmarks-begin, Unmarks-end}
+use Rattle.cs_trigram.proofs.TrigramMarkLemmas.{Unmarks-begin, Unmarks-end}
 use Rattle.cs_trigram.proofs.found.unmark.Goals as goal
 
 pub loop-number-init : goal.loop-number-init

@@ -1,4 +1,4 @@
-use Rattle.cs_trigram.proofs.MarkLemmas.{Unmarks}
+use Rattle.cs_trigram.proofs.TrigramMarkLemmas.{Unmarks}
 use Rattle.cs_trigram.proofs.found.unmark.Given as goal
 
 abbrev pub invariant-loop-number : goal.invariant-loop-number

@@ -8,7 +8,7 @@ use Rattle.cs_trigram.specs.declared.counted.Counted.{Counted}
 use Rattle.cs_trigram.proofs.CountLemmas.{counted_first, counted_none}
 use Rattle.cs_trigram.proofs.FewLemmas.{run_front, run_words, not_few_behind}
 use Rattle.cs_syntax.proofs.TreeListLemmas.{append_assoc_trees}
-use Rattle.cs_trigram.proofs.NodeLemmas.{none_of, some_of}
+use Rattle.cs_trigram.proofs.NodeListLemmas.{none_of, some_of}
 use Rattle.cs_trigram.proofs.fronts.longest_front.Goals as goal
 
 -- the part before a place, among those that are counted

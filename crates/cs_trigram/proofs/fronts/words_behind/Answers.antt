@@ -4,7 +4,7 @@ use Rattle.std.proofs.lemmas.Bool.{and_from, lt-ltb, le-leb}
 use Rattle.cs_syntax.specs.TreeList.{append}
 use Rattle.cs_syntax.specs.Matching.{none, more}
 use Rattle.cs_trigram.specs.Sample.{is_few, with_words, concatenations, RunWords}
-use Rattle.cs_trigram.proofs.NodeLemmas.{none_of, some_of}
+use Rattle.cs_trigram.proofs.NodeListLemmas.{none_of, some_of}
 use Rattle.cs_trigram.proofs.FewLemmas.{behind_words, too_many_behind, many_count}
 use Rattle.cs_trigram.proofs.fronts.words_behind.Goals as goal
 

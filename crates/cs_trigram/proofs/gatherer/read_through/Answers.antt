@@ -1,7 +1,7 @@
 use Rattle.std.proofs.Common.{◌≤◌, ◌+◌, ◌∙◌, ℕ, List, [], length, take, drop, arith, subst, length-take, Ok, Err}
 use Rattle.cs_trigram.specs.Place.{Passes}
 use Rattle.cs_trigram.specs.Found.{numbers_of}
-use Rattle.cs_trigram.proofs.ScanLemmas.{HasScanned-more, IsRight-broken, LosesAtMost-more}
+use Rattle.cs_trigram.proofs.ScanLemmas.{HasScanned-more, IsScanOf-broken, LosesAtMost-more}
 use Rattle.cs_trigram.proofs.gatherer.read_through.Goals as goal
 
 pub pieces-preserved : goal.pieces-preserved
@@ -21,7 +21,7 @@ pieces-preserved g c =
 
 pub returns-in-Err-clause-told : goal.returns-in-Err-clause-told
 returns-in-Err-clause-told g c =
-    IsRight-broken c.args.limits.now (g.R.Source.told c.args.source.now) (g.R.Source.told c.pieces.source) (g.R.Source.told c.read_block.new.source) c.pieces.place c.pieces.found c.pieces.buffer (numbers_of c.pieces.found)
+    IsScanOf-broken c.args.limits.now (g.R.Source.told c.args.source.now) (g.R.Source.told c.pieces.source) (g.R.Source.told c.read_block.new.source) c.pieces.place c.pieces.found c.pieces.buffer (numbers_of c.pieces.found)
     (take c.in-Ok.n (drop 2 c.read_block.new.buffer)) c.in-Err.reason c.pieces.invariant.reads c.in-Ok.ensures.bytes.0
     (λ front stands. subst (λ (bs : List ℕ). Passes c.args.limits.now front bs (Err c.in-Err.reason)) c.block.ensures (c.in-Err.ensures.rule front stands))
 

@@ -1,10 +1,11 @@
 use Rattle.std.proofs.Common.{◌≡◌, ◌≤◌, ◌-◌, length}
+use Rattle.cs_trigram.specs.declared.found.TheConstants.{WITH_TWO}
 use Rattle.cs_trigram.proofs.ScanLemmas.{HasScanned}
 use Rattle.cs_trigram.proofs.gatherer.read_through.Given as goal
 
 abbrev pub invariant-pieces : goal.invariant-pieces
 invariant-pieces g l = record {
-  room : length l.buffer ≡ 65538;
+  room : length l.buffer ≡ WITH_TWO;
   reads : HasScanned l.limits (g.R.Source.told l.initial.source) (g.R.Source.told l.source) l.place l.found l.buffer;
   count : l.place.count ≤ l.limits.bytes;
   column : l.place.column ≤ l.limits.line;

@@ -1,5 +1,5 @@
 use Rattle.std.proofs.Common.{◌<◌, arith}
-use Rattle.cs_trigram.proofs.NodeLemmas.{if_ok}
+use Rattle.cs_trigram.proofs.NodeListLemmas.{if_ok}
 use Rattle.cs_trigram.proofs.RightLemmas.{all_repeated, right_repeated}
 use Rattle.cs_trigram.proofs.known.query_of_rounds.Goals as goal
 

@@ -1,4 +1,4 @@
-use Rattle.cs_trigram.proofs.NodeLemmas.{none_is, some_of, if_both}
+use Rattle.cs_trigram.proofs.NodeListLemmas.{none_is, some_of, if_both}
 use Rattle.cs_trigram.proofs.RightLemmas.{right_words}
 use Rattle.cs_trigram.proofs.known.query_of_words.Goals as goal
 

@@ -1,4 +1,4 @@
-use Rattle.cs_trigram.proofs.TextLemmas.{tri_below}
+use Rattle.cs_trigram.proofs.RuleLemmas.{tri_below}
 use Rattle.cs_trigram.proofs.laws.no_trigram_of_a_text_is_the_last.Goals as goal
 
 pub returns : goal.returns

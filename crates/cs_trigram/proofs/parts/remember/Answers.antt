@@ -1,7 +1,7 @@
 use Rattle.std.proofs.Common.{◌<◌, get_or, length, arith, inl, inr}
 use Rattle.std.proofs.lemmas.Bool.{cases_eq, eq-eqb, ne_eqb}
 use Rattle.std.proofs.lemmas.List.{take_more_set}
-use Rattle.cs_trigram.proofs.PartsLemmas.{fresh-more, taken-again}
+use Rattle.cs_trigram.proofs.FilePartsLemmas.{fresh-more, taken-again}
 use Rattle.cs_trigram.proofs.parts.remember.Goals as goal
 
 pub returns-clause-fresh : goal.returns-clause-fresh

@@ -1,6 +1,6 @@
 use Rattle.std.proofs.Common.{◌∙◌, arith, sym, subst}
 use Rattle.cs_trigram.specs.SixBytes.{IsLast}
-use Rattle.cs_trigram.proofs.PartsLemmas.{part_of}
+use Rattle.cs_trigram.proofs.FilePartsLemmas.{part_of}
 use Rattle.cs_trigram.proofs.parts.split_bytes.Goals as goal
 
 pub parts-preserved : goal.parts-preserved

@@ -1,13 +1,13 @@
 use Rattle.std.proofs.Common.{get_or, drop, ◌+◌}
 use Rattle.std.proofs.lemmas.List.{drop_more, drop_all}
-use Rattle.cs_trigram.proofs.QuickTestLemmas.{Follow-more}
+use Rattle.cs_trigram.proofs.QuickTestLemmas.{AllMayFollow-more}
 use Rattle.cs_trigram.proofs.quick.follow.Goals as goal
 
 pub loop-byte-preserved : goal.loop-byte-preserved
 loop-byte-preserved c = λ fit rest.
     let bytes = c.args.bytes.now in
     let i = c.loop-byte.byte-index in
-    let more = Follow-more c.loop-byte.last (get_or bytes i 0) c.loop-byte.fit c.may_follow.result (drop (i + 1) bytes) fit c.may_follow.ensures rest in
+    let more = AllMayFollow-more c.loop-byte.last (get_or bytes i 0) c.loop-byte.fit c.may_follow.result (drop (i + 1) bytes) fit c.may_follow.ensures rest in
     c.loop-byte.invariant more.0 (rw (drop_more bytes i 0 c.loop-byte-test.true) more.1)
 
 pub returns : goal.returns

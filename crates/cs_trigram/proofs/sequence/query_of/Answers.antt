@@ -1,6 +1,6 @@
 use Rattle.cs_syntax.specs.Matching.{cat}
 use Rattle.cs_trigram.proofs.AskedLemmas.{few_tree}
-use Rattle.cs_trigram.proofs.NodeLemmas.{some_of, if_ok}
+use Rattle.cs_trigram.proofs.NodeListLemmas.{some_of, if_ok}
 use Rattle.cs_trigram.proofs.sequence.query_of.Goals as goal
 
 pub returns-in-Some : goal.returns-in-Some

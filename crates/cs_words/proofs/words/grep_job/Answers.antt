@@ -3,7 +3,7 @@ use Rattle.std.proofs.lemmas.List.{length-map}
 use Rattle.std.specs.Prelude.{map, string_bytes, Ok, ◌==◌}
 use Rattle.cs_words.specs.Wanted.{grep}
 use Rattle.cs_words.specs.Words.{grep_job as grep_by}
-use Rattle.cs_words.specs.Settings.{Answers}
+use Rattle.cs_words.specs.Settings.{GivesJob}
 use Rattle.cs_words.specs.declared.jobs.Job.TheVariants.{Grep}
 use Rattle.cs_words.proofs.WordsLemmas.{grep_answer}
 use Rattle.cs_words.proofs.words.grep_job.Goals as goal
@@ -13,7 +13,7 @@ returns-in_ok-copies-in-Some c items are =
     let settings = c.args.settings.now in
     let pattern = c.in-Some.pattern.now in
     let files = c.in-Some.files.now in
-    subst (λ rest. Answers (grep_by items (map string_bytes rest)) (Ok (Grep (record {
+    subst (λ rest. GivesJob (grep_by items (map string_bytes rest)) (Ok (Grep (record {
       style = settings.style;
       fold = settings.fold;
       pattern = c.in_ok-clone-in-Some.field-0;

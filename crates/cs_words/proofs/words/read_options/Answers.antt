@@ -1,8 +1,8 @@
 use Rattle.std.proofs.Common.{[], ◌≡◌, ◌∙◌, ap, subst, drop, map, length, take, ◌-◌, Some, None}
 use Rattle.std.specs.Prelude.{string_bytes}
 use Rattle.std.proofs.lemmas.Result.{err_from_is_err_and}
-use Rattle.cs_words.specs.Words.{items_from, without_end}
-use Rattle.cs_words.specs.Settings.{IsNext, BreaksRule}
+use Rattle.cs_words.specs.Words.{word_items_from, without_end}
+use Rattle.cs_words.specs.Settings.{IsFrontItem, BreaksRule}
 use Rattle.cs_words.proofs.WordsLemmas.{map-slice_from, read_next, none_next, fault_next, read_all, all_sound, rest_here}
 use Rattle.cs_words.proofs.words.read_options.Goals as goal
 
@@ -18,16 +18,16 @@ pub loop-item-preserved : goal.loop-item-preserved
 loop-item-preserved c =
     rw c.set.ensures
     (read_next c.args.tool (map string_bytes c.args.words.now) c.loop-item.at c.loop-item.settings c.in-Some.item c.loop-item.invariant
-    (subst (λ words. IsNext c.args.tool c.loop-item.at words (Some c.in-Some.item)) (map-slice_from string_bytes c.loop-item.at c.args.words.now)
-    (subst (λ next. IsNext c.args.tool c.loop-item.at (map string_bytes (take (length c.args.words.now - c.loop-item.at) (drop c.loop-item.at c.args.words.now))) next)
+    (subst (λ words. IsFrontItem c.args.tool c.loop-item.at words (Some c.in-Some.item)) (map-slice_from string_bytes c.loop-item.at c.args.words.now)
+    (subst (λ next. IsFrontItem c.args.tool c.loop-item.at (map string_bytes (take (length c.args.words.now - c.loop-item.at) (drop c.loop-item.at c.args.words.now))) next)
     c.in-Some.is c.in_ok-item.ensures.item)))
 
 -- no item is left
-none_left : (c : goal.After-without_end) → items_from c.args.tool c.loop-item.at (drop c.loop-item.at (map string_bytes c.args.words.now)) ≡ []
+none_left : (c : goal.After-without_end) → word_items_from c.args.tool c.loop-item.at (drop c.loop-item.at (map string_bytes c.args.words.now)) ≡ []
 none_left c =
     none_next c.args.tool (drop c.loop-item.at (map string_bytes c.args.words.now)) c.loop-item.at
-    (subst (λ words. IsNext c.args.tool c.loop-item.at words None) (map-slice_from string_bytes c.loop-item.at c.args.words.now)
-    (subst (λ next. IsNext c.args.tool c.loop-item.at (map string_bytes (take (length c.args.words.now - c.loop-item.at) (drop c.loop-item.at c.args.words.now))) next)
+    (subst (λ words. IsFrontItem c.args.tool c.loop-item.at words None) (map-slice_from string_bytes c.loop-item.at c.args.words.now)
+    (subst (λ next. IsFrontItem c.args.tool c.loop-item.at (map string_bytes (take (length c.args.words.now - c.loop-item.at) (drop c.loop-item.at c.args.words.now))) next)
     c.in_default.is c.in_ok-item.ensures.item))
 
 pub returns-clause-settings : goal.returns-clause-settings

@@ -2,7 +2,7 @@ use Rattle.std.proofs.Common.{◌∙◌, sym, subst, arith}
 use Rattle.std.specs.Prelude.{map, string_bytes, Ok}
 use Rattle.cs_words.specs.Wanted.{search}
 use Rattle.cs_words.specs.Words.{search_job as search_by}
-use Rattle.cs_words.specs.Settings.{Answers}
+use Rattle.cs_words.specs.Settings.{GivesJob}
 use Rattle.cs_words.specs.declared.jobs.Job.TheVariants.{Search}
 use Rattle.cs_words.proofs.WordsLemmas.{search_answer, one_item}
 use Rattle.cs_words.proofs.words.search_job.Goals as goal
@@ -11,7 +11,7 @@ pub returns-in_ok-clone-in-len1 : goal.returns-in_ok-clone-in-len1
 returns-in_ok-clone-in-len1 c items are =
     let settings = c.args.settings.now in
     let pattern = c.pattern-item.result in
-    subst (λ rest. Answers (search_by c.args.all items (map string_bytes rest)) (Ok (Search (record {
+    subst (λ rest. GivesJob (search_by c.args.all items (map string_bytes rest)) (Ok (Search (record {
       style = settings.style;
       fold = settings.fold;
       brute = settings.brute;

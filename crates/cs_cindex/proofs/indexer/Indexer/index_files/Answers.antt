@@ -5,7 +5,7 @@ use Rattle.cs_tree.specs.Told.{Grows}
 use Rattle.cs_index.specs.Image.{names_of}
 use Rattle.cs_index.specs.Built.{is_above}
 use Rattle.cs_tree.specs.Taken.{TakesFront}
-use Rattle.cs_cindex.specs.Notices.{Line, Prints, text_of}
+use Rattle.cs_cindex.specs.Notices.{Line, PrintsLines, text_of}
 use Rattle.cs_cindex.specs.Verdicts.{noted_entries}
 use Rattle.cs_cindex.specs.Files.{AreTextsIn, AreFileLinesIn, AreAbove, HaveNamesOf}
 use Rattle.cs_index.proofs.ResultLemmas.{any_err}
@@ -88,7 +88,7 @@ loop-name-preserved g c =
     record {
       texts = texts_next told (map string_bytes (take at names)) (map string_bytes (take (at + 1) names)) entries c.note.new.self.builder.entries name verdict more added i.texts is;
       names = names_next (map string_bytes (take at names)) (map string_bytes (take (at + 1) names)) entries c.note.new.self.builder.entries name verdict more added i.names;
-      prints = subst (λ ns. Prints (AreFileLinesIn c.args.self.now.log_skip told ns) (g.T.Tree.failed c.args.tree.now) (g.T.Tree.failed c.read_file.new.tree) (g.E.Sink.taken c.args.err.now) (g.E.Sink.taken c.note.new.err)) (sym more)
+      prints = subst (λ ns. PrintsLines (AreFileLinesIn c.args.self.now.log_skip told ns) (g.T.Tree.failed c.args.tree.now) (g.T.Tree.failed c.read_file.new.tree) (g.E.Sink.taken c.args.err.now) (g.E.Sink.taken c.note.new.err)) (sym more)
           (prints_step c.args.self.now.log_skip told (map string_bytes (take at names)) (g.T.Tree.failed c.args.tree.now) (g.T.Tree.failed c.loop-name.tree) (g.T.Tree.failed c.read_file.new.tree) i.rises c.read_file.ensures.rises
           (g.E.Sink.taken c.args.err.now) (g.E.Sink.taken c.loop-name.err) i.prints (g.E.Sink.taken c.note.new.err) name verdict is c.in_ok-verdict.ensures.counted printed);
       ascend = ascend_next (map string_bytes (drop at names)) (map string_bytes (drop (at + 1) names)) name rest i.ascend;
@@ -106,7 +106,7 @@ returns-clause-texts g c =
 
 pub returns-clause-prints : goal.returns-clause-prints
 returns-clause-prints g c =
-    subst (λ names. Prints (AreFileLinesIn c.args.self.now.log_skip (g.T.Tree.snapshot c.args.tree.now) (map string_bytes names)) (g.T.Tree.failed c.args.tree.now) (g.T.Tree.failed c.loop-name.tree) (g.E.Sink.taken c.args.err.now) (g.E.Sink.taken c.loop-name.err)) (take_all c.loop-name.name-index c.args.names.now c.loop-name-test.false) c.loop-name.invariant.prints
+    subst (λ names. PrintsLines (AreFileLinesIn c.args.self.now.log_skip (g.T.Tree.snapshot c.args.tree.now) (map string_bytes names)) (g.T.Tree.failed c.args.tree.now) (g.T.Tree.failed c.loop-name.tree) (g.E.Sink.taken c.args.err.now) (g.E.Sink.taken c.loop-name.err)) (take_all c.loop-name.name-index c.args.names.now c.loop-name-test.false) c.loop-name.invariant.prints
 
 pub returns-clause-names : goal.returns-clause-names
 returns-clause-names g c =

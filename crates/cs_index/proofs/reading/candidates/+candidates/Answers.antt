@@ -15,7 +15,7 @@ use Rattle.cs_index.specs.Answerable.{is_answerable}
 use Rattle.cs_index.proofs.ResultLemmas.{both_ok}
 use Rattle.cs_index.proofs.SiftLemmas.{filter_all, filter_filter}
 use Rattle.cs_index.proofs.ToldLemmas.{fault_of}
-use Rattle.cs_index.proofs.AskedLemmas.{answerable-All, answerable-And, answerable-Nothing, answerable-Or, answerable-Tri, candidates-All, candidates-And, candidates-Nothing, candidates-Or, candidates-Tri, candidates_ascend, candidates_below, list_ascends, list_below, some_member}
+use Rattle.cs_index.proofs.QueryTrigramLemmas.{answerable-All, answerable-And, answerable-Nothing, answerable-Or, answerable-Tri, candidates-All, candidates-And, candidates-Nothing, candidates-Or, candidates-Tri, candidates_ascend, candidates_below, list_ascends, list_below, some_member}
 use Rattle.cs_index.proofs.reading.candidates.+candidates.Goals as goal
 use Rattle.std.proofs.Math.Bool.{or-false}
 use Rattle.cs_trigram.proofs.SetLemmas.{ascends_filter}
@@ -40,15 +40,15 @@ pub ids_meeting-returns-in-Nothing-clause-whole : goal.ids_meeting-returns-in-No
 ids_meeting-returns-in-Nothing-clause-whole t c = ap (is_answerable c.args.index.now) c.in-Nothing.is ∙ answerable-Nothing c.args.index.now
 
 pub ids_meeting-returns-in-Tri-clause-ids : goal.ids_meeting-returns-in-Tri-clause-ids
-ids_meeting-returns-in-Tri-clause-ids t c = both_ok c.ids_of.result _ _ _ (λ ids is whole. is ∙ tri_ids c.args.index.now c.requires c.args.query.now c.in-Tri.trigram c.list_of.result c.in-Tri.is c.list_of.ensures whole) c.ids_of.ensures.ids c.ids_of.ensures.whole
+ids_meeting-returns-in-Tri-clause-ids t c = both_ok c.ids_of.result _ _ _ (λ ids is whole. is ∙ tri_ids c.args.index.now c.requires c.args.query.now c.in-Tri.trigram c.trigram_postings.result c.in-Tri.is c.trigram_postings.ensures whole) c.ids_of.ensures.ids c.ids_of.ensures.whole
 
 pub ids_meeting-returns-in-Tri-clause-whole : goal.ids_meeting-returns-in-Tri-clause-whole
-ids_meeting-returns-in-Tri-clause-whole t c = IfOk-weaker c.ids_of.result _ _ (λ ids is. sym (tri_whole c.args.index.now c.requires c.args.query.now c.in-Tri.trigram c.list_of.result c.in-Tri.is c.list_of.ensures) ∙ is) c.ids_of.ensures.whole
+ids_meeting-returns-in-Tri-clause-whole t c = IfOk-weaker c.ids_of.result _ _ (λ ids is. sym (tri_whole c.args.index.now c.requires c.args.query.now c.in-Tri.trigram c.trigram_postings.result c.in-Tri.is c.trigram_postings.ensures) ∙ is) c.ids_of.ensures.whole
 
 pub ids_meeting-returns-in-Tri-clause-fault : goal.ids_meeting-returns-in-Tri-clause-fault
 ids_meeting-returns-in-Tri-clause-fault t c =
-    let whole = tri_whole c.args.index.now c.requires c.args.query.now c.in-Tri.trigram c.list_of.result c.in-Tri.is c.list_of.ensures in
-    IfErr-weaker c.ids_of.result _ _ (λ fault h. fault_of fault c.list_of.result.whole (is_answerable c.args.index.now c.args.query.now) (λ bad. sym whole ∙ bad) h) c.ids_of.ensures.fault
+    let whole = tri_whole c.args.index.now c.requires c.args.query.now c.in-Tri.trigram c.trigram_postings.result c.in-Tri.is c.trigram_postings.ensures in
+    IfErr-weaker c.ids_of.result _ _ (λ fault h. fault_of fault c.trigram_postings.result.whole (is_answerable c.args.index.now c.args.query.now) (λ bad. sym whole ∙ bad) h) c.ids_of.ensures.fault
 
 pub ids_meeting-returns-in-And-clause-ids : goal.ids_meeting-returns-in-And-clause-ids
 ids_meeting-returns-in-And-clause-ids t c =
@@ -83,27 +83,27 @@ ids_meeting-returns-in-Or-clause-fault t c =
     IfErr-weaker c.ids_meeting_some.result _ _ (λ fault h. fault_of fault (list_all (is_answerable parts) c.deref-in-Or.result.now) (is_answerable parts c.args.query.now) (λ bad. whole ∙ bad) h) c.ids_meeting_some.ensures.fault
 
 pub narrow-returns-in-Tri-clause-whole : goal.narrow-returns-in-Tri-clause-whole
-narrow-returns-in-Tri-clause-whole t c = IfOk-weaker c.keep_listed.result _ _ (λ ids is. sym (tri_whole c.args.index.now c.requires.rises c.args.member.now c.in-Tri.trigram c.list_of.result c.in-Tri.is c.list_of.ensures) ∙ is) c.keep_listed.ensures.whole
+narrow-returns-in-Tri-clause-whole t c = IfOk-weaker c.keep_listed.result _ _ (λ ids is. sym (tri_whole c.args.index.now c.requires.rises c.args.member.now c.in-Tri.trigram c.trigram_postings.result c.in-Tri.is c.trigram_postings.ensures) ∙ is) c.keep_listed.ensures.whole
 
 pub narrow-returns-in-Tri-clause-fault : goal.narrow-returns-in-Tri-clause-fault
 narrow-returns-in-Tri-clause-fault t c =
-    let whole = tri_whole c.args.index.now c.requires.rises c.args.member.now c.in-Tri.trigram c.list_of.result c.in-Tri.is c.list_of.ensures in
-    IfErr-weaker c.keep_listed.result _ _ (λ fault h. fault_of fault c.list_of.result.whole (is_answerable c.args.index.now c.args.member.now) (λ bad. sym whole ∙ bad) h) c.keep_listed.ensures.fault
+    let whole = tri_whole c.args.index.now c.requires.rises c.args.member.now c.in-Tri.trigram c.trigram_postings.result c.in-Tri.is c.trigram_postings.ensures in
+    IfErr-weaker c.keep_listed.result _ _ (λ fault h. fault_of fault c.trigram_postings.result.whole (is_answerable c.args.index.now c.args.member.now) (λ bad. sym whole ∙ bad) h) c.keep_listed.ensures.fault
 
 pub mark-returns-in-Tri-clause-whole : goal.mark-returns-in-Tri-clause-whole
-mark-returns-in-Tri-clause-whole t c = IfOk-weaker c.mark_list.result _ _ (λ ids is. sym (tri_whole c.args.index.now c.requires.rises c.args.member.now c.in-Tri.trigram c.list_of.result c.in-Tri.is c.list_of.ensures) ∙ is) c.mark_list.ensures.whole
+mark-returns-in-Tri-clause-whole t c = IfOk-weaker c.mark_list.result _ _ (λ ids is. sym (tri_whole c.args.index.now c.requires.rises c.args.member.now c.in-Tri.trigram c.trigram_postings.result c.in-Tri.is c.trigram_postings.ensures) ∙ is) c.mark_list.ensures.whole
 
 pub mark-returns-in-Tri-clause-fault : goal.mark-returns-in-Tri-clause-fault
 mark-returns-in-Tri-clause-fault t c =
-    let whole = tri_whole c.args.index.now c.requires.rises c.args.member.now c.in-Tri.trigram c.list_of.result c.in-Tri.is c.list_of.ensures in
-    IfErr-weaker c.mark_list.result _ _ (λ fault h. fault_of fault c.list_of.result.whole (is_answerable c.args.index.now c.args.member.now) (λ bad. sym whole ∙ bad) h) c.mark_list.ensures.fault
+    let whole = tri_whole c.args.index.now c.requires.rises c.args.member.now c.in-Tri.trigram c.trigram_postings.result c.in-Tri.is c.trigram_postings.ensures in
+    IfErr-weaker c.mark_list.result _ _ (λ fault h. fault_of fault c.trigram_postings.result.whole (is_answerable c.args.index.now c.args.member.now) (λ bad. sym whole ∙ bad) h) c.mark_list.ensures.fault
 
 pub narrow-keep_listed-requires-clause-list : goal.narrow-keep_listed-requires-clause-list
-narrow-keep_listed-requires-clause-list t c = subst (λ (r : Ids). Ascends r.ids) (sym c.list_of.ensures) (list_ascends c.args.index.now c.in-Tri.trigram)
+narrow-keep_listed-requires-clause-list t c = subst (λ (r : Ids). Ascends r.ids) (sym c.trigram_postings.ensures) (list_ascends c.args.index.now c.in-Tri.trigram)
 
 pub narrow-returns-in-Tri-clause-ids : goal.narrow-returns-in-Tri-clause-ids
 narrow-returns-in-Tri-clause-ids t c =
-    let list = tri_ids c.args.index.now c.requires.rises c.args.member.now c.in-Tri.trigram c.list_of.result c.in-Tri.is c.list_of.ensures in
+    let list = tri_ids c.args.index.now c.requires.rises c.args.member.now c.in-Tri.trigram c.trigram_postings.result c.in-Tri.is c.trigram_postings.ensures in
     both_ok c.keep_listed.result _ _ _ (λ kept is whole. is ∙ ap (λ (ids : List ℕ). filter (has ids) c.args.ids.items) (list whole)) c.keep_listed.ensures.ids c.keep_listed.ensures.whole
 
 pub narrow-keep_common-requires : goal.narrow-keep_common-requires
@@ -114,7 +114,7 @@ narrow-keep_common-requires t c = record {
 
 pub mark-mark_list-requires : goal.mark-mark_list-requires
 mark-mark_list-requires t c =
-    subst (λ n. AllByRecursion (λ id. id < n) c.list_of.result.ids) (sym c.requires.length) (subst (λ (r : Ids). AllByRecursion (λ id. id < length c.args.index.now.names) r.ids) (sym c.list_of.ensures) (list_below c.args.index.now c.in-Tri.trigram))
+    subst (λ n. AllByRecursion (λ id. id < n) c.trigram_postings.result.ids) (sym c.requires.length) (subst (λ (r : Ids). AllByRecursion (λ id. id < length c.args.index.now.names) r.ids) (sym c.trigram_postings.ensures) (list_below c.args.index.now c.in-Tri.trigram))
 
 pub mark-mark_ids-requires : goal.mark-mark_ids-requires
 mark-mark_ids-requires t c =
@@ -123,7 +123,7 @@ mark-mark_ids-requires t c =
 
 pub mark-returns-in-Tri-clause-marked : goal.mark-returns-in-Tri-clause-marked
 mark-returns-in-Tri-clause-marked t c =
-    let list = tri_ids c.args.index.now c.requires.rises c.args.member.now c.in-Tri.trigram c.list_of.result c.in-Tri.is c.list_of.ensures in
+    let list = tri_ids c.args.index.now c.requires.rises c.args.member.now c.in-Tri.trigram c.trigram_postings.result c.in-Tri.is c.trigram_postings.ensures in
     both_ok c.mark_list.result _ _ _ (λ x is whole k. is k ∙ ap (λ (ids : List ℕ). get_or c.args.marks.now k false || has ids k) (list whole)) c.mark_list.ensures.marked c.mark_list.ensures.whole
 
 -- the ids that each of the members that are left has, after one of them

@@ -19,12 +19,12 @@ loop-id-preserved c =
     let kept = ap (λ (s : Sift). s.kept) c.pass.ensures in
     let left = ap (λ (s : Sift). s.left) c.pass.ensures in
     record {
-      ids = sift_on (filter (has others) c.args.ids.items) c.loop-id.sieve.left rest c.loop-id.sieve.kept c.pass.new.self.kept c.pass.new.self.left id (c.loop-id.invariant.ids ∙ ap (λ (ys : List ℕ). c.loop-id.sieve.kept ++ filter (has ys) c.loop-id.sieve.left) first) row c.loop-id.invariant.left kept left;
+      ids = sift_on (filter (has others) c.args.ids.items) c.loop-id.sifter.left rest c.loop-id.sifter.kept c.pass.new.self.kept c.pass.new.self.left id (c.loop-id.invariant.ids ∙ ap (λ (ys : List ℕ). c.loop-id.sifter.kept ++ filter (has ys) c.loop-id.sifter.left) first) row c.loop-id.invariant.left kept left;
       others = ascends_tail id rest row;
-      left = subst Ascends (sym left) (ascends_filter (λ x. nat_lt id x) c.loop-id.sieve.left c.loop-id.invariant.left);
+      left = subst Ascends (sym left) (ascends_filter (λ x. nat_lt id x) c.loop-id.sifter.left c.loop-id.invariant.left);
     }
 
 pub returns : goal.returns
 returns c =
     let done : drop c.loop-id.id-index c.args.others.now ≡ [] = drop_all c.loop-id.id-index c.args.others.now (omega arith) in
-    c.finish.ensures ∙ sym (c.loop-id.invariant.ids ∙ ap (λ (ys : List ℕ). c.loop-id.sieve.kept ++ filter (has ys) c.loop-id.sieve.left) done ∙ ap (λ t. c.loop-id.sieve.kept ++ t) (none_left c.loop-id.sieve.left) ∙ append-nil c.loop-id.sieve.kept)
+    c.finish.ensures ∙ sym (c.loop-id.invariant.ids ∙ ap (λ (ys : List ℕ). c.loop-id.sifter.kept ++ filter (has ys) c.loop-id.sifter.left) done ∙ ap (λ t. c.loop-id.sifter.kept ++ t) (none_left c.loop-id.sifter.left) ∙ append-nil c.loop-id.sifter.kept)

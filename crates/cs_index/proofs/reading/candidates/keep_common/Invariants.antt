@@ -5,7 +5,7 @@ use Rattle.cs_index.proofs.reading.candidates.keep_common.Given as goal
 
 abbrev pub invariant-loop-id : goal.invariant-loop-id
 invariant-loop-id l = record {
-  ids : filter (has l.others) l.fn.ids.items ≡ l.sieve.kept ++ filter (has (drop l.id-index l.others)) l.sieve.left;
+  ids : filter (has l.others) l.fn.ids.items ≡ l.sifter.kept ++ filter (has (drop l.id-index l.others)) l.sifter.left;
   others : Ascends (drop l.id-index l.others);
-  left : Ascends l.sieve.left;
+  left : Ascends l.sifter.left;
 }

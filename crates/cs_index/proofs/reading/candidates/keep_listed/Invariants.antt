@@ -5,8 +5,8 @@ use Rattle.cs_index.proofs.reading.candidates.keep_listed.Given as goal
 
 abbrev pub invariant-loop-id : goal.invariant-loop-id
 invariant-loop-id l = record {
-  ids : filter (has l.fn.list.ids) l.fn.ids.items ≡ l.sieve.kept ++ filter (has l.id-iterator.ids) l.sieve.left;
+  ids : filter (has l.fn.list.ids) l.fn.ids.items ≡ l.sifter.kept ++ filter (has l.id-iterator.ids) l.sifter.left;
   list : Ascends l.id-iterator.ids;
-  left : Ascends l.sieve.left;
+  left : Ascends l.sifter.left;
   whole : l.id-iterator.whole ≡ l.fn.list.whole;
 }

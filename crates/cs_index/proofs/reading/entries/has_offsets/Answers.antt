@@ -2,7 +2,7 @@ use Rattle.std.proofs.Common.{◌≡◌, ◌+◌, ◌∙◌, ◌++◌, ap, refl,
 use Rattle.std.proofs.lemmas.List.{length_push}
 use Rattle.cs_index.specs.Image.{with_nul}
 use Rattle.cs_index.specs.Opening.{has_starts, is_name_index, texts_of}
-use Rattle.cs_index.proofs.ReadingLemmas.{texts_after, formed_after, none_formed}
+use Rattle.cs_index.proofs.SectionReadLemmas.{texts_after, formed_after, none_formed}
 use Rattle.cs_index.proofs.EntryLemmas.{offsets_short, offsets_wrong, offsets_step, offsets_end}
 use Rattle.cs_index.proofs.reading.entries.has_offsets.Goals as goal
 

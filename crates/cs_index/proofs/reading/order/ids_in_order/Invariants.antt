@@ -1,5 +1,6 @@
 use Rattle.std.proofs.Common.{◌≡◌, map, take}
-use Rattle.cs_index.specs.Order.{id_in, lent_names}
+use Rattle.cs_index.specs.Order.{id_in}
+use Rattle.cs_index.specs.LentNames.{lent_names}
 use Rattle.cs_index.proofs.reading.order.ids_in_order.Given as goal
 
 -- the ids so far are those of the names so far

@@ -1,7 +1,7 @@
 use Rattle.std.proofs.Common.{refl, sym, ap, ◌∙◌, arith}
 use Rattle.std.specs.Ordering.{is_ge}
 use Rattle.cs_tree.specs.NamesAscending.{are_ascending}
-use Rattle.cs_index.proofs.OrderLemmas.{names_lent, pair_falls, pair_climbs, last_ascends}
+use Rattle.cs_index.proofs.NameOrderLemmas.{names_lent, pair_falls, pair_climbs, last_ascends}
 use Rattle.cs_index.proofs.reading.order.names_ascend.Goals as goal
 
 pub loop-at-init : goal.loop-at-init

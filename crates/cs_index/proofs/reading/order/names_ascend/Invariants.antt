@@ -1,6 +1,6 @@
 use Rattle.std.proofs.Common.{◌≡◌, ◌-◌, drop, map}
 use Rattle.cs_tree.specs.NamesAscending.{are_ascending}
-use Rattle.cs_index.proofs.OrderLemmas.{name_lent}
+use Rattle.cs_index.proofs.NameOrderLemmas.{name_lent}
 use Rattle.cs_index.proofs.reading.order.names_ascend.Given as goal
 
 abbrev pub invariant-loop-at : goal.invariant-loop-at

@@ -1,6 +1,6 @@
 use Rattle.std.proofs.Common.{◌≡◌, ◌≤◌, ◌<◌, ◌+◌, ◌^◌, ◌∙◌, ◌++◌, ◌∷◌, [], ap, sym, subst, length, map, List, arith, length-append}
-use Rattle.std.specs.List.{AllByRecursion}
-use Rattle.cs_index.specs.Image.{concat, ListEntry, Posting, posting_list, sections_of, Sections}
+use Rattle.std.specs.List.{AllByRecursion, concat}
+use Rattle.cs_index.specs.Image.{ListEntry, Posting, posting_list, sections_of, Sections}
 use Rattle.cs_index.specs.Laying.{front_of, lists_at}
 use Rattle.cs_index.proofs.LayingLemmas.{back_is, entries_near, front_1_long, front_2_long, layout_long, list_index_is, third_is}
 use Rattle.cs_index.proofs.writing.laying.lay_back.Goals as goal

@@ -2,7 +2,8 @@ use Rattle.std.proofs.Common.{◌≡◌, ◌+◌, ◌<◌, ℕ, List, [], length
 use Rattle.std.specs.List.{AllByRecursion}
 use Rattle.cs_trigram.specs.Trigram.{closing_trigram}
 use Rattle.cs_index.specs.Image.{Posting}
-use Rattle.cs_index.specs.Laid.{with_postings, AllBelow}
+use Rattle.cs_index.specs.Laid.{AllBelow}
+use Rattle.cs_index.specs.LaidLists.{with_postings}
 use Rattle.cs_index.specs.Rising.{RiseWithin}
 use Rattle.cs_index.specs.Segments.{lists_from}
 use Rattle.cs_index.proofs.writing.segments.lay_lists.Given as goal

@@ -1,7 +1,8 @@
 use Rattle.std.proofs.Common.{◌≡◌, ◌+◌, ◌-◌, ◌*◌, ◌<◌, ◌≤◌, ◌++◌, ℕ, List, [], length, get_or, refl, sym, ap, subst, ◌∙◌, arith}
 use Rattle.std.specs.List.{AllByRecursion}
 use Rattle.cs_trigram.specs.Trigram.{closing_trigram}
-use Rattle.cs_index.specs.Laid.{Laid, with_postings, AllBelow}
+use Rattle.cs_index.specs.Laid.{Laid, AllBelow}
+use Rattle.cs_index.specs.LaidLists.{with_postings}
 use Rattle.cs_index.specs.Rising.{most_ids, RiseWithin}
 use Rattle.cs_index.specs.Segments.{ids_of_segments, lists_from, with_segments, AreAhead, SegmentKeys}
 use Rattle.cs_index.proofs.GivenLemmas.{all_below, all_given_ahead, below_skip, below_listed, below_none, each_list, given_rise, list_each, listed_within, lists_below, none_given, ordered_below, rise_wider, segment_ids}

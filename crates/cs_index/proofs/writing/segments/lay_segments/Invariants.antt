@@ -1,6 +1,6 @@
 use Rattle.std.proofs.Common.{◌≡◌, ◌*◌, ◌-◌, ◌≤◌, ℕ, List, [], length}
 use Rattle.std.specs.List.{AllByRecursion}
-use Rattle.cs_index.specs.Laid.{with_postings}
+use Rattle.cs_index.specs.LaidLists.{with_postings}
 use Rattle.cs_index.specs.Segments.{ids_of_segments, AreAhead, SegmentKeys}
 use Rattle.cs_index.proofs.GivenLemmas.{lists_below}
 use Rattle.cs_index.proofs.writing.segments.lay_segments.Given as goal

@@ -4,7 +4,7 @@ use Rattle.std.proofs.lemmas.List.Sums.{count_by-le-length}
 use Rattle.cs_syntax.specs.Matching.{Tree}
 use Rattle.cs_match.specs.Finding.{Decides}
 use Rattle.cs_match.specs.Lines.{ended_lines}
-use Rattle.cs_match.specs.Counting.{AreCounted}
+use Rattle.cs_match.specs.Counting.{CountsHits}
 use Rattle.cs_match.proofs.ChainLemmas.{passed_none}
 use Rattle.cs_match.proofs.CountingLemmas.{counted_passed, counted_append}
 use Rattle.cs_match.proofs.FindingLemmas.{finding_is_decided}
@@ -27,7 +27,7 @@ lines-preserved c =
     let e = c.count_some-counted.ensures in
     record {
       counted = counted_append (λ finds. Decides finds c.args.self.now) block 0 at next.to c.lines.hits next.hits c.lines.invariant.counted
-          (subst (λ (tree : Tree). AreCounted (λ finds. Decides finds tree) block at next.to next.hits) c.lines.invariant.same e.counted);
+          (subst (λ (tree : Tree). CountsHits (λ finds. Decides finds tree) block at next.to next.hits) c.lines.invariant.same e.counted);
       same = e.same ∙ c.lines.invariant.same;
     }
 

@@ -1,11 +1,11 @@
 use Rattle.std.proofs.Common.{◌-◌, ◌≡◌, length}
 use Rattle.cs_match.specs.Finding.{Decides}
-use Rattle.cs_match.specs.Counting.{AreCounted}
+use Rattle.cs_match.specs.Counting.{CountsHits}
 use Rattle.cs_match.proofs.matcher.Matcher.count.Given as goal
 
 abbrev pub invariant-lines : goal.invariant-lines
 invariant-lines l = record {
-  counted : AreCounted (λ finds. Decides finds l.fn.self) l.block 0 l.at l.hits;
+  counted : CountsHits (λ finds. Decides finds l.fn.self) l.block 0 l.at l.hits;
   same : l.self ≡ l.fn.self;
 }
 

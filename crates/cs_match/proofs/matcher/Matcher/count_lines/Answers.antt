@@ -1,7 +1,7 @@
 use Rattle.std.proofs.Common.{◌≡◌, ◌+◌, ◌-◌, List, ℕ, Bool, take, drop, cond, refl, sym, subst, ◌∙◌, arith}
 use Rattle.std.proofs.lemmas.Bool.Decides.{same_from_decides}
 use Rattle.cs_match.specs.Finding.{Decides}
-use Rattle.cs_match.specs.Counting.{AreCounted}
+use Rattle.cs_match.specs.Counting.{CountsHits}
 use Rattle.cs_match.proofs.ChainLemmas.{passed_none}
 use Rattle.cs_match.proofs.CountingLemmas.{counted_passed, counted_append, counted_line, number_of}
 use Rattle.cs_match.proofs.WholeLemmas.{whole_from}
@@ -14,7 +14,7 @@ lines-init c =
     record { counted = counted_passed kind c.args.block.now from from (passed_none kind c.args.block.now from (omega (arith, c.requires.low, c.requires.high))); same = refl }
 
 pub line_end-end-requires-clause-whole : goal.line_end-end-requires-clause-whole
-line_end-end-requires-clause-whole c = whole_from c.args.block.now c.args.from c.lines.at c.lines.invariant.counted.low c.requires.whole
+line_end-end-requires-clause-whole c = whole_from c.args.block.now c.args.from c.lines.at c.lines.invariant.counted.lines.low c.requires.whole
 
 pub lines-preserved : goal.lines-preserved
 lines-preserved c =
@@ -30,6 +30,6 @@ lines-preserved c =
     same_from_decides (finds (take (end - at) (drop at block))) found (subst (Decides finds) (sym c.lines.invariant.same) decides (take (end - at) (drop at block))) c.is_match.ensures.found) in
     record {
       counted = counted_append kind block c.args.from at (end + 1) c.lines.hits c.from-hits.result c.lines.invariant.counted
-          (subst (AreCounted kind block at (end + 1)) number line);
+          (subst (CountsHits kind block at (end + 1)) number line);
       same = c.is_match.ensures.same ∙ c.lines.invariant.same;
     }

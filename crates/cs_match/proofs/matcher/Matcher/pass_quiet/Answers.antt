@@ -7,13 +7,11 @@ use Rattle.cs_match.proofs.matcher.Matcher.pass_quiet.Goals as goal
 
 pub returns : goal.returns
 returns c =
-    let h = c.pass_quiet.ensures in
+    let h = c.pass_quiet.ensures.passed in
     let table = c.self.inside.table in
     let right = c.self.invariant.0.right in
     record {
-      low = h.low;
-      high = h.high;
-      whole = h.whole;
+      lines = h.lines;
       none = λ finds decides.
           h.none finds (subst (ShowsLines finds) (sym c.deref.ensures.value)
           (table_shows (tree_in table) table.rows.items table.used table.cells.items right.rows.bound right.cells right.rows right.looped finds

@@ -11,9 +11,7 @@ returns c =
     let table = c.self.inside.table in
     let right = c.self.invariant.0.right in
     record {
-      low = h.low;
-      high = h.high;
-      whole = h.whole;
+      lines = h.lines;
       none = λ finds decides.
           h.none finds (subst (ShowsLines finds) (sym c.deref.ensures.value)
           (table_shows (tree_in table) table.rows.items table.used table.cells.items right.rows.bound right.cells right.rows right.looped finds

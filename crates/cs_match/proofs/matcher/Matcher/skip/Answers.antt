@@ -21,23 +21,23 @@ pub returns-then-pauses : goal.returns-then-pauses
 returns-then-pauses c =
     let same = c.pauses.ensures ∙ c.rests.ensures in
     let p = subst (λ (tree : Tree). ArePassed (λ finds. Decides finds tree) c.args.block.now c.args.from c.pass_run.result) same c.pass_run.ensures.passed in
-    record { low = p.low; high = p.high; whole = p.whole; none = p.none; same = c.pass_run.ensures.same ∙ same }
+    record { low = p.lines.low; high = p.lines.high; whole = p.lines.whole; none = p.none; same = c.pass_run.ensures.same ∙ same }
 
 pub parts-init : goal.parts-init
 parts-init c = record { passed = passed_none (λ finds. Decides finds c.args.self.now) c.args.block.now c.args.from c.requires.within; same = c.pauses.ensures ∙ c.rests.ensures }
 
 pub pass_quiet-noisy-requires-clause-whole : goal.pass_quiet-noisy-requires-clause-whole
-pass_quiet-noisy-requires-clause-whole c = whole_from c.args.block.now c.args.from c.parts.at c.parts.invariant.passed.low c.requires.whole
+pass_quiet-noisy-requires-clause-whole c = whole_from c.args.block.now c.args.from c.parts.at c.parts.invariant.passed.lines.low c.requires.whole
 
 pub cut-end-requires-clause-whole : goal.cut-end-requires-clause-whole
 cut-end-requires-clause-whole c =
-    whole_from c.args.block.now c.args.from c.pass_quiet-noisy.result (omega (arith, c.parts.invariant.passed.low, c.pass_quiet-noisy.ensures.low)) c.requires.whole
+    whole_from c.args.block.now c.args.from c.pass_quiet-noisy.result (omega (arith, c.parts.invariant.passed.lines.low, c.pass_quiet-noisy.ensures.lines.low)) c.requires.whole
 
 pub returns-then-hit-end : goal.returns-then-hit-end
 returns-then-hit-end c =
     let i = c.parts.invariant in
     let p = behind c.args.self.now c.parts.self c.args.block.now c.args.from c.parts.at c.pass_quiet-noisy.result c.cut-end.result c.first_hit.result i.same i.passed c.pass_quiet-noisy.ensures c.cut-end.ensures.low c.cut-end.ensures.high c.first_hit.ensures.passed in
-    record { low = p.low; high = p.high; whole = p.whole; none = p.none; same = c.note.ensures ∙ c.first_hit.ensures.same ∙ i.same }
+    record { low = p.lines.low; high = p.lines.high; whole = p.lines.whole; none = p.none; same = c.note.ensures ∙ c.first_hit.ensures.same ∙ i.same }
 
 pub parts-preserved : goal.parts-preserved
 parts-preserved c =
@@ -46,7 +46,7 @@ parts-preserved c =
     let noisy = c.pass_quiet-noisy.result in
     let end = c.cut-end.result in
     let p = behind c.args.self.now c.parts.self block c.args.from c.parts.at noisy end c.first_hit.result i.same i.passed c.pass_quiet-noisy.ensures c.cut-end.ensures.low c.cut-end.ensures.high c.first_hit.ensures.passed in
-    let is : noisy + c.first_hit.result ≡ end = omega (arith, c.if-hit-end.false, c.first_hit.ensures.passed.high, length-take (end - noisy) (drop noisy block), c.cut-end.ensures.low) in
+    let is : noisy + c.first_hit.result ≡ end = omega (arith, c.if-hit-end.false, c.first_hit.ensures.passed.lines.high, length-take (end - noisy) (drop noisy block), c.cut-end.ensures.low) in
     record {
       passed = subst (ArePassed (λ finds. Decides finds c.args.self.now) block c.args.from) is p;
       same = c.note.ensures ∙ c.first_hit.ensures.same ∙ i.same;
@@ -55,4 +55,4 @@ parts-preserved c =
 pub returns : goal.returns
 returns c =
     let p = c.parts.invariant.passed in
-    record { low = p.low; high = p.high; whole = p.whole; none = p.none; same = c.parts.invariant.same }
+    record { low = p.lines.low; high = p.lines.high; whole = p.lines.whole; none = p.none; same = c.parts.invariant.same }

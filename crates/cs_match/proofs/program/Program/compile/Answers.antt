@@ -3,7 +3,7 @@ use Rattle.cs_syntax.specs.Matching.{Tree, Found}
 use Rattle.cs_syntax.specs.Node.{tree_of}
 use Rattle.cs_match.specs.Places.{IsLooped}
 use Rattle.cs_match.specs.Expansion.{expansion}
-use Rattle.cs_match.proofs.WeightLemmas.{places_light, repeats_light}
+use Rattle.cs_match.proofs.PlaceCountLemmas.{places_light, repeats_light}
 use Rattle.cs_match.proofs.ExpansionLemmas.{expansion_found, is_looped}
 use Rattle.cs_match.proofs.program.Program.compile.Goals as goal
 

@@ -3,7 +3,7 @@ use Rattle.std.proofs.lemmas.List.{take_all}
 use Rattle.cs_syntax.specs.Node.{tree_of}
 use Rattle.cs_match.specs.declared.standing.Standing.{Standing}
 use Rattle.cs_match.specs.Places.{exits, exit_at}
-use Rattle.cs_match.specs.Standings.{standing, next_standing, ahead, at_end}
+use Rattle.cs_match.specs.Standings.{standing, next_standing, ahead, around_end}
 use Rattle.cs_match.proofs.FindingLemmas.{found_at, found_last}
 use Rattle.cs_match.proofs.StandingLemmas.{length-standing, next_more, left_ahead, left_by_end}
 use Rattle.cs_match.proofs.standing.Standing.search.Goals as goal
@@ -58,5 +58,5 @@ returns-clause-found c =
     let i = c.loop-b.b-index in
     let given = c.loop-b.invariant in
     let here = given.here ∙ ap (standing t) (take_all i line (omega arith)) in
-    let ends = c.end.ensures.left ∙ ap (λ (n : Standing). exits t true n.marks (at_end n)) here ∙ left_by_end t line in
+    let ends = c.end.ensures.left ∙ ap (λ (n : Standing). exits t true n.marks (around_end n)) here ∙ left_by_end t line in
     found_last t line c.requires.looped _ ends (λ k lt. given.none k (omega arith))

@@ -1,7 +1,7 @@
 use Rattle.std.proofs.Common.{◌<◌, length, get_or, refl, ◌∙◌, arith, below_more}
 use Rattle.cs_match.specs.Remembering.{tree_in, standing_in}
 use Rattle.cs_match.proofs.FindingLemmas.{found_at, found_last}
-use Rattle.cs_match.proofs.RunLemmas.{run_found, run_stays, run_next, run_ends}
+use Rattle.cs_match.proofs.RowRunLemmas.{run_found, run_stays, run_next, run_ends}
 use Rattle.cs_match.proofs.table.Table.is_match.Goals as goal
 
 pub returns-then-at-clause-found : goal.returns-then-at-clause-found

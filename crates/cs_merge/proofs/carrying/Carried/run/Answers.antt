@@ -4,7 +4,7 @@ use Rattle.std.specs.List.{cons_option, AllByRecursion}
 use Rattle.cs_index.specs.PostingLists.{Ids}
 use Rattle.cs_merge.specs.Renumbering.{new_ids_of}
 use Rattle.cs_merge.specs.SideBySide.{IsStretchOf}
-use Rattle.cs_merge.proofs.RunLemmas.{is_run}
+use Rattle.cs_merge.proofs.IdRunLemmas.{is_run}
 use Rattle.cs_merge.proofs.carrying.Carried.run.Goals as goal
 use Rattle.cs_merge.proofs.carrying.Carried.run.Goals.{in-None, in-Some}
 

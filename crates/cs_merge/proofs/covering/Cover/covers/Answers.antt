@@ -1,13 +1,12 @@
-use Rattle.std.proofs.Common.{ap, sym, subst, ◌∙◌}
-use Rattle.std.specs.List.Sorted.{IsStrictlySortedBy}
+use Rattle.std.proofs.Common.{ap, ◌∙◌}
 use Rattle.cs_tree.specs.Cover.{is_covered}
-use Rattle.cs_tree.specs.NameOrder.{bytes_cmp}
+use Rattle.cs_tree.specs.NamesAscending.{are_ascending}
 use Rattle.cs_tree.specs.PathParts.{texts}
 use Rattle.cs_tree.specs.PathSet as set
 use Rattle.cs_merge.proofs.covering.Cover.covers.Goals as goal
 
 pub is_covered-requires : goal.is_covered-requires
-is_covered-requires c = subst (IsStrictlySortedBy bytes_cmp) (sym (ap texts c.deref.ensures.value)) c.self.invariant
+is_covered-requires c = ap are_ascending (ap texts c.deref.ensures.value) ∙ c.self.invariant
 
 pub returns : goal.returns
 returns c =

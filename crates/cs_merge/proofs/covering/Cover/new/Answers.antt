@@ -1,18 +1,17 @@
-use Rattle.std.proofs.Common.{◌≡◌, ◌++◌, ℕ, List, sym, ap, subst, ◌∙◌}
+use Rattle.std.proofs.Common.{◌≡◌, ◌++◌, ℕ, List, sym, ap, ◌∙◌}
 use Rattle.std.proofs.lemmas.List.{append-nil}
 use Rattle.std.proofs.lemmas.List.Filters.{dedup_is}
-use Rattle.std.specs.List.Sorted.{IsStrictlySortedBy}
-use Rattle.cs_tree.specs.NameOrder.{bytes_cmp}
+use Rattle.cs_tree.specs.NamesAscending.{are_ascending}
 use Rattle.cs_tree.specs.PathParts.{texts}
 use Rattle.cs_tree.specs.PathSet as set
-use Rattle.cs_tree.proofs.ReduceLemmas.{ordered_items, sorted-items}
+use Rattle.cs_tree.proofs.ReduceLemmas.{ordered_items, items_ascend}
 use Rattle.cs_merge.proofs.HoldingLemmas.{set_of_items}
 use Rattle.cs_merge.proofs.covering.Cover.new.Goals as goal
 
 pub invariant_of-result : goal.invariant_of-result
 invariant_of-result c =
     let ordered : texts c.dedup.new.self.items ≡ set.items (set.from_list (texts c.paths.paths.items)) = ordered_items c.paths.paths.items c.sort_unstable.new.self.items c.dedup.new.self.items c.sort_unstable.ensures.permutation c.sort_unstable.ensures.sorted (dedup_is _ _ _ c.dedup.ensures.filtered) in
-    subst (IsStrictlySortedBy bytes_cmp) (sym ordered) (sorted-items (set.from_list (texts c.paths.paths.items)))
+    ap are_ascending ordered ∙ items_ascend (set.from_list (texts c.paths.paths.items))
 
 pub returns : goal.returns
 returns c =

@@ -2,7 +2,8 @@ use Rattle.std.proofs.Common.{◌≡◌, ℕ, List, length, sym, ap, subst, ◌�
 use Rattle.std.specs.Prelude.{option_map, IfOk}
 use Rattle.cs_index.specs.OpenedParts.{Parts}
 use Rattle.cs_merge.specs.Ranked.{Ranked, IsRanked}
-use Rattle.cs_merge.specs.Renumbering.{NewIds, AreByRank, ArePut, IsOrdering}
+use Rattle.cs_merge.specs.Renumbering.{NewIds, AreByRank, ArePut}
+use Rattle.cs_merge.specs.SideBySide.{AreIds}
 use Rattle.cs_merge.proofs.RankedLemmas.{are_ordering, put_by_rank}
 use Rattle.cs_merge.proofs.ranked.Ranked.by_id.Goals as goal
 
@@ -17,7 +18,7 @@ pub place-requires-clause-order : goal.place-requires-clause-order
 place-requires-clause-order c =
     let parts = c.self.inside.index.now in
     let e : c.args.self.now ≡ in_order parts c.in-Some.ids.items = sym c.self.view_is ∙ ap (λ o. let r : Ranked = record { parts = parts; order = option_map (λ ids. ids.items) o } in r) c.in-Some.is in
-    subst IsOrdering (sym c.deref.ensures.value) (are_ordering parts c.in-Some.ids.items (subst IsRanked e c.requires.ranked))
+    subst (λ (ids : List ℕ). AreIds (length ids) ids) (sym c.deref.ensures.value) (are_ordering parts c.in-Some.ids.items (subst IsRanked e c.requires.ranked))
 
 pub returns-in-Some : goal.returns-in-Some
 returns-in-Some c =

@@ -1,12 +1,12 @@
 use Rattle.std.proofs.Common.{◌++◌, ◌-◌, ◌+◌, take, drop, ap, sym, subst, ◌∙◌, arith, length-take, length-drop}
 use Rattle.cs_tree.specs.Transfers.{Loses}
-use Rattle.cs_search.specs.Buffer.{pending}
+use Rattle.cs_search.specs.Buffer.{pending_bytes}
 use Rattle.cs_index.proofs.ResultLemmas.{any_err}
-use Rattle.cs_search.proofs.BufferLemmas.{refilled, pending_same, pending_more, Gains-append, gained}
+use Rattle.cs_search.proofs.BufferLemmas.{refilled, pending_same, pending_more, GrowsBy-append, gained}
 use Rattle.cs_search.proofs.buffer.LineBuffer.fill.Goals as goal
 
 pub returns-in_err-n-clause-same : goal.returns-in_err-n-clause-same
-unfolding pending
+unfolding pending_bytes
 returns-in_err-n-clause-same g c =
     let buffer = c.make_room.new.self in
     let bytes = c.read_behind.new.bytes in
@@ -17,28 +17,28 @@ returns-in_err-n-clause-same g c =
     ∙ pending_same buffer bytes before ∙ c.in_ok-make_room.ensures.same)
 
 pub returns-clause-gains : goal.returns-clause-gains
-unfolding pending
+unfolding pending_bytes
 returns-clause-gains g c =
     let buffer = c.make_room.new.self in
     let bytes = c.read_behind.new.bytes in
     let n = c.in_ok-n.n in
     let before = c.read_behind.ensures.before ∙ ap (λ l. take buffer.end l) c.deref_mut.ensures.value in
     let size = c.read_behind.auto.bytes ∙ c.deref_mut.ensures.len in
-    Gains-append (pending c.args.self.now) _ (take n (drop buffer.end bytes)) n (
+    GrowsBy-append (pending_bytes c.args.self.now) _ (take n (drop buffer.end bytes)) n (
     ap (λ l. take (buffer.end + n - buffer.start) (drop buffer.start l)) (refilled buffer.bytes.len buffer.bytes.items bytes size)
     ∙ pending_more buffer bytes before n
     ∙ ap (λ l. l ++ take n (drop buffer.end bytes)) c.in_ok-make_room.ensures.same)
     (omega (arith, length-take n (drop buffer.end bytes), length-drop buffer.end bytes, c.in_ok-n.ensures.size))
 
 pub returns-clause-told : goal.returns-clause-told
-unfolding pending
+unfolding pending_bytes
 returns-clause-told g c =
     let buffer = c.make_room.new.self in
     let bytes = c.read_behind.new.bytes in
     let n = c.in_ok-n.n in
     let before = c.read_behind.ensures.before ∙ ap (λ l. take buffer.end l) c.deref_mut.ensures.value in
     let size = c.read_behind.auto.bytes ∙ c.deref_mut.ensures.len in
-    let e = gained (pending c.args.self.now) _ (take n (drop buffer.end bytes)) (
+    let e = gained (pending_bytes c.args.self.now) _ (take n (drop buffer.end bytes)) (
     ap (λ l. take (buffer.end + n - buffer.start) (drop buffer.start l)) (refilled buffer.bytes.len buffer.bytes.items bytes size)
     ∙ pending_more buffer bytes before n
     ∙ ap (λ l. l ++ take n (drop buffer.end bytes)) c.in_ok-make_room.ensures.same) in (

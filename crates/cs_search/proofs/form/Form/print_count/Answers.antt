@@ -3,22 +3,24 @@ use Rattle.std.proofs.lemmas.Result.{err_from_is_err_and}
 use Rattle.cs_tree.specs.Told.{Grows}
 use Rattle.cs_match.specs.Lines.{newline}
 use Rattle.cs_search.proofs.Printing.{refused}
-use Rattle.cs_tree.proofs.Fronts.{front_left, front_right, front_written}
+use Rattle.cs_tree.proofs.Fronts.{front_left, front_right}
+use Rattle.cs_search.specs.Report.{count_line}
 use Rattle.cs_search.proofs.form.Form.print_count.Goals as goal
 
 pub returns-in_err-write_all-2-clause-written : goal.returns-in_err-write_all-2-clause-written
+unfolding count_line
 returns-in_err-write_all-2-clause-written g c =
     let p = err_from_is_err_and c.from_residual-in_err-write_all-2.result c.from_residual-in_err-write_all-2.ensures.1 in
     let name = c.args.self.now.name.now in
     let before = g.O.Sink.taken c.args.out.now in
     let later = g.O.Sink.taken c.write_all-2.new.out in
-    let told = c.in_err-write_all-2.ensures.told in
     let named = subst (Grows before (g.O.Sink.taken c.write_all.new.out)) c.as_bytes.ensures.value c.in_ok-write_all.ensures.told in
     refused _ before later c.from_residual-in_err-write_all-2.result p.0 p.1
     (front_right name _ before _ later named
-    (front_left (58 ∷ 32 ∷ []) (decimal c.args.count ++ newline ∷ []) _ later (front_written (58 ∷ 32 ∷ []) _ later told.0 told.2)))
+    (front_left (58 ∷ 32 ∷ []) (decimal c.args.count ++ newline ∷ []) _ later c.in_err-write_all-2.ensures.told))
 
 pub returns-in_err-write_number-clause-written : goal.returns-in_err-write_number-clause-written
+unfolding count_line
 returns-in_err-write_number-clause-written g c =
     let p = err_from_is_err_and c.from_residual-in_err-write_number.result c.from_residual-in_err-write_number.ensures.1 in
     let name = c.args.self.now.name.now in
@@ -31,6 +33,7 @@ returns-in_err-write_number-clause-written g c =
     (front_left (decimal c.args.count) (newline ∷ []) _ later c.in_err-write_number.ensures.written)))
 
 pub returns-in_err-end_line-clause-written : goal.returns-in_err-end_line-clause-written
+unfolding count_line
 returns-in_err-end_line-clause-written g c =
     let p = err_from_is_err_and c.from_residual-in_err-end_line.result c.from_residual-in_err-end_line.ensures.1 in
     let name = c.args.self.now.name.now in

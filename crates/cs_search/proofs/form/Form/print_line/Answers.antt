@@ -3,7 +3,7 @@ use Rattle.std.proofs.lemmas.Result.{err_from_is_err_and}
 use Rattle.cs_search.specs.Report.{hit_line}
 use Rattle.cs_match.specs.Lines.{newline}
 use Rattle.cs_search.proofs.Printing.{refused}
-use Rattle.cs_tree.proofs.Fronts.{front_left, front_right, front_written}
+use Rattle.cs_tree.proofs.Fronts.{front_left, front_right}
 use Rattle.cs_search.proofs.form.Form.print_line.Goals as goal
 
 pub returns-in_err-write_all-clause-written : goal.returns-in_err-write_all-clause-written
@@ -13,8 +13,7 @@ returns-in_err-write_all-clause-written g c =
     let line = c.args.line.now in
     let before = g.O.Sink.taken c.args.out.now in
     let later = g.O.Sink.taken c.write_all.new.out in
-    let told = c.in_err-write_all.ensures.told in
     refused _ before later c.from_residual-in_err-write_all.result p.0 p.1
     (front_right _ _ before _ later c.in_ok-print_front.ensures.written
     (front_right _ _ _ _ later c.in_ok-print_number.ensures.written
-    (front_left line (newline ∷ []) _ later (front_written line _ later told.0 told.2))))
+    (front_left line (newline ∷ []) _ later c.in_err-write_all.ensures.told)))

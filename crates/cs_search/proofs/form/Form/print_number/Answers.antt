@@ -2,7 +2,7 @@ use Rattle.std.proofs.Common.{◌++◌, ◌∷◌, [], sym, subst, decimal, Bool
 use Rattle.std.proofs.lemmas.Result.{err_from_is_err_and}
 use Rattle.cs_tree.specs.Taken.{TakesFront}
 use Rattle.cs_search.proofs.Printing.{refused}
-use Rattle.cs_tree.proofs.Fronts.{front_right, front_written}
+use Rattle.cs_tree.proofs.Fronts.{front_right}
 use Rattle.cs_search.proofs.form.Form.print_number.Goals as goal
 
 pub returns-in_err-write_all-clause-written : goal.returns-in_err-write_all-clause-written
@@ -11,7 +11,6 @@ returns-in_err-write_all-clause-written g c =
     let digits = decimal c.args.number in
     let before = g.O.Sink.taken c.args.out.now in
     let later = g.O.Sink.taken c.write_all.new.out in
-    let told = c.in_err-write_all.ensures.told in
     refused _ before later c.from_residual-in_err-write_all.result p.0 p.1
     (subst (λ (number : Bool). TakesFront (if number then digits ++ 58 ∷ [] else []) before later) (sym c.if-not-self.false)
-    (front_right digits (58 ∷ []) before _ later c.in_ok-write_number.ensures.written (front_written (58 ∷ []) _ later told.0 told.2)))
+    (front_right digits (58 ∷ []) before _ later c.in_ok-write_number.ensures.written c.in_err-write_all.ensures.told))

@@ -3,7 +3,7 @@ use Rattle.std.specs.List.{All}
 use Rattle.std.proofs.lemmas.List.Elements.{All-weaker}
 use Rattle.cs_sieve.specs.Stands.{Stands}
 use Rattle.cs_sieve.specs.Codes.{HasGroup}
-use Rattle.cs_sieve.proofs.GroupLemmas.{none_where_no_code}
+use Rattle.cs_sieve.proofs.ByteGroupLemmas.{none_where_no_code}
 use Rattle.cs_sieve.proofs.sieve.Sieve.next.Goals as goal
 
 pub returns-clause-none : goal.returns-clause-none

@@ -1,5 +1,5 @@
 use Rattle.std.proofs.Common.{refl, arith}
-use Rattle.cs_sieve.proofs.GroupLemmas.{IsIn-marked, HasGroupsOf-marked}
+use Rattle.cs_sieve.proofs.ByteGroupLemmas.{IsIn-marked, HasGroupsOf-marked}
 use Rattle.cs_sieve.proofs.tables.Halves.add_byte.Goals as goal
 
 pub returns-clause-has : goal.returns-clause-has

@@ -1,4 +1,4 @@
-use Rattle.cs_sieve.proofs.GroupLemmas.{code_of_groups, HasCodesOf-each}
+use Rattle.cs_sieve.proofs.ByteGroupLemmas.{code_of_groups, HasCodesOf-each}
 use Rattle.cs_sieve.proofs.tables.Tables.add.Goals as goal
 
 pub returns-clause-has : goal.returns-clause-has

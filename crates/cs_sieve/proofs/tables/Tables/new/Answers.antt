@@ -3,7 +3,7 @@ use Rattle.std.specs.List.{All}
 use Rattle.std.proofs.lemmas.List.{take_all}
 use Rattle.std.proofs.lemmas.List.Elements.{All-more, All-weaker}
 use Rattle.cs_sieve.specs.Codes.{HasGroup}
-use Rattle.cs_sieve.proofs.GroupLemmas.{HasGroup-kept}
+use Rattle.cs_sieve.proofs.ByteGroupLemmas.{HasGroup-kept}
 use Rattle.cs_sieve.proofs.tables.Tables.new.Goals as goal
 
 pub loop-i-preserved : goal.loop-i-preserved

@@ -4,12 +4,12 @@ use Rattle.std.proofs.lemmas.List.{get_or-replicate}
 use Rattle.std.proofs.lemmas.List.Elements.{All-replicate}
 use Rattle.std.proofs.lemmas.Nat.Bits.{bit_at_ones}
 use Rattle.cs_syntax.specs.ByteSet.{all_bytes}
-use Rattle.cs_syntax.proofs.SetWordLemmas.{set_of_words, words_of-set_of_bits}
+use Rattle.cs_syntax.proofs.SetWordLemmas.{set_of_words, set_words-set_of_bits}
 use Rattle.cs_syntax.proofs.byte_set.ByteSet.all.Goals as goal
 
 pub invariant_of-result : goal.invariant_of-result
 invariant_of-result c =
-    words_of-set_of_bits (replicate 4 (2 ^ 64 - 1)) refl (All-replicate (λ (w : ℕ). w < 2 ^ 64) 4 (2 ^ 64 - 1) (lit< tt))
+    set_words-set_of_bits (replicate 4 (2 ^ 64 - 1)) refl (All-replicate (λ (w : ℕ). w < 2 ^ 64) 4 (2 ^ 64 - 1) (lit< tt))
 
 pub returns : goal.returns
 unfolding all_bytes

@@ -1,5 +1,5 @@
 use Rattle.std.proofs.Common.{arith}
-use Rattle.cs_syntax.proofs.SetWordLemmas.{words_of-set_of_bits, answers_begin, answered_no, answered_yes, answered_all}
+use Rattle.cs_syntax.proofs.SetWordLemmas.{set_words-set_of_bits, answers_begin, answered_no, answered_yes, answered_all}
 use Rattle.cs_syntax.proofs.byte_set.ByteSet.of.Goals as goal
 use Rattle.cs_syntax.proofs.byte_set.ByteSet.of.Goals.{then-test, else-test}
 
@@ -14,7 +14,7 @@ loop-b-preserved g c =
     ]
 
 pub invariant_of-result : goal.invariant_of-result
-invariant_of-result g c = let i = c.loop-b.invariant in words_of-set_of_bits c.loop-b.words i.four i.fit
+invariant_of-result g c = let i = c.loop-b.invariant in set_words-set_of_bits c.loop-b.words i.four i.fit
 
 pub returns : goal.returns
 returns g c = λ f agree. answered_all _ c.loop-b.b c.loop-b.words f (omega arith) c.loop-b.invariant agree

@@ -3,7 +3,7 @@ use Rattle.std.specs.Prelude.{count_ones}
 use Rattle.std.specs.Int.{trailing_zeros}
 use Rattle.cs_syntax.specs.Matching.{member}
 use Rattle.cs_syntax.specs.Members.{count}
-use Rattle.cs_syntax.proofs.SetLemmas.{only_counts, one_is_only}
+use Rattle.cs_syntax.proofs.AnswerListLemmas.{only_counts, one_is_only}
 use Rattle.cs_syntax.proofs.SetWordLemmas.{ones_count, lowest_member}
 use Rattle.cs_syntax.proofs.byte_set.ByteSet.single.Goals as goal
 

@@ -1,14 +1,14 @@
 use Rattle.std.proofs.Common.{◌≡◌, ◌∙◌, ap, subst, sym, arith}
 use Rattle.std.proofs.lemmas.List.{drop_all}
 use Rattle.cs_syntax.specs.CharRuns.{AreRuns, char_count}
-use Rattle.cs_syntax.proofs.CharSetLemmas.{sizes, sizes_count, Counts-at, Counts-more}
+use Rattle.cs_syntax.proofs.CharSetLemmas.{sizes, sizes_count, Counts-at, CountsDigits-more}
 use Rattle.cs_syntax.proofs.char_set.CharSet.len.Goals as goal
 
 pub overflow_add-count-in-loop-run : goal.overflow_add-count-in-loop-run
 overflow_add-count-in-loop-run c =
     let runs = subst AreRuns (sym c.deref-run-items.ensures.value) c.self.invariant in
     let fit = (sizes_count _ runs).1 in
-    let more = Counts-more _ _ _ _ (Counts-at _ _ _ _ c.loop-run.invariant c.loop-run-test.true) in
+    let more = CountsDigits-more _ _ _ _ (Counts-at _ _ _ _ c.loop-run.invariant c.loop-run-test.true) in
     omega (arith, fit, more.2, c.place.ensures, c.place-in-loop-run.ensures)
 
 pub returns : goal.returns

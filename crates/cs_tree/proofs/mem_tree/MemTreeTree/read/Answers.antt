@@ -1,6 +1,6 @@
 use Rattle.std.proofs.Common.{ap, sym, ◌∙◌, rules}
 use Rattle.cs_tree.specs.MemoryItems.{left_at}
-use Rattle.cs_tree.proofs.PlaceLemmas.{reads_on}
+use Rattle.cs_tree.proofs.StoredItemLemmas.{reads_on}
 use Rattle.cs_tree.proofs.mem_tree.MemTreeTree.read.Goals as goal
 
 pub returns-in-Ok-clause-bytes : goal.returns-in-Ok-clause-bytes

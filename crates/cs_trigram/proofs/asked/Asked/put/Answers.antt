@@ -1,4 +1,4 @@
-use Rattle.cs_trigram.proofs.NodeLemmas.{on_ok, some_of, none_is}
+use Rattle.cs_trigram.proofs.NodeListLemmas.{on_ok, some_of, none_is}
 use Rattle.cs_trigram.proofs.asked.Asked.put.Goals as goal
 
 pub returns-in-Some-clause-asks : goal.returns-in-Some-clause-asks

@@ -1,13 +1,14 @@
-use Rattle.std.proofs.Common.{◌≡◌, ◌&&◌, ◌≤◌, ◌++◌, ℕ, Bool, List, [], length, map, sym, ap, ◌∙◌, subst, arith}
+use Rattle.std.proofs.Common.{◌≡◌, ◌&&◌, ◌≤◌, ◌++◌, ℕ, Bool, List, [], length, map, sym, ap, ◌∙◌, subst, arith, true}
 use Rattle.cs_trigram.specs.QueryNumbers.{are_trigrams}
 use Rattle.cs_syntax.specs.Matching.{more}
 use Rattle.std.specs.List.{list_all}
 use Rattle.std.proofs.lemmas.Bool.{and_from}
 use Rattle.std.proofs.lemmas.List.{length-map}
 use Rattle.cs_trigram.specs.Counted.{AreCounted}
-use Rattle.cs_trigram.specs.Sample.{AreDifferent, IsAsked, IsFront, all_hold, has_any, with_words, concatenations}
+use Rattle.cs_tree.specs.Folders.{are_distinct}
+use Rattle.cs_trigram.specs.Sample.{IsAsked, IsFront, all_hold, has_any, with_words, concatenations}
 use Rattle.cs_trigram.specs.declared.counted.Counted.{Counted}
-use Rattle.cs_trigram.proofs.NodeLemmas.{some_of}
+use Rattle.cs_trigram.proofs.NodeListLemmas.{some_of}
 use Rattle.cs_trigram.proofs.CountLemmas.{only_word}
 use Rattle.cs_trigram.proofs.ConcatenationLemmas.{concatenations_of_one}
 use Rattle.cs_trigram.proofs.AskedLemmas.{asked_few, asked_pass, few_tree}
@@ -36,7 +37,7 @@ returns-in-Some-clause-asks c = λ t ts words parts asked.
     let needs : (ℕ → Bool) → Bool = λ set. all_hold c.args.self.now.needs.items set in
     let us = c.args.words.now in
     let passed : c.deref.result.now ≡ front = c.deref.ensures.value ∙ ap (λ v. v.items) c.replace-passed.ensures.value in
-    let differ = subst AreDifferent (sym passed) asked.0.run.each.different in
+    let differ = subst (λ (ws : List (List ℕ)). are_distinct ws ≡ true) (sym passed) asked.0.run.each.different in
     let longer = some_of c.in_ok-longer.field-0 c.in-Some.longer _ _ (c.in_ok-longer.ensures words.1.different differ) c.in-Some.is in
     let same : c.in-Some.longer.items ≡ with_words [] (concatenations us front) =
     longer.0 ∙ ap (λ (vs : List (List ℕ)). with_words [] (concatenations us vs)) passed in

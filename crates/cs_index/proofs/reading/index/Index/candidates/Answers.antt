@@ -5,4 +5,4 @@ use Rattle.cs_index.proofs.OpenLemmas.{entries_rise}
 use Rattle.cs_index.proofs.reading.index.Index.candidates.Goals as goal
 
 pub ids_meeting-requires : goal.ids_meeting-requires
-ids_meeting-requires c = ap (λ (p : Parts). rises p.entries) (sym c.self.view_is) ∙ entries_rise (length c.self.inside.cut.postings.now) c.self.inside.cut.list_index.now c.self.invariant.list_index
+ids_meeting-requires c = ap (λ (p : Parts). rises p.entries) (sym c.self.view_is) ∙ entries_rise (length c.self.inside.cut.postings.now) c.self.inside.cut.list_index.now c.self.invariant.read.entries

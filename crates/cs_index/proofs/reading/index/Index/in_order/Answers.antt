@@ -1,7 +1,7 @@
 use Rattle.std.proofs.Common.{subst}
 use Rattle.cs_index.specs.Parts.{AreParts}
 use Rattle.cs_index.specs.Cut.{lent_sections}
-use Rattle.cs_index.proofs.PartsLemmas.{parts_read}
+use Rattle.cs_index.proofs.OpenedPartsLemmas.{parts_read}
 use Rattle.cs_index.proofs.reading.index.Index.in_order.Goals as goal
 
 pub returns-clause-parts : goal.returns-clause-parts

@@ -15,13 +15,13 @@ read_trigram-requires c =
     let within = placed c.self.inside.cut.list_index.now c.args.self.now c.args.place c.lists.result (ap (λ (p : Parts). p.entries) c.self.view_is) c.lists.ensures c.if-place-lists.false in
     omega (arith, within)
 
-pub list_of-requires-clause-within : goal.list_of-requires-clause-within
-list_of-requires-clause-within c =
+pub entry_postings-requires-clause-within : goal.entry_postings-requires-clause-within
+entry_postings-requires-clause-within c =
     let within = placed c.self.inside.cut.list_index.now c.args.self.now c.args.place c.lists.result (ap (λ (p : Parts). p.entries) c.self.view_is) c.lists.ensures c.if-place-lists.false in
     omega (arith, within)
 
-pub list_of-requires-clause-bound : goal.list_of-requires-clause-bound
-list_of-requires-clause-bound c =
+pub entry_postings-requires-clause-bound : goal.entry_postings-requires-clause-bound
+entry_postings-requires-clause-bound c =
     let bound = few_read (lent_sections c.self.inside.cut) c.self.invariant in
     let same : c.len.result ≡ length (texts_of c.self.inside.cut.names.now) = c.len.ensures ∙ sym (ap (λ (p : Parts). length p.names) c.self.view_is) in
     omega (arith, bound, same)
@@ -29,5 +29,5 @@ list_of-requires-clause-bound c =
 pub returns : goal.returns
 returns c =
     let within = placed c.self.inside.cut.list_index.now c.args.self.now c.args.place c.lists.result (ap (λ (p : Parts). p.entries) c.self.view_is) c.lists.ensures c.if-place-lists.false in
-    ap (λ r. Some (c.read_trigram.result, r)) c.list_of.ensures
+    ap (λ r. Some (c.read_trigram.result, r)) c.entry_postings.ensures
     ∙ list_given (lent_sections c.self.inside.cut) c.args.self.now c.args.place c.len.result c.read_trigram.result c.self.view_is within c.len.ensures c.read_trigram.ensures

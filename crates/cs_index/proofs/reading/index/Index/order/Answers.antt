@@ -5,8 +5,9 @@ use Rattle.std.specs.Cmp.Lexicographic.{nat_list_cmp_total}
 use Rattle.std.specs.Ordering.{is_lt}
 use Rattle.cs_tree.specs.NamesAscending.{are_ascending}
 use Rattle.cs_tree.proofs.InOrder.{by_key}
-use Rattle.cs_index.specs.Order.{IsOrder, name_in, id_in, lent_names}
-use Rattle.cs_index.proofs.OrderLemmas.{name_lent, in_order, held_twice}
+use Rattle.cs_index.specs.Order.{IsOrder, name_in, id_in}
+use Rattle.cs_index.specs.LentNames.{lent_names}
+use Rattle.cs_index.proofs.NameOrderLemmas.{name_lent, in_order, held_twice}
 use Rattle.cs_index.proofs.reading.index.Index.order.Goals as goal
 
 pub returns-then-not-names_ascend : goal.returns-then-not-names_ascend

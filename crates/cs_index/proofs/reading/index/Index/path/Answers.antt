@@ -1,5 +1,5 @@
 use Rattle.std.proofs.Common.{◌∙◌, ap, slice_get}
-use Rattle.cs_index.proofs.NameLemmas.{text_given}
+use Rattle.cs_index.proofs.NameOffsetLemmas.{text_given}
 use Rattle.cs_index.proofs.reading.index.Index.path.Goals as goal
 
 pub returns : goal.returns

@@ -11,7 +11,7 @@ use Rattle.cs_index.proofs.CopiesLemmas.{below_more, below_push, copied, grown_o
 use Rattle.cs_index.proofs.reading.stored.StoredIndex.copy_one.Goals as goal
 
 pub find_entry-requires : goal.find_entry-requires
-find_entry-requires g c = ap (is_list_index c.self.inside.room) c.deref.ensures.value ∙ c.self.invariant.0.entries
+find_entry-requires g c = ap (is_list_index c.self.inside.room) c.deref.ensures.value ∙ c.self.invariant.0.read.entries
 
 pub returns-in_default-clause-below : goal.returns-in_default-clause-below
 returns-in_default-clause-below g c = below_more (entries_in c.args.list_index.now.items) c.args.trigram (c.args.trigram + 1) (omega arith) c.requires.below

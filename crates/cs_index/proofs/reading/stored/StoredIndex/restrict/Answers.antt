@@ -7,7 +7,7 @@ use Rattle.cs_index.proofs.reading.stored.StoredIndex.restrict.Goals as goal
 pub invariant_of-result : goal.invariant_of-result
 invariant_of-result g c =
     made_read c.self.inside.paths.items c.self.inside.names.items c.self.inside.name_index.items c.self.inside.list_index.items c.in_ok-list_index.list_index.items c.in_ok-list_index.postings.items c.self.inside.start c.self.inside.room
-    c.self.invariant.0 c.in_ok-list_index.ensures.entries c.self.invariant.1
+    c.self.invariant.0 c.in_ok-list_index.ensures.entries
 
 pub returns-clause-answers : goal.returns-clause-answers
 returns-clause-answers g c =

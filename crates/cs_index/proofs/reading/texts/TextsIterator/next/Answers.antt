@@ -1,7 +1,7 @@
 use Rattle.std.proofs.Common.{◌≡◌, ◌∙◌, ◌∷◌, [], ap, sym, List, ℕ, length, arith}
 use Rattle.cs_index.specs.Opening.{texts_of}
-use Rattle.cs_index.proofs.ReadingLemmas.{texts_after, formed_after, none_formed}
-use Rattle.cs_index.proofs.TextLemmas.{lent_some}
+use Rattle.cs_index.proofs.SectionReadLemmas.{texts_after, formed_after, none_formed}
+use Rattle.cs_index.proofs.SectionStringLemmas.{lent_some}
 use Rattle.cs_index.proofs.reading.texts.TextsIterator.next.Goals as goal
 
 pub returns-in_err-text-clause-steps : goal.returns-in_err-text-clause-steps

@@ -11,7 +11,7 @@ use Rattle.cs_index.specs.Waiting.{lists_with, IsBatch}
 use Rattle.cs_index.specs.declared.writing.batch.Batch.{Batch}
 use Rattle.cs_index.specs.declared.writing.builder.Builder.TheInside.{Inside}
 use Rattle.cs_index.specs.Building.{complete_lists, built_of}
-use Rattle.cs_index.specs.Built.{Built, IsBuilt, with_name}
+use Rattle.cs_index.specs.Built.{Built, IsBuilt, with_entry}
 use Rattle.cs_index.proofs.ResultLemmas.{any_err}
 use Rattle.cs_index.proofs.GatheredLemmas.{length-entries_of}
 use Rattle.cs_index.proofs.BuiltLemmas.{entries_added, entries_given}
@@ -85,7 +85,7 @@ added : (b : Inside) (now : Built) (names : List (List ℕ)) (name gs : List ℕ
     names ≡ b.names ++ name ∷ [] → batch.keys.items ≡ room.keys.items ++ keys_of (length b.names - room.base) gs →
     batch.base ≡ room.base → length b.names < room.base + 128 → AreDistinct gs →
     AllByRecursion (λ g. g < closing_trigram) gs → Hold b now b.names lists room →
-    Hold b (with_name now name (set_of_numbers gs)) names lists batch
+    Hold b (with_entry now name (set_of_numbers gs)) names lists batch
 added b now names name gs lists room batch named keys base bound distinct below h =
     let n : ℕ = length b.names in
     let place : ℕ = n - room.base in
@@ -111,7 +111,7 @@ added b now names name gs lists room batch named keys base bound distinct below 
           (entries_added b.names name (with_keys room.base lists rest) (with_keys room.base lists (rest ++ keys_of
           place gs)) gs
           (file_given n room.base place lists rest gs h.held.waits small at))
-          ∙ ap (λ (built : Built). with_name built name (set_of_numbers gs)) h.is;
+          ∙ ap (λ (built : Built). with_entry built name (set_of_numbers gs)) h.is;
     }
 
 pub invariant_of-self : goal.invariant_of-self
@@ -175,7 +175,7 @@ more : (b : Inside) (now : Built) (names : List (List ℕ)) (name gs : List ℕ)
     names ≡ b.names ++ name ∷ [] → batch.keys.items ≡ spare.keys.items ++ keys_of (id - spare.base) gs →
     batch.base ≡ spare.base → AreDistinct gs →
     AllByRecursion (λ g. g < closing_trigram) gs →
-    Hold b (with_name now name (set_of_numbers gs)) names lists batch
+    Hold b (with_entry now name (set_of_numbers gs)) names lists batch
 more b now names name gs lists id room spare batch is at held same keys base bound named pushed base'
     distinct below =
     added b now names name gs lists spare batch named (pushed

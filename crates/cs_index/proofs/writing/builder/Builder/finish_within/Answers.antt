@@ -3,7 +3,8 @@ use Rattle.cs_index.specs.PostingLists.{entries_of}
 use Rattle.std.proofs.lemmas.Result.{IfOk-weaker}
 use Rattle.std.specs.List.{AllByRecursion}
 use Rattle.cs_index.specs.Image.{Posting, IsString, image_of}
-use Rattle.cs_index.specs.Laid.{Laid, entries_laid, with_postings}
+use Rattle.cs_index.specs.Laid.{Laid, entries_laid}
+use Rattle.cs_index.specs.LaidLists.{with_postings}
 use Rattle.cs_index.specs.Gathering.{ordered_lists, GiveSame}
 use Rattle.cs_index.specs.Keys.{with_keys}
 use Rattle.cs_index.specs.Waiting.{lists_with}

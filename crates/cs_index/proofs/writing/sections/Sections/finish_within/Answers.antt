@@ -24,6 +24,16 @@ returns-then-self-eq0-clause-too_large c =
     c.if-self-eq0.true c.in_ok-out.ensures in
     λ is. subst (λ (bs : List ℕ). c.args.most < length bs) end.image (c.lay_back.ensures.too_large is)
 
+pub lay_back-requires-2-clause-lists : goal.lay_back-requires-2-clause-lists
+lay_back-requires-2-clause-lists c =
+    let bytes : c.push_reserved.new.self.items ≡ c.self.inside.out.items ++ 0 ∷ [] = c.push_reserved.ensures.items
+    ∙ ap (λ bs. bs ++ 0 ∷ []) c.reserve.ensures.items in
+    let entries = c.deref.ensures.value ∙ c.push_reserved-2.ensures.items
+    ∙ ap (λ es. es ++ hand_of c.self.inside ∷ []) c.reserve-2.ensures.items in
+    let end = ended_some c.self.inside c.args.self c.push_reserved.new.self.items c.deref.result.now c.self.view_is
+    c.self.invariant c.if-self-eq0.false bytes entries in
+    end.lists
+
 pub lay_back-requires-2-clause-entries : goal.lay_back-requires-2-clause-entries
 lay_back-requires-2-clause-entries c =
     let bytes : c.push_reserved.new.self.items ≡ c.self.inside.out.items ++ 0 ∷ [] = c.push_reserved.ensures.items

@@ -2,7 +2,7 @@ use Rattle.std.proofs.lemmas.Grind.{common_steps}
 use Rattle.std.proofs.Common.{◌≡◌, ◌+◌, ◌-◌, ◌≤◌, ◌++◌, ℕ, List, length, take, drop, sym, ap, subst, ◌∙◌, arith, length-take, length-drop}
 use Rattle.std.proofs.lemmas.List.{take_all}
 use Rattle.std.proofs.Math.Seq.{take-add}
-use Rattle.cs_index.proofs.RunLemmas.{ascends_drop}
+use Rattle.cs_index.proofs.KeyRunLemmas.{ascends_drop}
 use Rattle.cs_index.proofs.SegmentLemmas.{ascends_take}
 use Rattle.cs_index.proofs.writing.segment.Segment.of.Goals as goal
 

@@ -1,0 +1,140 @@
+-- What jobs print.
+use Rattle.std.proofs.Common.{◌≡◌, ◌≢◌, ◌⊎◌, ℕ, Bool, cond, List, [], ◌∷◌, ◌++◌, length, refl, sym, ap, subst, ◌∙◌, inl, inr, arith, append_assoc, append-nil, Option, Some, None, Result, Ok}
+use Rattle.cs_tree.specs.PathSet.{Paths}
+use Rattle.std.specs.Prelude.{codes, string_bytes, option_map}
+use Rattle.std.specs.Option.{option_or}
+use Rattle.std.proofs.lemmas.Bool.{ne_eqb, eq-eqb}
+use Rattle.cs_tree.specs.PathSet as set
+use Rattle.cs_tree.specs.Cover.{least}
+use Rattle.cs_tree.specs.Snapshot.{Snapshot}
+use Rattle.cs_tree.specs.Told.{Grows, Taken}
+use Rattle.cs_index.specs.Opening.{opening}
+use Rattle.cs_index.specs.OpenedParts.{Parts}
+use Rattle.cs_index.specs.declared.fault.IndexFault.{IndexFault}
+use Rattle.cs_words.specs.declared.jobs.IndexJob.{IndexJob}
+use Rattle.cs_words.specs.declared.jobs.Reply.TheVariants.{Done, Refused}
+use Rattle.cs_words.specs.declared.fault.CindexFault.{CindexFault}
+use Rattle.cs_history.specs.Jobs.{given_paths, given_texts}
+use Rattle.cs_tree.specs.Taken.{TakesFront}
+use Rattle.cs_cindex.specs.Notices.{AreLinesIn, BeginLinesIn, PrintsLines, PrintsLinesFront}
+use Rattle.cs_cindex.specs.Files.{IsIndexingFault}
+use Rattle.cs_history.specs.JobKinds.{JobKind, lists, clears, walks}
+use Rattle.cs_cindex.specs.Refusals.{base, early_fault_of, early_walk_fault, base_fault, EarlyOr, IsOutputFault}
+use Rattle.cs_cindex.specs.JobPaths.{AreCleanFault, AreCleaned, starts}
+use Rattle.cs_cindex.specs.Next.{opening_paths, base_paths, paths_of_job}
+use Rattle.cs_words.specs.declared.fault.CindexFault.TheVariants.{NoIndex, BadIndex, Unsorted, TooLarge, BadPath, Write, Memory}
+use Rattle.cs_cindex.specs.Output.{path_lines, AreTooMany, IsMidway, WalkPrints, WalkPrintsFront, WalkPrintsSome, JobPrintsBy}
+use Rattle.cs_tree.proofs.Fronts.{front_none, front_left, front_right}
+use Rattle.cs_tree.proofs.Growing.{Grows-same}
+use Rattle.cs_cindex.proofs.GoingLemmas.{walk_as_set, count_texts}
+
+-- ---- lines of walks
+
+begin_none : (log_skip : Bool) (tree : Option Snapshot) (paths : Paths) → BeginLinesIn log_skip tree paths []
+begin_none log_skip None paths = tt
+begin_none log_skip (Some tree) paths = λ is all h. refl
+
+cut_none : (job : IndexJob) (tree : Option Snapshot) (old : Option (List ℕ)) (n : ℕ) (taken : Option Taken) → WalkPrintsFront job tree old n n taken taken
+cut_none job tree old n taken = record { lines = []; due = begin_none job.log_skip tree (paths_of_job job old); counted = tt; front = front_none [] taken }
+
+-- nothing was printed
+pub nothing_printed : (early : Option CindexFault) (fault : CindexFault) (job : IndexJob) (tree : Option Snapshot) (old : Option (List ℕ)) (n : ℕ) (taken : Option Taken) → EarlyOr early (IsOutputFault fault) fault → WalkPrintsSome early fault job tree old n n taken taken
+nothing_printed None Write job tree old n taken h = inr (tt, cut_none job tree old n taken)
+nothing_printed None Memory job tree old n taken h = inr (tt, cut_none job tree old n taken)
+nothing_printed None TooLarge job tree old n taken h = absurd h
+nothing_printed None NoIndex job tree old n taken h = absurd h
+nothing_printed None (BadIndex fault) job tree old n taken h = absurd h
+nothing_printed None Unsorted job tree old n taken h = absurd h
+nothing_printed None (BadPath place) job tree old n taken h = absurd h
+nothing_printed (Some early) fault job tree old n taken h = Grows-same taken
+
+-- where a path of the job is refused
+clean_midway : (job : IndexJob) (tree : Option Snapshot) (old : Option (List ℕ)) (fault : CindexFault) → AreCleanFault (string_bytes job.cwd) (given_texts job) fault → early_walk_fault job old ≡ None → IsOutputFault fault
+clean_midway job tree old (BadPath place) h e =
+    absurd (some_none (sym (ap (λ bad. option_or (option_map (λ at. BadPath at) bad) (base_fault job old)) h) ∙ e))
+  where
+    some_none : Some (BadPath place) ≡ None → ⊥
+    some_none is = cc
+clean_midway job tree old Memory h e = tt
+clean_midway job tree old NoIndex h e = h
+clean_midway job tree old (BadIndex fault) h e = absurd h
+clean_midway job tree old Unsorted h e = absurd h
+clean_midway job tree old TooLarge h e = absurd h
+clean_midway job tree old Write h e = absurd h
+
+pub unclean_printed : (job : IndexJob) (tree : Option Snapshot) (old : Option (List ℕ)) (fault : CindexFault) (n : ℕ) (taken : Option Taken) → AreCleanFault (string_bytes job.cwd) (given_texts job) fault → WalkPrintsSome (early_walk_fault job old) fault job tree old n n taken taken
+unclean_printed job tree old fault n taken h = by_early (early_walk_fault job old) (clean_midway job tree old fault h)
+  where
+    by_early : (early : Option CindexFault) → (early ≡ None → IsOutputFault fault) → WalkPrintsSome early fault job tree old n n taken taken
+    by_early None midway = nothing_printed None fault job tree old n taken (midway refl)
+    by_early (Some early) midway = Grows-same taken
+
+-- ---- the paths that are walked
+
+pub own_walked : (job : IndexJob) (ts paths : List (List ℕ)) (old : Option (List ℕ)) → AreCleaned job ts → length job.paths.items ≢ 0 → paths ≡ set.items (least (set.from_list ts)) → set.from_list paths ≡ paths_of_job job old
+own_walked job ts paths old clean some e =
+    walk_as_set paths ts e ∙ ap (λ ps. least (set.from_list ps)) clean.are
+    ∙ sym (ap (λ b. least (cond b (base_paths old) (given_paths job))) (ne_eqb (length job.paths.items) 0 some))
+
+pub start_walk : (job : IndexJob) (old : List ℕ) (parts : Parts) (ts paths : List (List ℕ)) → AreCleaned job ts → opening old ≡ Ok parts → paths ≡ set.items (least (set.from_list (starts ts parts.paths))) → set.from_list paths ≡ paths_of_job job (Some old)
+start_walk job old parts [] paths clean opens e =
+    walk_as_set paths parts.paths e ∙ ap (λ (o : Result Parts IndexFault). least (opening_paths o)) (sym opens)
+    ∙ sym (ap (λ b. least (cond b (base_paths (Some old)) (given_paths job))) (eq-eqb (length job.paths.items) 0 (sym (count_texts job [] clean))))
+start_walk job old parts (t ∷ ts) paths clean opens e =
+    own_walked job (t ∷ ts) paths (Some old) clean (λ none. let n = count_texts job (t ∷ ts) clean in omega (arith, none, n)) e
+
+-- the same lines, over the paths in other words
+pub prints_over : (job : IndexJob) (tree : Option Snapshot) (paths : Paths) (old : Option (List ℕ)) (n m : ℕ) (a b : Option Taken) → paths ≡ paths_of_job job old → PrintsLines (AreLinesIn job.log_skip tree paths) n m a b → WalkPrints job tree old n m a b
+prints_over job tree paths old n m a b e h = subst (λ ps. PrintsLines (AreLinesIn job.log_skip tree ps) n m a b) e h
+
+module _ (job : IndexJob) (tree : Option Snapshot) (paths : Paths) (old : Option (List ℕ)) (early : Option CindexFault) (n m : ℕ) (a b : Option Taken) (fault : CindexFault) (e : paths ≡ paths_of_job job old) (none : early ≡ None) where
+  -- all of them
+  pub whole_over : PrintsLines (AreLinesIn job.log_skip tree paths) n m a b → WalkPrintsSome early fault job tree old n m a b
+  whole_over h = subst (λ o. WalkPrintsSome o fault job tree old n m a b) (sym none) (inl (prints_over job tree paths old n m a b e h))
+
+  midway_over : IsMidway fault tree paths → PrintsLinesFront (BeginLinesIn job.log_skip tree paths) n m a b → WalkPrintsSome early fault job tree old n m a b
+  midway_over midway h =
+      subst (λ o. WalkPrintsSome o fault job tree old n m a b) (sym none)
+      (inr (subst (IsMidway fault tree) e midway, subst (λ ps. PrintsLinesFront (BeginLinesIn job.log_skip tree ps) n m a b) e h))
+
+  -- a front of them, or all where the index is too large
+  pub front_over : IsIndexingFault fault → (fault ≡ TooLarge → AreTooMany tree paths ⊎ PrintsLines (AreLinesIn job.log_skip tree paths) n m a b) → PrintsLinesFront (BeginLinesIn job.log_skip tree paths) n m a b → WalkPrintsSome early fault job tree old n m a b
+  front_over only whole h =
+      elim (cases_midway fault only) [
+        | inl large ↦ elim (whole large) [
+          | inl many ↦ midway_over (subst (λ f. IsMidway f tree paths) (sym large) many) h
+          | inr all ↦ whole_over all
+        ]
+        | inr midway ↦ midway_over midway h
+      ]
+    where
+      cases_midway : (f : CindexFault) → IsIndexingFault f → (f ≡ TooLarge) ⊎ IsMidway f tree paths
+      cases_midway TooLarge is = inl refl
+      cases_midway Write is = inr tt
+      cases_midway Memory is = inr tt
+      cases_midway NoIndex is = inr is
+      cases_midway (BadIndex bad) is = inr is
+      cases_midway Unsorted is = inr is
+      cases_midway (BadPath place) is = inr is
+
+-- ---- refusals after all was printed
+
+pub prints_refused : (kind : JobKind) (job : IndexJob) (tree : Option Snapshot) (old : Option (List ℕ)) (n m : ℕ) (a b : Option Taken) (fault : CindexFault) → early_fault_of kind job old ≡ None → JobPrintsBy kind Done job tree old n m a b → JobPrintsBy kind (Refused fault) job tree old n m a b
+prints_refused lists job tree old n m a b fault none h = h
+prints_refused clears job tree old n m a b fault none h = h
+prints_refused walks job tree old n m a b fault none h = subst (λ o. WalkPrintsSome o fault job tree (base job old) n m a b) (sym none) (inl h)
+
+-- ---- the lines of paths
+
+abbrev line_of : List ℕ → List ℕ
+line_of path = path ++ codes "\n"
+
+pub lines_more : (done text all : List ℕ) (rest later : List (List ℕ)) → rest ≡ text ∷ later → done ++ path_lines rest ≡ all → (done ++ line_of text) ++ path_lines later ≡ all
+lines_more done text all rest later e h = append_assoc done (line_of text) (path_lines later) ∙ ap (λ ps. done ++ path_lines ps) (sym e) ∙ h
+
+pub lines_cut : (done text all : List ℕ) (rest later : List (List ℕ)) (a b c : Option Taken) → rest ≡ text ∷ later → done ++ path_lines rest ≡ all → Grows a b done → TakesFront (line_of text) b c → TakesFront all a c
+lines_cut done text all rest later a b c e h g f =
+    subst (λ xs. TakesFront xs a c) (ap (λ ps. done ++ path_lines ps) (sym e) ∙ h) (front_right done (line_of text ++ path_lines later) a b c g (front_left (line_of text) (path_lines later) b c f))
+
+pub lines_end : (done all : List ℕ) (rest : List (List ℕ)) (a b : Option Taken) → rest ≡ [] → done ++ path_lines rest ≡ all → Grows a b done → Grows a b all
+lines_end done all rest a b e h g = subst (Grows a b) (sym (append-nil done) ∙ ap (λ ps. done ++ path_lines ps) (sym e) ∙ h) g

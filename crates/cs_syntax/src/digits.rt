@@ -1,0 +1,44 @@
+// Digits, and the numbers that they write.
+ghost use Rattle.std.specs.Prelude.{◌≡◌, ◌+◌, ◌*◌, ◌<◌, ◌≤◌, length, min};
+ghost use Rattle.cs_syntax.specs.Numbers.{digit_value, is_digit, count_digits, number_of_digits};
+
+/// The value of a digit, or 16.
+#[tactic(auto, unfolding(crate::specs::Numbers::digit_value))]
+fn digit_value(byte: u8) -> u32
+    ensures { result ≡ digit_value byte }
+{
+    match byte {
+        b'0'..=b'9' => (byte - b'0') as u32,
+        b'a'..=b'f' => (byte - b'a' + 10) as u32,
+        b'A'..=b'F' => (byte - b'A' + 10) as u32,
+        _ => 16,
+    }
+}
+
+/// Whether the byte is a digit.
+pub(crate) fn is_digit(base: u32, byte: u8) -> bool
+    ensures { result ≡ is_digit base byte }
+{
+    digit_value(byte) < base
+}
+
+/// How many digits stand at the front.
+pub(crate) fn count_digits(base: u32, text: &[u8]) -> usize
+    ensures count { result ≡ count_digits base text.now }
+    ensures within { result ≤ length text.now }
+{
+    text.iter().take_while(|b| is_digit(base, **b)).count()
+}
+
+/// The number that the digits write, or the largest `u32` where it is larger.
+pub(crate) fn value_in(base: u32, digits: &[u8]) -> u32
+    ensures { result ≡ min (number_of_digits base digits.now) u32.MAX }
+{
+    let mut value: u32 = 0;
+    for &digit in digits {
+        value = value
+            .saturating_mul(base)
+            .saturating_add(digit_value(digit));
+    }
+    value
+}

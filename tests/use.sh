@@ -179,6 +179,8 @@ mkdir remote
 printf '#!/bin/sh\n' > remote/ssh
 cat >> remote/ssh <<'END'
 # Stands for ssh: the machine is this one, with the index of its name; the words behind it are a command line.
+# As sshd does, it names the shell, without which GNU parallel prints nothing over there.
+export SHELL=/bin/sh
 while :; do
     case $1 in -[lop]) shift 2 ;; -*) shift ;; *) break ;; esac
 done

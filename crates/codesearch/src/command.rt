@@ -2,7 +2,7 @@
 ghost use Rattle.std.specs.Prelude.{◌≤◌, IfOk};
 ghost use Rattle.std.specs.Mem.{FitsInMemory};
 
-use crate::storage::{After, FileFault};
+use crate::storage::{After, StorageFault};
 use cs_tools::{
     CindexFault, GrepJob, IndexJob, Job, Refusal, Reply, SearchJob, Status, StoredIndex, Tool,
     ToolFault, WordFault, cgrep, cindex, csearch, csearch_stored, list_stored, message, read_words,
@@ -100,7 +100,7 @@ pub(crate) fn run<S: Store, T: Tree, R: Source, O: Sink, E: Sink>(
     match run_tool(alloc, tool, words, folder, index, tree, input, out, err) {
         Ok(ran) => ran,
         Err(fault) => {
-            let fault = FileFault::from(fault);
+            let fault = StorageFault::from(fault);
             Ran::ended(blame(alloc, "cannot read", file, fault, err))
         }
     }
@@ -321,12 +321,12 @@ pub(crate) fn blame<E: Sink>(
     alloc: Global,
     what: &str,
     file: &str,
-    fault: FileFault,
+    fault: StorageFault,
     err: &mut E,
 ) -> u8
     ensures { result ≤ 2 }
 {
-    if fault == FileFault::Memory {
+    if fault == StorageFault::Memory {
         return refuse(err, OUT_OF_MEMORY);
     }
     refuse_by(err, format!(in alloc; "codesearch: {what} {file}\n"))

@@ -45,49 +45,49 @@ impl After {
 
 /// Why the index file is not read or written.
 #[derive(Clone, Copy, Debug, PartialEq, Eq, Drop)]
-pub(crate) enum FileFault {
+pub(crate) enum StorageFault {
     /// The system does not read or write it.
     Failed,
     /// A growth was refused.
     Memory,
 }
 
-impl From<io::Error> for FileFault {
-    fn from(error: io::Error) -> FileFault {
+impl From<io::Error> for StorageFault {
+    fn from(error: io::Error) -> StorageFault {
         match error.kind() {
-            ErrorKind::OutOfMemory => FileFault::Memory,
-            _ => FileFault::Failed,
+            ErrorKind::OutOfMemory => StorageFault::Memory,
+            _ => StorageFault::Failed,
         }
     }
 }
 
-impl From<IoFault> for FileFault {
-    fn from(fault: IoFault) -> FileFault {
+impl From<IoFault> for StorageFault {
+    fn from(fault: IoFault) -> StorageFault {
         match fault {
-            IoFault::Failed => FileFault::Failed,
-            IoFault::Memory => FileFault::Memory,
+            IoFault::Failed => StorageFault::Failed,
+            IoFault::Memory => StorageFault::Memory,
         }
     }
 }
 
-impl From<TreeFault> for FileFault {
-    fn from(fault: TreeFault) -> FileFault {
+impl From<TreeFault> for StorageFault {
+    fn from(fault: TreeFault) -> StorageFault {
         match fault {
-            TreeFault::Memory => FileFault::Memory,
-            _ => FileFault::Failed,
+            TreeFault::Memory => StorageFault::Memory,
+            _ => StorageFault::Failed,
         }
     }
 }
 
-impl From<AllocError> for FileFault {
-    fn from(_refused: AllocError) -> FileFault {
-        FileFault::Memory
+impl From<AllocError> for StorageFault {
+    fn from(_refused: AllocError) -> StorageFault {
+        StorageFault::Memory
     }
 }
 
 /// The name of the index file: the value of `CSEARCHINDEX`, and where that is unset or empty, the file
 /// `.csearchindex` in the folder that `HOME` names.
-pub(crate) fn index_file(rt: &HostRuntime) -> Result<String, FileFault> {
+pub(crate) fn index_file(rt: &HostRuntime) -> Result<String, StorageFault> {
     let mut file = variable(rt, "CSEARCHINDEX")?;
     if file.is_empty() {
         file = variable(rt, "HOME")?;
@@ -97,12 +97,12 @@ pub(crate) fn index_file(rt: &HostRuntime) -> Result<String, FileFault> {
 }
 
 /// The value of a variable of the environment, empty where it is not set.
-fn variable(rt: &HostRuntime, name: &str) -> Result<String, FileFault> {
+fn variable(rt: &HostRuntime, name: &str) -> Result<String, StorageFault> {
     match env::var(rt, name) {
         Ok(value) => Ok(value),
         Err(VarError::NotPresent) => Ok(String::new(rt.alloc())),
-        Err(VarError::NotUnicode) => Err(FileFault::Failed),
-        Err(VarError::OutOfMemory) => Err(FileFault::Memory),
+        Err(VarError::NotUnicode) => Err(StorageFault::Failed),
+        Err(VarError::OutOfMemory) => Err(StorageFault::Memory),
     }
 }
 
@@ -117,22 +117,22 @@ pub(crate) struct Found {
 
 /// Opens the index file, where there is one. What is no regular file is not opened: a pipe would wait, and a device may
 /// do anything.
-pub(crate) fn find(rt: &HostRuntime, file: &str) -> Result<Found, FileFault> {
+pub(crate) fn find(rt: &HostRuntime, file: &str) -> Result<Found, StorageFault> {
     match fs::metadata(rt, file) {
         Ok(there) if is_readable(&there) => {}
-        Ok(_) => return Err(FileFault::Failed),
+        Ok(_) => return Err(StorageFault::Failed),
         Err(error) if error.kind() == ErrorKind::NotFound => {
             return Ok(Found {
                 file: None,
                 seen: None,
             });
         }
-        Err(error) => return Err(FileFault::from(error)),
+        Err(error) => return Err(StorageFault::from(error)),
     }
     let opened = fs::open(rt, file)?;
     let seen = opened.metadata()?;
     if !is_readable(&seen) {
-        return Err(FileFault::Failed);
+        return Err(StorageFault::Failed);
     }
     let store = DiskStore::new(opened)?;
     Ok(Found {
@@ -152,7 +152,7 @@ pub(crate) fn store(
     file: &str,
     seen: Option<&Metadata>,
     after: &After,
-) -> Result<(), FileFault> {
+) -> Result<(), StorageFault> {
     match after {
         After::Kept => Ok(()),
         After::Remove if is_unchanged(rt, file, None) => Ok(()),
@@ -168,7 +168,7 @@ fn change(
     file: &str,
     seen: Option<&Metadata>,
     bytes: Option<&[u8]>,
-) -> Result<(), FileFault> {
+) -> Result<(), StorageFault> {
     let mut beside = String::from_str(rt.alloc(), file)?;
     beside.push('~')?;
     let made = claim(rt, beside.as_str(), seen)?;

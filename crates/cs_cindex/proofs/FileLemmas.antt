@@ -9,7 +9,7 @@ use Rattle.std.specs.Ordering.{is_lt}
 use Rattle.std.specs.Cmp.Lexicographic.{bytes_decides}
 use Rattle.std.proofs.lemmas.Bool.{and_parts, or_left, or_right}
 use Rattle.std.proofs.lemmas.List.Folds.{list_any-append}
-use Rattle.std.proofs.lemmas.List.{take_at, take_more, take-append-drop, map-append}
+use Rattle.std.proofs.lemmas.List.{take_at, take-append-drop, map-append}
 use Rattle.std.proofs.lemmas.List.Elements.{filter_map-append}
 use Rattle.cs_tree.specs.Cover.{is_among}
 use Rattle.cs_tree.specs.Snapshot.{Snapshot}
@@ -35,9 +35,6 @@ use Rattle.cs_tree.proofs.Growing.{Grows-chain, Grows-same}
 
 pub names_at : {X : Type 0} (f : X → List ℕ) (xs : List X) (i : ℕ) → map f xs ≡ map f (take i xs) ++ map f (drop i xs)
 names_at f xs i = ap (map f) (sym (take-append-drop i xs)) ∙ map-append f (take i xs) (drop i xs)
-
-pub names_more : {X : Type 0} (f : X → List ℕ) (xs : List X) (i : ℕ) (x : X) → i < length xs → x ≡ get_or xs i x → map f (take (i + 1) xs) ≡ map f (take i xs) ++ f x ∷ []
-names_more f xs i x low is = ap (map f) (take_more xs i x low ∙ ap (λ y. take i xs ++ y ∷ []) (sym is)) ∙ map-append f (take i xs) (x ∷ [])
 
 pub names_rest : {X : Type 0} (f : X → List ℕ) (xs : List X) (i : ℕ) (x : X) → i < length xs → x ≡ get_or xs i x → map f (drop i xs) ≡ f x ∷ map f (drop (i + 1) xs)
 names_rest f xs i x low is =

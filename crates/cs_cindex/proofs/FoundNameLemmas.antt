@@ -13,7 +13,7 @@ use Rattle.std.specs.FinMap.{find}
 use Rattle.cs_tree.specs.PathSet as set
 use Rattle.cs_tree.specs.Snapshot.{Snapshot, Item, folder, file, cut, other, bad, item_at}
 use Rattle.cs_tree.specs.Reached.{is_reached}
-use Rattle.cs_tree.specs.Walks.{Reached, named, listed, LeftPath, Finds, is_among}
+use Rattle.cs_tree.specs.Walks.{ComesTo, named, listed, LeftPath, Finds, is_among}
 use Rattle.cs_tree.proofs.Sets.{tied_is}
 use Rattle.cs_tree.proofs.Reaching.{reached_says}
 use Rattle.cs_index.specs.Built.{is_storable}
@@ -90,7 +90,7 @@ marked_member (first ∷ paths) path h there =
 member_storable : (paths : List (List ℕ)) (path : List ℕ) → are_storable paths ≡ true → set.contains (set.from_list paths) path ≡ true → is_storable path ≡ true
 member_storable paths path h there = marked_member paths path h (sym (ap is_some (map'.get-from_entries nat_list_cmp_total (set.unit_entries paths) path)) ∙ there)
 
-reached_storable : (tree : Snapshot) (paths : List (List ℕ)) (name : List ℕ) → IsTree tree → are_storable paths ≡ true → Reached tree (set.from_list paths) name → is_storable name ≡ true
+reached_storable : (tree : Snapshot) (paths : List (List ℕ)) (name : List ℕ) → IsTree tree → are_storable paths ≡ true → ComesTo tree (set.from_list paths) name → is_storable name ≡ true
 reached_storable tree paths name is h (named path member kept) = member_storable paths path h member
 reached_storable tree paths name is h (listed path m reached short lists kept) = child_storable path m (reached_storable tree paths path is h reached) (lists_free (item_at tree path) m (is path) lists)
 

@@ -1,7 +1,8 @@
 -- How far the files of a tree are indexed.
-use Rattle.std.specs.Prelude.{◌≡◌, ℕ, ◌≤◌, Bool, true, List, length, take, Option, Some, None, option_map, filter_map}
+use Rattle.std.specs.Prelude.{◌≡◌, ℕ, ◌≤◌, Bool, true, List, length, take, Option, Some, None, filter_map}
 use Rattle.std.specs.List.{list_all, AllByRecursion}
 use Rattle.cs_tree.specs.Cover.{is_among}
+use Rattle.cs_tree.specs.Reached.{with_values}
 use Rattle.cs_tree.specs.Snapshot.{Snapshot}
 use Rattle.cs_index.specs.Image.{Entry, names_of}
 use Rattle.cs_index.specs.Built.{is_storable, is_above, most_names}
@@ -12,8 +13,7 @@ use Rattle.cs_cindex.specs.Notices.{Line, file_line}
 
 -- the files at these names that are text, each with its trigrams
 abbrev pub texts_at : Snapshot → List (List ℕ) → List Entry
-texts_at tree names =
-    filter_map (λ name. option_map (λ (trigrams : List ℕ). (name, trigrams)) (file_trigrams tree name)) names
+texts_at tree names = with_values (file_trigrams tree) names
 
 abbrev pub are_storable : List (List ℕ) → Bool
 are_storable names = list_all is_storable names

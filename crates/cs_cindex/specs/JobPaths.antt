@@ -1,11 +1,10 @@
 -- The paths of a job that walks, and what it is refused for over them.
-use Rattle.std.specs.Prelude.{◌≡◌, ◌≢◌, ℕ, true, List, [], ◌∷◌, map, Some, None, is_some, string_bytes}
-use Rattle.cs_tree.specs.Clean.{clean_path}
+use Rattle.std.specs.Prelude.{◌≡◌, ◌≢◌, ℕ, true, List, [], ◌∷◌, Some, None, is_some, string_bytes}
 use Rattle.cs_tree.specs.Cleaning.{clean_fault}
 use Rattle.cs_words.specs.declared.jobs.IndexJob.{IndexJob}
 use Rattle.cs_words.specs.declared.fault.CindexFault.{CindexFault}
 use Rattle.cs_words.specs.declared.fault.CindexFault.TheVariants.{BadPath, Memory}
-use Rattle.cs_history.specs.Jobs.{given_texts}
+use Rattle.cs_history.specs.Jobs.{given_texts, cleaned_texts}
 use Rattle.cs_history.specs.Replies.{first_bad}
 
 -- ---- the paths
@@ -21,10 +20,6 @@ abbrev pub AreCleanFault : List ℕ → List (List ℕ) → CindexFault → Type
 AreCleanFault folder given_texts (BadPath place) = first_bad folder given_texts ≡ Some place
 AreCleanFault folder given_texts Memory = given_texts ≢ []
 AreCleanFault folder given_texts _ = ⊥
-
--- texts, each made absolute and clean
-abbrev pub cleaned_texts : List ℕ → List (List ℕ) → List (List ℕ)
-cleaned_texts folder texts = map (λ text. clean_path folder text) texts
 
 -- the paths of the job, cleaned
 pub record AreCleaned (job : IndexJob) (given : List (List ℕ)) : Type 0 where

@@ -109,7 +109,7 @@ abbrev pub is_failed_write : CindexFault → Bool
 is_failed_write Write = true
 is_failed_write fault = false
 
--- a job is refused for an output exactly where a call of one of them has failed
-abbrev pub has_failed_write : Reply → Bool
-has_failed_write Done = false
-has_failed_write (Refused fault) = is_failed_write fault
+-- whether a reply is a refusal for a write that has failed
+abbrev pub is_write_refusal : Reply → Bool
+is_write_refusal Done = false
+is_write_refusal (Refused fault) = is_failed_write fault

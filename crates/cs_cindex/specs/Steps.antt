@@ -10,7 +10,7 @@ use Rattle.cs_words.specs.declared.jobs.Reply.{Reply}
 use Rattle.cs_words.specs.declared.jobs.Reply.TheVariants.{Done, Refused}
 use Rattle.cs_cindex.specs.Next.{IsNext}
 use Rattle.cs_cindex.specs.Refusals.{HasCause, base}
-use Rattle.cs_cindex.specs.Output.{TakesBy, JobPrintsBy, list_lines, has_failed_write}
+use Rattle.cs_cindex.specs.Output.{TakesBy, JobPrintsBy, list_lines, is_write_refusal}
 use Rattle.cs_history.specs.History.{History}
 use Rattle.cs_history.specs.Jobs.{has_no_path}
 use Rattle.cs_history.specs.Premises.{snapshot_told, Premises}
@@ -90,7 +90,7 @@ pub record IsStep (job : IndexJob) (tree : JobTree) (reply : Reply) (old new : S
   pub out : TakesBy reply (list_lines (job_kind job) old.index) old.outputs.out new.outputs.out
   pub err : JobPrintsBy (job_kind job) reply job tree.snapshot old.index
       tree.failed tree.failed_then old.outputs.err new.outputs.err
-  pub writes : CountsOne (has_failed_write reply) old.outputs.out_failed new.outputs.out_failed
+  pub writes : CountsOne (is_write_refusal reply) old.outputs.out_failed new.outputs.out_failed
       old.outputs.err_failed new.outputs.err_failed
 
 -- A job that is done ends by flushing both outputs once; in a refused one `out` was flushed once at most and `err` never:

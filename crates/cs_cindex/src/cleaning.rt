@@ -1,11 +1,11 @@
 // The paths of a job, cleaned.
-ghost use Rattle.std.specs.Prelude.{◌≡◌, ◌∷◌, [], true, map, string_bytes, IfOk, MatchResult, None};
-ghost use Rattle.std.specs.Path.{slash};
-ghost use Rattle.cs_tree.specs.Cover.{begins};
+ghost use Rattle.std.specs.Prelude.{◌≡◌, true, map, string_bytes, IfOk, MatchResult, None};
+ghost use Rattle.cs_tree.specs.Cover.{is_absolute};
 ghost use Rattle.cs_tree.specs.Clean.{clean_path};
 ghost use Rattle.cs_tree.specs.Cleaning.{clean_fault};
 ghost use Rattle.cs_history.specs.Replies.{first_bad};
-ghost use Rattle.cs_cindex.specs.JobPaths.{IsCleanFault, AreCleanFault, cleaned_texts};
+ghost use Rattle.cs_cindex.specs.JobPaths.{IsCleanFault, AreCleanFault};
+ghost use Rattle.cs_history.specs.Jobs.{cleaned_texts};
 
 use cs_tree::{PathFault, clean};
 use cs_words::CindexFault;
@@ -17,7 +17,7 @@ pub(crate) fn clean_all(
     folder: &str,
     paths: &[String],
 ) -> Result<Vec<String>, CindexFault>
-    requires { begins (slash ∷ []) folder.now ≡ true }
+    requires { is_absolute folder.now ≡ true }
     ensures cleaned { IfOk result (λ given. map string_bytes given.items ≡
         cleaned_texts folder.now (map string_bytes paths.now)) }
     ensures fault { MatchResult result
@@ -34,7 +34,7 @@ pub(crate) fn clean_all(
 
 /// The path at a place, cleaned.
 fn clean_one(alloc: Global, folder: &str, path: &str, place: usize) -> Result<String, CindexFault>
-    requires { begins (slash ∷ []) folder.now ≡ true }
+    requires { is_absolute folder.now ≡ true }
     ensures cleaned { IfOk result (λ given. string_bytes given ≡ clean_path folder.now path.now) }
     ensures fault { MatchResult result (λ _. clean_fault folder.now path.now ≡ None)
         (λ fault. IsCleanFault folder.now path.now place fault) }

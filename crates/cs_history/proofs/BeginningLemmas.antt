@@ -14,7 +14,7 @@ use Rattle.cs_tree.specs.Cleaning.{is_settled}
 use Rattle.cs_tree.proofs.Sets.{tied_is}
 use Rattle.cs_trigram.specs.Trigram.{Ascends, closing_trigram}
 use Rattle.cs_trigram.specs.TrigramSets.{IsTrigramSet}
-use Rattle.cs_index.specs.Image.{Entry, ListEntry, Posting, Sections, IsString, three_bytes}
+use Rattle.cs_index.specs.Image.{Entry, ListEntry, Posting, SectionBytes, IsString, three_bytes}
 use Rattle.cs_index.specs.PostingLists.{damage, read_ids, set_at, entries_of}
 use Rattle.cs_index.specs.Opening.{opening, cut_of, read_cut, parts_of, texts_of, is_section, is_names_section, is_name_index, is_list_index, is_entry, rises}
 use Rattle.cs_index.specs.OpenedParts.{Parts, ids_read, whole_ids, lists_in, files_in}
@@ -44,7 +44,7 @@ all_passed true true false d parts other h = cc
 all_passed true false c d parts other h = cc
 all_passed false b c d parts other h = cc
 
-from_sections : (s : Sections) (parts : Parts) → read_cut (Ok s) ≡ Ok parts → AreOpened parts
+from_sections : (s : SectionBytes) (parts : Parts) → read_cut (Ok s) ≡ Ok parts → AreOpened parts
 from_sections s parts h =
     let passed = all_passed (is_section (0 ∷ []) s.paths) (is_names_section s.names) (is_name_index s.name_index (texts_of s.names)) (is_list_index (length s.postings) s.list_index) (parts_of s) parts h in
     subst AreOpened passed.3 (record {
@@ -61,7 +61,7 @@ are_opened : (bytes : List ℕ) (parts : Parts) → opening bytes ≡ Ok parts �
 unfolding opening
 are_opened bytes parts h = from_cut (cut_of bytes) h
   where
-    from_cut : (r : Result Sections IndexFault) → read_cut r ≡ Ok parts → AreOpened parts
+    from_cut : (r : Result SectionBytes IndexFault) → read_cut r ≡ Ok parts → AreOpened parts
     from_cut (Ok s) h = from_sections s parts h
     from_cut (Err fault) h = cc
 

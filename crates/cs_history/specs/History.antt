@@ -7,7 +7,7 @@ use Rattle.std.specs.FinMap as map
 use Rattle.cs_tree.specs.PathSet as set
 use Rattle.cs_tree.specs.Cover.{is_covered, least}
 use Rattle.cs_tree.specs.Snapshot.{Snapshot}
-use Rattle.cs_tree.specs.Reached.{files_reached}
+use Rattle.cs_tree.specs.Reached.{files_reached, with_values}
 use Rattle.cs_trigram.specs.Text.{text_trigrams, limits}
 use Rattle.cs_index.specs.Image.{Files, image}
 use Rattle.cs_index.specs.OpenedParts.{Parts, paths_in, files_in}
@@ -62,7 +62,7 @@ module _ {X : Type 0} (read : List ℕ → Option X) (spelled : Parts → map.Fi
 
   -- each name of which something is kept, with that
   abbrev pub kept_files : History → map.FinMap bytes_cmp X
-  kept_files history = map.from_entries (filter_map (λ name. option_map (λ (x : X). (name, x)) (kept_at history name)) (names_found history))
+  kept_files history = map.from_entries (with_values (kept_at history) (names_found history))
 
 -- ---- the index
 

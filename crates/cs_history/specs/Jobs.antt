@@ -6,7 +6,7 @@ use Rattle.cs_tree.specs.PathSet.{Paths}
 use Rattle.std.specs.List.{AllByRecursion}
 use Rattle.cs_tree.specs.PathSet as set
 use Rattle.cs_tree.specs.Snapshot.{Snapshot}
-use Rattle.cs_tree.specs.Cover.{begins}
+use Rattle.cs_tree.specs.Cover.{is_absolute}
 use Rattle.cs_tree.specs.Clean.{clean_path}
 use Rattle.cs_tree.specs.Cleaning.{clean_fault}
 use Rattle.cs_history.specs.History.{History, nothing, ◌⊳◌, Visit}
@@ -16,7 +16,7 @@ use Rattle.cs_words.specs.declared.jobs.Reply.TheVariants.{Done, Refused}
 
 -- the folder of a job is absolute
 abbrev pub HasAbsoluteFolder : IndexJob → Type 0
-HasAbsoluteFolder job = begins (slash ∷ []) (string_bytes job.cwd) ≡ true
+HasAbsoluteFolder job = is_absolute (string_bytes job.cwd) ≡ true
 
 -- ---- the paths of a job
 
@@ -24,9 +24,13 @@ HasAbsoluteFolder job = begins (slash ∷ []) (string_bytes job.cwd) ≡ true
 abbrev pub given_texts : IndexJob → List (List ℕ)
 given_texts job = map string_bytes job.paths.items
 
+-- texts, each made absolute and clean
+abbrev pub cleaned_texts : List ℕ → List (List ℕ) → List (List ℕ)
+cleaned_texts folder texts = map (λ text. clean_path folder text) texts
+
 -- the set of them, cleaned
 abbrev pub given_paths : IndexJob → Paths
-given_paths job = set.from_list (map (λ text. clean_path (string_bytes job.cwd) text) (given_texts job))
+given_paths job = set.from_list (cleaned_texts (string_bytes job.cwd) (given_texts job))
 
 abbrev pub has_no_path : IndexJob → Bool
 has_no_path job = nat_eq (length job.paths.items) 0

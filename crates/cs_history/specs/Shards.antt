@@ -23,7 +23,7 @@ pub record AreShards (paths : Paths) (files : Files) (others : Paths) (other_fil
 
 -- the files of both
 abbrev pub files_of_both : Files → Files → Files
-files_of_both files others = map'.from_entries (map'.entries files ++ map'.entries others)
+files_of_both files others = set.union files others
 
 -- put together by name: in the order of names, each once
 abbrev pub by_name : List (List ℕ) → List (List ℕ)

@@ -1,15 +1,15 @@
 -- Bytes fail a test of opening where what it tests is not there.
-use Rattle.std.proofs.Common.{◌≡◌, ℕ, ◌-◌, ◌<◌, ◌^◌, Bool, true, false, not, cond, ◌&&◌, ◌||◌, eqb, ltb, leb, List, [], ◌∷◌, ◌++◌, length, map, take, drop, Result, Ok, Err, refl, sym, ap, subst, ◌∙◌, ◌⊎◌, inl, inr, arith, length-append}
+use Rattle.std.proofs.Common.{◌≡◌, ℕ, ◌-◌, ◌<◌, ◌^◌, Bool, true, false, not, cond, ◌&&◌, eqb, ltb, leb, List, [], ◌∷◌, ◌++◌, length, map, take, drop, Result, Ok, Err, refl, sym, ap, subst, ◌∙◌, ◌⊎◌, inl, inr, arith, length-append}
 use Rattle.std.proofs.lemmas.Bool.{true≢false, and_parts, and_from, leb-true, le-leb, ltb-true, lt-ltb, false_from_ne_true}
 use Rattle.std.proofs.lemmas.List.{take_at, drop_at, take-append-drop}
 use Rattle.std.specs.List.{starts_with, ends_with, concat}
 use Rattle.std.specs.Cmp.Lexicographic.{bytes_decides}
 use Rattle.cs_tree.specs.ByteList.{AreBytes}
-use Rattle.cs_index.specs.Image.{with_nul, Sections, magic, trailer_magic, ListEntry}
+use Rattle.cs_index.specs.Image.{with_nul, SectionBytes, magic, trailer_magic, ListEntry}
 use Rattle.cs_index.specs.Opening.{is_names_section, cut_before, cut_of, entries_in, has_trailer, is_list_index, is_name_index, is_section, opening, parts_of, read_cut, read_sections, texts_of}
 use Rattle.cs_index.specs.OpenedParts.{Parts}
-use Rattle.cs_index.specs.Failing.{HasMagic, HasTrailer, ArePaths, AreNames, HavePaths, HaveNames, Fails}
-use Rattle.cs_index.specs.Spelling.{AreLaid, AreEntries, AreOffsets}
+use Rattle.cs_index.specs.Failing.{HasMagic, HasTrailer, HavePaths, HaveNames, Fails}
+use Rattle.cs_index.specs.Spelling.{AreLaid, AreEntries, AreNames, AreOffsets, AreStrings}
 use Rattle.cs_index.specs.declared.fault.IndexFault.{IndexFault}
 use Rattle.cs_index.specs.declared.fault.IndexFault.TheVariants.{BadMagic, BadTrailer, BadOffsets, BadPaths, BadNames, BadNameIndex, BadListIndex, BadList, Memory}
 use Rattle.cs_index.proofs.OnceLemmas.{lengths, names_tail}
@@ -62,10 +62,10 @@ trailer_tested bytes has =
     (and_from (ltb (length bytes) 4294967296) _ (lt-ltb (length bytes) 4294967296 has.short)
     ((bytes_decides trailer_magic (drop n bytes)).1 (sym (ap (drop n) has.ends ∙ drop_at has.front trailer_magic n long))))
 
-paths_tested : (paths : List (List ℕ)) (section : List ℕ) → ArePaths paths section → is_section (0 ∷ []) section ≡ true
+paths_tested : (paths : List (List ℕ)) (section : List ℕ) → AreStrings (0 ∷ []) paths section → is_section (0 ∷ []) section ≡ true
 paths_tested paths section are = ap (is_section (0 ∷ [])) are.1 ∙ section_spelled paths (0 ∷ []) are.0 (inr refl)
 
-paths_there : (section : List ℕ) → is_section (0 ∷ []) section ≡ true → ArePaths (texts_of section) section
+paths_there : (section : List ℕ) → is_section (0 ∷ []) section ≡ true → AreStrings (0 ∷ []) (texts_of section) section
 paths_there section h = section_read (0 ∷ []) section h
 
 names_tested : (names : List (List ℕ)) (section : List ℕ) → AreNames names section → is_names_section section ≡ true
@@ -97,18 +97,15 @@ offsets_there names section small h = offsets_read section names small h
 entries_tested : (postings : List ℕ) (entries : List ListEntry) (section : List ℕ) → AreEntries postings entries section → is_list_index (length postings) section ≡ true
 entries_tested postings entries section are = list_index_spelled postings section entries are
 
-entries_there : (postings section : List ℕ) → Small section → is_list_index (length postings) section ≡ true → AreEntries postings (entries_in section) section
-entries_there postings section small h = list_index_read postings section small h
-
 -- ---- sections
 
-cut_so : (bytes : List ℕ) (s : Sections) → AreLaid bytes s → cut_of bytes ≡ Ok s
+cut_so : (bytes : List ℕ) (s : SectionBytes) → AreLaid bytes s → cut_of bytes ≡ Ok s
 cut_so bytes s are = ap cut_of are.laid ∙ cut_spelled s (subst (λ (b : List ℕ). length b < 2 ^ 32) are.laid are.short)
 
-short_names : (bytes : List ℕ) (s : Sections) → AreLaid bytes s → length s.names < 2 ^ 32
+short_names : (bytes : List ℕ) (s : SectionBytes) → AreLaid bytes s → length s.names < 2 ^ 32
 short_names bytes s are = let l = lengths s in let a = ap length are.laid in let b = are.short in omega (arith, a, b, l.whole, l.laid)
 
-laid_from : (bytes : List ℕ) (s : Sections) → Small bytes → cut_of bytes ≡ Ok s → AreLaid bytes s
+laid_from : (bytes : List ℕ) (s : SectionBytes) → Small bytes → cut_of bytes ≡ Ok s → AreLaid bytes s
 laid_from bytes s small is = let cut = cut_from bytes s small is in record { laid = cut.laid; short = cut.short }
 
 -- ---- what fails is not there
@@ -128,7 +125,7 @@ fails_cut bytes fault h = elim (failed (starts_with eqb bytes magic) BadMagic fa
   ]
 ]
 
-module _ (bytes : List ℕ) (s : Sections) (small : Small bytes) (is : cut_of bytes ≡ Ok s) where
+module _ (bytes : List ℕ) (s : SectionBytes) (small : Small bytes) (is : cut_of bytes ≡ Ok s) where
   abbrev laid : AreLaid bytes s
   laid = laid_from bytes s small is
 
@@ -165,18 +162,18 @@ pub fails_so : (bytes : List ℕ) (fault : IndexFault) → AreBytes bytes → op
 unfolding opening
 fails_so bytes fault are h = from_cut (cut_of bytes) refl h
   where
-    from_cut : (r : Result Sections IndexFault) → cut_of bytes ≡ r → read_cut r ≡ Err fault → Fails bytes fault
+    from_cut : (r : Result SectionBytes IndexFault) → cut_of bytes ≡ r → read_cut r ≡ Err fault → Fails bytes fault
     from_cut (Ok s) is read = fails_sections bytes s (small_bytes bytes are) is fault read
     from_cut (Err f) is read = let same : f ≡ fault = cc in fails_cut bytes fault (is ∙ ap Err same)
 
 -- ---- what is not there fails
 
 -- the bytes are cut, but not into these sections
-no_offsets : (bytes : List ℕ) → Small bytes → HasMagic bytes → HasTrailer bytes → ((s : Sections) → ¬ (AreLaid bytes s)) → cut_of bytes ≡ Err BadOffsets
+no_offsets : (bytes : List ℕ) → Small bytes → HasMagic bytes → HasTrailer bytes → ((s : SectionBytes) → ¬ (AreLaid bytes s)) → cut_of bytes ≡ Err BadOffsets
 unfolding cut_of
 no_offsets bytes small begun ended none = by_cut (cut_of bytes) refl
   where
-    by_cut : (r : Result Sections IndexFault) → cut_of bytes ≡ r → r ≡ Err BadOffsets
+    by_cut : (r : Result SectionBytes IndexFault) → cut_of bytes ≡ r → r ≡ Err BadOffsets
     by_cut (Ok s) is = absurd (none s (laid_from bytes s small is))
     by_cut (Err fault) is = elim (failed (starts_with eqb bytes magic) BadMagic fault (cut_ended bytes) is) [
       | inl first ↦ absurd (true≢false (sym (magic_tested bytes begun) ∙ first.0))
@@ -186,7 +183,7 @@ no_offsets bytes small begun ended none = by_cut (cut_of bytes) refl
       ]
     ]
 
-module _ (bytes : List ℕ) (small : Small bytes) (s : Sections) (are : AreLaid bytes s) where
+module _ (bytes : List ℕ) (small : Small bytes) (s : SectionBytes) (are : AreLaid bytes s) where
   opens_as : opening bytes ≡ read_sections s
   unfolding opening
   opens_as = ap read_cut (cut_so bytes s are)
@@ -201,19 +198,19 @@ module _ (bytes : List ℕ) (small : Small bytes) (s : Sections) (are : AreLaid 
   abbrev from_names : Result Parts IndexFault
   from_names = cond (not (is_names_section s.names)) (Err BadNames) from_offsets
 
-  past_paths : (paths : List (List ℕ)) → ArePaths paths s.paths → read_sections s ≡ from_names
+  past_paths : (paths : List (List ℕ)) → AreStrings (0 ∷ []) paths s.paths → read_sections s ≡ from_names
   past_paths paths there = goes_on (is_section (0 ∷ []) s.paths) BadPaths from_names (paths_tested paths s.paths there)
 
-  past_names : (paths names : List (List ℕ)) → ArePaths paths s.paths → AreNames names s.names → read_sections s ≡ from_offsets
+  past_names : (paths names : List (List ℕ)) → AreStrings (0 ∷ []) paths s.paths → AreNames names s.names → read_sections s ≡ from_offsets
   past_names paths names there named = past_paths paths there ∙ goes_on (is_names_section s.names) BadNames from_offsets (names_tested names s.names named)
 
-  no_paths : ((paths : List (List ℕ)) → ¬ (ArePaths paths s.paths)) → opening bytes ≡ Err BadPaths
+  no_paths : ((paths : List (List ℕ)) → ¬ (AreStrings (0 ∷ []) paths s.paths)) → opening bytes ≡ Err BadPaths
   no_paths none = opens_as ∙ fails_here (is_section (0 ∷ []) s.paths) BadPaths from_names (false_from_ne_true _ (λ t. none (texts_of s.paths) (paths_there s.paths t)))
 
-  no_names : (paths : List (List ℕ)) → ArePaths paths s.paths → ((names : List (List ℕ)) → ¬ (AreNames names s.names)) → opening bytes ≡ Err BadNames
+  no_names : (paths : List (List ℕ)) → AreStrings (0 ∷ []) paths s.paths → ((names : List (List ℕ)) → ¬ (AreNames names s.names)) → opening bytes ≡ Err BadNames
   no_names paths there none = opens_as ∙ past_paths paths there ∙ fails_here (is_names_section s.names) BadNames from_offsets (false_from_ne_true _ (λ t. none (texts_of s.names) (names_there s.names t)))
 
-  module _ (paths names : List (List ℕ)) (there : ArePaths paths s.paths) (named : AreNames names s.names) where
+  module _ (paths names : List (List ℕ)) (there : AreStrings (0 ∷ []) paths s.paths) (named : AreNames names s.names) where
     same_names : texts_of s.names ≡ names
     same_names = texts_are names s.names named
 
@@ -226,7 +223,7 @@ module _ (bytes : List ℕ) (small : Small bytes) (s : Sections) (are : AreLaid 
     no_list_index offsets none =
         opens_as ∙ past_names paths names there named
         ∙ goes_on (is_name_index s.name_index (texts_of s.names)) BadNameIndex from_lists (ap (is_name_index s.name_index) same_names ∙ offsets_tested names s.name_index (few_bytes names s.names named (short_names bytes s are)) offsets)
-        ∙ fails_here (is_list_index (length s.postings) s.list_index) BadListIndex (Ok (parts_of s)) (false_from_ne_true _ (λ t. none (entries_in s.list_index) (entries_there s.postings s.list_index (cut_from bytes s small (cut_so bytes s are)).list_index t)))
+        ∙ fails_here (is_list_index (length s.postings) s.list_index) BadListIndex (Ok (parts_of s)) (false_from_ne_true _ (λ t. none (entries_in s.list_index) (list_index_read s.postings s.list_index (cut_from bytes s small (cut_so bytes s are)).list_index t)))
 
 pub so_fails : (bytes : List ℕ) (fault : IndexFault) → AreBytes bytes → Fails bytes fault → opening bytes ≡ Err fault
 unfolding opening

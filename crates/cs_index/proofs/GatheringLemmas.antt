@@ -1,11 +1,10 @@
 -- Lists after a trigram was given one more id.
-use Rattle.std.proofs.Common.{◌≡◌, ℕ, false, cond, List, [], ◌∷◌, ◌++◌, length, refl, ap, ◌∙◌, arith}
-use Rattle.cs_trigram.specs.Trigram.{has, set_of_numbers}
+use Rattle.std.proofs.Common.{◌≡◌, ℕ, false, cond, List, [], ◌∷◌, ◌++◌, refl, ap, ◌∙◌}
+use Rattle.cs_trigram.specs.Trigram.{has}
 use Rattle.std.proofs.lemmas.Bool.{or_parts}
 use Rattle.cs_index.specs.Image.{Posting}
-use Rattle.cs_index.specs.Gathering.{keys, AreDistinct}
+use Rattle.cs_index.specs.Gathering.{keys}
 use Rattle.cs_index.specs.Laid.{ids_of, with_id}
-use Rattle.cs_trigram.proofs.SetLemmas.{has-set_of_numbers, length-with_number}
 
 -- a trigram without a list
 pub gathered_new : (lists : List Posting) (g id : ℕ) → has (keys lists) g ≡ false → with_id lists g id ≡ lists ++ (g, id ∷ []) ∷ []
@@ -16,13 +15,3 @@ gathered_new (p ∷ lists) g id h =
 pub ids_new : (lists : List Posting) (g : ℕ) → has (keys lists) g ≡ false → ids_of lists g ≡ []
 ids_new [] g h = refl
 ids_new (p ∷ lists) g h = ap (λ b. cond b p.1 (ids_of lists g)) (or_parts _ _ h).0 ∙ ids_new lists g (or_parts _ _ h).1
-
--- ---- keys
-
--- distinct numbers below a bound are no more than it
-pub length-ascending : (ns : List ℕ) → AreDistinct ns → length (set_of_numbers ns) ≡ length ns
-length-ascending [] up = refl
-length-ascending (n ∷ ns) up =
-    let more = length-with_number n (set_of_numbers ns) (has-set_of_numbers n ns ∙ up.0) in
-    let rest = length-ascending ns up.1 in
-    omega (arith, more, rest)

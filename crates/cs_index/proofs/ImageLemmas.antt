@@ -10,11 +10,11 @@ use Rattle.std.specs.FinMap as map'
 use Rattle.std.specs.FinMap.Entries.{below_all}
 use Rattle.std.specs.Ordering.{is_lt}
 use Rattle.cs_tree.specs.PathSet as set'
-use Rattle.cs_tree.proofs.ReduceLemmas.{items-from_list}
+use Rattle.cs_tree.proofs.ReduceLemmas.{items-from_list, strictly_from}
 use Rattle.cs_tree.proofs.Sets.{entries_in_order}
 use Rattle.cs_index.specs.Image.{Entry, image, image_of, names_of}
 use Rattle.cs_index.specs.Built.{Built, IsBuilt, are_paths, are_reduced, is_storable, path_set, file_map}
-use Rattle.cs_index.proofs.PathOrderLemmas.{reduced_up, strictly, tail_up}
+use Rattle.cs_index.proofs.PathOrderLemmas.{reduced_up, tail_up}
 
 pub true_T : (b : Bool) → b ≡ true → T b
 true_T true h = tt
@@ -24,7 +24,7 @@ pub image_in_order : (paths : List (List ℕ)) (entries : List Entry) → are_pa
 unfolding image
 image_in_order paths entries h up =
     let reduced = (and_parts (list_all is_storable paths) (are_reduced paths) h).1 in
-    ap (λ ps. image_of ps entries) (sym (items-from_list paths (strictly paths (reduced_up paths reduced))))
+    ap (λ ps. image_of ps entries) (sym (items-from_list paths (strictly_from paths (reduced_up paths reduced))))
     ∙ ap (image_of (set'.items (set'.from_list paths))) (sym (entries_in_order entries (true_T _ up)))
 
 -- ---- entries whose names ascend are in the order of a map

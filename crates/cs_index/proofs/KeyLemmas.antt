@@ -1,21 +1,22 @@
 -- Keys, and the lists that they give their ids to.
-use Rattle.std.proofs.Common.{◌≡◌, ℕ, ◌+◌, ◌*◌, ◌<◌, ◌≤◌, Bool, true, false, cond, eqb, ◌||◌, ◌&&◌, List, [], ◌∷◌, ◌++◌, length, refl, sym, ap, subst, ◌∙◌, inl, inr, arith}
+use Rattle.std.proofs.Common.{◌≡◌, ℕ, ◌+◌, ◌*◌, ◌<◌, ◌≤◌, Bool, true, false, cond, eqb, ◌||◌, ◌&&◌, List, [], ◌∷◌, ◌++◌, refl, sym, ap, subst, ◌∙◌, inl, inr, arith}
 use Rattle.std.proofs.Math.Bool.{or-false}
 use Rattle.std.proofs.lemmas.Bool.{true≢false, cases_Bool, eqb-true, eq-eqb, ne_eqb, or_left, or_right}
 use Rattle.std.specs.List.{AllByRecursion, list_any}
-use Rattle.cs_trigram.specs.Trigram.{has, with_number, set_of_numbers, Ascends, closing_trigram}
+use Rattle.cs_trigram.specs.Trigram.{has, set_of_numbers, Ascends, closing_trigram}
 use Rattle.cs_trigram.specs.Scans.{AreTrigramsOnce}
-use Rattle.cs_trigram.proofs.SetLemmas.{all_from_set, all_set, all_weaker, ascends_set, ascends_tail, ascends_head, all_above, below_none, has-append, has-set_of_numbers, with_number-member, length-with_number-le, length-set_of_numbers-le}
+use Rattle.cs_trigram.proofs.SetLemmas.{all_from_set, all_set, all_weaker, ascends_set, ascends_tail, ascends_head, all_above, below_none, has-append, has-set_of_numbers}
 use Rattle.cs_tree.proofs.Gathering.{all-append}
 use Rattle.cs_index.specs.Image.{Posting}
 use Rattle.cs_index.specs.Rising.{next_after}
-use Rattle.cs_index.specs.Gathering.{AreDistinct, GiveSame}
+use Rattle.cs_trigram.specs.TrigramSets.{AreDistinct}
+use Rattle.cs_index.specs.Gathering.{GiveSame}
 use Rattle.cs_index.specs.Laid.{ids_of, with_id}
 use Rattle.cs_index.specs.Keys.{keys_of, trigram_of, id_of, with_keys, AreWaiting}
 use Rattle.cs_index.proofs.GatheredLemmas.{rise_beyond}
-use Rattle.cs_index.proofs.GatheringLemmas.{length-ascending}
 use Rattle.cs_index.proofs.BuiltLemmas.{has_gathered, ids_gathered, ids_rise_within, each_gathered, WereGiven}
 use Rattle.cs_index.proofs.BuildingLemmas.{each_further, rise_next}
+use Rattle.cs_index.proofs.StreamLemmas.{next_push}
 
 -- ---- which ids keys give
 
@@ -168,10 +169,6 @@ ascends_distinct (n ∷ ns) up = (
 
 -- ---- one key that waited
 
-next_push : (next : ℕ) (ids : List ℕ) (id : ℕ) → next_after next (ids ++ id ∷ []) ≡ id + 1
-next_push next [] id = refl
-next_push next (x ∷ ids) id = next_push (x + 1) ids id
-
 ready_one : (base key k : ℕ) (lists : List Posting) → key < k →
     next_after 0 (ids_of lists (trigram_of k)) ≤ id_of base k →
     next_after 0 (ids_of (with_id lists (trigram_of key) (id_of base key)) (trigram_of k)) ≤ id_of base k
@@ -264,27 +261,6 @@ keys_ordered name_count base lists ks ms waits is =
   where
     all_moved : (P : ℕ → Type 0) → AllByRecursion P ks → AllByRecursion P ms
     all_moved P all = subst (AllByRecursion P) (sym is) (all_set P ks all)
-
--- as many keys as their set has
-pub keys_once : (ks : List ℕ) → AreDistinct ks → length ks ≡ length (set_of_numbers ks)
-keys_once ks distinct = sym (length-ascending ks distinct)
-
--- numbers as many as their set are distinct
-as_many_distinct : (ns : List ℕ) → length ns ≡ length (set_of_numbers ns) → AreDistinct ns
-as_many_distinct [] many = tt
-as_many_distinct (n ∷ ns) many = (
-  elim (cases_Bool (has ns n)) [
-    | inl there ↦ absurd (omega (arith, many, stays there, length-set_of_numbers-le ns))
-    | inr apart ↦ apart
-  ],
-  as_many_distinct ns (omega (arith, many, length-with_number-le n (set_of_numbers ns), length-set_of_numbers-le ns)),
-)
-  where
-    stays : has ns n ≡ true → length (with_number n (set_of_numbers ns)) ≡ length (set_of_numbers ns)
-    stays there = ap length (with_number-member n (set_of_numbers ns) (ascends_set ns) (has-set_of_numbers n ns ∙ there))
-
-pub once_distinct : (gs : List ℕ) → AreTrigramsOnce gs → AreDistinct gs
-once_distinct gs once = as_many_distinct gs once.1
 
 pub once_below : (gs : List ℕ) → AreTrigramsOnce gs → AllByRecursion (λ g. g < closing_trigram) gs
 once_below gs once =

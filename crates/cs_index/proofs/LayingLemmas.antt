@@ -3,7 +3,7 @@ use Rattle.std.proofs.Common.{◌≡◌, ℕ, ◌+◌, ◌-◌, ◌<◌, ◌≤�
 use Rattle.std.proofs.lemmas.List.{append-nil, length_push}
 use Rattle.std.specs.Prelude.{flat_map}
 use Rattle.std.specs.List.{AllByRecursion, concat}
-use Rattle.cs_index.specs.Image.{closing_list, four_bytes, entry_bytes, starts_from, Sections, in_order, magic, sections_of, strings_section, trailer, trailer_magic, layout, list_entries, posting_list, with_nul, ListEntry, Posting}
+use Rattle.cs_index.specs.Image.{closing_list, four_bytes, entry_bytes, starts_from, SectionBytes, in_order, magic, sections_of, strings_section, trailer, trailer_magic, layout, list_entries, posting_list, with_nul, ListEntry, Posting}
 use Rattle.cs_index.specs.Laying.{entry_from, front_of}
 
 pub starts_below : (limit at : ℕ) (pieces : List (List ℕ)) → at + length (concat pieces) < limit →
@@ -14,23 +14,23 @@ starts_below limit at (p ∷ pieces) h =
     (omega (arith, h, whole), starts_below limit (at + length p) pieces (omega (arith, h, whole)))
 
 -- what was laid so far
-abbrev front_1 : Sections → List ℕ
+abbrev front_1 : SectionBytes → List ℕ
 front_1 s = magic ++ s.paths
 
-abbrev front_2 : Sections → List ℕ
+abbrev front_2 : SectionBytes → List ℕ
 front_2 s = front_1 s ++ s.names
 
-abbrev front_3 : Sections → List ℕ
+abbrev front_3 : SectionBytes → List ℕ
 front_3 s = front_2 s ++ s.postings
 
-abbrev front_4 : Sections → List ℕ
+abbrev front_4 : SectionBytes → List ℕ
 front_4 s = front_3 s ++ s.name_index
 
-abbrev front_5 : Sections → List ℕ
+abbrev front_5 : SectionBytes → List ℕ
 front_5 s = front_4 s ++ s.list_index
 
 -- each section laid behind the one before, and the trailer behind them
-pub record LaidInTurn (s : Sections) (first second third fourth fifth out starts : List ℕ) : Type 0 where
+pub record LaidInTurn (s : SectionBytes) (first second third fourth fifth out starts : List ℕ) : Type 0 where
   pub paths : first ≡ magic ++ s.paths
   pub names : second ≡ first ++ s.names
   pub postings : third ≡ second ++ s.postings
@@ -39,7 +39,7 @@ pub record LaidInTurn (s : Sections) (first second third fourth fifth out starts
   pub trailer : out ≡ fifth ++ (flat_map four_bytes starts ++ trailer_magic)
   pub starts_are : starts ≡ 16 ∷ length first ∷ length second ∷ length third ∷ length fourth ∷ []
 
-front_is : (s : Sections) → front_5 s ≡ magic ++ concat (in_order s)
+front_is : (s : SectionBytes) → front_5 s ≡ magic ++ concat (in_order s)
 front_is s =
     ap (λ f. ((f ++ s.postings) ++ s.name_index) ++ s.list_index) (append_assoc magic s.paths s.names)
     ∙ ap (λ f. (f ++ s.name_index) ++ s.list_index) (append_assoc magic (s.paths ++ s.names) s.postings)
@@ -58,7 +58,7 @@ front_is s =
     )
     )
 
-pub laid_is : (s : Sections) (first second third fourth fifth out starts : List ℕ) →
+pub laid_is : (s : SectionBytes) (first second third fourth fifth out starts : List ℕ) →
     LaidInTurn s first second third fourth fifth out starts → out ≡ layout s
 laid_is s first second third fourth fifth out starts h =
     let one : length first ≡ 16 + length s.paths = ap length h.paths ∙ length-append magic s.paths in
@@ -144,7 +144,7 @@ list_index_is paths names ps entries start is at =
     ((λ i. map (entry_from (at i)) (is i)) ∙ entries_back long long ps (omega arith)
     ∙ ap (λ n. list_entries n ps) none)
 
-pub back_is : (s : Sections) (third fourth fifth out starts : List ℕ) → third ≡ front_3 s →
+pub back_is : (s : SectionBytes) (third fourth fifth out starts : List ℕ) → third ≡ front_3 s →
     fourth ≡ third ++ s.name_index → fifth ≡ fourth ++ s.list_index →
     out ≡ fifth ++ (flat_map four_bytes starts ++ trailer_magic) →
     starts ≡ 16 ∷ length (front_1 s) ∷ length (front_2 s) ∷ length third ∷ length fourth ∷ [] → out ≡ layout s
@@ -161,7 +161,7 @@ back_is s third fourth fifth out starts a b c d e =
           e;
     })
 
-pub layout_long : (s : Sections) (third fourth fifth : List ℕ) → third ≡ front_3 s → fourth ≡ third ++ s.name_index →
+pub layout_long : (s : SectionBytes) (third fourth fifth : List ℕ) → third ≡ front_3 s → fourth ≡ third ++ s.name_index →
     fifth ≡ fourth ++ s.list_index → length (layout s) ≡ length fifth + 36
 layout_long s third fourth fifth a b c =
     let front : fifth ≡ front_5 s = c ∙ ap (λ f. f ++ s.list_index) (b ∙ ap (λ f. f ++ s.name_index) a) in

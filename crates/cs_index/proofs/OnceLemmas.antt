@@ -5,7 +5,7 @@ use Rattle.std.proofs.lemmas.Nat.{from_be_bytes-to_be_bytes_4}
 use Rattle.std.specs.Prelude.{flat_map}
 use Rattle.std.specs.Int.{from_be_bytes, w32}
 use Rattle.std.specs.List.{AllByRecursion, concat}
-use Rattle.cs_index.specs.Image.{three_bytes, four_bytes, with_nul, starts_from, Sections, in_order, trailer, trailer_magic, magic, layout, ListEntry, entry_bytes, IsString}
+use Rattle.cs_index.specs.Image.{three_bytes, four_bytes, with_nul, starts_from, SectionBytes, in_order, trailer, trailer_magic, magic, layout, ListEntry, entry_bytes, IsString}
 use Rattle.cs_index.specs.Spelling.{AreLaid, AreStrings, IsEntry, Spells}
 
 pub apart : (a b c d : List ℕ) → length a ≡ length c → a ++ b ≡ c ++ d → (a ≡ c) × (b ≡ d)
@@ -92,11 +92,11 @@ numbers_once (n ∷ xs) (m ∷ ys) x y a b l e =
     let rest = numbers_once xs ys x y a.1 b.1 (omega (arith, l)) both.1 in
     λ i. head i ∷ rest i
 
-pub record Lengths (s : Sections) : Type 0 where
+pub record Lengths (s : SectionBytes) : Type 0 where
   pub whole : length (concat (in_order s)) ≡ length s.paths + (length s.names + (length s.postings + (length s.name_index + length s.list_index)))
   pub laid : length (layout s) ≡ 16 + (length (concat (in_order s)) + 36)
 
-pub lengths : (s : Sections) → Lengths s
+pub lengths : (s : SectionBytes) → Lengths s
 lengths s =
     let c : length (concat (in_order s)) ≡ length s.paths + length (s.names ++ (s.postings ++ (s.name_index ++ (s.list_index ++ [])))) = length-append s.paths _ in
     let d : length (s.names ++ (s.postings ++ (s.name_index ++ (s.list_index ++ [])))) ≡ length s.names + length (s.postings ++ (s.name_index ++ (s.list_index ++ []))) = length-append s.names _ in
@@ -106,12 +106,12 @@ lengths s =
     let t : length (concat (in_order s) ++ trailer s) ≡ length (concat (in_order s)) + 36 = length-append (concat (in_order s)) (trailer s) in
     record { whole = omega (arith, c, d, e, f, g); laid = omega (arith, t) }
 
-pub starts_fit : (s : Sections) → length (layout s) < 2 ^ 32 → AllByRecursion (λ n. n < 2 ^ 32) (starts_from 16 (in_order s))
+pub starts_fit : (s : SectionBytes) → length (layout s) < 2 ^ 32 → AllByRecursion (λ n. n < 2 ^ 32) (starts_from 16 (in_order s))
 starts_fit s h =
     let l = lengths s in
     (omega arith, (omega (arith, l.whole, l.laid, h), (omega (arith, l.whole, l.laid, h), (omega (arith, l.whole, l.laid, h), (omega (arith, l.whole, l.laid, h), tt)))))
 
-pub sections_once : (s t : Sections) → length (layout s) < 2 ^ 32 → length (layout t) < 2 ^ 32 → layout s ≡ layout t → s ≡ t
+pub sections_once : (s t : SectionBytes) → length (layout s) < 2 ^ 32 → length (layout t) < 2 ^ 32 → layout s ≡ layout t → s ≡ t
 sections_once s t f g e =
     let ls = lengths s in
     let lt = lengths t in
@@ -131,7 +131,7 @@ sections_once s t f g e =
     λ i. record { paths = one.0 i; names = two.0 i; postings = three.0 i; name_index = four.0 i; list_index = five i }
 
 -- bytes are the sections of one layout
-pub laid_once : (bytes : List ℕ) (s t : Sections) → AreLaid bytes s → AreLaid bytes t → s ≡ t
+pub laid_once : (bytes : List ℕ) (s t : SectionBytes) → AreLaid bytes s → AreLaid bytes t → s ≡ t
 laid_once bytes s t here there =
     sections_once s t (subst (λ b. length b < 2 ^ 32) here.laid here.short) (subst (λ b. length b < 2 ^ 32) there.laid there.short) (sym here.laid ∙ there.laid)
 
@@ -145,7 +145,7 @@ spelled_once bytes p q n m d e g h =
     let s = laid_once bytes g.sections h.sections g.are_laid h.are_laid in
     let a = names_tail g.sections.names n g.names_are in
     let b = names_tail h.sections.names m h.names_are in (
-      strings_once p q (0 ∷ []) (0 ∷ []) g.paths_are.0 h.paths_are.0 (inr refl) (inr refl) (sym g.paths_are.1 ∙ ap (λ (t : Sections). t.paths) s ∙ h.paths_are.1),
-      strings_once n m a.0 b.0 a.1.0 b.1.0 a.2 b.2 (sym a.1.1 ∙ ap (λ (t : Sections). t.names) s ∙ b.1.1),
-      entries_once d e g.sections.postings h.sections.postings g.list_index_is.0 h.list_index_is.0 (sym g.list_index_is.2 ∙ ap (λ (t : Sections). t.list_index) s ∙ h.list_index_is.2),
+      strings_once p q (0 ∷ []) (0 ∷ []) g.paths_are.0 h.paths_are.0 (inr refl) (inr refl) (sym g.paths_are.1 ∙ ap (λ (t : SectionBytes). t.paths) s ∙ h.paths_are.1),
+      strings_once n m a.0 b.0 a.1.0 b.1.0 a.2 b.2 (sym a.1.1 ∙ ap (λ (t : SectionBytes). t.names) s ∙ b.1.1),
+      entries_once d e g.sections.postings h.sections.postings g.list_index_is.0 h.list_index_is.0 (sym g.list_index_is.2 ∙ ap (λ (t : SectionBytes). t.list_index) s ∙ h.list_index_is.2),
     )

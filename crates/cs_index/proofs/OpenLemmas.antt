@@ -7,13 +7,13 @@ use Rattle.std.specs.Prelude.{option_map, nat_eq, Result, if◌then◌else◌, b
 use Rattle.cs_index.specs.declared.fault.IndexFault.{IndexFault}
 use Rattle.std.specs.List.{list_all, starts_with}
 use Rattle.cs_index.specs.declared.fault.IndexFault.TheVariants.{BadMagic, BadTrailer}
-use Rattle.cs_index.specs.Image.{magic, Sections, ListEntry, starts_from, with_nul}
+use Rattle.cs_index.specs.Image.{magic, SectionBytes, ListEntry, starts_from, with_nul}
 use Rattle.cs_index.specs.Opening.{is_name_index, is_list_index, is_entry, rises, entries_in, entry_at, trigram_at, parts_of, texts_of, has_trailer, cut_of, cut_before, numbers_from}
 use Rattle.cs_index.specs.OpenedParts.{Parts, ids_read}
 use Rattle.cs_index.proofs.EntryLemmas.{get-in}
 
 -- the sections of bytes that begin with the magic
-abbrev pub cut_ended : List ℕ → Result Sections IndexFault
+abbrev pub cut_ended : List ℕ → Result SectionBytes IndexFault
 cut_ended bytes = if not (has_trailer bytes) then Err BadTrailer else cut_before bytes (length bytes - 36)
 
 pub no_magic : (bytes : List ℕ) → starts_with nat_eq bytes magic ≡ false → cut_of bytes ≡ Err BadMagic
@@ -40,10 +40,10 @@ unfolding is_list_index
 entries_rise room bytes h =
     (and_parts (rises (entries_in bytes)) (list_all (is_entry room) (entries_in bytes)) (and_parts (eqb (length bytes % 11) 0) (rises (entries_in bytes) && list_all (is_entry room) (entries_in bytes)) h).1).0
 
-pub few_read : (s : Sections) → IsRead s → length (texts_of s.names) < 2 ^ 31
+pub few_read : (s : SectionBytes) → IsRead s → length (texts_of s.names) < 2 ^ 31
 few_read s is = let long = offsets_long s.name_index (texts_of s.names) is.read.offsets in omega (arith, long, is.names_bound)
 
-pub list_given : (s : Sections) (now : Parts) (place name_count g : ℕ) → parts_of s ≡ now → place < length s.list_index / 11 → name_count ≡ length now.names → g ≡ trigram_at s.list_index (11 * place) → ◌≡◌ {A = Option (ℕ × Ids)} (Some (g, read_list s.postings name_count (entry_at s.list_index (11 * place)))) (option_map (λ (e : ListEntry). (e.trigram, ids_read now e)) (slice_get now.entries place))
+pub list_given : (s : SectionBytes) (now : Parts) (place name_count g : ℕ) → parts_of s ≡ now → place < length s.list_index / 11 → name_count ≡ length now.names → g ≡ trigram_at s.list_index (11 * place) → ◌≡◌ {A = Option (ℕ × Ids)} (Some (g, read_list s.postings name_count (entry_at s.list_index (11 * place)))) (option_map (λ (e : ListEntry). (e.trigram, ids_read now e)) (slice_get now.entries place))
 list_given s now place name_count g is h count tri =
     (λ i. Some (tri i, read_list (postings i) (count i) (entry_at s.list_index (11 * place))))
     ∙ sym (ap (option_map (λ (e : ListEntry). (e.trigram, ids_read now e))) (ap (λ (p : Parts). slice_get p.entries place) (sym is) ∙ get-in s.list_index place h))

@@ -11,7 +11,7 @@ use Rattle.std.specs.List.{AllByRecursion, list_all, starts_with, ends_with, con
 use Rattle.std.specs.Cmp.Lexicographic.{bytes_decides}
 use Rattle.cs_index.specs.declared.fault.IndexFault.{IndexFault}
 use Rattle.cs_index.specs.declared.fault.IndexFault.TheVariants.{BadMagic, BadTrailer, BadOffsets, BadPaths, BadNames, BadNameIndex, BadListIndex}
-use Rattle.cs_index.specs.Image.{four_bytes, with_nul, starts_from, in_order, Sections, magic, trailer, trailer_magic, layout, ListEntry, entry_bytes, name_offsets}
+use Rattle.cs_index.specs.Image.{four_bytes, with_nul, starts_from, in_order, SectionBytes, magic, trailer, trailer_magic, layout, ListEntry, entry_bytes, name_offsets}
 use Rattle.cs_index.proofs.OpenLemmas.{cut_ended, cut_there, offsets_long}
 use Rattle.cs_index.specs.Opening.{are_starts, cut_at, cut_before, cut_of, entries_from, entries_in, entry_at, has_trailer, is_entry, is_list_index, is_name_index, is_section, number_at, numbers_from, opening, parts_of, read_cut, read_sections, rises, texts_of}
 use Rattle.cs_index.specs.OpenedParts.{Parts}
@@ -23,7 +23,7 @@ use Rattle.cs_index.proofs.SectionStringLemmas.{formed_spelled, section_read, se
 
 -- ---- sections that are laid out are cut
 
-cut_sections : (bytes : List ℕ) (a b c d e at : ℕ) (s : Sections) → are_starts a b c d e at ≡ true → slice_range bytes a b ≡ s.paths → slice_range bytes b c ≡ s.names → slice_range bytes c d ≡ s.postings → slice_range bytes d e ≡ s.name_index → slice_range bytes e at ≡ s.list_index → cut_at bytes a b c d e at ≡ Ok s
+cut_sections : (bytes : List ℕ) (a b c d e at : ℕ) (s : SectionBytes) → are_starts a b c d e at ≡ true → slice_range bytes a b ≡ s.paths → slice_range bytes b c ≡ s.names → slice_range bytes c d ≡ s.postings → slice_range bytes d e ≡ s.name_index → slice_range bytes e at ≡ s.list_index → cut_at bytes a b c d e at ≡ Ok s
 cut_sections bytes a b c d e at s starts paths names postings name_index list_index =
     (λ i. cond (starts i) (Ok (record { paths = paths i; names = names i; postings = postings i; name_index = name_index i; list_index = list_index i })) (Err BadOffsets))
 
@@ -36,10 +36,10 @@ rising a b c d e at first ab bc cd de ea =
     (and_from (leb d e) (leb e at) (le-leb d e de) (le-leb e at ea)))))
 
 -- where each section begins
-starts : Sections → List ℕ
+starts : SectionBytes → List ℕ
 starts s = starts_from 16 (in_order s)
 
-in_a_row : (s : Sections) → layout s ≡ magic ++ (s.paths ++ (s.names ++ (s.postings ++ (s.name_index ++ (s.list_index ++ trailer s)))))
+in_a_row : (s : SectionBytes) → layout s ≡ magic ++ (s.paths ++ (s.names ++ (s.postings ++ (s.name_index ++ (s.list_index ++ trailer s)))))
 in_a_row s =
     let r : List ℕ = trailer s in
     ap (λ bs. magic ++ bs) (append_assoc s.paths (s.names ++ (s.postings ++ (s.name_index ++ (s.list_index ++ [])))) r
@@ -48,10 +48,10 @@ in_a_row s =
     ∙ ap (λ bs. s.postings ++ bs) (append_assoc s.name_index (s.list_index ++ []) r
     ∙ ap (λ bs. s.name_index ++ bs) (append_assoc s.list_index [] r)))))
 
-has_magic : (s : Sections) → starts_with eqb (layout s) magic ≡ true
+has_magic : (s : SectionBytes) → starts_with eqb (layout s) magic ≡ true
 has_magic s = (bytes_decides magic (take 16 (layout s))).1 (sym (take_at magic (concat (in_order s) ++ trailer s) 16 refl))
 
-has_end : (s : Sections) → length (layout s) < 2 ^ 32 → has_trailer (layout s) ≡ true
+has_end : (s : SectionBytes) → length (layout s) < 2 ^ 32 → has_trailer (layout s) ≡ true
 has_end s short =
     let l = lengths s in
     let fours : List ℕ = flat_map four_bytes (starts_from 16 (in_order s)) in
@@ -63,7 +63,7 @@ has_end s short =
     ((bytes_decides trailer_magic (drop (length (layout s) - 16) (layout s))).1 (sym (ap (drop (length (layout s) - 16)) whole ∙ drop_at front trailer_magic (length (layout s) - 16) long))))
 
 -- the numbers of the trailer
-trailer_numbers : (s : Sections) (at : ℕ) → length (layout s) < 2 ^ 32 → at ≡ length (layout s) - 36 → numbers_from (layout s) at 5 ≡ starts_from 16 (in_order s)
+trailer_numbers : (s : SectionBytes) (at : ℕ) → length (layout s) < 2 ^ 32 → at ≡ length (layout s) - 36 → numbers_from (layout s) at 5 ≡ starts_from 16 (in_order s)
 trailer_numbers s at short is =
     let l = lengths s in
     let front : List ℕ = magic ++ concat (in_order s) in
@@ -71,7 +71,7 @@ trailer_numbers s at short is =
     let place : at ≡ length front = let a = length-append magic (concat (in_order s)) in omega (arith, a, is, l.laid) in
     (λ i. numbers_from (whole i) (place i) 5) ∙ numbers_laid front (starts_from 16 (in_order s)) trailer_magic (starts_fit s short)
 
-cut_laid : (s : Sections) (at : ℕ) → length (layout s) < 2 ^ 32 → at ≡ length (layout s) - 36 → cut_before (layout s) at ≡ Ok s
+cut_laid : (s : SectionBytes) (at : ℕ) → length (layout s) < 2 ^ 32 → at ≡ length (layout s) - 36 → cut_before (layout s) at ≡ Ok s
 cut_laid s at short is =
     let l = lengths s in
     let bytes : List ℕ = layout s in
@@ -108,7 +108,7 @@ cut_laid s at short is =
     (slice_laid bytes f3 s.name_index (s.list_index ++ r) d e row3 l3 refl)
     (slice_laid bytes f4 s.list_index r e at row4 l4 last)
 
-pub cut_spelled : (s : Sections) → length (layout s) < 2 ^ 32 → cut_of (layout s) ≡ Ok s
+pub cut_spelled : (s : SectionBytes) → length (layout s) < 2 ^ 32 → cut_of (layout s) ≡ Ok s
 cut_spelled s short = cut_there (layout s) (has_magic s) (has_end s short) ∙ cut_laid s (length (layout s) - 36) short refl
 
 -- ---- sections that are spelled are read
@@ -167,14 +167,14 @@ list_index_spelled postings list_index es are =
     (and_from (rises (entries_in list_index)) (list_all (is_entry (length postings)) (entries_in list_index)) (ap rises entries ∙ rise_spelled es are.1) (ap (list_all (is_entry (length postings))) entries ∙ all_entries postings es are.0))
 
 -- each test passes
-all_tests : (s : Sections) (parts : Parts) → is_section (0 ∷ []) s.paths ≡ true → (is_section (0 ∷ []) s.names || is_section [] s.names) ≡ true → is_name_index s.name_index (texts_of s.names) ≡ true → is_list_index (length s.postings) s.list_index ≡ true → parts_of s ≡ parts → read_sections s ≡ Ok parts
+all_tests : (s : SectionBytes) (parts : Parts) → is_section (0 ∷ []) s.paths ≡ true → (is_section (0 ∷ []) s.names || is_section [] s.names) ≡ true → is_name_index s.name_index (texts_of s.names) ≡ true → is_list_index (length s.postings) s.list_index ≡ true → parts_of s ≡ parts → read_sections s ≡ Ok parts
 all_tests s parts paths names name_index list_index is =
     (λ i. cond (not (paths i)) (Err BadPaths)
     (cond (not (names i)) (Err BadNames)
     (cond (not (name_index i)) (Err BadNameIndex)
     (cond (not (list_index i)) (Err BadListIndex) (Ok (is i))))))
 
-opens_sections : (s : Sections) (parts : Parts) → s.postings ≡ parts.postings → AreStrings (0 ∷ []) parts.paths s.paths → AreStrings (0 ∷ []) parts.names s.names ⊎ AreStrings [] parts.names s.names → AreOffsets parts.names s.name_index → AreEntries s.postings parts.entries s.list_index → length s.names < 2 ^ 32 → read_sections s ≡ Ok parts
+opens_sections : (s : SectionBytes) (parts : Parts) → s.postings ≡ parts.postings → AreStrings (0 ∷ []) parts.paths s.paths → AreStrings (0 ∷ []) parts.names s.names ⊎ AreStrings [] parts.names s.names → AreOffsets parts.names s.name_index → AreEntries s.postings parts.entries s.list_index → length s.names < 2 ^ 32 → read_sections s ≡ Ok parts
 opens_sections s parts postings paths names offsets lists short =
     let tail = names_tail s.names parts.names names in
     let texts : texts_of s.names ≡ parts.names = ap texts_of tail.1.1 ∙ texts_spelled parts.names tail.0 tail.1.0 tail.2 in
@@ -192,7 +192,7 @@ pub opens_spelled : (bytes : List ℕ) (parts : Parts) → SpellsParts bytes par
 unfolding opening
 opens_spelled bytes parts h =
     let spelled = h.spelled in
-    let s : Sections = spelled.sections in
+    let s : SectionBytes = spelled.sections in
     let are = spelled.are_laid in
     let short : length (layout s) < 2 ^ 32 = subst (λ (bs : List ℕ). length bs < 2 ^ 32) are.laid are.short in
     let cut : cut_of bytes ≡ Ok s = ap cut_of are.laid ∙ cut_spelled s short in
@@ -214,7 +214,7 @@ slice_length : (bytes : List ℕ) (a b : ℕ) → b ≤ length bytes → length 
 slice_length bytes a b h = let l = length-take (b - a) (drop a bytes) in let m = length-drop a bytes in omega (arith, l, m, h)
 
 -- the sections from place to place
-between : List ℕ → ℕ → ℕ → ℕ → ℕ → ℕ → ℕ → Sections
+between : List ℕ → ℕ → ℕ → ℕ → ℕ → ℕ → ℕ → SectionBytes
 between bytes a b c d e at = record { paths = slice_range bytes a b; names = slice_range bytes b c; postings = slice_range bytes c d; name_index = slice_range bytes d e; list_index = slice_range bytes e at }
 
 -- places that rise from 16 to the start of the trailer
@@ -251,7 +251,7 @@ starts_between bytes a b c d e at rise within =
 laid_between : (bytes : List ℕ) (a b c d e at : ℕ) → Small bytes → Rise a b c d e at → 52 ≤ length bytes → at ≡ length bytes - 36 → magic ≡ take 16 bytes → trailer_magic ≡ drop (length bytes - 16) bytes → numbers_from bytes at 5 ≡ a ∷ b ∷ c ∷ d ∷ e ∷ [] → bytes ≡ layout (between bytes a b c d e at)
 unfolding between
 laid_between bytes a b c d e at small rise enough is front end numbers =
-    let s : Sections = between bytes a b c d e at in
+    let s : SectionBytes = between bytes a b c d e at in
     let last : drop (at + 4 * 5) bytes ≡ trailer_magic = ap (λ k. drop k bytes) (let z : at + 4 * 5 ≡ length bytes - 16 = omega (arith, is, enough) in z) ∙ sym end in
     let tail : drop at bytes ≡ trailer s =
     numbers_back bytes at 5 (omega (arith, is, enough)) small
@@ -266,7 +266,7 @@ laid_between bytes a b c d e at small rise enough is front end numbers =
     ∙ sym (in_a_row s)
 
 -- Sections that were cut from bytes.
-pub record CutFrom (bytes : List ℕ) (s : Sections) : Type 0 where
+pub record CutFrom (bytes : List ℕ) (s : SectionBytes) : Type 0 where
   pub laid : bytes ≡ layout s
   pub short : length bytes < 2 ^ 32
   pub name_index : Small s.name_index
@@ -279,7 +279,7 @@ five_numbers bytes at =
     let five : at + 4 + 4 + 4 + 4 ≡ at + 16 = omega arith in
     λ i. number_at bytes at ∷ number_at bytes (at + 4) ∷ number_at bytes (three i) ∷ number_at bytes (four i) ∷ number_at bytes (five i) ∷ []
 
-pub cut_from : (bytes : List ℕ) (s : Sections) → Small bytes → cut_of bytes ≡ Ok s → CutFrom bytes s
+pub cut_from : (bytes : List ℕ) (s : SectionBytes) → Small bytes → cut_of bytes ≡ Ok s → CutFrom bytes s
 unfolding cut_of between
 cut_from bytes s small h =
     let at : ℕ = length bytes - 36 in
@@ -305,14 +305,14 @@ cut_from bytes s small h =
 -- ---- sections that are read are spelled
 
 -- Sections pass each test.
-record Pass (s : Sections) (parts : Parts) : Type 0 where
+record Pass (s : SectionBytes) (parts : Parts) : Type 0 where
   paths : is_section (0 ∷ []) s.paths ≡ true
   names : (is_section (0 ∷ []) s.names || is_section [] s.names) ≡ true
   name_index : is_name_index s.name_index (texts_of s.names) ≡ true
   list_index : is_list_index (length s.postings) s.list_index ≡ true
   are : parts_of s ≡ parts
 
-pass_from : (s : Sections) (parts : Parts) → read_sections s ≡ Ok parts → Pass s parts
+pass_from : (s : SectionBytes) (parts : Parts) → read_sections s ≡ Ok parts → Pass s parts
 pass_from s parts h =
     let one = passed (is_section (0 ∷ []) s.paths) BadPaths _ parts h in
     let two = passed (is_section (0 ∷ []) s.names || is_section [] s.names) BadNames _ parts one.1 in
@@ -388,7 +388,7 @@ names_read section h = elim (or_cases (is_section (0 ∷ []) section) (is_sectio
   | inr bare ↦ inr (section_read [] section bare)
 ]
 
-spells_parts : (bytes : List ℕ) (s : Sections) (parts : Parts) → CutFrom bytes s → Pass s parts → SpellsParts bytes parts
+spells_parts : (bytes : List ℕ) (s : SectionBytes) (parts : Parts) → CutFrom bytes s → Pass s parts → SpellsParts bytes parts
 spells_parts bytes s parts cut pass =
     subst (SpellsParts bytes) pass.are (record {
       spelled = record {
@@ -406,6 +406,6 @@ pub spells_opened : (bytes : List ℕ) (parts : Parts) → AreBytes bytes → op
 unfolding opening
 spells_opened bytes parts are h = from_cut (cut_of bytes) refl h
   where
-    from_cut : (r : Result Sections IndexFault) → cut_of bytes ≡ r → read_cut r ≡ Ok parts → SpellsParts bytes parts
+    from_cut : (r : Result SectionBytes IndexFault) → cut_of bytes ≡ r → read_cut r ≡ Ok parts → SpellsParts bytes parts
     from_cut (Ok s) is read = spells_parts bytes s parts (cut_from bytes s (small_bytes bytes are) is) (pass_from s parts read)
     from_cut (Err fault) is read = cc

@@ -3,7 +3,7 @@ use Rattle.std.proofs.Common.{◌≡◌, inl, inr, ℕ, ◌%◌, true, ◌&&◌,
 use Rattle.cs_index.specs.SectionsRead.{IsRead}
 use Rattle.std.proofs.lemmas.Bool.{and_parts, or_cases}
 use Rattle.std.specs.List.{list_all}
-use Rattle.cs_index.specs.Image.{ListEntry, Sections}
+use Rattle.cs_index.specs.Image.{ListEntry, SectionBytes}
 use Rattle.cs_index.specs.Opening.{texts_of, is_section, is_entry, is_list_index, entries_in, rises, parts_of}
 use Rattle.cs_index.specs.Parts.{AreParts}
 use Rattle.cs_index.proofs.OpenLemmas.{offsets_long, entries_rise}
@@ -14,7 +14,7 @@ unfolding is_list_index
 entries_fit room bytes h =
     (and_parts (rises (entries_in bytes)) (list_all (is_entry room) (entries_in bytes)) (and_parts (eqb (length bytes % 11) 0) (rises (entries_in bytes) && list_all (is_entry room) (entries_in bytes)) h).1).1
 
-pub parts_read : (s : Sections) → IsRead s → AreParts (parts_of s)
+pub parts_read : (s : SectionBytes) → IsRead s → AreParts (parts_of s)
 parts_read s is = record {
   each_path = (section_read (0 ∷ []) s.paths is.read.each_path).0;
   each_name = elim (or_cases (is_section (0 ∷ []) s.names) (is_section [] s.names) is.read.each_name) [

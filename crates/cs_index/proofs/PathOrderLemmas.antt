@@ -15,7 +15,7 @@ use Rattle.cs_tree.specs.Cover.{covers, is_alone}
 use Rattle.cs_tree.specs.Covering.{Covers, itself, below, root}
 use Rattle.cs_tree.proofs.Covering.{covers_says}
 use Rattle.cs_index.specs.Built.{are_reduced, is_before}
-use Rattle.cs_tree.proofs.BeforeLemmas.{less_from}
+use Rattle.cs_tree.proofs.ReduceLemmas.{strictly_from}
 
 pub list_all-map : {X Y : Type 0} (test : Y → Bool) (f : X → Y) (xs : List X) →
     list_all test (map f xs) ≡ list_all (λ x. test (f x)) xs
@@ -50,21 +50,6 @@ apart p q h = false_from_ne_true (bytes_eq p q) (λ e. not_below_itself p (ap (b
 
 -- ---- ascending paths
 
-above_all : (p q : List ℕ) (ps : List (List ℕ)) → bytes_cmp p q ≡ Less →
-    AllByRecursion (λ r. bytes_cmp q r ≡ Less) ps → AllByRecursion (λ r. bytes_cmp p r ≡ Less) ps
-above_all p q [] h all = tt
-above_all p q (r ∷ ps) h all = (nat_list_cmp_total.trans p q r h all.0, above_all p q ps h all.1)
-
-pub strictly : (ps : List (List ℕ)) → are_ascending ps ≡ true → IsStrictlySortedBy bytes_cmp ps
-unfolding IsStrictlySortedBy
-strictly [] up = tt
-strictly (p ∷ []) up = (tt, tt)
-strictly (p ∷ q ∷ ps) up =
-    let both = and_parts (is_lt (bytes_cmp p q)) (are_ascending (q ∷ ps)) up in
-    let rest : IsStrictlySortedBy bytes_cmp (q ∷ ps) = strictly (q ∷ ps) both.1 in
-    let first : bytes_cmp p q ≡ Less = less_from (bytes_cmp p q) both.0 in
-    ((first, above_all p q ps first rest.0), rest)
-
 pub tail_up : (p : List ℕ) (ps : List (List ℕ)) → are_ascending (p ∷ ps) ≡ true → are_ascending ps ≡ true
 tail_up p [] up = refl
 tail_up p (q ∷ ps) up = (and_parts (is_lt (bytes_cmp p q)) (are_ascending (q ∷ ps)) up).1
@@ -72,7 +57,7 @@ tail_up p (q ∷ ps) up = (and_parts (is_lt (bytes_cmp p q)) (are_ascending (q �
 head_up : (p : List ℕ) (ps : List (List ℕ)) → are_ascending (p ∷ ps) ≡ true →
     AllByRecursion (λ q. bytes_cmp p q ≡ Less) ps
 unfolding IsStrictlySortedBy
-head_up p ps up = (strictly (p ∷ ps) up).0
+head_up p ps up = (strictly_from (p ∷ ps) up).0
 
 pub reduced_up : (ps : List (List ℕ)) → are_reduced ps ≡ true → are_ascending ps ≡ true
 reduced_up [] h = refl

@@ -18,21 +18,13 @@ use Rattle.cs_index.specs.Candidates.{candidates_of, meets, ids_that}
 use Rattle.cs_index.specs.Answerable.{asks_for, asks_step, is_answerable}
 use Rattle.cs_index.proofs.OpenedLemmas.{rise_read}
 use Rattle.cs_index.proofs.SiftLemmas.{ascends_range, below_range, filter_all, filter_filter, has_below, has_range, read_rise, rise_ascends, rise_below}
+use Rattle.cs_trigram.proofs.QueryLemmas.{holds-All, holds-Nothing, holds-Tri}
 use Rattle.cs_trigram.proofs.SetLemmas.{ascends_tail, ascends_head, below_none, ascends_same, ascends_filter, filter_within, has-filter}
 use Rattle.cs_tree.proofs.NameLemmas.{list_any-map}
 
 -- ---- the equations of queries
 
 module _ (set : ℕ → Bool) where
-  pub holds-All : holds All set ≡ true
-  holds-All = ap (λ q. holds q set) (sym rolls-All) ∙ fold-roll-Query Bool (holds_step set) Query-F.All
-
-  pub holds-Nothing : holds Nothing set ≡ false
-  holds-Nothing = ap (λ q. holds q set) (sym rolls-Nothing) ∙ fold-roll-Query Bool (holds_step set) Query-F.Nothing
-
-  pub holds-Tri : (n : ℕ) → holds (Tri n) set ≡ set n
-  holds-Tri n = ap (λ q. holds q set) (sym (rolls-Tri n)) ∙ fold-roll-Query Bool (holds_step set) (Query-F.Tri n)
-
   pub holds-And : (members : Vec Query Global) → holds (And members) set ≡ list_all (λ q. holds q set) members.items
   holds-And members =
       ap (λ q. holds q set) (sym (rolls-And members)) ∙ fold-roll-Query Bool (holds_step set) (Query-F.And members)

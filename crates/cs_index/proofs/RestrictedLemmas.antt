@@ -46,7 +46,7 @@ module _ (p n i l list_index postings : List ℕ) (start room : ℕ) (held_is : 
   made_read = record {
     read = record { each_path = held_is.read.each_path; each_name = held_is.read.each_name; offsets = held_is.read.offsets; entries = entries_are };
     names_bound = held_is.names_bound;
-    few_lists = let a = ap length are.entries.2 in let b = length-entries (entries_in list_index) in let d = few_entries postings (entries_in list_index) are.entries.0 are.entries.1 in omega (arith, a, b, d);
+    lists_bound = let a = ap length are.entries.2 in let b = length-entries (entries_in list_index) in let d = few_entries postings (entries_in list_index) are.entries.0 are.entries.1 in omega (arith, a, b, d);
   }
 
   abbrev held : StoredParts

@@ -6,6 +6,7 @@ use Rattle.std.specs.Prelude.{filter}
 use Rattle.cs_trigram.specs.Trigram.{has}
 use Rattle.cs_trigram.specs.declared.queries.Query.{Query, Query-F, map-Query, roll-Query, ind-Query}
 use Rattle.cs_trigram.specs.declared.queries.Query.TheVariants.{All, Nothing, Tri, And, Or, rolls-All, rolls-Nothing, rolls-Tri, rolls-And, rolls-Or}
+use Rattle.cs_trigram.proofs.QueryLemmas.{holds-All, holds-Nothing, holds-Tri}
 use Rattle.cs_index.specs.PostingLists.{Ids}
 use Rattle.cs_index.specs.Opening.{rises}
 use Rattle.cs_index.specs.OpenedParts.{Parts, whole_ids}
@@ -13,7 +14,7 @@ use Rattle.cs_index.specs.Candidates.{meets}
 use Rattle.cs_index.specs.Answerable.{asks_for, is_answerable}
 use Rattle.cs_index.specs.Postings.{read_for}
 use Rattle.cs_index.specs.Restriction.{AnswersAs, ReadAlike}
-use Rattle.cs_index.proofs.QueryTrigramLemmas.{asks-And, asks-Or, asks-Tri, holds-All, holds-And, holds-Nothing, holds-Or, holds-Tri, set_is, candidates_are, answerable-All, answerable-And, answerable-Nothing, answerable-Or, answerable-Tri}
+use Rattle.cs_index.proofs.QueryTrigramLemmas.{asks-And, asks-Or, asks-Tri, holds-And, holds-Or, set_is, candidates_are, answerable-All, answerable-And, answerable-Nothing, answerable-Or, answerable-Tri}
 
 module _ (whole part : Parts) (up : rises whole.entries ≡ true) (up' : rises part.entries ≡ true) where
   -- the query is answered alike, by each name and of each list

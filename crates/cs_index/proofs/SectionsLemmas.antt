@@ -10,8 +10,8 @@ use Rattle.cs_index.specs.declared.writing.sections.Sections.TheInside.{Inside}
 use Rattle.std.specs.Prelude.{Result, IfOk, flat_map}
 use Rattle.cs_index.specs.declared.fault.BuildFault.{BuildFault}
 use Rattle.cs_index.specs.Indexable.{IsIndexable}
-use Rattle.cs_index.specs.Image.{Posting, ListEntry, four_bytes, image_of, layout, list_entries, posting_list, sections_of, three_bytes, varint, deltas_from}
-use Rattle.cs_index.specs.IdStream.{stream_of, ids_in, IsStream}
+use Rattle.cs_index.specs.Image.{Posting, ListEntry, four_bytes, image_of, layout, list_entries, posting_list, sections_of, three_bytes, varint, deltas_from, stream_of}
+use Rattle.cs_index.specs.IdStream.{ids_in, IsStream}
 use Rattle.cs_index.specs.Rising.{ids_onward, most_ids, next_after, IsPosting, RiseWithin}
 use Rattle.cs_index.specs.Gathering.{keys}
 use Rattle.cs_index.specs.Laid.{ids_of, with_id, Laid, entries_laid, last_ids, with_laid_id, with_last_id, with_last_ids, AllBelow}
@@ -24,6 +24,7 @@ use Rattle.cs_index.proofs.WrittenLemmas.{lists_back}
 use Rattle.cs_index.proofs.LaidLemmas.{laid_begun, laid_given, laid_image, laid_indexable}
 use Rattle.cs_index.proofs.OnceLemmas.{top_zero}
 use Rattle.cs_index.proofs.GatheringLemmas.{gathered_new}
+use Rattle.cs_index.proofs.GivenLemmas.{rise_wider}
 
 -- ---- lists are read where they lie
 
@@ -93,11 +94,6 @@ read_open front bytes entries hand next closed ids is up rise = record { closed_
 
 -- ---- lists in their order
 
-pub rise_more : (name_count more next : ℕ) (ids : List ℕ) → name_count ≤ more → RiseWithin name_count next ids →
-    RiseWithin more next ids
-rise_more name_count more next [] h up = tt
-rise_more name_count more next (id ∷ ids) h up = (up.0, omega (arith, h, up.1), rise_more name_count more (id + 1) ids h up.2)
-
 -- ids are below a number that the next would not pass
 rise_within : (name_count most next : ℕ) (ids : List ℕ) → next_after next ids ≤ name_count → RiseWithin most next ids →
     RiseWithin name_count next ids
@@ -107,7 +103,7 @@ rise_within name_count most next (id ∷ ids) last up = let long = rise_length m
 
 all_rise : (name_count : ℕ) (ps : List Posting) → name_count ≤ 2 ^ 31 → AllByRecursion (IsPosting name_count) ps → Rise ps
 all_rise name_count [] bound all = tt
-all_rise name_count (p ∷ ps) bound all = (rise_more name_count most_ids 0 p.1 bound all.0.1, all_rise name_count ps bound all.1)
+all_rise name_count (p ∷ ps) bound all = (rise_wider name_count most_ids 0 p.1 bound all.0.1, all_rise name_count ps bound all.1)
 
 all_front : (P : Posting → Type 0) (ps : List Posting) (p : Posting) → AllByRecursion P (ps ++ p ∷ []) →
     AllByRecursion P ps × P p
@@ -540,7 +536,7 @@ given_all s now out count next more view is has_last named rise written counted 
       starts = known.held.starts;
       follows = follows ∙ ap (λ n. n + next_after 0 more) known.held.follows ∙ sym (next_more 0 ids more);
     }) known.closed_rise
-        (rise_append most_ids 0 ids new known.ids_rise (rise_more (length s.names) most_ids (next_after 0 ids) new is.laid.bound new_rise))
+        (rise_append most_ids 0 ids new known.ids_rise (rise_wider (length s.names) most_ids (next_after 0 ids) new is.laid.bound new_rise))
 
     same : laid_of t ≡ with_last_ids (laid_of s) new
     same =

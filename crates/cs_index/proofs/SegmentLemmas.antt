@@ -157,10 +157,6 @@ ids_written next from [] some short = absurd (omega (arith, some))
 ids_written next from (gap ∷ gaps) some short =
     ap (λ rest. varint (from + gap + 1 - next) ++ rest) (gaps_written (from + gap) gaps short.1)
 
-pub ids_below : (name_count next : ℕ) (ids : List ℕ) → RiseWithin name_count next ids → AllByRecursion (λ id. id < name_count) ids
-ids_below name_count next [] up = tt
-ids_below name_count next (id ∷ ids) up = (up.1, ids_below name_count (id + 1) ids up.2)
-
 pub next_sum : (next from : ℕ) (gaps : List ℕ) → 0 < length gaps →
     next_after next (sums_from from gaps) ≡ next_after (from + 1) (sums_from from gaps)
 next_sum next from [] some = absurd (omega (arith, some))

@@ -5,7 +5,7 @@ use Rattle.cs_trigram.specs.Trigram.{has, Ascends}
 use Rattle.std.proofs.lemmas.Bool.{cond_both}
 use Rattle.std.specs.Prelude.{flat_map}
 use Rattle.std.specs.List.{AllByRecursion, concat}
-use Rattle.cs_index.specs.Image.{four_bytes, with_nul, Entry, ids_from, Posting, posting_list, postings_of, trigrams_of, closing_list, ListEntry, list_entries, Sections, sections_of, names_of, image_of}
+use Rattle.cs_index.specs.Image.{four_bytes, with_nul, Entry, ids_from, Posting, posting_list, postings_of, trigrams_of, closing_list, ListEntry, list_entries, SectionBytes, sections_of, names_of, image_of}
 use Rattle.cs_index.specs.Spelling.{IsEntry, Spells}
 use Rattle.cs_index.specs.Indexable.{IsIndexable}
 use Rattle.cs_trigram.proofs.SetLemmas.{ascends_set, all_set}
@@ -73,7 +73,7 @@ postings_fit entries (g ∷ gs) bound all = ((all.0, let n = few_ids 0 g entries
 
 pub image_spelled : (paths : List (List ℕ)) (entries : List Entry) → IsIndexable paths entries → Spells (image_of paths entries) paths (names_of entries) (list_entries 0 (postings_of entries))
 image_spelled paths entries h =
-    let s : Sections = sections_of paths (names_of entries) (postings_of entries) in
+    let s : SectionBytes = sections_of paths (names_of entries) (postings_of entries) in
     let short : length s.postings < 2 ^ 32 = let l = lengths s in omega (arith, l.whole, l.laid, h.short) in
     let whole : 0 + length (concat (map posting_list (postings_of entries))) + 4 ≡ length s.postings = let l = length-append (concat (map posting_list (postings_of entries))) closing_list in omega (arith, l) in
     record {

@@ -6,8 +6,8 @@ use Rattle.std.proofs.lemmas.Bool.{lt-ltb, le-ltb}
 use Rattle.std.proofs.lemmas.List.{append-nil, take_more_set}
 use Rattle.std.proofs.Math.Nat.{mul-le-mul_right}
 use Rattle.std.specs.Prelude.{flat_map}
-use Rattle.cs_index.specs.Image.{varint, varint_within, deltas_from}
-use Rattle.cs_index.specs.IdStream.{stream_of, ids_in, IsStream}
+use Rattle.cs_index.specs.Image.{varint, varint_within, deltas_from, stream_of}
+use Rattle.cs_index.specs.IdStream.{ids_in, IsStream}
 use Rattle.cs_index.proofs.VarintLemmas.{ids_read}
 
 pub written_push : (next : ℕ) (ids : List ℕ) (id : ℕ) → flat_map varint (deltas_from next (ids ++ id ∷ [])) ≡ flat_map varint (deltas_from next ids) ++ varint (id + 1 - next_after next ids)

@@ -5,8 +5,8 @@ use Rattle.std.proofs.lemmas.List.{append-nil, length-map}
 use Rattle.std.proofs.Math.Seq.{take-add}
 use Rattle.std.specs.List.{AllByRecursion}
 use Rattle.std.specs.Prelude.{flat_map, fold, sum}
-use Rattle.cs_index.specs.Image.{varint, varint_within, deltas_from}
-use Rattle.cs_index.specs.IdStream.{ids_in, stream_of, IsStream}
+use Rattle.cs_index.specs.Image.{varint, varint_within, deltas_from, stream_of}
+use Rattle.cs_index.specs.IdStream.{ids_in, IsStream}
 use Rattle.cs_index.specs.Rising.{ids_onward, most_ids, next_after, RiseWithin}
 use Rattle.cs_index.specs.PostingLists.{Ids, read_ids, read_varint, after_delta, onto, damage}
 use Rattle.cs_index.specs.ListRest.{ids_left}

@@ -1,8 +1,8 @@
 -- Why bytes do not open: the first thing of an index that they do not have.
 -- docs/FORMAT.md, "The index as it is read".
-use Rattle.std.specs.Prelude.{◌≡◌, ℕ, ◌<◌, ◌≤◌, ◌^◌, ◌⊎◌, List, [], ◌∷◌, ◌++◌, length}
-use Rattle.cs_index.specs.Image.{Sections, magic, trailer_magic, ListEntry}
-use Rattle.cs_index.specs.Spelling.{AreEntries, AreLaid, AreOffsets, AreStrings}
+use Rattle.std.specs.Prelude.{◌≡◌, ℕ, ◌<◌, ◌≤◌, ◌^◌, List, [], ◌∷◌, ◌++◌, length}
+use Rattle.cs_index.specs.Image.{SectionBytes, magic, trailer_magic, ListEntry}
+use Rattle.cs_index.specs.Spelling.{AreEntries, AreLaid, AreNames, AreOffsets, AreStrings}
 use Rattle.cs_index.specs.declared.fault.IndexFault.{IndexFault}
 use Rattle.cs_index.specs.declared.fault.IndexFault.TheVariants.{BadMagic, BadTrailer, BadOffsets, BadPaths, BadNames, BadNameIndex, BadListIndex, BadList, Memory}
 
@@ -16,20 +16,12 @@ pub record HasTrailer (bytes : List ℕ) : Type 0 where
   pub room : 52 ≤ length bytes
   pub short : length bytes < 2 ^ 32
 
--- strings, and one NUL behind them
-abbrev pub ArePaths : List (List ℕ) → List ℕ → Type 0
-ArePaths paths section = AreStrings (0 ∷ []) paths section
-
--- the NUL behind them may be missing
-abbrev pub AreNames : List (List ℕ) → List ℕ → Type 0
-AreNames names section = AreStrings (0 ∷ []) names section ⊎ AreStrings [] names section
-
 -- the sections of the bytes, where the first of them has paths
 pub record HavePaths (bytes : List ℕ) : Type 0 where
-  pub sections : Sections
+  pub sections : SectionBytes
   pub are_laid : AreLaid bytes sections
   pub paths : List (List ℕ)
-  pub are_paths : ArePaths paths sections.paths
+  pub are_paths : AreStrings (0 ∷ []) paths sections.paths
 
 -- and the second has names
 pub record HaveNames (bytes : List ℕ) : Type 0 where
@@ -41,9 +33,9 @@ pub record HaveNames (bytes : List ℕ) : Type 0 where
 abbrev pub Fails : List ℕ → IndexFault → Type 0
 Fails bytes BadMagic = ¬ (HasMagic bytes)
 Fails bytes BadTrailer = HasMagic bytes × ¬ (HasTrailer bytes)
-Fails bytes BadOffsets = HasMagic bytes × HasTrailer bytes × ((s : Sections) → ¬ (AreLaid bytes s))
+Fails bytes BadOffsets = HasMagic bytes × HasTrailer bytes × ((s : SectionBytes) → ¬ (AreLaid bytes s))
 Fails bytes BadPaths =
-    (s : Sections) × AreLaid bytes s × ((paths : List (List ℕ)) → ¬ (ArePaths paths s.paths))
+    (s : SectionBytes) × AreLaid bytes s × ((paths : List (List ℕ)) → ¬ (AreStrings (0 ∷ []) paths s.paths))
 Fails bytes BadNames =
     (h : HavePaths bytes) × ((names : List (List ℕ)) → ¬ (AreNames names h.sections.names))
 Fails bytes BadNameIndex =

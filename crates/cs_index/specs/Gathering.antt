@@ -1,5 +1,5 @@
 -- Posting lists while an index is built: one for each trigram that was met, in the order in which they were met.
-use Rattle.std.specs.Prelude.{◌≡◌, ℕ, false, List, [], ◌∷◌, map}
+use Rattle.std.specs.Prelude.{◌≡◌, ℕ, List, map}
 use Rattle.cs_trigram.specs.Trigram.{has, set_of_numbers}
 use Rattle.cs_index.specs.Image.{Posting}
 use Rattle.cs_index.specs.Laid.{ids_of}
@@ -19,8 +19,3 @@ lists_of lists gs = map (λ g. (g, ids_of lists g)) gs
 -- the lists as an index has them
 abbrev pub ordered_lists : List Posting → List Posting
 ordered_lists lists = lists_of lists (set_of_numbers (keys lists))
-
--- no number stands twice
-abbrev pub AreDistinct : List ℕ → Type 0
-AreDistinct [] = Unit {0}
-AreDistinct (n ∷ ns) = (has ns n ≡ false) × AreDistinct ns

@@ -1,11 +1,8 @@
 -- The ids of a list as a stream of varints.
-use Rattle.std.specs.Prelude.{◌≡◌, ℕ, List, [], ◌∷◌, ◌++◌, length, flat_map}
+use Rattle.std.specs.Prelude.{◌≡◌, ℕ, List, [], ◌∷◌, ◌++◌, length}
 use Rattle.cs_index.specs.Rising.{RiseWithin, most_ids, next_after}
 use Rattle.cs_index.specs.PostingLists.{read_ids}
-use Rattle.cs_index.specs.Image.{varint, deltas_from}
-
-abbrev pub stream_of : List ℕ → List ℕ
-stream_of ids = flat_map varint (deltas_from 0 ids)
+use Rattle.cs_index.specs.Image.{stream_of}
 
 -- the ids that a stream stands for
 unfoldable pub ids_in : List ℕ → ℕ → List ℕ

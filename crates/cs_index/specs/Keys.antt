@@ -4,7 +4,7 @@ use Rattle.std.specs.List.{AllByRecursion}
 use Rattle.cs_trigram.specs.Trigram.{closing_trigram}
 use Rattle.cs_index.specs.Image.{Posting}
 use Rattle.cs_index.specs.Rising.{next_after, IsPosting}
-use Rattle.cs_index.specs.Gathering.{AreDistinct}
+use Rattle.cs_trigram.specs.TrigramSets.{AreDistinct}
 use Rattle.cs_index.specs.Laid.{ids_of, with_id}
 
 -- the keys of the file at a place of its batch: the trigram, and below it the place

@@ -3,8 +3,7 @@ use Rattle.std.specs.Prelude.{◌≡◌, ◌≢◌, ℕ, ◌+◌, ◌-◌, nat_e
 use Rattle.std.specs.List.{concat}
 use Rattle.std.specs.Option.{option_map_or}
 use Rattle.cs_index.specs.declared.writing.sections.Sections.TheInside.{Inside}
-use Rattle.cs_index.specs.Image.{Posting, ListEntry, list_entries, magic, posting_list, strings_section, three_bytes}
-use Rattle.cs_index.specs.IdStream.{stream_of}
+use Rattle.cs_index.specs.Image.{Posting, ListEntry, list_entries, magic, posting_list, strings_section, three_bytes, stream_of}
 use Rattle.cs_index.specs.Rising.{most_ids, next_after}
 use Rattle.cs_index.specs.PostingLists.{read_list}
 use Rattle.cs_index.specs.OpenedParts.{whole_ids}

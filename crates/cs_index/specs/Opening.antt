@@ -7,7 +7,7 @@ use Rattle.std.specs.Str.{is_utf8}
 use Rattle.std.specs.Int.{from_be_bytes, w32}
 use Rattle.cs_index.specs.declared.fault.IndexFault.{IndexFault}
 use Rattle.cs_index.specs.declared.fault.IndexFault.TheVariants.{BadMagic, BadTrailer, BadOffsets, BadPaths, BadNames, BadNameIndex, BadListIndex}
-use Rattle.cs_index.specs.Image.{with_nul, starts_from, Sections, magic, trailer_magic, ListEntry}
+use Rattle.cs_index.specs.Image.{with_nul, starts_from, SectionBytes, magic, trailer_magic, ListEntry}
 use Rattle.cs_index.specs.Strings.{texts_in}
 use Rattle.cs_index.specs.OpenedParts.{Parts}
 
@@ -72,7 +72,7 @@ abbrev pub are_starts : ℕ → ℕ → ℕ → ℕ → ℕ → ℕ → Bool
 are_starts a b c d e trailer = nat_eq a 16 && (nat_le a b && (nat_le b c && (nat_le c d && (nat_le d e && nat_le e trailer))))
 
 -- the sections that begin at these places
-abbrev pub cut_at : List ℕ → ℕ → ℕ → ℕ → ℕ → ℕ → ℕ → Result Sections IndexFault
+abbrev pub cut_at : List ℕ → ℕ → ℕ → ℕ → ℕ → ℕ → ℕ → Result SectionBytes IndexFault
 cut_at bytes a b c d e trailer =
     if are_starts a b c d e trailer then Ok (record {
       paths = slice_range bytes a b;
@@ -83,11 +83,11 @@ cut_at bytes a b c d e trailer =
     }) else Err BadOffsets
 
 -- the sections, which begin where the trailer says
-abbrev pub cut_before : List ℕ → ℕ → Result Sections IndexFault
+abbrev pub cut_before : List ℕ → ℕ → Result SectionBytes IndexFault
 cut_before bytes at = cut_at bytes (number_at bytes at) (number_at bytes (at + 4)) (number_at bytes (at + 8)) (number_at bytes (at + 12)) (number_at bytes (at + 16)) at
 
 -- the sections of bytes with both magics
-unfoldable pub cut_of : List ℕ → Result Sections IndexFault
+unfoldable pub cut_of : List ℕ → Result SectionBytes IndexFault
 cut_of bytes =
     if not (starts_with nat_eq bytes magic) then Err BadMagic
     else (if not (has_trailer bytes) then Err BadTrailer else cut_before bytes (length bytes - 36))
@@ -102,10 +102,10 @@ is_name_index bytes names = has_starts bytes 0 0 names
 unfoldable pub is_list_index : ℕ → List ℕ → Bool
 is_list_index room bytes = nat_eq (length bytes % 11) 0 && (rises (entries_in bytes) && list_all (is_entry room) (entries_in bytes))
 
-abbrev pub parts_of : Sections → Parts
+abbrev pub parts_of : SectionBytes → Parts
 parts_of s = record { paths = texts_of s.paths; names = texts_of s.names; entries = entries_in s.list_index; postings = s.postings }
 
-abbrev pub read_sections : Sections → Result Parts IndexFault
+abbrev pub read_sections : SectionBytes → Result Parts IndexFault
 read_sections s =
     if not (is_section (0 ∷ []) s.paths) then Err BadPaths
     else (if not (is_names_section s.names) then Err BadNames
@@ -113,7 +113,7 @@ read_sections s =
     else (if not (is_list_index (length s.postings) s.list_index) then Err BadListIndex
     else Ok (parts_of s))))
 
-abbrev pub read_cut : Result Sections IndexFault → Result Parts IndexFault
+abbrev pub read_cut : Result SectionBytes IndexFault → Result Parts IndexFault
 read_cut (Ok s) = read_sections s
 read_cut (Err fault) = Err fault
 

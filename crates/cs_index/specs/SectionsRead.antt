@@ -1,6 +1,6 @@
 -- What is true of sections that were read.
 use Rattle.std.specs.Prelude.{◌≡◌, ℕ, true, List, [], ◌∷◌, length, ◌<◌, ◌^◌, bytes_eq}
-use Rattle.cs_index.specs.Image.{Sections}
+use Rattle.cs_index.specs.Image.{SectionBytes}
 use Rattle.cs_index.specs.Opening.{texts_of, is_section, is_names_section, is_name_index, is_list_index}
 
 -- No string stands in front: the section can only be its closing bytes.
@@ -19,8 +19,8 @@ pub record AreRead (paths names name_index list_index : List ℕ) (room : ℕ) :
 pub record AreHeld (paths names name_index list_index : List ℕ) (room : ℕ) : Type 0 where
   pub read : AreRead paths names name_index list_index room
   pub names_bound : length name_index < 2 ^ 32
-  pub few_lists : length list_index < 2 ^ 32
+  pub lists_bound : length list_index < 2 ^ 32
 
 -- all sections of an index that was read
-abbrev pub IsRead : Sections → Type 0
+abbrev pub IsRead : SectionBytes → Type 0
 IsRead s = AreHeld s.paths s.names s.name_index s.list_index (length s.postings)

@@ -4,12 +4,12 @@ use Rattle.cs_index.specs.declared.fault.IndexFault.{IndexFault}
 use Rattle.cs_index.specs.declared.fault.IndexFault.TheVariants.{BadOffsets}
 use Rattle.cs_index.specs.declared.reading.starts.SectionStarts.{SectionStarts}
 use Rattle.std.specs.List.{ends_with}
-use Rattle.cs_index.specs.Image.{Sections, trailer_magic}
+use Rattle.cs_index.specs.Image.{SectionBytes, trailer_magic}
 use Rattle.cs_index.specs.Opening.{are_starts, cut_of, number_at, read_sections}
 use Rattle.cs_index.specs.Stored.{StoredParts, whole_of}
 
 -- the sections that begin there
-abbrev pub sections_at : List ℕ → SectionStarts → Sections
+abbrev pub sections_at : List ℕ → SectionStarts → SectionBytes
 sections_at bytes s = record {
   paths = slice_range bytes s.paths s.names;
   names = slice_range bytes s.names s.postings;
@@ -48,10 +48,10 @@ IsCutAt bytes (Ok s) = (cut_of bytes ≡ Ok (sections_at bytes s)) × (s.trailer
 IsCutAt bytes (Err fault) = cut_of bytes ≡ Err fault
 
 -- sections, with these lists
-abbrev pub with_lists : List ℕ → List ℕ → List ℕ → List ℕ → List ℕ → Sections
+abbrev pub with_lists : List ℕ → List ℕ → List ℕ → List ℕ → List ℕ → SectionBytes
 with_lists paths names name_index list_index postings = record { paths = paths; names = names; postings = postings; name_index = name_index; list_index = list_index }
 
 -- Sections of bytes are read as that index, or have that fault.
-abbrev pub SectionsOpenAs : List ℕ → Sections → Result StoredParts IndexFault → Type 0
+abbrev pub SectionsOpenAs : List ℕ → SectionBytes → Result StoredParts IndexFault → Type 0
 SectionsOpenAs bytes sections (Ok held) = read_sections sections ≡ Ok (whole_of bytes held)
 SectionsOpenAs bytes sections (Err fault) = read_sections sections ≡ Err fault

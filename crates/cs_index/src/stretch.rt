@@ -1,9 +1,9 @@
 // Ids that go from one list into another as they are written.
 ghost use Rattle.std.specs.Prelude.{◌≡◌, ◌<◌, ◌≤◌, ◌+◌, ◌++◌, [], length, sum, take};
 ghost use Rattle.std.specs.List.{AllByRecursion};
-ghost use Rattle.cs_index.specs.Image.{varint};
+ghost use Rattle.cs_index.specs.Image.{varint, stream_of};
 ghost use Rattle.cs_index.specs.Rising.{most_ids, next_after, RiseWithin};
-ghost use Rattle.cs_index.specs.IdStream.{stream_of, IsStream};
+ghost use Rattle.cs_index.specs.IdStream.{IsStream};
 
 use std::marker::Model;
 

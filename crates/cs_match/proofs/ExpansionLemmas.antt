@@ -2,7 +2,7 @@
 use Rattle.std.proofs.Common.{◌≡◌, ℕ, zero, suc, ◌+◌, ◌-◌, ◌≤◌, inl, inr, Bool, true, false, List, refl, sym, subst, arith}
 use Rattle.std.specs.Prelude.{Option, Some, None, nat_le, ◌↔◌, if◌then◌else◌}
 use Rattle.std.proofs.lemmas.Bool.{le-leb, leb-true}
-use Rattle.cs_syntax.specs.Matching.{Tree, Trees, empty, one_of, one_char, cat, alt, rep, line_start, line_end, word_edge, not_word_edge, none, more, Chain, Takes, TakesAll, TakesSome, Found}
+use Rattle.cs_syntax.specs.Matching.{Tree, Trees, empty, one_of, one_char, cat, alt, rep, line_start, line_end, word_edge, not_word_edge, none, more, Chain, Takes, TakesAll, TakesSome, HasMatch}
 use Rattle.cs_match.specs.Places.{IsLooped, AreLooped}
 use Rattle.cs_syntax.proofs.LoweringLemmas.{lowered_takes}
 use Rattle.cs_match.proofs.LoweredLemmas.{lowered_looped}
@@ -131,7 +131,7 @@ module _ (s : List ℕ) where
     takes_some_as_read none i j h = h
     takes_some_as_read (more t ts) i j h = elim h [ inl p ↦ inl (takes_as_read t i j p) | inr p ↦ inr (takes_some_as_read ts i j p) ]
 
-pub expansion_found : (t : Tree) (s : List ℕ) → Found (expansion t) s ↔ Found t s
+pub expansion_found : (t : Tree) (s : List ℕ) → HasMatch (expansion t) s ↔ HasMatch t s
 expansion_found t s =
     (λ f. (f.0, f.1, f.2, f.3, takes_as_read s t f.0 f.1 f.4), λ f. (f.0, f.1, f.2, f.3, takes_expansion s t f.0 f.1 f.4))
 

@@ -2,7 +2,7 @@
 use Rattle.std.proofs.Common.{◌≡◌, ℕ, zero, suc, ◌<◌, ◌≤◌, ◌||◌, inl, inr, List, Bool, true, false, length, sym, ◌∙◌, ap, arith}
 use Rattle.std.specs.Prelude.{IsTrue, ◌↔◌}
 use Rattle.std.proofs.lemmas.Bool.{both_ways, cases_lt, or_cases, or_left, or_right}
-use Rattle.cs_syntax.specs.Matching.{Tree, Found}
+use Rattle.cs_syntax.specs.Matching.{Tree, HasMatch}
 use Rattle.cs_match.specs.FindingDecided.{FindingIsDecided}
 use Rattle.cs_match.specs.Places.{exit_at, IsLooped}
 use Rattle.cs_match.specs.Expansion.{expansion}
@@ -10,11 +10,11 @@ use Rattle.cs_match.proofs.MarksLemmas.{found_where_left}
 use Rattle.cs_match.proofs.ExpansionLemmas.{expansion_found, is_looped}
 
 module _ (t : Tree) (s : List ℕ) (looped : IsLooped t) where
-  pub found_at : (i : ℕ) → i ≤ length s → exit_at s t (λ _. true) i ≡ true → Found t s
+  pub found_at : (i : ℕ) → i ≤ length s → exit_at s t (λ _. true) i ≡ true → HasMatch t s
   found_at i le h = (found_where_left t s looped).1 (i, le, h)
 
   pub found_last : (b : Bool) → b ≡ exit_at s t (λ _. true) (length s) →
-      ((k : ℕ) → k < length s → exit_at s t (λ _. true) k ≡ false) → IsTrue b ↔ Found t s
+      ((k : ℕ) → k < length s → exit_at s t (λ _. true) k ≡ false) → IsTrue b ↔ HasMatch t s
   found_last b is before = (
     λ h. found_at (length s) (omega arith) (sym is ∙ h),
     λ f. let w = (found_where_left t s looped).0 f in

@@ -3,7 +3,7 @@ use Rattle.std.proofs.Common.{◌≡◌, ℕ, zero, suc, ◌<◌, ◌≤◌, inl
 use Rattle.std.specs.Prelude.{slice_index, nat_eq, Option, ◌↔◌}
 use Rattle.std.proofs.lemmas.List.{take_at, drop_at, length-replicate, replicate-append-replicate}
 use Rattle.std.proofs.lemmas.Bool.{and_parts, or_cases, and_from, or_left, or_right, eqb-true, eq-eqb, not-true}
-use Rattle.cs_syntax.specs.Matching.{Tree, Trees, empty, one_of, one_char, cat, alt, rep, line_start, line_end, word_edge, not_word_edge, none, more, member, at_word_edge, Chain, Takes, TakesAll, TakesSome, Found}
+use Rattle.cs_syntax.specs.Matching.{Tree, Trees, empty, one_of, one_char, cat, alt, rep, line_start, line_end, word_edge, not_word_edge, none, more, member, at_word_edge, Chain, Takes, TakesAll, TakesSome, HasMatch}
 use Rattle.cs_match.specs.declared.around.Around.{Around}
 use Rattle.cs_match.specs.Places.{around, places, places_of, nullable, nullable_all, nullable_some, leaves, leaves_all, leaves_some, exits, step, step_all, step_each, marks, exit_at, IsLooped, AreLooped}
 
@@ -316,7 +316,7 @@ anywhere : ℕ → Bool
 anywhere i = true
 
 -- a part of the line is taken exactly where the tree, entered everywhere, can be left somewhere
-pub found_where_left : (t : Tree) (s : List ℕ) → IsLooped t → Found t s ↔ ((i : ℕ) × (i ≤ length s) × (exit_at s t (λ _. true) i ≡ true))
+pub found_where_left : (t : Tree) (s : List ℕ) → IsLooped t → HasMatch t s ↔ ((i : ℕ) × (i ≤ length s) × (exit_at s t (λ _. true) i ≡ true))
 found_where_left t s st = (
   λ f. (f.1, f.3, complete s t st (λ _. true) f.0 f.1 refl f.4),
   λ e. let c = exit_sound s t st (sound s t st) (λ _. true) e.0 e.1 e.2 in (c.0, e.0, c.1, e.1, c.3),

@@ -3,7 +3,7 @@ use Rattle.std.proofs.Common.{◌≡◌, ℕ, zero, suc, ◌+◌, ◌-◌, ◌*�
 use Rattle.std.specs.Prelude.{bit_or, slice_index, ◌≢◌}
 use Rattle.std.proofs.lemmas.Bool.{both_ways, cases_lt, eqb-false, false_from_ne_true}
 use Rattle.std.proofs.lemmas.List.Elements.{All-nil, All-cons, All-head, All-tail, All-append}
-use Rattle.cs_syntax.specs.Matching.{Tree, Found}
+use Rattle.cs_syntax.specs.Matching.{Tree, HasMatch}
 use Rattle.cs_tree.specs.ByteList.{AreBytes}
 use Rattle.cs_match.specs.declared.standing.Standing.{Standing}
 use Rattle.cs_match.specs.Finding.{Decides}
@@ -38,7 +38,7 @@ part_at [] part i low = absurd (omega arith)
 part_at (b ∷ line) part zero low = eqb-false b newline part.0
 part_at (b ∷ line) part (suc i) low = part_at line part.1 i (omega arith)
 
-never_found : (t : Tree) (line : List ℕ) → IsLooped t → IsPart line → NeverLeft t (start (places t)) line → Found t line → ⊥
+never_found : (t : Tree) (line : List ℕ) → IsLooped t → IsPart line → NeverLeft t (start (places t)) line → HasMatch t line → ⊥
 never_found t line looped part never found_it =
     let w = (found_where_left t line looped).0 found_it in
     elim (cases_lt w.0 (length line)) [
@@ -61,7 +61,7 @@ left_last : (t : Tree) (n : Standing) (line : List ℕ) → LeftAt t n line (len
 left_last t n [] h = h
 left_last t n (b ∷ line) h = left_last t (next_standing t n b) line h
 
-left_found : (t : Tree) (line : List ℕ) → IsLooped t → IsPart line → (i : ℕ) → i ≤ length line → LeftAt t (start (places t)) line i → Found t line
+left_found : (t : Tree) (line : List ℕ) → IsLooped t → IsPart line → (i : ℕ) → i ≤ length line → LeftAt t (start (places t)) line i → HasMatch t line
 left_found t line looped part i high left =
     (found_where_left t line looped).1 (i, high, exits_there)
   where

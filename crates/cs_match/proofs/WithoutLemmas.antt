@@ -1,5 +1,5 @@
 -- Words and windows that stand in no line of a text.
-use Rattle.std.proofs.Common.{◌≡◌, ℕ, zero, suc, ◌+◌, ◌<◌, ◌≤◌, inl, inr, Bool, true, false, cond, nat_eq, List, [], ◌∷◌, ◌++◌, length, take, drop, get_or, refl, sym, ap, subst, ◌∙◌, arith, length-append}
+use Rattle.std.proofs.Common.{◌≡◌, ℕ, suc, ◌+◌, ◌<◌, ◌≤◌, inl, inr, Bool, true, false, cond, nat_eq, List, [], ◌∷◌, ◌++◌, length, take, drop, get_or, refl, sym, ap, subst, ◌∙◌, arith, length-append}
 use Rattle.std.proofs.lemmas.Bool.{eqb-true, cases_Bool}
 use Rattle.std.proofs.lemmas.List.{get_or_append_left, length-take-le, take_more, take-append-drop}
 use Rattle.std.proofs.lemmas.List.Elements.{All-nil, All-cons, All-tail}
@@ -8,9 +8,10 @@ use Rattle.cs_match.specs.Lines.{newline, ended_lines, with_byte_in_line}
 use Rattle.std.specs.Prelude.{All, Any}
 use Rattle.cs_sieve.specs.declared.window.Window.{Window}
 use Rattle.cs_sieve.specs.Stands.{Stands}
-use Rattle.cs_syntax.specs.Matching.{Tree, Found, member}
+use Rattle.cs_syntax.specs.Matching.{Tree, HasMatch, member}
 use Rattle.cs_match.specs.Finding.{Decides}
 use Rattle.cs_match.specs.Skipping.{AreWholeLines, NoneFound}
+use Rattle.cs_match.proofs.WholeLemmas.{whole_ended}
 
 -- what stands at places of a text: behind more bytes, and before more bytes, it still stands
 pub record IsPlaced (Stands : List ℕ → ℕ → Type 0) : Type 0 where
@@ -111,34 +112,17 @@ module _ (Stands : List ℕ → ℕ → Type 0) (placed : IsPlaced Stands) where
       let whole : take n text ++ drop n text ≡ text = take-append-drop n text in
       none k (omega (arith, long)) (subst (λ (xs : List ℕ). Stands xs k) whole (placed.front (take n text) (drop n text) k h)))
 
--- what ends in a newline is whole
-whole_ended : (part : List ℕ) → AreWholeLines (part ++ newline ∷ [])
-unfolding AreWholeLines
-whole_ended [] = refl
-whole_ended (b ∷ []) = refl
-whole_ended (b ∷ c ∷ part) = whole_ended (c ∷ part)
-
 pub whole_to : (text : List ℕ) (at : ℕ) → at < length text → nat_eq (get_or text at 0) newline ≡ true → AreWholeLines (take (at + 1) text)
 whole_to text at low is =
     let last : take (at + 1) text ≡ take at text ++ newline ∷ [] = take_more text at 0 low ∙ ap (λ b. take at text ++ b ∷ []) (eqb-true _ _ is) in
     subst AreWholeLines (sym last) (whole_ended (take at text))
-
-whole_tail : (b : ℕ) (text : List ℕ) → AreWholeLines (b ∷ text) → AreWholeLines text
-unfolding AreWholeLines
-whole_tail b [] p = tt
-whole_tail b (c ∷ text) p = p
-
-pub whole_drop : (n : ℕ) (text : List ℕ) → AreWholeLines text → AreWholeLines (drop n text)
-whole_drop zero text p = p
-whole_drop (suc n) [] p = p
-whole_drop (suc n) (b ∷ text) p = whole_drop n text (whole_tail b text p)
 
 pub whole_none : AreWholeLines []
 unfolding AreWholeLines
 whole_none = tt
 
 -- what stands in each line in which a tree finds something stands in none of these: nothing is found in them
-pub none_found : (tree : Tree) (Has : List ℕ → Type 0) (finds : List ℕ → Bool) (lines : List (List ℕ)) → ((line : List ℕ) → Found tree line → Has line) → Decides finds tree →
+pub none_found : (tree : Tree) (Has : List ℕ → Type 0) (finds : List ℕ → Bool) (lines : List (List ℕ)) → ((line : List ℕ) → HasMatch tree line → Has line) → Decides finds tree →
     All (λ line. ¬ Has line) lines → NoneFound finds lines
 none_found tree Has finds lines needed decides lack k d low =
     let line = get_or lines k d in

@@ -1,7 +1,7 @@
 -- Windows that a tree needs: in each line in which the tree finds something one of them stands.
 -- Where a window stands is `Stands`, as sieves say it.
 use Rattle.std.specs.Prelude.{ℕ, ◌≡◌, ◌+◌, ◌≤◌, ◌<◌, Bool, true, List, length, slice_index, slice_index_or, All, Any, Option, IfSome}
-use Rattle.cs_syntax.specs.Matching.{Tree, Found, member}
+use Rattle.cs_syntax.specs.Matching.{Tree, HasMatch, member}
 use Rattle.cs_sieve.specs.declared.window.Window.{Window}
 use Rattle.cs_sieve.specs.Stands.{Stands}
 use Rattle.cs_match.specs.declared.choice.Choice.{Choice}
@@ -12,7 +12,7 @@ HasOne windows line = (at : ℕ) × Any (Stands line at) windows
 
 -- each line in which the tree finds something has one of the windows
 abbrev pub AreNeeded : Tree → List Window → Type 0
-AreNeeded tree windows = (line : List ℕ) → Found tree line → HasOne windows line
+AreNeeded tree windows = (line : List ℕ) → HasMatch tree line → HasOne windows line
 
 -- none of the lines has one of the windows
 abbrev pub HaveNone : List Window → List (List ℕ) → Type 0

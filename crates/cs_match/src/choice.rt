@@ -56,7 +56,7 @@ impl Choice {
     }
 
     /// The windows of the other too.
-    pub(crate) fn join(&mut self, other: &Choice) -> Result<(), AllocError>
+    pub(crate) fn append(&mut self, other: &Choice) -> Result<(), AllocError>
         ensures { OnOk result
             (self.new.windows.items ≡ self.old.windows.items ++ other.now.windows.items) }
     {

@@ -1,6 +1,6 @@
 // Matchers: programs with what their runs remember.
 ghost use Rattle.std.specs.Prelude.{◌≡◌, ◌≤◌, ◌<◌, ◌-◌, ◌↔◌, ℕ, Bool, List, IsTrue, IfOk, IfSome, length, slice_range, drop, count_by};
-ghost use Rattle.cs_syntax.specs.Matching.{Found};
+ghost use Rattle.cs_syntax.specs.Matching.{HasMatch};
 ghost use Rattle.cs_match.specs.Finding.{Decides};
 ghost use Rattle.cs_match.specs.Lines.{ended_lines};
 ghost use Rattle.cs_match.specs.Passed.{ArePassed};
@@ -108,8 +108,8 @@ impl<'a> Matcher<'a> {
         })
     }
 
-    /// How many sets of places are remembered. One is that of a line's start.
-    pub fn state_sets(&self) -> usize
+    /// How many standings are remembered. One is that of a line's start.
+    pub fn standings(&self) -> usize
         ensures some { 1 ≤ result }
         ensures bound { result ≤ 254 }
     {
@@ -119,7 +119,7 @@ impl<'a> Matcher<'a> {
     /// Whether the program takes some part of the line, whatever lines were asked before. It takes
     /// no memory.
     pub fn is_match(&mut self, line: &[u8]) -> bool
-        ensures found { IsTrue result ↔ Found self.old line.now }
+        ensures found { IsTrue result ↔ HasMatch self.old line.now }
         ensures same { self.new ≡ self.old }
     {
         let found = self.table.is_match(line);

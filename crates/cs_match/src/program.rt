@@ -1,7 +1,7 @@
 // Programs: what a pattern is compiled to.
-ghost use Rattle.std.specs.Prelude.{◌≡◌, ◌↔◌, ℕ, List, IfOk, IfSome};
-ghost use Rattle.cs_syntax.specs.Matching.{Found};
+ghost use Rattle.std.specs.Prelude.{◌≡◌, IfOk, IfSome};
 ghost use Rattle.cs_syntax.specs.Node.{tree_of};
+ghost use Rattle.cs_match.specs.Finding.{FindAlike};
 ghost use Rattle.cs_match.specs.Places.{places, repeats, IsLooped};
 ghost use Rattle.cs_match.specs.Needle.{IsNeeded};
 ghost use Rattle.cs_match.specs.NeededWindows.{AreNeeded};
@@ -63,8 +63,7 @@ impl Program {
     /// out, and sets of characters lowered to sets of bytes, so that it has at most 55 places for
     /// each unit of the weight of the pattern.
     pub fn compile(alloc: Global, pattern: &Pattern) -> Result<Program, AllocError>
-        ensures { IfOk result
-            (λ program. (line : List ℕ) → Found program line ↔ Found pattern.now line) }
+        ensures { IfOk result (λ program. FindAlike program pattern.now) }
     {
         let root = write_out(alloc, pattern.tree())?;
         let count = count(&root);

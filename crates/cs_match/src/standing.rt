@@ -1,6 +1,6 @@
 // What a run over a line has come to.
 ghost use Rattle.std.specs.Prelude.{◌≡◌, ◌↔◌, IfOk, IfSome, IsTrue, length, true};
-ghost use Rattle.cs_syntax.specs.Matching.{Found};
+ghost use Rattle.cs_syntax.specs.Matching.{HasMatch};
 ghost use Rattle.cs_syntax.specs.Node.{tree_of};
 ghost use Rattle.cs_match.specs.Places.{places, repeats, exits, IsLooped};
 ghost use Rattle.cs_match.specs.Shifts.{AreShifts};
@@ -82,7 +82,7 @@ impl Standing {
         requires one_each { length self.old.marks ≡ places (tree_of root.now) }
         requires loops { length loops.old ≡ repeats (tree_of root.now) }
         requires looped { IsLooped (tree_of root.now) }
-        ensures found { IsTrue result ↔ Found (tree_of root.now) line.now }
+        ensures found { IsTrue result ↔ HasMatch (tree_of root.now) line.now }
         ensures one_each { length self.new.marks ≡ places (tree_of root.now) }
         ensures loops { length loops.new ≡ length loops.old }
     {

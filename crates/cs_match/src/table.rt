@@ -1,7 +1,7 @@
 // Remembered standings, and the next one for each byte.
 ghost use Rattle.std.specs.Prelude.{◌≡◌, ◌≢◌, ◌↔◌, ◌+◌, ◌<◌, ◌≤◌, ◌*◌, ◌/◌, ℕ, IfOk, IfSome, IsTrue, MatchOption, EachIndex, length, vec_len, replicate, slice_index, slice_index_or, slice_set, true, false};
 ghost use Rattle.cs_syntax.specs.Node.{tree_of};
-ghost use Rattle.cs_syntax.specs.Matching.{Found};
+ghost use Rattle.cs_syntax.specs.Matching.{HasMatch};
 ghost use Rattle.cs_match.specs.Lines.{newline};
 ghost use Rattle.cs_match.specs.Places.{places, repeats, IsLooped};
 ghost use Rattle.cs_match.specs.Shifts.{AreShifts};
@@ -172,7 +172,7 @@ impl<'a> Table<'a> {
     #[inline(never)]
     fn search(&mut self, line: &[u8]) -> bool
         requires right { IsConsistent self.old }
-        ensures found { IsTrue result ↔ Found (tree_in self.old) line.now }
+        ensures found { IsTrue result ↔ HasMatch (tree_in self.old) line.now }
         ensures right { IsConsistent self.new }
         ensures same { tree_in self.new ≡ tree_in self.old }
     {
@@ -183,7 +183,7 @@ impl<'a> Table<'a> {
     /// Whether the tree takes some part of a line, by what is known as far as no newline stands in it.
     pub(crate) fn is_match(&mut self, line: &[u8]) -> bool
         requires right { IsConsistent self.old }
-        ensures found { IsTrue result ↔ Found (tree_in self.old) line.now }
+        ensures found { IsTrue result ↔ HasMatch (tree_in self.old) line.now }
         ensures right { IsConsistent self.new }
         ensures same { tree_in self.new ≡ tree_in self.old }
     {

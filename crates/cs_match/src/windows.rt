@@ -91,7 +91,7 @@ fn best_of_each(alloc: Global, branches: &[Node]) -> Result<Option<Choice>, Allo
         let Some(choice) = best(alloc, branch)? else {
             return Ok(None);
         };
-        all.join(&choice)?;
+        all.append(&choice)?;
         if all.windows.len() > MOST {
             return Ok(None);
         }

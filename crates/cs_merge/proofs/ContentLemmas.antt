@@ -17,7 +17,7 @@ use Rattle.std.specs.FinMap.Entries.{below_all, is_sorted, find}
 use Rattle.std.specs.FinMap as map'
 use Rattle.cs_tree.specs.PathSet as set
 use Rattle.cs_tree.proofs.Sets.{tied_is, tied_same, same_set}
-use Rattle.cs_index.specs.Image.{Files, Entry, image, image_of, names_of, Posting, posting_list, postings_of, ListEntry, list_entries, closing_list, Sections, sections_of, IsString}
+use Rattle.cs_index.specs.Image.{Files, Entry, image, image_of, names_of, Posting, posting_list, postings_of, ListEntry, list_entries, closing_list, SectionBytes, sections_of, IsString}
 use Rattle.cs_index.specs.Spelling.{Spells}
 use Rattle.cs_index.specs.Indexable.{IsIndexable}
 use Rattle.cs_index.proofs.SpellingLemmas.{image_spelled}
@@ -182,11 +182,11 @@ ascending_sets files h = all_firsts (λ (e : Entry). Ascends e.1) (λ (e : Entry
 -- the entries of two images with the same bytes
 entries_once : (p q : List (List ℕ)) (d e : List Entry) → IsIndexable p d → IsIndexable q e → AllByRecursion (λ (x : Entry). Ascends x.1) d → AllByRecursion (λ (x : Entry). Ascends x.1) e → image_of p d ≡ image_of q e → (p ≡ q) × (d ≡ e)
 entries_once p q d e g h a b same =
-    let s : Sections = sections_of p (names_of d) (postings_of d) in
-    let t : Sections = sections_of q (names_of e) (postings_of e) in
+    let s : SectionBytes = sections_of p (names_of d) (postings_of d) in
+    let t : SectionBytes = sections_of q (names_of e) (postings_of e) in
     let once = spelled_once (image_of p d) p q (names_of d) (names_of e) (list_entries 0 (postings_of d)) (list_entries 0 (postings_of e)) (image_spelled p d g) (subst (λ bytes. Spells bytes q (names_of e) (list_entries 0 (postings_of e))) (sym same) (image_spelled q e h)) in
     let sections = sections_once s t g.short h.short same in
-    let lists : concat (map posting_list (postings_of d)) ++ closing_list ≡ concat (map posting_list (postings_of e)) ++ closing_list = ap (λ (u : Sections). u.postings) sections in
+    let lists : concat (map posting_list (postings_of d)) ++ closing_list ≡ concat (map posting_list (postings_of e)) ++ closing_list = ap (λ (u : SectionBytes). u.postings) sections in
     let count : length d ≡ length e = sym (length-map d (λ (x : Entry). x.0)) ∙ ap length once.1 ∙ length-map e (λ (x : Entry). x.0) in
     let moved = subst (λ section. AllZip (λ (x : ListEntry) (r : Posting). IsList section (length d) x r.1) (list_entries 0 (postings_of e)) (postings_of e)) (sym lists) (subst (λ n. AllZip (λ (x : ListEntry) (r : Posting). IsList (concat (map posting_list (postings_of e)) ++ closing_list) n x r.1) (list_entries 0 (postings_of e)) (postings_of e)) (sym count) (image_lists e h.bound)) in
     let postings : postings_of d ≡ postings_of e = lists_once (concat (map posting_list (postings_of d)) ++ closing_list) (length d) 0 (list_entries 0 (postings_of d)) (postings_of d) (postings_of e) refl once.2 (image_lists d g.bound) (subst (λ xs. AllZip (λ (x : ListEntry) (r : Posting). IsList (concat (map posting_list (postings_of d)) ++ closing_list) (length d) x r.1) xs (postings_of e)) (sym once.2) moved) in

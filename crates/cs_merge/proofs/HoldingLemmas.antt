@@ -15,7 +15,7 @@ use Rattle.std.specs.FinMap as map'
 use Rattle.std.specs.FinMap.Entries.{is_sorted, find}
 use Rattle.cs_tree.specs.PathSet as set
 use Rattle.cs_tree.proofs.Sets.{tied_is, same_set, entries_in_order}
-use Rattle.cs_index.specs.Image.{Files, Entry, image, names_of, Posting, posting_list, postings_of, ListEntry, list_entries, closing_list, Sections, sections_of, layout, three_bytes, IsString}
+use Rattle.cs_index.specs.Image.{Files, Entry, image, names_of, Posting, posting_list, postings_of, ListEntry, list_entries, closing_list, SectionBytes, sections_of, layout, three_bytes, IsString}
 use Rattle.cs_index.specs.Spelling.{IsEntry}
 use Rattle.cs_index.proofs.OnceLemmas.{laid_once, names_tail, sections_once, spelled_once}
 use Rattle.cs_index.proofs.ListedLemmas.{image_lists}
@@ -24,7 +24,7 @@ use Rattle.cs_merge.proofs.ContentLemmas.{each_of_map, content_indexable, conten
 use Rattle.cs_trigram.proofs.SetLemmas.{all_above, ascends_tail}
 use Rattle.cs_merge.proofs.FileOrderLemmas.{names_up, sorted_up, up_named, up_sorted}
 use Rattle.cs_index.proofs.BuildingLemmas.{names_entries}
-use Rattle.cs_tree.proofs.ReduceLemmas.{contains-from_list}
+use Rattle.cs_tree.proofs.ReduceLemmas.{contains-from_list, true_from_T}
 
 -- ---- maps and sets made of lists
 
@@ -68,10 +68,6 @@ lists_of : (section : List ℕ) (name_count at : ℕ) (ps : List Posting) → Al
 lists_of section name_count at [] all = tt
 lists_of section name_count at (p ∷ ps) all = ((refl, all.0), lists_of section name_count (at + length (posting_list p)) ps all.1)
 
-pub is_true : (b : Bool) → T b → b ≡ true
-is_true true h = refl
-is_true false h = absurd h
-
 length-names : (es : List Entry) → length (names_of es) ≡ length es
 length-names [] = refl
 length-names (e ∷ es) = ap suc (length-names es)
@@ -91,8 +87,8 @@ content_held paths files content short =
       entries = list_entries 0 (postings_of es);
       lists = postings_of es;
       spells = spells;
-      each_list = subst (λ section. AllZip (IsListOf section (length (names_of es))) (list_entries 0 (postings_of es)) (postings_of es)) (ap (λ (s : Sections). s.postings) sections) (subst (λ n. AllZip (IsListOf (concat (map posting_list (postings_of es)) ++ closing_list) n) (list_entries 0 (postings_of es)) (postings_of es)) (sym (length-names es)) lists);
-      ascend = names_up 0 (names_of es) (postings_of es) (up_sorted (entries_of 0 (names_of es) (postings_of es)) (ap (is_sorted bytes_cmp) back ∙ is_true (is_sorted bytes_cmp es) (map'.entries_sorted files)));
+      each_list = subst (λ section. AllZip (IsListOf section (length (names_of es))) (list_entries 0 (postings_of es)) (postings_of es)) (ap (λ (s : SectionBytes). s.postings) sections) (subst (λ n. AllZip (IsListOf (concat (map posting_list (postings_of es)) ++ closing_list) n) (list_entries 0 (postings_of es)) (postings_of es)) (sym (length-names es)) lists);
+      ascend = names_up 0 (names_of es) (postings_of es) (up_sorted (entries_of 0 (names_of es) (postings_of es)) (ap (is_sorted bytes_cmp) back ∙ true_from_T (is_sorted bytes_cmp es) (map'.entries_sorted files)));
       paths_are = set_of_items paths;
       files_are = map_of_entries files ∙ ap map'.from_entries (sym back);
     }
@@ -116,7 +112,7 @@ held_once bytes p q f g a b =
     let once = spelled_once bytes a.path_list b.path_list a.names b.names a.entries b.entries a.spells b.spells in
     let sections = laid_once bytes a.spells.sections b.spells.sections a.spells.are_laid b.spells.are_laid in
     let moved : AllZip (IsListOf a.spells.sections.postings (length a.names)) a.entries b.lists =
-    subst (λ section. AllZip (IsListOf section (length a.names)) a.entries b.lists) (sym (ap (λ (s : Sections). s.postings) sections))
+    subst (λ section. AllZip (IsListOf section (length a.names)) a.entries b.lists) (sym (ap (λ (s : SectionBytes). s.postings) sections))
     (subst (λ names. AllZip (IsListOf b.spells.sections.postings (length names)) a.entries b.lists) (sym once.1)
     (subst (λ es. AllZip (IsListOf b.spells.sections.postings (length b.names)) es b.lists) (sym once.2) b.each_list)) in
     let lists : a.lists ≡ b.lists = lists_same a.spells.sections.postings (length a.names) a.entries a.lists b.lists a.each_list moved in (

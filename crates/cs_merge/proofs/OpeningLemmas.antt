@@ -9,7 +9,7 @@ use Rattle.std.proofs.lemmas.Bool.{and_from, and_parts}
 use Rattle.std.specs.FinMap as map'
 use Rattle.std.specs.List.{AllZip, list_all}
 use Rattle.cs_tree.specs.PathSet as set
-use Rattle.cs_index.specs.Image.{Files, ListEntry, Posting, Sections}
+use Rattle.cs_index.specs.Image.{Files, ListEntry, Posting, SectionBytes}
 use Rattle.cs_index.specs.Opening.{opening}
 use Rattle.cs_index.specs.OpenedParts.{Parts, are_whole, ids_read, lists_in, whole_ids, files_in, paths_in}
 use Rattle.cs_index.proofs.OnceLemmas.{laid_once, spelled_once}
@@ -46,7 +46,7 @@ has_content : (bytes : List ℕ) (parts : Parts) (paths : Paths) (files : Files)
 has_content bytes parts paths files s h =
     let once = spelled_once bytes parts.paths h.path_list parts.names h.names parts.entries h.entries s.spelled h.spells in
     let sections = laid_once bytes s.spelled.sections h.spells.sections s.spelled.are_laid h.spells.are_laid in
-    let section : parts.postings ≡ h.spells.sections.postings = sym s.postings ∙ ap (λ (t : Sections). t.postings) sections in
+    let section : parts.postings ≡ h.spells.sections.postings = sym s.postings ∙ ap (λ (t : SectionBytes). t.postings) sections in
     let each : AllZip (IsListOf parts.postings (length parts.names)) parts.entries h.lists =
     subst (λ bs. AllZip (IsListOf bs (length parts.names)) parts.entries h.lists) (sym section)
     (subst (λ names. AllZip (IsListOf h.spells.sections.postings (length names)) parts.entries h.lists) (sym once.1)

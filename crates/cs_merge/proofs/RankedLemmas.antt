@@ -11,7 +11,7 @@ use Rattle.cs_tree.specs.Cover.{is_among}
 use Rattle.cs_tree.specs.Folders.{are_distinct}
 use Rattle.cs_tree.specs.NamesAscending.{are_ascending}
 use Rattle.cs_trigram.specs.Trigram.{has}
-use Rattle.cs_index.specs.Gathering.{AreDistinct}
+use Rattle.cs_trigram.specs.TrigramSets.{AreDistinct}
 use Rattle.cs_index.specs.OpenedParts.{Parts}
 use Rattle.cs_index.specs.Order.{NameWithId, id_in as id_of, name_in, with_ids, IsOrder}
 use Rattle.cs_index.specs.Parts.{AreParts}

@@ -14,6 +14,7 @@ use Rattle.std.specs.declared.cmp.Ordering.TheVariants.{Less, Equal, Greater}
 use Rattle.cs_tree.specs.PathSet as set
 use Rattle.cs_tree.specs.Cover.{covers, least}
 use Rattle.cs_tree.proofs.Least.{IsLeast, least_says}
+use Rattle.cs_tree.proofs.ReduceLemmas.{true_from_T}
 use Rattle.cs_tree.proofs.Sets.{contains-union, tied_same}
 use Rattle.cs_index.specs.Image.{ListEntry, three_bytes, IsString}
 use Rattle.cs_index.specs.Built.{are_paths, are_reduced, is_before, is_storable}
@@ -21,7 +22,7 @@ use Rattle.cs_index.specs.OpenedParts.{Parts, ids_read, paths_in}
 use Rattle.cs_index.specs.Parts.{AreParts}
 use Rattle.cs_merge.specs.Join.{join_paths}
 use Rattle.cs_merge.proofs.ContentLemmas.{all_paths, each_of_map}
-use Rattle.cs_merge.proofs.HoldingLemmas.{from_list_all, is_true}
+use Rattle.cs_merge.proofs.HoldingLemmas.{from_list_all}
 
 -- ---- sets of trigrams
 
@@ -74,7 +75,7 @@ least_listed : (paths : Paths) → ((path : List ℕ) → set.contains paths pat
 least_listed paths are =
     and_from (list_all is_storable (set.items (least paths))) (are_reduced (set.items (least paths)))
     (each_storable (set.items (least paths)) (all_paths (least paths) (λ path h. are path (least_says paths path h).member)))
-    (reduced_from paths (map'.entries (least paths)) (is_true _ (map'.entries_sorted (least paths))) (each_of_map (λ (path : List ℕ) (mark : Unit {0}). IsLeast paths path) (least paths) (λ path mark there. least_says paths path (ap is_some there))))
+    (reduced_from paths (map'.entries (least paths)) (true_from_T _ (map'.entries_sorted (least paths))) (each_of_map (λ (path : List ℕ) (mark : Unit {0}). IsLeast paths path) (least paths) (λ path mark there. least_says paths path (ap is_some there))))
 
 -- the paths of both can be those of an index
 pub paths_listed : (old newer : Parts) → AreParts old → AreParts newer → are_paths (set.items (join_paths (paths_in old) (paths_in newer))) ≡ true

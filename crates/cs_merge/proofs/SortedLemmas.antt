@@ -9,7 +9,7 @@ use Rattle.cs_index.specs.Laid.{Laid, with_list}
 use Rattle.cs_index.specs.Rising.{RiseWithin}
 use Rattle.cs_merge.specs.Renumbering.{NewIds, new_id, new_ids_of, AreApart, IsOneToOne, StayBelow}
 use Rattle.cs_merge.specs.SideBySide.{AreIds, IsGiven}
-use Rattle.cs_index.specs.Gathering.{AreDistinct}
+use Rattle.cs_trigram.specs.TrigramSets.{AreDistinct}
 use Rattle.cs_merge.proofs.ListingLemmas.{has_both}
 use Rattle.cs_merge.proofs.RenumberingLemmas.{has_no_renumbered, has_renumbered, renumbered_from}
 use Rattle.std.proofs.Math.Bool.{or-true}

@@ -1,11 +1,15 @@
 -- What the joining of two indexes answers.
-use Rattle.std.specs.Prelude.{◌≡◌, ℕ, ◌<◌, true, false, List, length}
+use Rattle.std.specs.Prelude.{◌≡◌, ℕ, ◌-◌, ◌<◌, ◌^◌, true, false, List, length}
 use Rattle.cs_index.specs.OpenedParts.{Parts}
 use Rattle.cs_index.specs.declared.fault.IndexFault.TheVariants.{BadList}
 use Rattle.cs_merge.specs.declared.fault.MergeFault.{MergeFault}
 use Rattle.cs_merge.specs.declared.fault.MergeFault.TheVariants.{Unsorted, Uncovered, Index, TooLarge, Memory}
 use Rattle.cs_merge.specs.JoinOutcome.{IsIndexWithin}
 use Rattle.cs_merge.specs.Joinable.{are_covered, both_ascend, both_distinct, both_whole, joined_index, AreJoinable, AreTested}
+
+-- the most bytes of an index: 32 bits count them
+abbrev pub most_bytes : ℕ
+most_bytes = 2 ^ 32 - 1
 
 -- The bytes are the index of what both have, and no more than a number of them.
 pub record IsJoined (old newer : Parts) (most : ℕ) (bytes : List ℕ) : Type 0 where

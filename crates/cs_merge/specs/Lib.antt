@@ -11,6 +11,7 @@ pub use Rattle.cs_index.specs.OpenedParts
 pub mod Join
 pub mod Content
 pub mod Joinable
+pub mod JoinOutcome
 pub mod Joining
 pub mod Replacing
 pub mod ListFault
@@ -19,4 +20,3 @@ pub mod SomePaths
 pub mod Ranked
 pub mod Renumbering
 pub mod SideBySide
-pub mod JoinOutcome

@@ -7,7 +7,7 @@ use Rattle.cs_index.specs.Rising.{next_after, RiseWithin, ids_onward}
 use Rattle.cs_index.specs.Image.{ListEntry}
 use Rattle.cs_index.specs.Laid.{Laid, AllBelow}
 use Rattle.cs_index.specs.OpenedParts.{Parts, ids_read, lists_in}
-use Rattle.cs_index.specs.Gathering.{AreDistinct}
+use Rattle.cs_trigram.specs.TrigramSets.{AreDistinct}
 use Rattle.cs_index.specs.PostingLists.{Ids}
 use Rattle.cs_index.specs.Postings.{nothing_read}
 use Rattle.cs_index.specs.Segments.{list_of}

@@ -135,8 +135,8 @@ fn next_kept(ids: &mut Postings<'_>, runs: &IdRuns<'_>) -> Result<Option<(u32, u
     ensures fault { IfErr result
         (λ fault. (fault ≡ IndexFault.BadList) × (ids.old.whole ≡ false)) }
 {
-    'ids: while let Some(told) = ids.next() {
-        let Ok(id) = told else {
+    'ids: while let Some(answer) = ids.next() {
+        let Ok(id) = answer else {
             return Err(IndexFault::BadList);
         };
         if let Some(new) = runs.new_id(id) {

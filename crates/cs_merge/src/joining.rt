@@ -1,10 +1,10 @@
 // The joining of an index with a newer one.
-ghost use Rattle.std.specs.Prelude.{◌≡◌, ◌<◌, ◌≤◌, ◌^◌, ◌++◌, true, false, Err, length, map, string_bytes, IfOk, OnOk, MatchResult};
+ghost use Rattle.std.specs.Prelude.{◌≡◌, ◌++◌, Err, map, string_bytes, IfOk, OnOk, MatchResult};
 ghost use Rattle.cs_tree.specs.PathSet as set;
 ghost use Rattle.cs_index.specs.OpenedParts.{paths_in};
 ghost use Rattle.cs_merge.specs.Join.{join_paths};
-ghost use Rattle.cs_merge.specs.Joinable.{are_covered, both_ascend, both_distinct, both_whole, joined_index, AreJoinable, AreTested};
-ghost use Rattle.cs_merge.specs.Joining.{IsJoined, IsJoinFault};
+ghost use Rattle.cs_merge.specs.Joinable.{AreTested};
+ghost use Rattle.cs_merge.specs.Joining.{most_bytes, IsJoined, IsJoinFault};
 ghost use Rattle.cs_merge.specs.Ranked.{IsRanked};
 
 use crate::both_lists::lay_lists;
@@ -23,21 +23,8 @@ use std::alloc::{AllocError, Global};
 /// both, too many bytes. The last two tests take memory, and they read every list of both to its end;
 /// the first does where names do not ascend.
 pub fn merge(alloc: Global, old: &Index<'_>, newer: &Index<'_>) -> Result<Vec<u8>, MergeFault>
-    ensures joined { IfOk result (λ index. index.items ≡ joined_index old.now newer.now) }
-    ensures short { IfOk result (λ index. length index.items < 2 ^ 32) }
-    ensures sound { IfOk result (λ _. AreJoinable old.now newer.now) }
-    ensures unsorted { result ≡ Err MergeFault.Unsorted →
-        both_distinct old.now newer.now ≡ false }
-    ensures uncovered { result ≡ Err MergeFault.Uncovered →
-        (both_distinct old.now newer.now ≡ true) × (are_covered newer.now ≡ false) }
-    ensures bad_list { result ≡ Err (MergeFault.Index IndexFault.BadList) →
-        AreTested old.now newer.now × (both_whole old.now newer.now ≡ false) }
-    ensures too_large { result ≡ Err MergeFault.TooLarge →
-        AreJoinable old.now newer.now × (2 ^ 32 ≤ length (joined_index old.now newer.now)) }
-    ensures memory { result ≡ Err MergeFault.Memory → both_ascend old.now newer.now ≡ true →
-        AreTested old.now newer.now }
-    ensures other { (fault : IndexFault) → result ≡ Err (MergeFault.Index fault) →
-        fault ≡ IndexFault.BadList }
+    ensures { MatchResult result (λ index. IsJoined old.now newer.now most_bytes index.items)
+        (λ fault. IsJoinFault old.now newer.now most_bytes fault) }
 {
     merge_within(alloc, u32::MAX, old, newer)
 }

@@ -219,14 +219,14 @@ module _ (style : Style) (finds : List ℕ → Bool) (tree : Snapshot) (name tri
   file_alike (bad fault) e h a b = cc
 
   -- it has no fault
-  pub file_quiet : (item : Item) → item_at tree name ≡ item → read_item (text_trigrams limits) item ≡ Some trigrams → (a : Tool) → (file_printed MOST_SEARCHED a style finds tree name).errors ≡ []
-  file_quiet (file bytes) e h a =
+  pub file_silent : (item : Item) → item_at tree name ≡ item → read_item (text_trigrams limits) item ≡ Some trigrams → (a : Tool) → (file_printed MOST_SEARCHED a style finds tree name).errors ≡ []
+  file_silent (file bytes) e h a =
       let small = (text_is bytes trigrams h).small in
       ap (λ (p : Printed). p.errors) (opened_at a bytes e ∙ printed_alike MOST_SEARCHED style finds name bytes small a)
-  file_quiet (folder names unnamed) e h a = cc
-  file_quiet (cut bytes) e h a = cc
-  file_quiet other e h a = cc
-  file_quiet (bad fault) e h a = cc
+  file_silent (folder names unnamed) e h a = cc
+  file_silent (cut bytes) e h a = cc
+  file_silent other e h a = cc
+  file_silent (bad fault) e h a = cc
 
   -- where the query leaves it out
   module _ (query : Query) (pattern : Tree) (loses : LosesNoLine query pattern) (decides : Decides finds pattern) where
@@ -245,13 +245,13 @@ module _ (style : Style) (finds : List ℕ → Bool) (tree : Snapshot) (name tri
 
 module _ (style : Style) (finds keeps : List ℕ → Bool) (tree : Snapshot) (tool : Tool) where
   -- where all of them read as they were indexed, none has a fault
-  pub search_quiet : (es : List Entry) → ReadAsIndexed tree es → (all_printed (file_printed MOST_SEARCHED tool style finds tree) (filter keeps (map (λ (e : Entry). e.0) es))).errors ≡ []
+  pub search_silent : (es : List Entry) → ReadAsIndexed tree es → (all_printed (file_printed MOST_SEARCHED tool style finds tree) (filter keeps (map (λ (e : Entry). e.0) es))).errors ≡ []
   unfolding all_printed
-  search_quiet [] all = refl
-  search_quiet (e ∷ es) all =
-      let rest = search_quiet es all.1 in
+  search_silent [] all = refl
+  search_silent (e ∷ es) all =
+      let rest = search_silent es all.1 in
       elim (keeps e.0) as (λ t. (all_printed (file_printed MOST_SEARCHED tool style finds tree) (cond t (e.0 ∷ filter keeps (map (λ (e : Entry). e.0) es)) (filter keeps (map (λ (e : Entry). e.0) es)))).errors ≡ []) [
-        | true ↦ ap (λ first. first ++ (all_printed (file_printed MOST_SEARCHED tool style finds tree) (filter keeps (map (λ (e : Entry). e.0) es))).errors) (file_quiet style finds tree e.0 e.1 (item_at tree e.0) refl all.0 tool) ∙ rest
+        | true ↦ ap (λ first. first ++ (all_printed (file_printed MOST_SEARCHED tool style finds tree) (filter keeps (map (λ (e : Entry). e.0) es))).errors) (file_silent style finds tree e.0 e.1 (item_at tree e.0) refl all.0 tool) ∙ rest
         | false ↦ rest
       ]
 

@@ -1,7 +1,7 @@
 -- The parts of cgrep put together.
 use Rattle.std.proofs.Common.{◌≡◌, ℕ, Bool, true, false, List, [], ◌∷◌, refl, sym, ap, subst, ◌∙◌, append-nil, Option, Some, None, Result, Err, ◌↔◌}
 use Rattle.std.specs.Prelude.{option_map, map, string_bytes}
-use Rattle.cs_syntax.specs.Matching.{Tree, Found}
+use Rattle.cs_syntax.specs.Matching.{Tree, HasMatch}
 use Rattle.cs_syntax.specs.Reading.{Reads}
 use Rattle.cs_syntax.specs.Refusal.{IsRefused}
 use Rattle.cs_syntax.specs.declared.fault.PatternFault.{PatternFault}
@@ -21,7 +21,7 @@ use Rattle.cs_search.specs.Searcher.{IsSearchFault, Prints}
 use Rattle.cs_search.specs.Cgrep.{cgrep_printed, standard_name}
 use Rattle.cs_search.specs.CgrepFaults.{PatternFirst, PrintsFaultsOf}
 use Rattle.cs_search.specs.Programs.{IsProgramOf, RefusesPattern}
-use Rattle.cs_search.specs.Refusals.{IsAccepted, QuietAtRefusal}
+use Rattle.cs_search.specs.Refusals.{IsAccepted, SilentAtRefusal}
 use Rattle.cs_words.specs.declared.fault.ToolFault.{ToolFault}
 use Rattle.cs_words.specs.declared.fault.ToolFault.TheVariants.{Pattern, FilePattern, NoIndex, BadIndex, Write, Memory}
 use Rattle.cs_search.proofs.PrintedLemmas.{PrintsFaults-no}
@@ -54,12 +54,12 @@ begun_refused A B text fold NoIndex only is = absurd only
 begun_refused A B text fold (BadIndex fault) only is = absurd only
 
 -- where nothing was printed
-pub all_quiet : {A : Type 0} (Quiet : Type 0) (answer : Result A ToolFault) → Quiet → QuietAtRefusal answer Quiet
-all_quiet Quiet (Err (Pattern error)) quiet = quiet
-all_quiet Quiet (Err (FilePattern error)) quiet = quiet
-all_quiet Quiet (Err NoIndex) quiet = quiet
-all_quiet Quiet (Err (BadIndex fault)) quiet = quiet
-all_quiet Quiet answer quiet = tt
+pub all_silent : {A : Type 0} (Silent : Type 0) (answer : Result A ToolFault) → Silent → SilentAtRefusal answer Silent
+all_silent Silent (Err (Pattern error)) silent = silent
+all_silent Silent (Err (FilePattern error)) silent = silent
+all_silent Silent (Err NoIndex) silent = silent
+all_silent Silent (Err (BadIndex fault)) silent = silent
+all_silent Silent answer silent = tt
 
 -- both outputs are flushed
 pub PrintsStatus-flushed : (printed : Option Printed) (out now later err err-now err-later : Option Taken) (matched : Bool) (status : Status) → Prints printed out now err err-now matched → GrowsFlushed now later [] → GrowsFlushed err-now err-later [] → status ≡ status_of matched → PrintsStatus printed out later err err-later status
@@ -101,7 +101,7 @@ pub read_once : (text : List ℕ) (fold : Bool) (t u : Tree) → Reads text fold
 read_once text fold t u r s = cc
 
 -- a test that decides what a pattern finds decides it of a program
-pub Decides-program : (finds : List ℕ → Bool) (read compiled wanted : Tree) → ((line : List ℕ) → Found compiled line ↔ Found read line) → read ≡ wanted → Decides finds wanted → Decides finds compiled
+pub Decides-program : (finds : List ℕ → Bool) (read compiled wanted : Tree) → ((line : List ℕ) → HasMatch compiled line ↔ HasMatch read line) → read ≡ wanted → Decides finds wanted → Decides finds compiled
 Decides-program finds read compiled wanted same is decides =
     λ line. let d = subst (λ (t : Tree). Decides finds t) (sym is) decides line in (λ h. (same line).1 (d.0 h), λ f. d.1 ((same line).0 f))
 

@@ -34,7 +34,7 @@ use Rattle.cs_index.specs.Candidates.{candidates_of}
 use Rattle.cs_index.specs.Answerable.{is_answerable}
 use Rattle.cs_search.specs.declared.report.TheConstants.{MOST_SEARCHED}
 use Rattle.cs_match.specs.Finding.{Decides}
-use Rattle.cs_search.specs.Refusals.{IsAccepted, QuietAtRefusal, has_write_failed}
+use Rattle.cs_search.specs.Refusals.{IsAccepted, SilentAtRefusal, has_write_failed}
 use Rattle.cs_search.specs.Searcher.{IsSearchFault, Prints, IsPrinted, PrintsAllFaults, PrintsFront}
 use Rattle.cs_history.specs.Meeting.{names_meeting}
 use Rattle.cs_search.specs.Csearch.{IsQueryOf, Asks, file_text, Keeps, csearch_printed, AreAccepted, IsReady, RefusedInOrder}
@@ -209,10 +209,10 @@ list_unwritten IndexMemory = refl
 list_unwritten fault = refl
 
 -- what a search is refused for may come behind output
-pub search_quiet : (Quiet : Type 0) (fault : ToolFault) → IsSearchFault {A = Status} (Err fault) → QuietAtRefusal {A = Status} (Err fault) Quiet
-search_quiet Quiet Write is = tt
-search_quiet Quiet Memory is = tt
-search_quiet Quiet fault is = absurd is
+pub search_silent : (Silent : Type 0) (fault : ToolFault) → IsSearchFault {A = Status} (Err fault) → SilentAtRefusal {A = Status} (Err fault) Silent
+search_silent Silent Write is = tt
+search_silent Silent Memory is = tt
+search_silent Silent fault is = absurd is
 
 -- ---- what is chosen
 

@@ -32,7 +32,7 @@ use Rattle.cs_search.specs.Cgrep.{cgrep_printed}
 use Rattle.cs_search.specs.Printed.{searched_by_cgrep, Printed}
 use Rattle.cs_search.specs.Csearch.{Seeks, IsBad, RefusedInOrder, PrintsAsPromised}
 use Rattle.cs_search.specs.SameSearch.{IsSameSearch}
-use Rattle.cs_search.proofs.AgreementLemmas.{search_quiet}
+use Rattle.cs_search.proofs.AgreementLemmas.{search_silent}
 use Rattle.cs_search.proofs.CgrepLemmas.{cgrep_files}
 use Rattle.cs_search.proofs.PromiseLemmas.{opens_once}
 
@@ -69,10 +69,10 @@ module _ (history : History) (bytes : List ℕ) (left : HasLeft history bytes) w
 
 -- ---- what still reads as it was indexed has no fault
 
-pub still_quiet : (style : Style) (finds keeps : List ℕ → Bool) (tree : Snapshot) (index : Option (List ℕ)) (earlier : History) → SearchPremises (Some tree) index earlier → (searched_by_cgrep MOST_SEARCHED style finds tree (filter keeps (indexed_names earlier))).errors ≡ []
+pub still_silent : (style : Style) (finds keeps : List ℕ → Bool) (tree : Snapshot) (index : Option (List ℕ)) (earlier : History) → SearchPremises (Some tree) index earlier → (searched_by_cgrep MOST_SEARCHED style finds tree (filter keeps (indexed_names earlier))).errors ≡ []
 unfolding searched_by_cgrep
-still_quiet style finds keeps tree index earlier premises =
-    search_quiet style finds keeps tree Cgrep (map'.entries (files_of earlier)) premises.still_reads
+still_silent style finds keeps tree index earlier premises =
+    search_silent style finds keeps tree Cgrep (map'.entries (files_of earlier)) premises.still_reads
 
 -- ---- the same search by cgrep
 

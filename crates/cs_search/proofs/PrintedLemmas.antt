@@ -5,7 +5,7 @@ use Rattle.cs_words.specs.FileFaults.{fault_line_of, file_fault_of, is_file_fail
 use Rattle.cs_tree.specs.Failures.{count_if}
 use Rattle.cs_tree.specs.FailureCount.{count_after}
 use Rattle.std.specs.Prelude.{option_map, map}
-use Rattle.std.proofs.lemmas.List.{take_more, map-append, take-append-drop}
+use Rattle.std.proofs.lemmas.List.{map-append, take-append-drop}
 use Rattle.std.proofs.Math.Bool.{or-false, or_assoc}
 use Rattle.std.proofs.lemmas.List.Concat.{flat_map-append}
 use Rattle.cs_tree.specs.Told.{Told, Grows, Taken}
@@ -28,6 +28,7 @@ use Rattle.cs_search.specs.GrepFaults.{is_failed_read}
 use Rattle.cs_search.specs.Printed.{left_fault, Printed, both_printed, none_printed, all_printed, input_printed, opened_printed, file_printed, NamedFault, fault_lines, failures_of, AreFaultsOf, PrintsSome, PrintsFaults}
 use Rattle.cs_search.specs.Searcher.{Prints, IsPrinted, PrintsAllFaults, PrintsFront}
 use Rattle.cs_tree.proofs.Growing.{Grows-chain, Grows-same}
+use Rattle.cs_tree.proofs.NameLemmas.{mapped_more}
 use Rattle.cs_tree.proofs.Fronts.{front_none, front_all, front_left, front_right, front_after, ends_quiet, ends_after, may_end_after}
 
 -- the line of a fault, where there is one
@@ -151,9 +152,6 @@ pub Prints-none : (tree : Option Snapshot) (printed : Snapshot → List ℕ → 
 unfolding all_printed
 Prints-none None printed out err = tt
 Prints-none (Some s) printed out err = (Grows-same out, Grows-same err, refl)
-
-pub mapped_more : {X : Type 0} (f : X → List ℕ) (xs : List X) (i : ℕ) (x : X) → i < length xs → x ≡ get_or xs i x → map f (take (i + 1) xs) ≡ map f (take i xs) ++ f x ∷ []
-mapped_more f xs i x low is = ap (map f) (take_more xs i x low ∙ ap (λ y. take i xs ++ y ∷ []) (sym is)) ∙ map-append f (take i xs) (x ∷ [])
 
 pub all_append : (printed : List ℕ → Printed) (xs ys : List (List ℕ)) → all_printed printed (xs ++ ys) ≡ both_printed (all_printed printed xs) (all_printed printed ys)
 unfolding all_printed

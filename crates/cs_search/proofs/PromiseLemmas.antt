@@ -122,8 +122,8 @@ module _ (job : SearchJob) (index : Option (List ℕ)) (tree : Option Snapshot) 
       subst Prints (ap (λ (p : Printed). Some p) (alike job index finds keeps asks tests snapshot there ∙ ap (λ (p : Parts). searched_by_cgrep MOST_SEARCHED job.style finds snapshot (filter keeps p.names)) (sym same))) (told_printed snapshot finds keeps is tests)
 
 -- where nothing was printed
-pub like_cgrep_quiet : (job : SearchJob) (index : Option (List ℕ)) (tree : Option Snapshot) (out err : Option Taken) → PrintsLikeCgrep job index tree (λ printed. PrintsSome printed out out err err)
-like_cgrep_quiet job index tree out err parts snapshot finds keeps opens is agrees seeks = PrintsSome-none (Some (searched_by_cgrep MOST_SEARCHED job.style finds snapshot (filter keeps parts.names))) out err
+pub like_cgrep_silent : (job : SearchJob) (index : Option (List ℕ)) (tree : Option Snapshot) (out err : Option Taken) → PrintsLikeCgrep job index tree (λ printed. PrintsSome printed out out err err)
+like_cgrep_silent job index tree out err parts snapshot finds keeps opens is agrees seeks = PrintsSome-none (Some (searched_by_cgrep MOST_SEARCHED job.style finds snapshot (filter keeps parts.names))) out err
 
 -- ---- an index that a job built
 

@@ -16,7 +16,7 @@ use Rattle.cs_search.specs.Searched.{IsSearch}
 use Rattle.cs_search.specs.Searcher.{IsSearchFault}
 use Rattle.cs_search.proofs.CsearchLemmas.{search_last}
 use Rattle.cs_search.proofs.PrintedLemmas.{PrintsFaults-no}
-use Rattle.cs_search.proofs.PromiseLemmas.{like_cgrep, like_cgrep_quiet, as_promised}
+use Rattle.cs_search.proofs.PromiseLemmas.{like_cgrep, like_cgrep_silent, as_promised}
 
 module _ (job : SearchJob) (index : Option (List ℕ)) (tree : Option Snapshot) where
   -- refused before anything is searched
@@ -26,7 +26,7 @@ module _ (job : SearchJob) (index : Option (List ℕ)) (tree : Option Snapshot) 
     agrees = tt;
     promised = tt;
     front = inl (Grows-same out, Grows-same err);
-    front_agrees = like_cgrep_quiet job index tree out err;
+    front_agrees = like_cgrep_silent job index tree out err;
     refused = refused.0;
     faults = λ parts opens. PrintsFaults-no Csearch {A = Status} (Err fault) fault parts.names failed err refl;
   }

@@ -1,8 +1,9 @@
 -- What the programs of patterns do that are accepted, and what refuses a pattern.
-use Rattle.std.specs.Prelude.{ℕ, ◌≡◌, ◌≤◌, ◌↔◌, Bool, false, List, Err}
-use Rattle.cs_syntax.specs.Matching.{Tree, Found}
+use Rattle.std.specs.Prelude.{ℕ, ◌≡◌, ◌≤◌, Bool, false, List, Err}
+use Rattle.cs_syntax.specs.Matching.{Tree}
 use Rattle.cs_syntax.specs.Reading.{Reads}
 use Rattle.cs_syntax.specs.Weight.{weight, most_weight}
+use Rattle.cs_match.specs.Finding.{FindAlike}
 use Rattle.cs_words.specs.declared.fault.ToolFault.{ToolFault}
 use Rattle.cs_search.specs.declared.status.Status.{Status}
 use Rattle.cs_search.specs.CgrepFaults.{PatternFirst}
@@ -12,7 +13,7 @@ use Rattle.cs_search.specs.Refusals.{has_write_failed}
 abbrev pub IsProgramOf : List ℕ → Bool → Tree → Type 0
 IsProgramOf text fold program =
     (pattern : Tree) × Reads text fold pattern × (weight pattern ≤ most_weight)
-    × ((line : List ℕ) → Found program line ↔ Found pattern line)
+    × FindAlike program pattern
 
 -- There is no program for what refuses the pattern, which is no write.
 abbrev pub RefusesPattern : List ℕ → Bool → ToolFault → Type 0

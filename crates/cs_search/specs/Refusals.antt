@@ -19,12 +19,12 @@ abbrev pub IsPatternRefused : List ℕ → Bool → PatternError → Type 0
 IsPatternRefused text fold error = IsRefused text fold error × (error.fault ≢ pattern.Memory)
 
 -- Nothing is printed before a refusal that is no failed write and no want of memory.
-abbrev pub QuietAtRefusal : {A : Type 0} → Result A ToolFault → Type 0 → Type 0
-QuietAtRefusal (Err (Pattern error)) Quiet = Quiet
-QuietAtRefusal (Err (FilePattern error)) Quiet = Quiet
-QuietAtRefusal (Err NoIndex) Quiet = Quiet
-QuietAtRefusal (Err (BadIndex fault)) Quiet = Quiet
-QuietAtRefusal answer Quiet = Unit {0}
+abbrev pub SilentAtRefusal : {A : Type 0} → Result A ToolFault → Type 0 → Type 0
+SilentAtRefusal (Err (Pattern error)) Silent = Silent
+SilentAtRefusal (Err (FilePattern error)) Silent = Silent
+SilentAtRefusal (Err NoIndex) Silent = Silent
+SilentAtRefusal (Err (BadIndex fault)) Silent = Silent
+SilentAtRefusal answer Silent = Unit {0}
 
 -- a write to one of the outputs has failed
 abbrev pub has_write_failed : {A : Type 0} → Result A ToolFault → Bool

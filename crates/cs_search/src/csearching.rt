@@ -7,7 +7,7 @@ ghost use Rattle.cs_match.specs.Finding.{Decides};
 ghost use Rattle.cs_index.specs.OpenedParts.{Parts};
 ghost use Rattle.cs_words.specs.declared.jobs.Tool.TheVariants.{Csearch};
 ghost use Rattle.cs_search.specs.Searcher.{IsSearchFault, IsKept, Prints, PrintsFront, PrintsAllFaults};
-ghost use Rattle.cs_search.specs.Refusals.{has_write_failed, QuietAtRefusal};
+ghost use Rattle.cs_search.specs.Refusals.{has_write_failed, SilentAtRefusal};
 ghost use Rattle.cs_search.specs.Csearch.{OpensWith, PrintsAsked, PrintsLikeCgrep, PrintsAsPromised, AreAccepted, RefusedInOrder};
 ghost use Rattle.cs_search.specs.IndexSearch.{names_at, DecidesNames, OpenRefused};
 ghost use Rattle.cs_search.specs.Plans.{IsPlan, IsLent, RefusesPlan};
@@ -41,7 +41,7 @@ pub fn csearch<T: Tree, O: Sink, E: Sink>(
     ensures searches { IsSearch job.now (option_copied index.entry)
         (T.snapshot tree.old) (T.failed tree.old) (T.failed tree.new)
         (O.taken out.old) (O.taken out.new) (E.taken err.old) (E.taken err.new) result }
-    ensures quiet { QuietAtRefusal result
+    ensures silent { SilentAtRefusal result
         (PrintsNothing (O.taken out.old) (O.taken out.new) (E.taken err.old) (E.taken err.new)) }
     ensures flushed { OnOk result (HasFlushed (O.taken out.new) × HasFlushed (E.taken err.new)) }
     ensures writes { CountsOne (has_write_failed result)
@@ -93,7 +93,7 @@ pub(crate) fn search_by<T: Tree, O: Sink, E: Sink>(
     ensures searches { (bytes : Option (List ℕ)) → IsLent plan.now.query bytes index.now →
         IsSearch job.now bytes (T.snapshot tree.old) (T.failed tree.old) (T.failed tree.new)
         (O.taken out.old) (O.taken out.new) (E.taken err.old) (E.taken err.new) result }
-    ensures quiet { QuietAtRefusal result
+    ensures silent { SilentAtRefusal result
         (PrintsNothing (O.taken out.old) (O.taken out.new) (E.taken err.old) (E.taken err.new)) }
     ensures flushed { OnOk result (HasFlushed (O.taken out.new) × HasFlushed (E.taken err.new)) }
     ensures writes { CountsOne (has_write_failed result)

@@ -10,7 +10,7 @@ ghost use Rattle.cs_tree.specs.TakenAll.{TakesBytes};
 ghost use Rattle.cs_tree.specs.Told.{GrowsFlushed, HasFlushed};
 ghost use Rattle.cs_search.specs.Cgrep.{cgrep_printed};
 ghost use Rattle.cs_search.specs.CgrepFaults.{PatternFirst, PrintsFaultsOf};
-ghost use Rattle.cs_search.specs.Refusals.{IsAccepted, QuietAtRefusal, has_write_failed};
+ghost use Rattle.cs_search.specs.Refusals.{IsAccepted, SilentAtRefusal, has_write_failed};
 ghost use Rattle.cs_search.specs.Programs.{IsProgramOf, RefusesPattern};
 ghost use Rattle.cs_search.specs.Searcher.{IsSearchFault, Prints, PrintsFront};
 ghost use Rattle.cs_search.specs.Printed.{PrintsStatus, PrintsNothing, PrintsSome, status_of};
@@ -50,7 +50,7 @@ pub fn cgrep<T: Tree, R: Source, O: Sink, E: Sink>(
         (cgrep_printed MOST_SEARCHED job.now finds (T.snapshot tree.old) (R.told input.old))
         (O.taken out.old) (O.taken out.new) (E.taken err.old) (E.taken err.new)))) }
     ensures pattern { PatternFirst (string_bytes job.now.pattern) job.now.fold result }
-    ensures quiet { QuietAtRefusal result
+    ensures silent { SilentAtRefusal result
         (PrintsNothing (O.taken out.old) (O.taken out.new) (E.taken err.old) (E.taken err.new)) }
     ensures loses { LosesAtMost (MOST_SEARCHED + 1) (R.told input.old) (R.told input.new) }
     ensures faults { PrintsFaultsOf job.now

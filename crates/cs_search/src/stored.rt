@@ -4,7 +4,7 @@ ghost use Rattle.cs_tree.specs.Failures.{CountsOne};
 ghost use Rattle.cs_tree.specs.FailureCount.{count_after};
 ghost use Rattle.cs_tree.specs.Told.{HasFlushed};
 ghost use Rattle.cs_tree.specs.Transfers.{is_io_failure};
-ghost use Rattle.cs_search.specs.Refusals.{has_write_failed, QuietAtRefusal};
+ghost use Rattle.cs_search.specs.Refusals.{has_write_failed, SilentAtRefusal};
 ghost use Rattle.cs_search.specs.Csearch.{AreAccepted};
 ghost use Rattle.cs_search.specs.Plans.{IsPlan, IsLent, RefusesPlan};
 ghost use Rattle.cs_search.specs.Printed.{PrintsNothing};
@@ -35,7 +35,7 @@ pub fn csearch_stored<S: Store, T: Tree, O: Sink, E: Sink>(
     ensures searches { IfRead (S.told store.old) result (λ index answer.
         IsSearch job.now index (T.snapshot tree.old) (T.failed tree.old) (T.failed tree.new)
         (O.taken out.old) (O.taken out.new) (E.taken err.old) (E.taken err.new) answer) }
-    ensures quiet { IfOk result (λ answer. QuietAtRefusal answer
+    ensures silent { IfOk result (λ answer. SilentAtRefusal answer
         (PrintsNothing (O.taken out.old) (O.taken out.new) (E.taken err.old) (E.taken err.new))) }
     ensures unread { IfErr result (λ _. AreAccepted job.now
         × (T.failed tree.new ≡ T.failed tree.old)

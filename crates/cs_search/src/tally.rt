@@ -30,20 +30,20 @@ pub(crate) fn newlines(block: &[u8]) -> u64
     let mut rest = block;
     'parts: while rest.len() > PART {
         let (part, more) = rest.split_at(PART);
-        count += u64::from(few_newlines(part));
+        count += u64::from(count_newlines(part));
         rest = more;
     }
-    count + u64::from(few_newlines(rest))
+    count + u64::from(count_newlines(rest))
 }
 
 /// How many newlines a part has.
-fn few_newlines(part: &[u8]) -> u8
+fn count_newlines(part: &[u8]) -> u8
     requires { length part.now ≤ PART }
     ensures { result ≡ length (ended_lines part.now) }
 {
-    let mut few = 0u8;
+    let mut count = 0u8;
     for b in part {
-        few += u8::from(*b == b'\n');
+        count += u8::from(*b == b'\n');
     }
-    few
+    count
 }

@@ -1,15 +1,8 @@
 -- What a test picks.
-use Rattle.std.proofs.Common.{◌≡◌, Bool, true, false, cond, ◌&&◌, refl}
+use Rattle.std.proofs.Common.{◌≡◌, Bool, true, false, cond}
 
 pub taken : {A : Type 0} {b : Bool} {x y : A} (z : A) → b ≡ true → x ≡ y → x ≡ cond b y z
 taken z e f = rw e f
 
 pub passed : {A : Type 0} {b : Bool} {x z : A} (y : A) → b ≡ false → x ≡ z → x ≡ cond b y z
 passed y e f = rw e f
-
-pub not_first : {a : Bool} (b : Bool) → a ≡ false → (a && b) ≡ false
-not_first b e = rw e refl
-
-pub not_second : (a : Bool) {b : Bool} → b ≡ false → (a && b) ≡ false
-not_second true e = e
-not_second false e = refl

@@ -24,7 +24,7 @@ use Rattle.cs_syntax.specs.Signs.{sign_of}
 use Rattle.cs_syntax.proofs.TreeListLemmas.{takes_choice, takes_append}
 use Rattle.cs_syntax.specs.TreeList.{append}
 use Rattle.cs_syntax.specs.Reading.{Level, Rest, Group, tree, levels, broken, inside, with_close, with_open, with_unit, with_repeat, with_bar, whole_group, most_open, rest, at_end, answer, flags_at_start, Reads}
-use Rattle.cs_syntax.specs.Choices.{flags_behind, names_end, StandsApart, TakesEither}
+use Rattle.cs_syntax.specs.Choices.{flags_behind, class_names_end, StandsApart, TakesEither}
 use Rattle.cs_syntax.specs.Groups.{name, is_flag, is_cleared_flag, with_set, with_cleared, after_flags, cleared_flags, set_flags, head, group}
 use Rattle.cs_syntax.specs.Written.{signs}
 use Rattle.cs_syntax.proofs.QuotedLemmas.{of_each, by_width}
@@ -556,11 +556,11 @@ module _ (t : List ℕ) where
   now_after behind text f g same true h = refl
   now_after behind text f g same false h = same h
 
-  items_after : (skip behind : ℕ) (start : Bool) (text : List ℕ) → names_end text ≡ true → IsClosed (items_from skip behind start text) → items_from skip behind start (after text) ≡ items_from skip behind start text
+  items_after : (skip behind : ℕ) (start : Bool) (text : List ℕ) → class_names_end text ≡ true → IsClosed (items_from skip behind start text) → items_from skip behind start (after text) ≡ items_from skip behind start text
   items_after skip behind start [] apart h = absurd h
-  items_after (suc skip) behind start (b ∷ text) apart h = items_after skip (behind + 1) start text (and_parts (not (nat_eq b 91 && is_front 58 text) || is_some (name_length (drop 1 text))) (names_end text) apart).1 h
+  items_after (suc skip) behind start (b ∷ text) apart h = items_after skip (behind + 1) start text (and_parts (not (nat_eq b 91 && is_front 58 text) || is_some (name_length (drop 1 text))) (class_names_end text) apart).1 h
   items_after zero behind start (b ∷ text) apart h =
-      let parts = and_parts (not (nat_eq b 91 && is_front 58 text) || is_some (name_length (drop 1 text))) (names_end text) apart in
+      let parts = and_parts (not (nat_eq b 91 && is_front 58 text) || is_some (name_length (drop 1 text))) (class_names_end text) apart in
       now_after behind text (class_front b text) (class_front b (after text))
       (item_after behind text (λ len closed. items_after len (behind + 1) false text parts.1 closed) (class_front b text) (class_front b (after text)) (class_front_after b (behind + 1) text parts.0))
       (nat_eq b 93 && not start) h
@@ -569,14 +569,14 @@ module _ (t : List ℕ) where
   of_closed fold negated (closed items len) h = tt
   of_closed fold negated (failed k behind) h = h
 
-  class_after : (fold : Bool) (text : List ℕ) → names_end text ≡ true → IsItem (class fold text) → class fold (after text) ≡ class fold text
+  class_after : (fold : Bool) (text : List ℕ) → class_names_end text ≡ true → IsItem (class fold text) → class fold (after text) ≡ class fold text
   class_after fold [] apart is = absurd is
   class_after fold (d ∷ text) apart is = by (nat_eq d 94) is
     where
       by : (b : Bool) → IsItem (cond b (class_of fold true (items_from 0 2 true text)) (class_of fold false (items_from 0 1 true (d ∷ text)))) →
           cond b (class_of fold true (items_from 0 2 true (after text))) (class_of fold false (items_from 0 1 true (d ∷ after text))) ≡
           cond b (class_of fold true (items_from 0 2 true text)) (class_of fold false (items_from 0 1 true (d ∷ text)))
-      by true is = ap (class_of fold true) (items_after 0 2 true text (and_parts (not (nat_eq d 91 && is_front 58 text) || is_some (name_length (drop 1 text))) (names_end text) apart).1 (of_closed fold true (items_from 0 2 true text) is))
+      by true is = ap (class_of fold true) (items_after 0 2 true text (and_parts (not (nat_eq d 91 && is_front 58 text) || is_some (name_length (drop 1 text))) (class_names_end text) apart).1 (of_closed fold true (items_from 0 2 true text) is))
       by false is = ap (class_of fold false) (items_after 0 1 true (d ∷ text) apart (of_closed fold false (items_from 0 1 true (d ∷ text)) is))
 
   -- ---- heads of groups
@@ -751,7 +751,7 @@ module _ (t : List ℕ) where
 
   module _ (flags : Flags) where
     abbrev EndsThere : ℕ → Type 0
-    EndsThere b = (text : List ℕ) → names_end (b ∷ text) ≡ true → Ends flags b text
+    EndsThere b = (text : List ℕ) → class_names_end (b ∷ text) ≡ true → Ends flags b text
 
     repeated : (n : ℕ) (m : Option ℕ) (text : List ℕ) → item (repeat n m) (0 + cond (is_front 63 (after text)) 1 0) ≡ item (repeat n m) (0 + cond (is_front 63 text) 1 0)
     repeated n m text = ap (λ b. item (repeat n m) (0 + cond b 1 0)) (is_front_after 63 text refl)
@@ -822,7 +822,7 @@ module _ (t : List ℕ) where
     a_class : EndsThere 91
     unfolding front sign_of
     a_class text ends = record {
-      same = class_after flags.fold text (and_parts (not (is_front 58 text) || is_some (name_length (drop 1 text))) (names_end text) ends).1;
+      same = class_after flags.fold text (and_parts (not (is_front 58 text) || is_some (name_length (drop 1 text))) (class_names_end text) ends).1;
       fits = class_fits text;
     }
 
@@ -870,7 +870,7 @@ module _ (t : List ℕ) where
         let by : EndsBy (sign_of b) flags b text = subst (λ s. EndsBy s flags b text) (sym (by_width b apart (nat_le 128 b) refl)) (by_wide b text (nat_le 128 b)) in
         record { same = by.same; fits = by.fits }
 
-    ends_there : (b : ℕ) (text : List ℕ) → names_end (b ∷ text) ≡ true → Ends flags b text
+    ends_there : (b : ℕ) (text : List ℕ) → class_names_end (b ∷ text) ≡ true → Ends flags b text
     ends_there b text names = elim (cases_Bool (has signs b)) [
       | inl there ↦ of_each EndsThere signs b (star, (plus, (question, (a_brace, (dot, (caret, (dollar, (a_bar, (opened, (closed_group, (a_class, (backslash, tt)))))))))))) there text names
       | inr apart ↦ others b text apart
@@ -995,8 +995,8 @@ module _ (last : Flags) (bs : Trees) where
 
 -- ---- the whole text
 
-names_on : (b : ℕ) (text : List ℕ) → names_end (b ∷ text) ≡ true → names_end text ≡ true
-names_on b text h = (and_parts (not (nat_eq b 91 && is_front 58 text) || is_some (name_length (drop 1 text))) (names_end text) h).1
+names_on : (b : ℕ) (text : List ℕ) → class_names_end (b ∷ text) ≡ true → class_names_end text ≡ true
+names_on b text h = (and_parts (not (nat_eq b 91 && is_front 58 text) || is_some (name_length (drop 1 text))) (class_names_end text) h).1
 
 module _ (t : List ℕ) (last : Flags) (other : Level) where
   abbrev bs : Trees
@@ -1021,7 +1021,7 @@ module _ (t : List ℕ) (last : Flags) (other : Level) where
         ap (λ (f : Front). elim f [ fault k behind ↦ broken k (at + behind) | item x len ↦ step at before groups flags x (λ b gs fs. rest len (at + 1) b gs fs (text ++ 124 ∷ t)) ]) (same tt)
         ∙ joins_step last bs at before groups flags x (λ b gs fs. rest len (at + 1) b gs fs text) (λ b gs fs. rest len (at + 1) b gs fs (text ++ 124 ∷ t)) (λ outer fs. flags_behind len outer fs text) ends (later len fits) read
 
-    joins_rest : (skip at : ℕ) (before : Before) (groups : List Group) (flags : Flags) (text : List ℕ) → names_end text ≡ true → skip ≤ length text → flags_behind skip (outer_of groups) flags text ≡ last →
+    joins_rest : (skip at : ℕ) (before : Before) (groups : List Group) (flags : Flags) (text : List ℕ) → class_names_end text ≡ true → skip ≤ length text → flags_behind skip (outer_of groups) flags text ≡ last →
         IsRead (rest skip at before groups flags text) → rest skip at before groups flags (text ++ 124 ∷ t) ≡ joined bs (rest skip at before groups flags text)
     joins_rest zero at before groups flags [] names le ends is = joins_at_end at before groups flags ends is
     joins_rest (suc skip) at before groups flags [] names le ends is = absurd (omega (arith, le))

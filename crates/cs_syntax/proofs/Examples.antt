@@ -20,7 +20,7 @@ use Rattle.cs_syntax.specs.Escapes.{char_front, escaped_class, escaped_tree}
 use Rattle.cs_syntax.specs.Groups.{is_flag, is_cleared_flag}
 use Rattle.cs_syntax.specs.Items.{front}
 use Rattle.cs_syntax.specs.Numbers.{digit_value}
-use Rattle.cs_syntax.specs.Choices.{flags_behind, names_end}
+use Rattle.cs_syntax.specs.Choices.{flags_behind, class_names_end}
 use Rattle.cs_syntax.specs.Reading.{reading, tree, refused, flags_at_start}
 use Rattle.cs_syntax.specs.Signs.{sign_of}
 use Rattle.cs_syntax.specs.Written.{counted_repeat, quotation}
@@ -286,8 +286,8 @@ bars :
     × (flags_behind 0 [] (flags_at_start false) (codes "(?i:a)") ≡ flags_at_start false)
     × (flags_behind 0 [] (flags_at_start false) (codes "((?i)a)") ≡ flags_at_start false)
     × (flags_behind 0 [] (flags_at_start false) (codes "(?i)a") ≡ flags_at_start true)
-    × (names_end (codes "[[:alpha:]]") ≡ true)
-    × (names_end (codes "[[:a]") ≡ false)
+    × (class_names_end (codes "[[:alpha:]]") ≡ true)
+    × (class_names_end (codes "[[:a]") ≡ false)
 unfolding sign_of front char_front escaped_class escaped_tree is_flag is_cleared_flag digit_value class_by_name
 bars = (refl, refl, refl, refl, refl, refl, refl, refl, refl, refl, refl, refl)
 

@@ -4,7 +4,7 @@ use Rattle.std.specs.Prelude.{nat_eq, nat_lt, nat_le, if◌then◌else◌}
 use Rattle.std.specs.Char.{encode_utf8}
 use Rattle.std.specs.Str.{chars, encode_utf8_all}
 use Rattle.std.specs.List.{AllByRecursion, prefix_len}
-use Rattle.std.proofs.lemmas.Bool.{and_from, le-leb, lt-ltb, le-ltb, lt-leb, ne_eqb, eqb-true, or_cases, true≢false, cases_Bool, cases_lt, leb-true}
+use Rattle.std.proofs.lemmas.Bool.{and_from, le-leb, lt-ltb, le-ltb, lt-leb, ne_eqb, eqb-true, or_cases, true≢false, cases_Bool, cases_lt, leb-true, cond-true, cond-false}
 use Rattle.std.proofs.lemmas.List.{take_at}
 use Rattle.std.proofs.lemmas.Str.{encode_ascii, encodes-chars}
 use Rattle.cs_syntax.specs.Matching.{Tree, one_of, none}
@@ -17,7 +17,7 @@ use Rattle.cs_syntax.specs.Items.{front, item_by}
 use Rattle.cs_syntax.specs.Signs.{sign_of}
 use Rattle.cs_syntax.specs.Reading.{Rest, levels, inside, with_unit, rest, answer, flags_at_start, Reads}
 use Rattle.cs_syntax.specs.Written.{signs, quotation, units_of}
-use Rattle.cs_syntax.proofs.WrittenRepeatLemmas.{unit_read, plain_front, taken, left}
+use Rattle.cs_syntax.proofs.WrittenRepeatLemmas.{unit_read, plain_front}
 use Rattle.cs_syntax.specs.declared.flags.Flags.{Flags}
 use Rattle.cs_syntax.specs.declared.sign.Sign.TheVariants.{Star, Plus, Question, Brace, Dot, Caret, Dollar, Bar, Open, Close, Class, Backslash, Wide, Plain}
 use Rattle.cs_syntax.specs.declared.before.Before.{Before}
@@ -92,7 +92,7 @@ wide_form c high =
       | inl two ↦ record {
         lead = 192 + c / 64;
         others = (128 + c % 64) ∷ [];
-        spelled = left (nat_lt c 128) _ _ past ∙ taken (nat_lt c 2048) _ _ two;
+        spelled = cond-false (nat_lt c 128) _ _ past ∙ cond-true (nat_lt c 2048) _ _ two;
         leads = omega arith;
         continue = (continues c, tt);
       }
@@ -101,14 +101,14 @@ wide_form c high =
             | inl three ↦ record {
               lead = 224 + c / 4096;
               others = (128 + (c / 64) % 64) ∷ (128 + c % 64) ∷ [];
-              spelled = left (nat_lt c 128) _ _ past ∙ left (nat_lt c 2048) _ _ more ∙ taken (nat_lt c 65536) _ _ three;
+              spelled = cond-false (nat_lt c 128) _ _ past ∙ cond-false (nat_lt c 2048) _ _ more ∙ cond-true (nat_lt c 65536) _ _ three;
               leads = omega arith;
               continue = (continues (c / 64), (continues c, tt));
             }
             | inr four ↦ record {
               lead = 240 + c / 262144;
               others = (128 + (c / 4096) % 64) ∷ (128 + (c / 64) % 64) ∷ (128 + c % 64) ∷ [];
-              spelled = left (nat_lt c 128) _ _ past ∙ left (nat_lt c 2048) _ _ more ∙ left (nat_lt c 65536) _ _ four;
+              spelled = cond-false (nat_lt c 128) _ _ past ∙ cond-false (nat_lt c 2048) _ _ more ∙ cond-false (nat_lt c 65536) _ _ four;
               leads = omega arith;
               continue = (continues (c / 4096), (continues (c / 64), (continues c, tt)));
             }
@@ -119,7 +119,7 @@ wide_form c high =
 prefix_there : (bs text : List ℕ) → AllByRecursion Continues bs → prefix_len is_continuation text ≡ 0 → prefix_len is_continuation (bs ++ text) ≡ length bs
 prefix_there [] text all ends = ends
 prefix_there (b ∷ bs) text all ends =
-    taken (is_continuation b) (1 + prefix_len is_continuation (bs ++ text)) 0 all.0
+    cond-true (is_continuation b) (1 + prefix_len is_continuation (bs ++ text)) 0 all.0
     ∙ (let later = prefix_there bs text all.1 ends in omega (arith, later))
 
 low_ends : (b : ℕ) (text : List ℕ) → b < 128 → prefix_len is_continuation (b ∷ text) ≡ 0
@@ -127,7 +127,7 @@ low_ends b text low = ap (λ t. cond (t && nat_lt b 192) (1 + prefix_len is_cont
 
 lead_ends : (b : ℕ) (text : List ℕ) → 192 ≤ b → prefix_len is_continuation (b ∷ text) ≡ 0
 lead_ends b text high =
-    left (is_continuation b) _ _ (ap (λ t. nat_le 128 b && t) (le-ltb b 192 high) ∙ and_false (nat_le 128 b))
+    cond-false (is_continuation b) _ _ (ap (λ t. nat_le 128 b && t) (le-ltb b 192 high) ∙ and_false (nat_le 128 b))
   where
     and_false : (t : Bool) → (t && false) ≡ false
     and_false true = refl
@@ -192,10 +192,10 @@ module _ (flags : Flags) where
   skipped (b ∷ bs) text cs later at = skipped bs text cs later (at + 1)
 
   low_unit : (c : ℕ) → c < 128 → unit_of c ≡ one_of (char_set flags.fold c)
-  low_unit c low = taken (nat_lt c 128) (one_of (char_set flags.fold c)) (bytes_tree (encode_utf8 c)) (lt-ltb c 128 low)
+  low_unit c low = cond-true (nat_lt c 128) (one_of (char_set flags.fold c)) (bytes_tree (encode_utf8 c)) (lt-ltb c 128 low)
 
   high_unit : (c : ℕ) → 128 ≤ c → unit_of c ≡ bytes_tree (encode_utf8 c)
-  high_unit c high = left (nat_lt c 128) (one_of (char_set flags.fold c)) (bytes_tree (encode_utf8 c)) (le-ltb c 128 high)
+  high_unit c high = cond-false (nat_lt c 128) (one_of (char_set flags.fold c)) (bytes_tree (encode_utf8 c)) (le-ltb c 128 high)
 
   by_sign : (at : ℕ) (before : Before) (c : ℕ) (cs text : List ℕ) (sign : Bool) → c < 128 → has signs c ≡ sign → ReadsOn text cs → rest 0 at before [] flags ((if sign then 92 ∷ c ∷ [] else c ∷ []) ++ text) ≡ Units (c ∷ cs)
   by_sign at before c cs text true low is later =

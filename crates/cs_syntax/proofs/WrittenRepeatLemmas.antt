@@ -1,7 +1,7 @@
 -- Counted repeats read as they are written.
 use Rattle.std.proofs.Common.{◌≡◌, ℕ, zero, suc, ◌+◌, ◌-◌, ◌*◌, ◌<◌, ◌≤◌, ◌^◌, Bool, true, false, cond, ◌&&◌, ◌||◌, List, [], ◌∷◌, ◌++◌, length, take, drop, get_or, Option, Some, None, refl, ap, ◌∙◌, arith, length-append}
 use Rattle.std.specs.Prelude.{decimal, nat_eq, nat_lt, nat_le}
-use Rattle.std.proofs.lemmas.Bool.{and_from, le-leb, lt-ltb, le-ltb, ltb-false, ne_eqb}
+use Rattle.std.proofs.lemmas.Bool.{and_from, le-leb, lt-ltb, le-ltb, ltb-false, ne_eqb, cond-true, cond-false}
 use Rattle.std.proofs.lemmas.List.{take_at, drop_at, drop_all}
 use Rattle.std.specs.Str.Parse.{AllDigits}
 use Rattle.std.proofs.lemmas.Fmt.{decimal_nonempty, digits_decimal, decimal_digit, first_decimal, digits_value-decimal}
@@ -24,17 +24,11 @@ use Rattle.cs_syntax.specs.declared.before.Before.TheVariants.{Start, Operand, C
 use Rattle.cs_syntax.specs.declared.fault.PatternFault.{PatternFault}
 use Rattle.cs_syntax.specs.declared.fault.PatternFault.TheVariants.{BadRepeat}
 
-pub taken : {A : Type 0} (b : Bool) (x y : A) → b ≡ true → cond b x y ≡ x
-taken b x y h = ap (λ t. cond t x y) h
-
-pub left : {A : Type 0} (b : Bool) (x y : A) → b ≡ false → cond b x y ≡ y
-left b x y h = ap (λ t. cond t x y) h
-
 -- ---- decimal numbers
 
 digit_is : (c : ℕ) → 48 ≤ c → c ≤ 57 → digit_value c ≡ c - 48
 unfolding digit_value
-digit_is c low high = taken (nat_le 48 c && nat_le c 57) (c - 48) _ (and_from (nat_le 48 c) (nat_le c 57) (le-leb 48 c low) (le-leb c 57 high))
+digit_is c low high = cond-true (nat_le 48 c && nat_le c 57) (c - 48) _ (and_from (nat_le 48 c) (nat_le c 57) (le-leb 48 c low) (le-leb c 57 high))
 
 is_one : (c : ℕ) → 48 ≤ c → c ≤ 57 → is_digit 10 c ≡ true
 is_one c low high = lt-ltb (digit_value c) 10 (let v = digit_is c low high in omega (arith, v, low, high))
@@ -49,7 +43,7 @@ digits_there : (ds rest : List ℕ) → AllDigits 10 ds → count_digits 10 rest
 digits_there [] behind all ends = ends
 digits_there (c ∷ ds) behind all ends =
     let k = digit_from_value c all.0 in
-    taken (is_digit 10 c) (1 + count_digits 10 (ds ++ behind)) 0 (is_one c k.0 k.1)
+    cond-true (is_digit 10 c) (1 + count_digits 10 (ds ++ behind)) 0 (is_one c k.0 k.1)
     ∙ (let more_digits = digits_there ds behind all.1 ends in omega (arith, more_digits))
 
 own : IsNumeralModel (AllDigits 10) (value_after 10 0)
@@ -88,7 +82,7 @@ module _ (n : ℕ) (small : n < 2 ^ 64) (behind : List ℕ) (ends : count_digits
   number_there =
       let text : List ℕ = decimal n ++ behind in
       ap (λ len. cond (nat_eq len 0 || (nat_lt 1 len && is_front 48 text)) None (Some (record { value = number_of_digits 10 (take len text); len = len }))) (digits_there (decimal n) behind (digits_decimal own n small) ends)
-      ∙ left (nat_eq long 0 || (nat_lt 1 long && is_front 48 text)) None (Some (record { value = number_of_digits 10 (take long text); len = long })) is_written
+      ∙ cond-false (nat_eq long 0 || (nat_lt 1 long && is_front 48 text)) None (Some (record { value = number_of_digits 10 (take long text); len = long })) is_written
       ∙ ap (λ v. Some (record { value = v; len = long })) (ap (number_of_digits 10) (take_at (decimal n) behind long refl) ∙ digits_value-decimal own n small)
 
 -- ---- counts
@@ -116,7 +110,7 @@ module _ (n m : ℕ) (n_small : n < 2 ^ 64) (m_small : m < 2 ^ 64) where
 
   counts_second : counts_to first_number second ≡ Some both
   counts_second =
-      left (is_front 125 second) (Some (record { least = n; most = None; len = length (decimal n) + 2 })) _ (first_digit (decimal m) (125 ∷ []) (digits_decimal own m m_small) (decimal_nonempty m m_small))
+      cond-false (is_front 125 second) (Some (record { least = n; most = None; len = length (decimal n) + 2 })) _ (first_digit (decimal m) (125 ∷ []) (digits_decimal own m m_small) (decimal_nonempty m m_small))
       ∙ ap (λ (o : Option Number). elim o [ None ↦ None | Some k ↦ cond (is_front 125 (drop k.len second)) (Some (record { least = n; most = Some k.value; len = length (decimal n) + 2 + k.len })) None ]) (number_there m m_small (125 ∷ []) brace_ends)
       ∙ ap (λ (rest : List ℕ). cond (is_front 125 rest) (Some both) None) (drop_at (decimal m) (125 ∷ []) (length (decimal m)) refl)
 
@@ -139,13 +133,13 @@ module _ (n m : ℕ) (n_small : n < 2 ^ 64) (m_small : m < 2 ^ 64) where
       let y = le-ltb 1000 m bound in
       let z = le-ltb m n ordered in
       (λ i. x i || (y i || z i)) in
-      brace_by ∙ left (is_bad both) (fault BadRepeat 0) (lazy n (Some m) both.len tail) good
+      brace_by ∙ cond-false (is_bad both) (fault BadRepeat 0) (lazy n (Some m) both.len tail) good
       ∙ ap (λ len. lazy n (Some m) len tail) whole
       ∙ ap (λ (rest : List ℕ). item (repeat n (Some m)) (length tail + cond (is_front 63 rest) 1 0)) (drop_all (length tail) tail (omega arith))
       ∙ ap (λ len. item (repeat n (Some m)) len) (let z : length tail + 0 ≡ length tail = omega arith in z)
 
   brace_breaks : (n ≤ m → m ≤ 1000 → ⊥) → brace tail ≡ fault BadRepeat 0
-  brace_breaks apart = brace_by ∙ taken (is_bad both) (fault BadRepeat 0) (lazy n (Some m) both.len tail) (bad (nat_lt 1000 n) (nat_lt 1000 m) (nat_lt m n) refl refl refl)
+  brace_breaks apart = brace_by ∙ cond-true (is_bad both) (fault BadRepeat 0) (lazy n (Some m) both.len tail) (bad (nat_lt 1000 n) (nat_lt 1000 m) (nat_lt m n) refl refl refl)
     where
       bad : (x y z : Bool) → nat_lt 1000 n ≡ x → nat_lt 1000 m ≡ y → nat_lt m n ≡ z → (x || (y || z)) ≡ true
       bad true y z a b c = refl

@@ -26,15 +26,15 @@ flags_behind zero outer flags (b ∷ text) =
     ]
 
 -- behind each `[:` of the text there is a `:]`
-abbrev pub names_end : List ℕ → Bool
-names_end [] = true
-names_end (b ∷ text) =
-    (not (nat_eq b 91 && is_front 58 text) || is_some (name_length (drop 1 text))) && names_end text
+abbrev pub class_names_end : List ℕ → Bool
+class_names_end [] = true
+class_names_end (b ∷ text) =
+    (not (nat_eq b 91 && is_front 58 text) || is_some (name_length (drop 1 text))) && class_names_end text
 
 -- Behind the text the flags are those at its start, and no `[:` of it looks for its `:]` there.
 pub record StandsApart (fold : Bool) (text : List ℕ) : Type 0 where
   pub flags : flags_behind 0 [] (flags_at_start fold) text ≡ flags_at_start fold
-  pub names : names_end text ≡ true
+  pub names : class_names_end text ≡ true
 
 -- the first tree takes just what one of the two others takes
 abbrev pub TakesEither : Tree → Tree → Tree → Type 0

@@ -79,5 +79,5 @@ abbrev mutual
   TakesSome s (more t ts) i j = Takes s t i j ⊎ TakesSome s ts i j
 
 -- some part of s is taken
-abbrev pub Found : Tree → List ℕ → Type 0
-Found t s = (i j : ℕ) × (i ≤ j) × (j ≤ length s) × Takes s t i j
+abbrev pub HasMatch : Tree → List ℕ → Type 0
+HasMatch t s = (i j : ℕ) × (i ≤ j) × (j ≤ length s) × Takes s t i j

@@ -71,7 +71,7 @@ pub fn bars_read_as_choices()
 
 /// Sets of characters with the same members have the same maximal runs, and those of a test have just the characters that
 /// pass it.
-pub fn runs_are_told_by_their_characters()
+pub fn runs_are_decided_by_their_characters()
     ensures same { (xs ys : List (ℕ × ℕ)) → AreRuns xs → AreRuns ys
         → ((c : ℕ) → has_char xs c ≡ has_char ys c) → xs ≡ ys }
     ensures maximal { (test : ℕ → Bool) → AreRuns (runs_of test) }

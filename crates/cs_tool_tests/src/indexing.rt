@@ -1,7 +1,6 @@
 // Jobs of cindex.
-ghost use Rattle.std.specs.Prelude.{◌≡◌, ◌∷◌, [], true, string_bytes, IfOk};
-ghost use Rattle.std.specs.Path.{slash};
-ghost use Rattle.cs_tree.specs.Cover.{begins};
+ghost use Rattle.std.specs.Prelude.{◌≡◌, true, string_bytes, IfOk};
+ghost use Rattle.cs_tree.specs.Cover.{is_absolute};
 
 use cs_words::IndexJob;
 use std::alloc::{AllocError, Global};
@@ -12,7 +11,7 @@ mod stored;
 
 /// The job of words, of which those that begin with a dash are options.
 pub fn job_of(alloc: Global, words: &[&str]) -> Result<IndexJob, AllocError>
-    ensures { IfOk result (λ job. begins (slash ∷ []) (string_bytes job.cwd) ≡ true) }
+    ensures { IfOk result (λ job. is_absolute (string_bytes job.cwd) ≡ true) }
 {
     let mut paths = Vec::new(alloc);
     for word in words {

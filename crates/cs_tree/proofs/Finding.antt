@@ -1,12 +1,10 @@
 -- What a walk has gathered from all of its paths, put in order, is what it finds.
-use Rattle.std.proofs.Common.{◌≡◌, ℕ, ◌+◌, ◌<◌, length, take, slice_index_or, Bool, true, false, ◌&&◌, ◌||◌, cond, List, [], ◌∷◌, ◌++◌, map, refl, sym, ap, subst, ◌∙◌, inl, inr, arith, Option, Some, None}
+use Rattle.std.proofs.Common.{◌≡◌, ℕ, Bool, true, false, ◌&&◌, ◌||◌, cond, List, [], ◌∷◌, refl, sym, ap, subst, ◌∙◌, inl, inr, arith, Option, Some, None}
 use Rattle.cs_tree.specs.NamesAscending.{are_ascending}
 use Rattle.std.proofs.lemmas.Bool.{true≢false, cases_Bool, or_left, or_right}
-use Rattle.std.proofs.lemmas.List.{take_more, map-append}
-use Rattle.std.specs.Prelude.{is_some, Contains, String, string_bytes, bytes_eq}
+use Rattle.std.specs.Prelude.{is_some, Contains, bytes_eq}
 use Rattle.std.specs.Cmp.Lexicographic.{bytes_decides}
 use Rattle.std.specs.List.{AllByRecursion}
-use Rattle.std.specs.declared.alloc.Global.{Global}
 use Rattle.cs_tree.specs.PathSet as set
 use Rattle.cs_tree.specs.Cover.{is_covered}
 use Rattle.cs_tree.specs.Snapshot.{Snapshot, item_at}
@@ -16,12 +14,6 @@ use Rattle.cs_tree.specs.Visits.{KeepsTo, is_left, AreTroublesOf, Gathers, Gathe
 use Rattle.cs_tree.specs.declared.walking.Walked.{Walked}
 use Rattle.cs_tree.specs.declared.walking.WalkFault.{WalkFault}
 use Rattle.cs_tree.proofs.InOrder.{all_kept}
-
--- one more of the paths
-pub named_more : (paths : List (String Global)) (i : ℕ) (path : String Global) → i < length paths → path ≡ slice_index_or paths i path → map string_bytes (take (i + 1) paths) ≡ map string_bytes (take i paths) ++ string_bytes path ∷ []
-named_more paths i path within is =
-    ap (map string_bytes) (take_more paths i path within ∙ ap (λ x. take i paths ++ x ∷ []) (sym is))
-    ∙ map-append string_bytes (take i paths) (path ∷ [])
 
 -- ---- all in order
 

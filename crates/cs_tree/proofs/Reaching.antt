@@ -10,7 +10,7 @@ use Rattle.cs_tree.specs.Cover.{covers}
 use Rattle.cs_tree.specs.Snapshot.{Snapshot}
 use Rattle.cs_tree.specs.Reached.{is_left_out, is_reached, reaches, elements_under}
 use Rattle.cs_tree.specs.Visits.{comes}
-use Rattle.cs_tree.specs.Walks.{Reached, named, listed}
+use Rattle.cs_tree.specs.Walks.{ComesTo, named, listed}
 use Rattle.cs_tree.proofs.Coming.{Step, comes_itself, comes_on_from, comes_on_to}
 use Rattle.cs_tree.proofs.Sets.{some_member, member_passes}
 
@@ -31,15 +31,15 @@ comes_further tree (x ∷ es) p q m told e h step =
     ]
 
 -- what a reached path leads to is reached
-led_on : (tree : Snapshot) (paths : Paths) (es : List (List ℕ)) (p q : List ℕ) → IsTree tree → elements_under p q ≡ es → comes tree p q ≡ true → Reached tree paths p → Reached tree paths q
+led_on : (tree : Snapshot) (paths : Paths) (es : List (List ℕ)) (p q : List ℕ) → IsTree tree → elements_under p q ≡ es → comes tree p q ≡ true → ComesTo tree paths p → ComesTo tree paths q
 led_on tree paths [] p q told e h reached =
     elim (comes_on_from tree p q told h) [
-      | inl tied ↦ subst (Reached tree paths) ((bytes_decides p q).0 tied) reached
+      | inl tied ↦ subst (ComesTo tree paths) ((bytes_decides p q).0 tied) reached
       | inr on ↦ absurd (no_more _ _ (sym on.under ∙ e))
     ]
 led_on tree paths (x ∷ es) p q told e h reached =
     elim (comes_on_from tree p q told h) [
-      | inl tied ↦ subst (Reached tree paths) ((bytes_decides p q).0 tied) reached
+      | inl tied ↦ subst (ComesTo tree paths) ((bytes_decides p q).0 tied) reached
       | inr on ↦
           led_on tree paths es (child p on.name) q told (ap (drop 1) (sym on.under ∙ e)) on.comes_on
           (listed p on.name reached (leb-true _ _ on.step.short) on.step.listed on.step.kept)
@@ -64,7 +64,7 @@ from_reached tree paths name from =
     let over = and_parts (covers from.path name) _ from.leads_on in
     member_passes paths (λ p. reaches tree p name) from.path from.member (and_from _ _ over.0 (and_from _ _ (ap not from.kept) over.1))
 
-starts : (tree : Snapshot) (paths : Paths) (name : List ℕ) → IsTree tree → Reached tree paths name → From tree paths name
+starts : (tree : Snapshot) (paths : Paths) (name : List ℕ) → IsTree tree → ComesTo tree paths name → From tree paths name
 starts tree paths name told (named path member kept) = record { path = path; member = member; kept = kept; leads_on = comes_itself tree path }
 starts tree paths name told (listed path m reached short lists kept) =
     let from = starts tree paths path told reached in
@@ -75,7 +75,7 @@ starts tree paths name told (listed path m reached short lists kept) =
       leads_on = comes_further tree (elements_under from.path path) from.path path m told refl from.leads_on (record { kept = kept; short = le-leb _ _ short; listed = lists });
     }
 
-pub reached_says : (tree : Snapshot) (paths : Paths) (name : List ℕ) → IsTree tree → (is_reached tree paths name ≡ true) ↔ Reached tree paths name
+pub reached_says : (tree : Snapshot) (paths : Paths) (name : List ℕ) → IsTree tree → (is_reached tree paths name ≡ true) ↔ ComesTo tree paths name
 reached_says tree paths name told = (
   λ h. let from = reached_from tree paths name h in led_on tree paths (elements_under from.path name) from.path name told refl from.leads_on (named from.path from.member from.kept),
   λ reached. from_reached tree paths name (starts tree paths name told reached),

@@ -14,13 +14,17 @@ is_among names name = list_any (λ one. bytes_eq one name) names
 abbrev pub begins : List ℕ → List ℕ → Bool
 begins front text = starts_with nat_eq text front
 
+-- whether a path is absolute
+abbrev pub is_absolute : List ℕ → Bool
+is_absolute path = begins (slash ∷ []) path
+
 -- whether the name lies below the path: it goes on by a slash after it
 abbrev pub lies_below : List ℕ → List ℕ → Bool
 lies_below name path = begins (path ++ slash ∷ []) name
 
 -- whether the path covers the name
 abbrev pub covers : List ℕ → List ℕ → Bool
-covers path name = bytes_eq path name || (lies_below name path || (bytes_eq path (slash ∷ []) && begins (slash ∷ []) name))
+covers path name = bytes_eq path name || (lies_below name path || (bytes_eq path (slash ∷ []) && is_absolute name))
 
 -- whether some path covers the name
 abbrev pub is_covered : Paths → List ℕ → Bool

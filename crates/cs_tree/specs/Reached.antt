@@ -38,6 +38,10 @@ reaches tree path name = covers path name && (not (is_left_out (last_element pat
 abbrev pub is_reached : Snapshot → Paths → List ℕ → Bool
 is_reached tree paths name = list_any (λ path. reaches tree path name) (set.items paths)
 
+-- the names at which something stands, each with that
+abbrev pub with_values : {X : Type 0} → (List ℕ → Option X) → List (List ℕ) → List (List ℕ × X)
+with_values value names = filter_map (λ name. option_map (λ x. (name, x)) (value name)) names
+
 module _ {X : Type 0} (read : List ℕ → Option X) where
   abbrev pub read_item : Item → Option X
   read_item (file bytes) = read bytes
@@ -49,4 +53,4 @@ module _ {X : Type 0} (read : List ℕ → Option X) where
 
   -- the files that a walk comes to and that can be read, with what is read of them
   abbrev pub files_reached : Snapshot → Paths → map.FinMap bytes_cmp X
-  files_reached tree paths = map.from_entries (filter_map (λ name. option_map (λ (x : X). (name, x)) (found_at tree paths name)) (map.keys tree))
+  files_reached tree paths = map.from_entries (with_values (found_at tree paths) (map.keys tree))

@@ -21,11 +21,11 @@ use Rattle.cs_tree.specs.declared.walking.WalkFault.TheVariants.{Tree, Unnamed, 
 
 -- A walk comes to each of its paths whose last element is not left out, and to what it finds listed in a
 -- folder that it comes to, unless the name is left out or the folder's path is too long.
-pub data Reached (tree : Snapshot) (paths : Paths) : List ℕ → Type 0 where
+pub data ComesTo (tree : Snapshot) (paths : Paths) : List ℕ → Type 0 where
   named : (path : List ℕ) → set.contains paths path ≡ true → is_left_out (last_element path) ≡ false
-      → Reached tree paths path
-  listed : (path name : List ℕ) → Reached tree paths path → length path ≤ longest_path
-      → lists (item_at tree path) name ≡ true → is_left_out name ≡ false → Reached tree paths (child path name)
+      → ComesTo tree paths path
+  listed : (path name : List ℕ) → ComesTo tree paths path → length path ≤ longest_path
+      → lists (item_at tree path) name ≡ true → is_left_out name ≡ false → ComesTo tree paths (child path name)
 
 -- ---- what is found
 

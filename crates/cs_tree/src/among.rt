@@ -4,7 +4,7 @@ ghost use Rattle.std.specs.Path.{slash};
 ghost use Rattle.std.specs.List.{list_any};
 ghost use Rattle.cs_tree.specs.NamesAscending.{are_ascending};
 ghost use Rattle.cs_tree.specs.PathSet as set;
-ghost use Rattle.cs_tree.specs.Cover.{begins, lies_below, is_alone as is_alone', is_among, is_covered as is_covered'};
+ghost use Rattle.cs_tree.specs.Cover.{lies_below, is_alone as is_alone', is_among, is_covered as is_covered', is_absolute as is_absolute'};
 
 use crate::paths::is_absolute;
 use std::convert::AsStr;
@@ -39,7 +39,7 @@ pub fn is_covered<P: AsStr>(paths: &[P], name: &str) -> bool
 
 /// Whether the path begins with a slash and goes on.
 fn is_below_root(path: &str) -> bool
-    ensures { result ≡ (begins (slash ∷ []) path.now && not (bytes_eq path.now (slash ∷ []))) }
+    ensures { result ≡ (is_absolute' path.now && not (bytes_eq path.now (slash ∷ []))) }
 {
     is_absolute(path) && path != "/"
 }

@@ -1,8 +1,7 @@
 // Paths made absolute and clean.
-ghost use Rattle.std.specs.Prelude.{◌≡◌, ◌≤◌, ◌↔◌, ◌||◌, ◌∷◌, [], true, false, IsTrue, reverse, map, string_bytes, length, vec_len, OnOk, OnErr, IfOk};
-ghost use Rattle.std.specs.Path.{slash};
+ghost use Rattle.std.specs.Prelude.{◌≡◌, ◌≤◌, ◌↔◌, ◌||◌, true, false, IsTrue, reverse, map, string_bytes, length, vec_len, OnOk, OnErr, IfOk};
 ghost use Rattle.cs_tree.specs.CleanAnswers.{CleanAnswers};
-ghost use Rattle.cs_tree.specs.Cover.{begins};
+ghost use Rattle.cs_tree.specs.Cover.{is_absolute as is_absolute'};
 ghost use Rattle.cs_tree.specs.Clean.{absolute, clean_path, elements, with_element, steps, path_of, longest_path, has_nul as has_nul'};
 ghost use Rattle.cs_tree.specs.Cleaning.{clean_fault, is_settled as is_settled'};
 ghost use Rattle.cs_tree.specs.PathParts.{parts_fault, parts_path, texts};
@@ -43,7 +42,7 @@ impl From<AllocError> for PathFault {
 /// The path made absolute and clean by its text: joined to the folder unless it begins with `/`,
 /// without empty elements and `.`, and without `..` and the element before it.
 pub fn clean(alloc: Global, folder: &str, text: &str) -> Result<String, PathFault>
-    requires { begins (slash ∷ []) folder.now ≡ true }
+    requires { is_absolute' folder.now ≡ true }
     ensures ok { IfOk result (λ path. string_bytes path ≡ clean_path folder.now text.now) }
     ensures answer { CleanAnswers (clean_fault folder.now text.now) result }
 {

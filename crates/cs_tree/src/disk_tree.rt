@@ -3,11 +3,9 @@ ghost use Rattle.std.specs.Prelude.{◌≡◌, ◌≤◌, ◌≢◌, ℕ, [], If
 ghost use Rattle.std.specs.IoError.{error_kind};
 ghost use Rattle.std.specs.List.{list_all};
 ghost use Rattle.cs_tree.specs.Folders.{is_element as is_element', are_elements};
-ghost use Rattle.cs_tree.specs.FailureCount.{count_after};
-ghost use Rattle.cs_tree.specs.Trees.{is_tree_failure, listing_names, IsReadFault};
+ghost use Rattle.cs_tree.specs.Trees.{listing_names, IsReadFault};
 
 use crate::again::{gave_up, is_interrupted, read_again};
-use crate::disk_store::DiskStore;
 use crate::fault::{TreeFault, counted_answer};
 use crate::ordering::order_names;
 use crate::paths::is_element;
@@ -15,7 +13,7 @@ use crate::tree::{Kind, Listing, Tree};
 use std::alloc::Global;
 use std::fs::{DirEntry, Metadata, OpenFile};
 use std::io::{ErrorKind, Read};
-use std::os::unix::fs::{FileExt, MetadataExt};
+use std::os::unix::fs::MetadataExt;
 use std::rt::Files;
 use std::{fs, io};
 
@@ -89,21 +87,6 @@ impl<R: Files + AllocGlobal + Clone + Drop> DiskTree<R> {
             Ok(metadata) if metadata.is_file() => Some(id_of(&metadata)),
             _ => None,
         };
-    }
-
-    /// Opens a file to be read by position, beside the one that is open. Follows links. A pipe or a
-    /// device is opened like a file, and then refused.
-    pub fn open_store(&mut self, path: &str) -> Result<DiskStore<R::File>, TreeFault>
-    where
-        R::File: FileExt,
-        ensures failed { ⟦<DiskTree<R> as Tree>⟧.failed self.new
-            ≡ count_after is_tree_failure result (⟦<DiskTree<R> as Tree>⟧.failed self.old) }
-    {
-        let answer = match fs::open(&self.rt, path) {
-            Ok(file) => DiskStore::new(file),
-            Err(error) => Err(fault_of(error.kind())),
-        };
-        counted_answer(&mut self.failed, answer)
     }
 }
 

@@ -1,9 +1,8 @@
 // What is kept in memory: a tree, as a list of items, each with its path, a source, a store and a sink. Here
 // stand the types alone, since the words of `specs/MemoryItems.antt` and `specs/Memory.antt` speak of them.
-ghost use Rattle.std.specs.Prelude.{◌≡◌, ◌≤◌, ◌<◌, true, ◌∷◌, [], map, length, string_bytes};
-ghost use Rattle.std.specs.Path.{slash};
+ghost use Rattle.std.specs.Prelude.{◌≡◌, ◌≤◌, ◌<◌, true, map, length, string_bytes};
 ghost use Rattle.cs_tree.specs.Folders.{are_elements};
-ghost use Rattle.cs_tree.specs.Cover.{begins};
+ghost use Rattle.cs_tree.specs.Cover.{is_absolute};
 
 use std::alloc::Global;
 
@@ -70,5 +69,5 @@ pub(crate) enum StoredItem {
 pub(crate) struct Stored {
     pub(crate) path: String,
     pub(crate) item: StoredItem,
-    ghost rooted: { begins (slash ∷ []) (string_bytes path) ≡ true },
+    ghost rooted: { is_absolute (string_bytes path) ≡ true },
 }

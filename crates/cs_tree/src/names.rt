@@ -1,9 +1,8 @@
 // The names that a folder in memory lists.
-ghost use Rattle.std.specs.Prelude.{◌≡◌, ◌++◌, [], ◌∷◌, true, not, map, filter, string_bytes, length, nat_eq, OnOk, OnErr, IfOk, if◌then◌else◌, bytes_eq};
-ghost use Rattle.std.specs.Path.{slash};
+ghost use Rattle.std.specs.Prelude.{◌≡◌, ◌++◌, [], true, not, map, filter, string_bytes, length, nat_eq, OnOk, OnErr, IfOk, if◌then◌else◌, bytes_eq};
 ghost use Rattle.cs_tree.specs.Folders.{is_element};
 ghost use Rattle.std.specs.List.{list_any};
-ghost use Rattle.cs_tree.specs.Cover.{begins};
+ghost use Rattle.cs_tree.specs.Cover.{is_absolute};
 ghost use Rattle.cs_tree.specs.Changes.{names_with, names_left};
 ghost use Rattle.cs_tree.specs.MemoryItems.{stored_names};
 
@@ -50,7 +49,7 @@ impl Names {
 
     /// Takes away each name under which the folder lists what the path covers.
     pub(crate) fn remove(&mut self, folder: &str, path: &str)
-        requires { begins (slash ∷ []) folder.now ≡ true }
+        requires { is_absolute folder.now ≡ true }
         ensures { stored_names self.new
             ≡ names_left path.now folder.now (stored_names self.old) }
     {

@@ -1,10 +1,10 @@
 // What a path covers, and the elements of a path.
-ghost use Rattle.std.specs.Prelude.{◌≡◌, ◌≢◌, ◌++◌, ◌∷◌, [], true, false, MatchOption, IsTrue, ◌↔◌, List, ℕ, length, ◌<◌, ◌&&◌, not, nat_eq, bytes_eq};
+ghost use Rattle.std.specs.Prelude.{◌≡◌, ◌≢◌, ◌++◌, [], true, false, MatchOption, IsTrue, ◌↔◌, List, ℕ, length, ◌<◌, ◌&&◌, not, nat_eq, bytes_eq};
 ghost use Rattle.std.specs.Path.{slash};
 ghost use Rattle.cs_tree.specs.Below.{ends_element as ends_element'};
 ghost use Rattle.cs_tree.specs.Folders.{stem_of, child, last_element, is_element as is_element'};
 ghost use Rattle.std.specs.List.{list_any};
-ghost use Rattle.cs_tree.specs.Cover.{covers as covers', begins};
+ghost use Rattle.cs_tree.specs.Cover.{covers as covers', is_absolute as is_absolute'};
 ghost use Rattle.cs_tree.specs.Changes.{parent_of};
 ghost use Rattle.cs_tree.specs.Clean.{is_clean as is_clean', has_nul as has_nul'};
 ghost use Rattle.cs_tree.specs.Proper.{is_proper as is_proper', is_proper_path as is_proper_path'};
@@ -88,7 +88,7 @@ fn is_proper_path(path: &str) -> bool
 
 /// Whether the path begins with a slash.
 pub fn is_absolute(path: &str) -> bool
-    ensures { result ≡ begins (slash ∷ []) path.now }
+    ensures { result ≡ is_absolute' path.now }
 {
     match path.as_bytes().split_first() {
         Some((first, _)) => *first == b'/',

@@ -1,4 +1,5 @@
 pub mod LawLemmas
+pub mod QueryLemmas
 pub mod RuleLemmas
 pub mod SetLemmas
 mod AffixLemmas
@@ -19,7 +20,6 @@ mod PlaceLemmas
 mod PlainRunLemmas
 mod PlainTreeLemmas
 mod QueryExamples
-mod QueryLemmas
 mod QuickTestLemmas
 mod RightLemmas
 mod RoundLemmas

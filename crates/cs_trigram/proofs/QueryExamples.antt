@@ -3,7 +3,7 @@ use Rattle.std.proofs.Common.{◌≡◌, ℕ, zero, suc, inl, inr, Bool, true, f
 use Rattle.std.specs.Prelude.{◌↔◌}
 use Rattle.std.specs.List.{list_all}
 use Rattle.std.proofs.lemmas.Bool.{true≢false}
-use Rattle.cs_syntax.specs.Matching.{Tree, Trees, one_of, cat, alt, rep, none, more, member, Found, TakesAll}
+use Rattle.cs_syntax.specs.Matching.{Tree, Trees, one_of, cat, alt, rep, none, more, member, HasMatch, TakesAll}
 use Rattle.cs_tree.specs.Cover.{is_among}
 use Rattle.cs_trigram.proofs.MemberLemmas.{first_member, later_member, member_cases, only_member}
 use Rattle.cs_trigram.specs.Trigram.{tri}
@@ -124,7 +124,7 @@ asking_nothing_is_not_sharp sharp =
 abbrev optional : Tree
 optional = cat (more (one_of (only 97)) (more (one_of (only 98)) (more (rep (one_of (only 99)) 0 (Some 1)) none)))
 
-ab_is_found : Found optional (codes "ab")
+ab_is_found : HasMatch optional (codes "ab")
 ab_is_found = (
   0,
   2,

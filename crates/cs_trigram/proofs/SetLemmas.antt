@@ -1,10 +1,11 @@
 -- Ascending lists as sets of numbers.
-use Rattle.std.proofs.Common.{◌≡◌, ◌⊎◌, ℕ, ◌+◌, ◌<◌, ◌≤◌, Bool, true, false, cond, ◌&&◌, ◌||◌, ltb, eqb, List, [], ◌∷◌, ◌++◌, length, refl, sym, ap, subst, ◌∙◌, inl, inr, arith}
+use Rattle.std.proofs.Common.{◌≡◌, ◌⊎◌, ℕ, ◌+◌, ◌<◌, ◌≤◌, Bool, true, false, cond, ◌&&◌, ◌||◌, ltb, eqb, List, [], ◌∷◌, ◌++◌, length, refl, sym, ap, ◌∙◌, inl, inr, arith}
 use Rattle.std.proofs.Math.Bool.{and-false, or-false, or_comm, or_self_left}
 use Rattle.std.proofs.lemmas.Bool.{true≢false, cases_Bool, cond_both, cases_order, eqb-true, eqb-false, eq-eqb, ne_eqb, or_left, or_parts, or_right, ltb-true, ltb-false}
 use Rattle.std.specs.Prelude.{filter}
 use Rattle.std.specs.List.{AllByRecursion}
 use Rattle.cs_trigram.specs.Trigram.{Ascends, with_number, set_of_numbers, has}
+use Rattle.cs_trigram.specs.TrigramSets.{AreDistinct}
 use Rattle.cs_syntax.proofs.QuotedLemmas.{of_each}
 
 -- every number of the list is above n
@@ -172,6 +173,28 @@ length-with_number-le n (m ∷ ms) =
 pub length-set_of_numbers-le : (xs : List ℕ) → length (set_of_numbers xs) ≤ length xs
 length-set_of_numbers-le [] = omega arith
 length-set_of_numbers-le (x ∷ xs) = omega (arith, length-with_number-le x (set_of_numbers xs), length-set_of_numbers-le xs)
+
+-- distinct numbers are as many as their set has
+pub length-distinct : (ns : List ℕ) → AreDistinct ns → length ns ≡ length (set_of_numbers ns)
+length-distinct [] distinct = refl
+length-distinct (n ∷ ns) distinct =
+    let more = length-with_number n (set_of_numbers ns) (has-set_of_numbers n ns ∙ distinct.0) in
+    let rest = length-distinct ns distinct.1 in
+    omega (arith, more, rest)
+
+-- numbers as many as their set has are distinct
+pub distinct-length : (ns : List ℕ) → length ns ≡ length (set_of_numbers ns) → AreDistinct ns
+distinct-length [] many = tt
+distinct-length (n ∷ ns) many = (
+  elim (cases_Bool (has ns n)) [
+    | inl there ↦ absurd (omega (arith, many, stays there, length-set_of_numbers-le ns))
+    | inr apart ↦ apart
+  ],
+  distinct-length ns (omega (arith, many, length-with_number-le n (set_of_numbers ns), length-set_of_numbers-le ns)),
+)
+  where
+    stays : has ns n ≡ true → length (with_number n (set_of_numbers ns)) ≡ length (set_of_numbers ns)
+    stays there = ap length (with_number-member n (set_of_numbers ns) (ascends_set ns) (has-set_of_numbers n ns ∙ there))
 
 -- ---- what holds of each member
 

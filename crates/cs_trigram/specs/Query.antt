@@ -1,7 +1,7 @@
 -- When a query holds of a set of trigrams, and when it loses no line.
 -- docs/PATTERNS.md, "Queries"; the article "Regular Expression Matching with a Trigram Index".
 use Rattle.std.specs.Prelude.{ℕ, Bool, true, false, List, IsTrue}
-use Rattle.cs_syntax.specs.Matching.{Tree, Found}
+use Rattle.cs_syntax.specs.Matching.{Tree, HasMatch}
 use Rattle.cs_trigram.specs.Trigram.{tri}
 use Rattle.std.specs.List.{list_all, list_any}
 use Rattle.cs_trigram.specs.declared.queries.Query.{Query}
@@ -31,4 +31,4 @@ HasTrigrams set text = IsTrue (has_trigrams set text)
 -- the query loses no line: it holds of each set that has the trigrams of a line in which the tree finds
 -- something
 abbrev pub LosesNoLine : Query → Tree → Type 0
-LosesNoLine query tree = (line : List ℕ) (set : ℕ → Bool) → Found tree line → HasTrigrams set line → IsTrue (holds query set)
+LosesNoLine query tree = (line : List ℕ) (set : ℕ → Bool) → HasMatch tree line → HasTrigrams set line → IsTrue (holds query set)

@@ -11,7 +11,7 @@ use Rattle.cs_trigram.specs.declared.scan.ScanFault.TheVariants as fault
 use Rattle.cs_trigram.specs.declared.scan.Gathered.{Gathered}
 use Rattle.cs_trigram.specs.declared.scan.Gathered.TheVariants as gathered
 use Rattle.cs_trigram.specs.Trigram.{tri, set_of_numbers}
-use Rattle.cs_trigram.specs.TrigramSets.{IsTrigramSet, HasNoneTwice}
+use Rattle.cs_trigram.specs.TrigramSets.{IsTrigramSet, AreDistinct}
 use Rattle.cs_trigram.specs.Text.{first_broken, skip}
 
 -- a text, with its trigrams and how many bytes it has; why a file is left out; or that a read failed
@@ -52,7 +52,7 @@ HasTrigramSet (answer.Skip reason) = Unit {0}
 
 -- the numbers of a set of trigrams, each once, in any order
 abbrev pub AreTrigramsOnce : List ℕ → Type 0
-AreTrigramsOnce numbers = IsTrigramSet (set_of_numbers numbers) × HasNoneTwice numbers
+AreTrigramsOnce numbers = IsTrigramSet (set_of_numbers numbers) × AreDistinct numbers
 
 -- what an answer says (`Says`) where it lends its trigrams in any order: their set is that of the text
 abbrev pub SaysInAnyOrder : Result Gathered ScanFault → Finding → Type 0

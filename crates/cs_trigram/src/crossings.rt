@@ -16,7 +16,7 @@ use crate::short_word::ShortWord;
 use std::alloc::{AllocError, Global};
 
 /// So many concatenations are asked for with all their trigrams at most.
-const FEW_CONCATENATIONS: usize = 64;
+const MOST_WHOLE_CONCATENATIONS: usize = 64;
 
 /// So many concatenations are asked for at most, so that no pattern's query takes much memory.
 const MOST_CONCATENATIONS: usize = 256;
@@ -132,7 +132,7 @@ pub(crate) fn any_crossing(
 {
     let suffixes = short_affixes(alloc, Side::Suffix, suffixes, 2)?;
     let prefixes = short_affixes(alloc, Side::Prefix, prefixes, 2)?;
-    if count_concatenations(&suffixes, &prefixes) > FEW_CONCATENATIONS {
+    if count_concatenations(&suffixes, &prefixes) > MOST_WHOLE_CONCATENATIONS {
         return crossing_apart(alloc, &suffixes, &prefixes);
     }
     crossing(alloc, &suffixes, &prefixes)

@@ -7,7 +7,7 @@ ghost use Rattle.cs_tree.specs.Told.{ends};
 ghost use Rattle.cs_trigram.specs.Scans.{Finding, finding_at, is_scan_failure, SaysInAnyOrder, GathersOnce, IsScanOf, HasTrigramSet};
 ghost use Rattle.cs_trigram.specs.Text.{first_broken};
 ghost use Rattle.cs_trigram.specs.Trigram.{set_of_numbers};
-ghost use Rattle.cs_trigram.specs.TrigramSets.{trigram_count, HasNoneTwice};
+ghost use Rattle.cs_trigram.specs.TrigramSets.{trigram_count, AreDistinct};
 ghost use Rattle.cs_trigram.specs.Small.{IsSmall};
 ghost use Rattle.cs_trigram.specs.declared.found.TheConstants.{WITH_TWO};
 ghost use Rattle.cs_trigram.specs.Found.{Knows, IsSound, numbers_of};
@@ -90,7 +90,7 @@ fn read_through<R: Source>(
 fn set_of(alloc: Global, sorter: &mut Sorter, numbers: &[u32]) -> Result<Vec<u32>, AllocError>
     requires fits { length numbers.now < 2 ^ 32 }
     requires below { AllByRecursion (λ n. n < trigram_count) numbers.now }
-    requires once { HasNoneTwice numbers.now }
+    requires once { AreDistinct numbers.now }
     ensures { IfOk result (λ set. set.items ≡ set_of_numbers numbers.now) }
 {
     let mut set = Vec::from_slice(alloc, numbers)?;

@@ -3,7 +3,7 @@ ghost use Rattle.std.specs.Prelude.{◌≡◌, ◌<◌, ◌++◌, ◌∷◌, ℕ
 ghost use Rattle.cs_trigram.specs.Scans.{finding_at, text, left_out};
 ghost use Rattle.std.specs.List.{AllByRecursion};
 ghost use Rattle.cs_tree.specs.Told.{ends};
-ghost use Rattle.cs_syntax.specs.Matching.{Tree, Found};
+ghost use Rattle.cs_syntax.specs.Matching.{Tree, HasMatch};
 ghost use Rattle.cs_trigram.specs.declared.limits.Limits.{Limits};
 ghost use Rattle.cs_trigram.specs.declared.scan.Reason.{Reason};
 ghost use Rattle.cs_trigram.specs.Trigram.{trigram, tri, closing_trigram, Ascends, has};
@@ -44,5 +44,5 @@ pub fn what_is_found_of_a_whole_file()
 /// asks for these alone loses no line.
 pub fn found_lines_show_the_plain_runs()
     ensures { (tree : Tree) (line : List ℕ) (set : ℕ → Bool) →
-        Found tree line → HasTrigrams set line → ShowsPlainRuns set tree }
+        HasMatch tree line → HasTrigrams set line → ShowsPlainRuns set tree }
 {}

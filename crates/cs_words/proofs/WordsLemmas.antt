@@ -9,7 +9,7 @@ use Rattle.std.proofs.lemmas.List.Sums.{sum_by-cons}
 use Rattle.std.proofs.lemmas.List.Folds.{find-append}
 use Rattle.cs_tree.specs.Cover.{is_among}
 use Rattle.cs_words.specs.Words.{WordItem, item, is_option, name_of, takes_next, word_items_from, word_items, words_in, without_end, operands, truth_in, value_in, fault_in, first_fault, last_of, is_on, value_for, style_of, switches_of, valued_of, job_by, fault_or, meaning}
-use Rattle.cs_words.specs.Settings.{switch_name, item_in_front, Sets, IsFrontItem, BreaksRule, GivesJob, is_set, with_switch, with_setting, AreOf}
+use Rattle.cs_words.specs.Settings.{switch_name, item_in_front, Sets, IsFrontItem, BreaksRule, GivesJob, is_set, with_switch, with_setting, AreSettingsOf}
 use Rattle.cs_words.specs.Wanted.{Wanted, index, search, grep, job_wanted}
 use Rattle.cs_words.specs.declared.jobs.Job.{Job}
 use Rattle.cs_words.specs.declared.jobs.Tool.{Tool}
@@ -215,7 +215,7 @@ read_more tool words at settings word behind setting before here option sound se
 
 -- where no item is left, the settings are those of all items
 pub read_all : (tool : Tool) (words : List (List ℕ)) (at : ℕ) (settings : Settings)
-    → IsReadTo tool words at settings → word_items_from tool at (drop at words) ≡ [] → AreOf settings (word_items tool words)
+    → IsReadTo tool words at settings → word_items_from tool at (drop at words) ≡ [] → AreSettingsOf settings (word_items tool words)
 read_all tool words at settings before none = record {
   switches = λ switch. sym (before.switches switch ∙ ap (said_after turns_on (is_set switch settings) (switch_name switch)) none);
   file = sym (before.file ∙ ap (said_after value_in (option_copied settings.file) (codes "f")) none);
@@ -257,7 +257,7 @@ fault_next tool (word ∷ behind) at fault breaks =
     ∙ ap (λ found. option_or found (first_fault tool (word_items_from tool (at + words_in (item_in_front tool at word behind)) (drop (words_in (item_in_front tool at word behind)) (word ∷ behind))))) breaks.1
 
 -- the style of the items is that of their settings
-style_is : (settings : Settings) (items : List WordItem) → AreOf settings items → settings.style ≡ style_of items
+style_is : (settings : Settings) (items : List WordItem) → AreSettingsOf settings items → settings.style ≡ style_of items
 style_is settings items are = λ i. record {
   count = are.switches Count i;
   list = are.switches ListFiles i;
@@ -265,18 +265,18 @@ style_is settings items are = λ i. record {
   bare = are.switches Bare i;
 }
 
-pub grep_answer : (settings : Settings) (items : List WordItem) (pattern : List ℕ) (files : List (List ℕ)) → AreOf settings items
+pub grep_answer : (settings : Settings) (items : List WordItem) (pattern : List ℕ) (files : List (List ℕ)) → AreSettingsOf settings items
     → grep settings.style settings.fold pattern (length files == 0) files ≡ grep (style_of items) (is_on (codes "i") items) pattern (length files == 0) files
 grep_answer settings items pattern files are =
     λ i. grep (style_is settings items are i) (are.switches Fold i) pattern (length files == 0) files
 
-pub search_answer : (settings : Settings) (items : List WordItem) (pattern : List ℕ) → AreOf settings items
+pub search_answer : (settings : Settings) (items : List WordItem) (pattern : List ℕ) → AreSettingsOf settings items
     → search settings.style settings.fold settings.brute (option_copied settings.file) pattern
     ≡ search (style_of items) (is_on (codes "i") items) (is_on (codes "brute") items) (value_for (codes "f") items) pattern
 search_answer settings items pattern are =
     λ i. search (style_is settings items are i) (are.switches Fold i) (are.switches Brute i) (are.file i) pattern
 
-pub index_answer : (settings : Settings) (items : List WordItem) (cwd : List ℕ) (paths : List (List ℕ)) → AreOf settings items
+pub index_answer : (settings : Settings) (items : List WordItem) (cwd : List ℕ) (paths : List (List ℕ)) → AreSettingsOf settings items
     → index settings.list settings.reset settings.log_skip cwd paths
     ≡ index (is_on (codes "list") items) (is_on (codes "reset") items) (is_on (codes "logskip") items) cwd paths
 index_answer settings items cwd paths are =

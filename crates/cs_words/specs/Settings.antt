@@ -88,7 +88,7 @@ with_setting (Turns switch on) settings = with_switch switch on settings
 with_setting (A_pattern pattern) settings = record settings { file = Some pattern }
 
 -- the settings are those of the items
-pub record AreOf (settings : Settings) (items : List WordItem) : Type 0 where
+pub record AreSettingsOf (settings : Settings) (items : List WordItem) : Type 0 where
   pub switches : (switch : Switch) → is_set switch settings ≡ is_on (switch_name switch) items
   pub file : option_copied settings.file ≡ value_for (codes "f") items
 

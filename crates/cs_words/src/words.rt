@@ -2,7 +2,7 @@
 ghost use Rattle.std.specs.Prelude.{◌≡◌, ◌∷◌, ◌≤◌, ◌↔◌, ◌≢◌, List, None, Some, Ok, Err, true, length, map, string_bytes, option_map, option_copied, IfOk, IfErr, IsOk};
 ghost use Rattle.cs_words.specs.Wanted.{job_wanted};
 ghost use Rattle.cs_words.specs.Words.{WordItem, is_option, word_items, operands, without_end, first_fault, index_job as index_by, search_job as search_by, grep_job as grep_by, job_by, meaning};
-ghost use Rattle.cs_words.specs.Settings.{IsFrontItem, BreaksRule, AreOf, GivesJob};
+ghost use Rattle.cs_words.specs.Settings.{IsFrontItem, BreaksRule, AreSettingsOf, GivesJob};
 ghost use Rattle.cs_words.specs.declared.fault.WordFault.{WordFault as A_fault};
 ghost use Rattle.cs_words.specs.declared.fault.WordFault.TheVariants.{Memory};
 
@@ -50,7 +50,7 @@ fn make_job(
     all: usize,
 ) -> Result<Job, WordFault>
     requires { length options.now.rest.now ≤ all }
-    ensures { (items : List WordItem) → AreOf options.now.settings items →
+    ensures { (items : List WordItem) → AreSettingsOf options.now.settings items →
         GivesJob (job_by tool cwd.now all items (map string_bytes options.now.rest.now)) result }
 {
     match tool {
@@ -63,7 +63,7 @@ fn make_job(
 /// All options, up to a word that is none or behind `--`.
 fn read_options<'a>(tool: Tool, words: &'a [String]) -> Result<ReadOptions<'a>, WordFault>
     ensures settings { IfOk result
-        (λ options. AreOf options.settings (word_items tool (map string_bytes words.now))) }
+        (λ options. AreSettingsOf options.settings (word_items tool (map string_bytes words.now))) }
     ensures rest { IfOk result
         (λ options. map string_bytes options.rest.now
         ≡ operands tool (map string_bytes words.now)) }
@@ -158,7 +158,7 @@ fn index_job(
     cwd: &str,
     paths: &[String],
 ) -> Result<Job, WordFault>
-    ensures { (items : List WordItem) → AreOf settings.now items →
+    ensures { (items : List WordItem) → AreSettingsOf settings.now items →
         GivesJob (index_by cwd.now items (map string_bytes paths.now)) result }
 {
     Ok(Job::Index(IndexJob {
@@ -177,7 +177,7 @@ fn search_job(
     all: usize,
 ) -> Result<Job, WordFault>
     requires { length rest.now ≤ all }
-    ensures { (items : List WordItem) → AreOf settings.now items →
+    ensures { (items : List WordItem) → AreSettingsOf settings.now items →
         GivesJob (search_by all items (map string_bytes rest.now)) result }
 {
     match rest {
@@ -194,7 +194,7 @@ fn search_job(
 }
 
 fn grep_job(alloc: Global, settings: &Settings<'_>, rest: &[String]) -> Result<Job, WordFault>
-    ensures { (items : List WordItem) → AreOf settings.now items →
+    ensures { (items : List WordItem) → AreSettingsOf settings.now items →
         GivesJob (grep_by items (map string_bytes rest.now)) result }
 {
     match rest.split_first() {

@@ -22,7 +22,7 @@ pub(crate) fn split<'a>(bytes: &'a [u8]) -> Result<Cut<'a>, IndexFault>
     ensures value { MatchResult result
         (λ cut. cut_of bytes.now ≡ Ok (lent_sections cut)) (λ fault. cut_of bytes.now ≡ Err fault) }
     ensures names_bound { IfOk result (λ cut. length cut.name_index.now < 2 ^ 32) }
-    ensures few_lists { IfOk result (λ cut. length cut.list_index.now < 2 ^ 32) }
+    ensures lists_bound { IfOk result (λ cut. length cut.list_index.now < 2 ^ 32) }
 {
     if !bytes.starts_with(MAGIC) {
         return Err(IndexFault::BadMagic);

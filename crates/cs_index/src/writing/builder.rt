@@ -4,7 +4,7 @@ ghost use Rattle.cs_trigram.specs.Trigram.{set_of_numbers, closing_trigram};
 ghost use Rattle.cs_trigram.specs.Scans.{AreTrigramsOnce};
 ghost use Rattle.std.specs.List.{AllByRecursion};
 ghost use Rattle.cs_index.specs.Image.{image, image_of, names_of};
-ghost use Rattle.cs_index.specs.Gathering.{AreDistinct};
+ghost use Rattle.cs_trigram.specs.TrigramSets.{AreDistinct};
 ghost use Rattle.cs_index.specs.Indexable.{IsIndexable};
 ghost use Rattle.cs_index.specs.Built.{with_entry, are_paths, file_map, is_above, is_storable, IsBuilt, IsOneTooMany, IsOutOfOrder, most_names, path_set};
 

@@ -2,7 +2,7 @@
 ghost use Rattle.std.specs.Prelude.{◌≡◌, ◌<◌, ◌+◌, ◌++◌, [], List, ℕ, length, OnOk, OnErr};
 ghost use Rattle.std.specs.List.{AllByRecursion};
 ghost use Rattle.cs_index.specs.Rising.{most_ids, next_after, RiseWithin};
-ghost use Rattle.cs_index.specs.IdStream.{stream_of};
+ghost use Rattle.cs_index.specs.Image.{stream_of};
 ghost use Rattle.cs_index.specs.Segments.{sums_from};
 
 use crate::writing::laying::lay_both;

@@ -154,7 +154,7 @@ fn letters(number: usize) -> [u8; 11] {
 fn wrong_line(matcher: &mut Matcher<'_>) -> Option<usize> {
     for i in 0..4096usize {
         let line = letters(if i < 2048 { i } else { 4095 - i });
-        if matcher.is_match(&line) != (line[1] == b'a') || matcher.state_sets() <= 1 {
+        if matcher.is_match(&line) != (line[1] == b'a') || matcher.standings() <= 1 {
             return Some(i);
         }
     }

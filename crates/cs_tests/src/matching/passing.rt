@@ -1,4 +1,4 @@
-// Lines that are passed over: by a word, by windows of three sets, or by the table of state sets.
+// Lines that are passed over: by a word, by windows of three sets, or by the table of standings.
 ghost use Rattle.cs_match.specs.Skipping.{AreWholeLines};
 
 use crate::matching::finding::program_of;

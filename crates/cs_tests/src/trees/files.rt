@@ -1,7 +1,6 @@
 // Trees in memory and on the real disk, and readers and writers that fail in mid-stream.
-ghost use Rattle.std.specs.Prelude.{◌≡◌, ◌∷◌, [], true};
-ghost use Rattle.std.specs.Path.{slash};
-ghost use Rattle.cs_tree.specs.Cover.{begins};
+ghost use Rattle.std.specs.Prelude.{◌≡◌, true};
+ghost use Rattle.cs_tree.specs.Cover.{is_absolute};
 
 use crate::fixtures::{spaced, strings, tree_of};
 use cs_tree::{
@@ -258,7 +257,7 @@ fn follows_links<T: Tree>(alloc: Global, tree: &mut T) -> bool {
 
 /// Whether the path is cleaned so.
 fn is_cleaned(alloc: Global, folder: &str, text: &str, want: Result<&str, PathFault>) -> bool
-    requires { begins (slash ∷ []) folder.now ≡ true }
+    requires { is_absolute folder.now ≡ true }
 {
     match (clean(alloc, folder, text), want) {
         (Ok(path), Ok(want)) => path.as_str() == want,

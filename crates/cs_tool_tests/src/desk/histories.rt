@@ -1,6 +1,7 @@
 // Jobs of cindex one after another.
 use crate::desk::Step::{File, Folder, Job, Left, Remove, Search};
 use crate::desk::{DONE, MATCHED, NO_MATCH, Step, tells};
+use crate::fixtures::ONE_PATH;
 use std::test::Fail;
 
 /// `/a/b/f` read again, and `/a/bc/y` as it was first read.
@@ -10,10 +11,6 @@ const NEIGHBOURS: &[u8; 160] =
 /// `/a/b/f` read again below the path `/a`, and `/a/g` as it was first read.
 const PART: &[u8; 149] =
     b"csearch index 1\n/a\0\0/a/b/f\0/a/g\0\0ix\n\x01\0six\x01\0two\x02\0wo\n\x02\0\xff\xff\xff\0\0\0\0\0\0\0\0\x07\0\0\0\x0cix\n\0\0\0\x01\0\0\0\0six\0\0\0\x01\0\0\0\x05two\0\0\0\x01\0\0\0\x0awo\n\0\0\0\x01\0\0\0\x0f\0\0\0\x10\0\0\0\x14\0\0\0\x21\0\0\0\x39\0\0\0\x45\ncsearch trailr\n";
-
-/// The path `/v` without a file.
-const VANISHED: &[u8; 65] =
-    b"csearch index 1\n/v\0\0\0\xff\xff\xff\0\0\0\0\0\0\0\0\x10\0\0\0\x14\0\0\0\x15\0\0\0\x19\0\0\0\x1d\ncsearch trailr\n";
 
 const NEIGHBOURS_OF_A_PATH: &[Step<'static>] = &[
     Folder("/a"),
@@ -73,11 +70,11 @@ const A_PATH_THAT_VANISHES: &[Step<'static>] = &[
     Job(&["/v"], DONE, "", ""),
     Remove("/v"),
     Job(&[], DONE, "", LINE),
-    Left(Some(VANISHED)),
+    Left(Some(ONE_PATH)),
     Job(&["-list"], DONE, "/v\n", ""),
     Search("-brute -l .", NO_MATCH, "", ""),
     Job(&[], DONE, "", LINE),
-    Left(Some(VANISHED)),
+    Left(Some(ONE_PATH)),
     Job(&["-list"], DONE, "/v\n", ""),
     Search("-brute -l .", NO_MATCH, "", ""),
 ];

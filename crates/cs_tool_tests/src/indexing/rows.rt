@@ -1,15 +1,11 @@
 // Worked rows, byte for byte, over trees in memory.
-use crate::fixtures::tree_of;
+use crate::fixtures::{ONE_PATH, tree_of};
 use crate::indexing::job_of;
 use cs_cindex::cindex;
 use cs_tree::{Item, MemSink, MemTree, PutFault, Sink};
 use cs_words::{CindexFault, Reply};
 use std::alloc::Global;
 use std::test::Fail;
-
-/// The index of an empty folder `/v`.
-const EMPTY: &[u8] =
-    b"csearch index 1\n/v\0\0\0\xff\xff\xff\0\0\0\0\0\0\0\0\x10\0\0\0\x14\0\0\0\x15\0\0\0\x19\0\0\0\x1d\ncsearch trailr\n";
 
 /// A job without an index, over the tree: the index after it, and its reply.
 fn index_of(
@@ -40,7 +36,7 @@ fn leaves_out(alloc: Global, lines: &str) -> Result<bool, Fail> {
     let tree = odd_files(alloc)?;
     let mut err = MemSink::new(alloc, 1000);
     let (index, _reply) = index_of(alloc, tree, &["-logskip", "/v"], &mut err)?;
-    Ok(index.as_deref() == Some(EMPTY) && err.bytes() == lines.as_bytes())
+    Ok(index.as_deref() == Some(ONE_PATH) && err.bytes() == lines.as_bytes())
 }
 
 #[test]

@@ -3,7 +3,7 @@ use Rattle.std.proofs.lemmas.List.{take_all}
 use Rattle.cs_match.specs.Lines.{ended_lines}
 use Rattle.cs_match.specs.Needle.{AreWithout}
 use Rattle.cs_match.specs.Skipping.{AreWholeLines}
-use Rattle.cs_match.proofs.WithoutLemmas.{whole_drop}
+use Rattle.cs_match.proofs.WholeLemmas.{whole_drop}
 use Rattle.cs_match.proofs.finding.skip_to_needle.Goals as goal
 
 pub returns-clause-rest : goal.returns-clause-rest

@@ -76,7 +76,7 @@ best_of_each-loop-branch-preserved t c = λ line i j here h.
     let part = tree_of c.branch-item.result in
     let others = trees_of (drop (c.loop-branch.branch-index + 1) c.args.branches.now) in
     let next = trees_from c.args.branches.now c.loop-branch.branch-index c.branch-item.result c.loop-branch-test.true c.branch-item.is in
-    let joined : before ++ more ≡ c.join.new.self.windows.items = sym c.in_ok-join.ensures in
+    let joined : before ++ more ≡ c.append.new.self.windows.items = sym c.in_ok-append.ensures in
     elim (c.loop-branch.invariant line i j here h) [
       | inl has ↦ inl (subst (λ (ws : List Window). HasOne ws line) joined (one_before line before more has))
       | inr left ↦ elim (subst (λ (ts : Trees). TakesSome line ts i j) next left) [

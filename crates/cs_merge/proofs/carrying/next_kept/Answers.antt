@@ -8,9 +8,9 @@ use Rattle.cs_merge.proofs.ReadLemmas.{told_no_id}
 use Rattle.cs_merge.proofs.carrying.next_kept.Goals as goal
 use Rattle.cs_index.proofs.ToldLemmas.{told_ok, told_none}
 
-pub returns-in_default-told-clause-fault : goal.returns-in_default-told-clause-fault
-returns-in_default-told-clause-fault c =
-    (refl, sym c.ids.invariant.whole ∙ told_no_id c.ids.ids c.next.new.self c.in-Some.told c.in-Some.ensures.steps c.in_default-told.not-Ok)
+pub returns-in_default-answer-clause-fault : goal.returns-in_default-answer-clause-fault
+returns-in_default-answer-clause-fault c =
+    (refl, sym c.ids.invariant.whole ∙ told_no_id c.ids.ids c.next.new.self c.in-Some.answer c.in-Some.ensures.steps c.in_default-answer.not-Ok)
 
 pub returns-in-Some-new_id-clause-ids : goal.returns-in-Some-new_id-clause-ids
 returns-in-Some-new_id-clause-ids c =

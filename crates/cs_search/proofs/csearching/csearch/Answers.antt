@@ -3,7 +3,7 @@ use Rattle.std.specs.Prelude.{option_copied}
 use Rattle.std.proofs.lemmas.Result.{err_from_is_err_and}
 use Rattle.cs_tree.proofs.Growing.{Grows-same}
 use Rattle.cs_tree.specs.Failures.{CountsOne}
-use Rattle.cs_search.proofs.CgrepLemmas.{all_quiet}
+use Rattle.cs_search.proofs.CgrepLemmas.{all_silent}
 use Rattle.cs_search.proofs.SearchLemmas.{refused_first}
 use Rattle.cs_search.proofs.csearching.csearch.Goals as goal
 
@@ -21,8 +21,8 @@ returns-in_err-plan-clause-writes g c =
     let err = g.E.Sink.failed c.args.err.now in
     rw (p.1, p.2) (subst (λ fails. CountsOne fails out out err err) (sym c.in_err-plan.ensures.refused.1) (refl, refl))
 
-pub returns-in_err-plan-clause-quiet : goal.returns-in_err-plan-clause-quiet
-returns-in_err-plan-clause-quiet g c = all_quiet _ c.from_residual.result (Grows-same _, Grows-same _)
+pub returns-in_err-plan-clause-silent : goal.returns-in_err-plan-clause-silent
+returns-in_err-plan-clause-silent g c = all_silent _ c.from_residual.result (Grows-same _, Grows-same _)
 
 -- ---- a search by what is lent
 

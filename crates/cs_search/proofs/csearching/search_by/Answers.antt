@@ -8,8 +8,8 @@ use Rattle.cs_words.specs.declared.jobs.Tool.TheVariants.{Csearch}
 use Rattle.cs_search.specs.Printed.{Printed, PrintsStatus, PrintsSome}
 use Rattle.cs_search.specs.Refusals.{has_write_failed}
 use Rattle.cs_search.specs.declared.status.Status.{Status}
-use Rattle.cs_search.proofs.CgrepLemmas.{all_quiet, PrintsStatus-flushed}
-use Rattle.cs_search.proofs.CsearchLemmas.{search_quiet, list_unwritten}
+use Rattle.cs_search.proofs.CgrepLemmas.{all_silent, PrintsStatus-flushed}
+use Rattle.cs_search.proofs.CsearchLemmas.{search_silent, list_unwritten}
 use Rattle.cs_search.proofs.PrintedLemmas.{PrintsSome-front, PrintsSome-all, done, undone, PrintsFaults-flushed, PrintsFaults-cut}
 use Rattle.cs_search.proofs.PromiseLemmas.{searched, ready, faults_chosen, lists_refused}
 use Rattle.cs_search.proofs.SearchLemmas.{refused_first, refused_late, searched_to_the_end}
@@ -31,8 +31,8 @@ returns-in_err-ids-clause-writes g c =
     let err = g.E.Sink.failed c.args.err.now in
     rw (p.1, p.2) (subst (λ fails. CountsOne fails out out err err) (sym (list_unwritten c.in_err-ids.field-0.0)) (refl, refl))
 
-pub returns-in_err-ids-clause-quiet : goal.returns-in_err-ids-clause-quiet
-returns-in_err-ids-clause-quiet g c = all_quiet _ c.from_residual.result (Grows-same _, Grows-same _)
+pub returns-in_err-ids-clause-silent : goal.returns-in_err-ids-clause-silent
+returns-in_err-ids-clause-silent g c = all_silent _ c.from_residual.result (Grows-same _, Grows-same _)
 
 -- ---- a search that is refused
 
@@ -64,10 +64,10 @@ returns-in_err-matched-clause-writes g c =
     let p = err_from_is_err_and c.from_residual-in_err-matched.result c.from_residual-in_err-matched.ensures.1 in
     rw (p.1, p.2) c.in_err-matched.ensures.writes
 
-pub returns-in_err-matched-clause-quiet : goal.returns-in_err-matched-clause-quiet
-returns-in_err-matched-clause-quiet g c =
+pub returns-in_err-matched-clause-silent : goal.returns-in_err-matched-clause-silent
+returns-in_err-matched-clause-silent g c =
     let p = err_from_is_err_and c.from_residual-in_err-matched.result c.from_residual-in_err-matched.ensures.1 in
-    rw (p.1, p.2) (search_quiet _ c.in_err-matched.field-0.0 c.in_err-matched.ensures.only)
+    rw (p.1, p.2) (search_silent _ c.in_err-matched.field-0.0 c.in_err-matched.ensures.only)
 
 -- ---- a flush that has failed
 
@@ -108,10 +108,10 @@ returns-in_err-status-clause-writes g c =
     (subst (λ n. CountsOne fails n now (g.E.Sink.failed c.args.err.now) now-err) same.0
     (subst (λ n. CountsOne fails before now n now-err) same.1 c.in_err-status.ensures.writes))
 
-pub returns-in_err-status-clause-quiet : goal.returns-in_err-status-clause-quiet
-returns-in_err-status-clause-quiet g c =
+pub returns-in_err-status-clause-silent : goal.returns-in_err-status-clause-silent
+returns-in_err-status-clause-silent g c =
     let p = err_from_is_err_and c.from_residual-in_err-status.result c.from_residual-in_err-status.ensures.1 in
-    rw (p.1, p.2) (search_quiet _ c.in_err-status.field-0.0 c.in_err-status.ensures.only)
+    rw (p.1, p.2) (search_silent _ c.in_err-status.field-0.0 c.in_err-status.ensures.only)
 
 -- ---- a search that is done
 

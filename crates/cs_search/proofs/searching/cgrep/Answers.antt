@@ -8,7 +8,7 @@ use Rattle.cs_tree.specs.Taken.{EndsAfter}
 use Rattle.cs_tree.specs.TakenAll.{TakesBytes}
 use Rattle.cs_index.proofs.ResultLemmas.{any_err}
 use Rattle.cs_search.proofs.PrintedLemmas.{done, PrintsSome-front, PrintsSome-all, PrintsFaults-flushed}
-use Rattle.cs_search.proofs.CgrepLemmas.{all_quiet, begun_refused, decides_program, PrintsStatus-flushed, PrintsFaultsOf-as, PrintsFaultsOf-nothing}
+use Rattle.cs_search.proofs.CgrepLemmas.{all_silent, begun_refused, decides_program, PrintsStatus-flushed, PrintsFaultsOf-as, PrintsFaultsOf-nothing}
 use Rattle.cs_search.specs.declared.status.Status.{Status}
 use Rattle.cs_search.proofs.searching.cgrep.Goals as goal
 
@@ -26,8 +26,8 @@ returns-in_err-program-clause-writes g c =
     let err = g.E.Sink.failed c.args.err.now in
     rw (p.1, p.2) (subst (λ fails. CountsOne fails out out err err) (sym c.in_err-program.ensures.refused.1) (refl, refl))
 
-pub returns-in_err-program-clause-quiet : goal.returns-in_err-program-clause-quiet
-returns-in_err-program-clause-quiet g c = all_quiet _ c.from_residual.result (Grows-same _, Grows-same _)
+pub returns-in_err-program-clause-silent : goal.returns-in_err-program-clause-silent
+returns-in_err-program-clause-silent g c = all_silent _ c.from_residual.result (Grows-same _, Grows-same _)
 
 pub returns-in_err-program-clause-faults : goal.returns-in_err-program-clause-faults
 returns-in_err-program-clause-faults g c =

@@ -13,12 +13,12 @@ counted count few rest part more block all cut is =
 
 pub overflow_add-count : goal.overflow_add-count
 overflow_add-count c =
-    let h = counted c.parts.count c.from-count.result _ _ _ c.args.block.now c.parts.invariant c.split_at.ensures.by_index.0 (c.from-count.ensures ∙ c.few_newlines.ensures) in
+    let h = counted c.parts.count c.from-count.result _ _ _ c.args.block.now c.parts.invariant c.split_at.ensures.by_index.0 (c.from-count.ensures ∙ c.count_newlines.ensures) in
     omega (arith, h.0, c.well_formed.0.0)
 
 pub parts-preserved : goal.parts-preserved
 parts-preserved c =
-    (counted c.parts.count c.from-count.result _ _ _ c.args.block.now c.parts.invariant c.split_at.ensures.by_index.0 (c.from-count.ensures ∙ c.few_newlines.ensures)).1
+    (counted c.parts.count c.from-count.result _ _ _ c.args.block.now c.parts.invariant c.split_at.ensures.by_index.0 (c.from-count.ensures ∙ c.count_newlines.ensures)).1
 
 pub overflow_add-result : goal.overflow_add-result
-overflow_add-result c = omega (arith, lines_within c.args.block.now, c.well_formed.0.0, c.parts.invariant, c.from.ensures, c.few_newlines-2.ensures)
+overflow_add-result c = omega (arith, lines_within c.args.block.now, c.well_formed.0.0, c.parts.invariant, c.from.ensures, c.count_newlines-2.ensures)

@@ -1,9 +1,9 @@
 use Rattle.std.proofs.Common.{◌≡◌, false, ◌&&◌, drop, sym, ap, ◌∙◌}
 use Rattle.std.proofs.lemmas.List.{take_rest}
-use Rattle.std.proofs.lemmas.Bool.{and_from}
+use Rattle.std.proofs.lemmas.Bool.{and_from, and_left, and_right}
 use Rattle.cs_syntax.specs.Fronts.{is_front}
 use Rattle.cs_syntax.specs.Groups.{name}
-use Rattle.cs_syntax.proofs.CaseLemmas.{taken, passed, not_first, not_second}
+use Rattle.cs_syntax.proofs.CaseLemmas.{taken, passed}
 use Rattle.cs_syntax.proofs.groups.head.Goals.{else-is_front-2-via-then-is_front-2+else-is_front-3, else-is_front-2-via-else-is_front-2}
 use Rattle.cs_syntax.proofs.groups.head.Goals as goal
 
@@ -25,7 +25,7 @@ returns-clause-value c front =
     let other : (is_front 80 text && is_front 60 (drop 1 text)) ≡ false =
     elim c.else-is_front-2.branch [
       | else-is_front-2-via-then-is_front-2+else-is_front-3 w ↦
-          not_second (is_front 80 text) (ap (is_front 60) (sym (take_rest text 1)) ∙ sym w.is_front-then-is_front-2.ensures ∙ w.if-is_front-3.false)
-      | else-is_front-2-via-else-is_front-2 w ↦ not_first _ (sym c.is_front-2.ensures ∙ w.if-is_front-2.false)
+          and_right (is_front 80 text) _ (ap (is_front 60) (sym (take_rest text 1)) ∙ sym w.is_front-then-is_front-2.ensures ∙ w.if-is_front-3.false)
+      | else-is_front-2-via-else-is_front-2 w ↦ and_left _ _ (sym c.is_front-2.ensures ∙ w.if-is_front-2.false)
     ] in
     passed _ (sym c.is_front.ensures ∙ c.if-is_front.false) (passed _ other (c.set_flags.ensures.value front))

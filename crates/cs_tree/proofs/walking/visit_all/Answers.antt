@@ -10,7 +10,7 @@ use Rattle.cs_tree.specs.PathSet as set
 use Rattle.cs_tree.proofs.ReduceLemmas.{any-from_list}
 use Rattle.cs_tree.proofs.Under.{keeps_more}
 use Rattle.cs_tree.proofs.Gathering.{come_by, more_in, none_in, same_in, counts_chain}
-use Rattle.cs_tree.proofs.Finding.{named_more}
+use Rattle.cs_tree.proofs.NameLemmas.{mapped_more}
 use Rattle.cs_tree.proofs.walking.visit_all.Goals as goal
 
 pub paths-init : goal.paths-init
@@ -27,12 +27,12 @@ pub paths-preserved : goal.paths-preserved
 paths-preserved g c = record {
   gathers =
       subst (λ paths. GathersIn (g.T.Tree.snapshot c.args.tree.now) (come_by reaches paths) c.args.walked.now c.visit_named.new.walked)
-      (sym (named_more c.args.paths.now c.paths.path-index c.path-item.result c.paths-test.true c.path-item.is))
+      (sym (mapped_more string_bytes c.args.paths.now c.paths.path-index c.path-item.result c.paths-test.true c.path-item.is))
       (more_in reaches (g.T.Tree.snapshot c.args.tree.now) (g.T.Tree.snapshot c.paths.tree) (map string_bytes (take c.paths.path-index c.args.paths.now)) (string_bytes c.path-item.result) c.args.walked.now c.paths.walked c.visit_named.new.walked c.paths.invariant.keeps c.paths.invariant.gathers
       (subst (λ path. GathersIn (g.T.Tree.snapshot c.paths.tree) (λ told. reaches told path) c.paths.walked c.visit_named.new.walked) c.as_str.ensures.value c.in_ok-visit_named.ensures.gathers));
   under =
       subst (λ paths. KeepsTo (is_covered (set.from_list paths)) c.args.walked.now c.visit_named.new.walked)
-      (sym (named_more c.args.paths.now c.paths.path-index c.path-item.result c.paths-test.true c.path-item.is))
+      (sym (mapped_more string_bytes c.args.paths.now c.paths.path-index c.path-item.result c.paths-test.true c.path-item.is))
       (keeps_more (map string_bytes (take c.paths.path-index c.args.paths.now)) (string_bytes c.path-item.result) c.args.walked.now c.paths.walked c.visit_named.new.walked c.paths.invariant.under
       (subst (λ path. KeepsTo (covers path) c.paths.walked c.visit_named.new.walked) c.as_str.ensures.value c.in_ok-visit_named.ensures.under));
   counted = counts_chain (g.T.Tree.failed c.args.tree.now) (g.T.Tree.failed c.paths.tree) (g.T.Tree.failed c.visit_named.new.tree) c.args.walked.now c.paths.walked c.visit_named.new.walked c.paths.invariant.rises c.paths.invariant.counted c.in_ok-visit_named.ensures.counted;

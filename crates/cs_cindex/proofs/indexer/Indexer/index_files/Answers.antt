@@ -8,8 +8,9 @@ use Rattle.cs_tree.specs.Taken.{TakesFront}
 use Rattle.cs_cindex.specs.Notices.{Line, PrintsLines, text_of}
 use Rattle.cs_cindex.specs.Verdicts.{noted_entries}
 use Rattle.cs_cindex.specs.Files.{AreTextsIn, AreFileLinesIn, AreAbove, HaveNamesOf}
+use Rattle.cs_tree.proofs.NameLemmas.{mapped_more}
 use Rattle.cs_index.proofs.ResultLemmas.{any_err}
-use Rattle.cs_cindex.proofs.FileLemmas.{names_at, names_more, names_rest, told_at, noted_at, texts_none, prints_none, above_none, texts_next, names_next, prints_step, above_next, above_first, ascend_next, front_read, front_noted, too_many}
+use Rattle.cs_cindex.proofs.FileLemmas.{names_at, names_rest, told_at, noted_at, texts_none, prints_none, above_none, texts_next, names_next, prints_step, above_next, above_first, ascend_next, front_read, front_noted, too_many}
 use Rattle.cs_cindex.proofs.indexer.Indexer.index_files.Goals as goal
 
 pub loop-name-init : goal.loop-name-init
@@ -80,7 +81,7 @@ loop-name-preserved g c =
     let verdict = c.in_ok-verdict.verdict in
     let told = g.T.Tree.snapshot c.args.tree.now in
     let entries = c.loop-name.self.builder.entries in
-    let more = names_more string_bytes names at item c.loop-name-test.true c.name-item.is in
+    let more = mapped_more string_bytes names at item c.loop-name-test.true c.name-item.is in
     let rest = names_rest string_bytes names at item c.loop-name-test.true c.name-item.is in
     let added = c.in_ok-note.ensures.entries ∙ ap (λ n. entries ++ noted_entries n verdict) c.as_str-in-loop-name.ensures.value in
     let is = told_at (g.T.Tree.snapshot c.loop-name.tree) told c.as_str.result.now name verdict i.keeps c.as_str.ensures.value c.in_ok-verdict.ensures.told in

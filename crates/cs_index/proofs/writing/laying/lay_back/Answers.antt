@@ -1,6 +1,6 @@
 use Rattle.std.proofs.Common.{◌≡◌, ◌≤◌, ◌<◌, ◌+◌, ◌^◌, ◌∙◌, ◌++◌, ◌∷◌, [], ap, sym, subst, length, map, List, arith, length-append}
 use Rattle.std.specs.List.{AllByRecursion, concat}
-use Rattle.cs_index.specs.Image.{ListEntry, Posting, posting_list, sections_of, Sections}
+use Rattle.cs_index.specs.Image.{ListEntry, Posting, posting_list, sections_of, SectionBytes}
 use Rattle.cs_index.specs.Laying.{front_of, lists_at}
 use Rattle.cs_index.proofs.LayingLemmas.{back_is, entries_near, front_1_long, front_2_long, layout_long, list_index_is, third_is}
 use Rattle.cs_index.proofs.writing.laying.lay_back.Goals as goal
@@ -25,7 +25,7 @@ lay_entries-requires c =
 pub returns-then-len-most-2-clause-too_large : goal.returns-then-len-most-2-clause-too_large
 returns-then-len-most-2-clause-too_large c = λ _.
     let ps : List Posting = lists_at c.args.out.items c.args.entries.now in
-    let s : Sections = sections_of c.args.paths.now c.args.names.now ps in
+    let s : SectionBytes = sections_of c.args.paths.now c.args.names.now ps in
     let start = front_2_long c.args.paths.now c.args.names.now ps c.bytes.result.now c.bytes-2.result.now
     c.bytes.ensures c.bytes-2.ensures in
     let third = third_is c.args.paths.now c.args.names.now ps c.args.out.items c.extend_from_slice.new.self.items
@@ -40,7 +40,7 @@ returns-then-len-most-2-clause-too_large c = λ _.
 pub returns-clause-ok : goal.returns-clause-ok
 returns-clause-ok c =
     let ps : List Posting = lists_at c.args.out.items c.args.entries.now in
-    let s : Sections = sections_of c.args.paths.now c.args.names.now ps in
+    let s : SectionBytes = sections_of c.args.paths.now c.args.names.now ps in
     let start = front_2_long c.args.paths.now c.args.names.now ps c.bytes.result.now c.bytes-2.result.now
     c.bytes.ensures c.bytes-2.ensures in
     let first = front_1_long c.args.paths.now c.args.names.now ps c.bytes.result.now c.bytes.ensures in

@@ -1,5 +1,5 @@
 use Rattle.std.proofs.Common.{◌≡◌, ◌↔◌, sym, ◌∙◌, ap, subst, arith}
-use Rattle.cs_syntax.specs.Matching.{Tree, Found}
+use Rattle.cs_syntax.specs.Matching.{Tree, HasMatch}
 use Rattle.cs_syntax.specs.Node.{tree_of}
 use Rattle.cs_match.specs.Places.{IsLooped}
 use Rattle.cs_match.specs.Expansion.{expansion}
@@ -14,7 +14,7 @@ invariant_of-result c =
 pub returns : goal.returns
 returns c = λ line.
     let same : tree_of c.in_ok-root.root ≡ expansion c.args.pattern.now = c.in_ok-root.ensures ∙ ap expansion c.tree.ensures.tree in
-    subst (λ (t : Tree). Found t line ↔ Found c.args.pattern.now line) (sym same) (expansion_found c.args.pattern.now line)
+    subst (λ (t : Tree). HasMatch t line ↔ HasMatch c.args.pattern.now line) (sym same) (expansion_found c.args.pattern.now line)
 
 pub count-count-requires : goal.count-count-requires
 count-count-requires c = rw c.in_ok-root.ensures (omega (arith, places_light (tree_of c.tree.result.now)))

@@ -8,8 +8,9 @@ use Rattle.cs_tree.specs.Snapshot.{Snapshot}
 use Rattle.cs_search.specs.declared.report.TheConstants.{MOST_SEARCHED}
 use Rattle.cs_search.specs.Searcher.{Prints, PrintsAllFaults, PrintsFront}
 use Rattle.cs_search.specs.Printed.{Printed, file_printed, all_printed}
+use Rattle.cs_tree.proofs.NameLemmas.{mapped_more}
 use Rattle.cs_index.proofs.ResultLemmas.{any_err}
-use Rattle.cs_search.proofs.PrintedLemmas.{Prints-none, Prints-both, PrintsFront-both, all_mapped, all_more, mapped_more, mapped_rest, done, undone, PrintsAllFaults-none, PrintsAllFaults-more, PrintsAllFaults-rest, PrintsAllFaults-refused}
+use Rattle.cs_search.proofs.PrintedLemmas.{Prints-none, Prints-both, PrintsFront-both, all_mapped, all_more, mapped_rest, done, undone, PrintsAllFaults-none, PrintsAllFaults-more, PrintsAllFaults-rest, PrintsAllFaults-refused}
 use Rattle.cs_search.proofs.searcher.Searcher.search_files.Goals as goal
 
 pub loop-name-init : goal.loop-name-init

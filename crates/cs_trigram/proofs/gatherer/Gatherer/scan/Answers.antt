@@ -5,12 +5,12 @@ use Rattle.cs_trigram.specs.TrigramSets.{trigram_count}
 use Rattle.cs_trigram.specs.Scans.{AreTrigramsOnce}
 use Rattle.cs_trigram.specs.Found.{numbers_of}
 use Rattle.cs_trigram.specs.Ended.{HasNumbers}
-use Rattle.cs_trigram.proofs.SetLemmas.{ascends-short, members_all, has-set_of_numbers}
+use Rattle.cs_trigram.proofs.SetLemmas.{ascends-short, length-distinct, members_all, has-set_of_numbers}
 use Rattle.cs_syntax.proofs.QuotedLemmas.{of_each}
 use Rattle.cs_trigram.proofs.gatherer.Gatherer.scan.Goals as goal
 
 few : (numbers : List ℕ) → AreTrigramsOnce numbers → length numbers < 2 ^ 32
-few numbers once = omega (arith, once.1, short (set_of_numbers numbers) once.0.0 once.0.1)
+few numbers once = omega (arith, length-distinct numbers once.1, short (set_of_numbers numbers) once.0.0 once.0.1)
   where
     short : (set : List ℕ) → Ascends set → AllByRecursion (λ n. n < 16777215) set → length set ≤ 16777215
     short [] up all = omega arith

@@ -5,7 +5,8 @@ use Rattle.cs_trigram.specs.Trigram.{set_of_numbers, closing_trigram}
 use Rattle.cs_trigram.proofs.SetLemmas.{ascends_set}
 use Rattle.cs_index.specs.PostingLists.{entries_of}
 use Rattle.cs_index.specs.Image.{Posting, Entry}
-use Rattle.cs_index.specs.Gathering.{ordered_lists, AreDistinct, GiveSame}
+use Rattle.cs_trigram.specs.TrigramSets.{AreDistinct}
+use Rattle.cs_index.specs.Gathering.{ordered_lists, GiveSame}
 use Rattle.cs_index.specs.Keys.{keys_of, with_keys, AreWaiting}
 use Rattle.cs_index.specs.Waiting.{lists_with, IsBatch}
 use Rattle.cs_index.specs.declared.writing.batch.Batch.{Batch}

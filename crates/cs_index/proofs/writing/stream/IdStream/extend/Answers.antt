@@ -7,7 +7,8 @@ use Rattle.cs_index.specs.IdStream.{ids_in, IsStream}
 use Rattle.cs_index.specs.Rising.{most_ids, next_after, RiseWithin}
 use Rattle.cs_index.specs.Segments.{sums_from}
 use Rattle.cs_index.proofs.BuildingLemmas.{rise_next}
-use Rattle.cs_index.proofs.SegmentLemmas.{first_sum, ids_below, ids_written, length-sums_from, next_sum}
+use Rattle.cs_index.proofs.SegmentLemmas.{first_sum, ids_written, length-sums_from, next_sum}
+use Rattle.cs_index.proofs.SiftLemmas.{rise_below}
 use Rattle.cs_index.proofs.StreamLemmas.{Extended, stream_more}
 use Rattle.cs_index.proofs.writing.stream.IdStream.extend.Goals as goal
 
@@ -65,7 +66,7 @@ overflow_add-self c =
     omega (arith, is.bound, length-sums_from c.args.from c.args.gaps.now)
 
 pub last_of-requires : goal.last_of-requires
-last_of-requires c = ids_below most_ids (next_after 0 c.args.self.now) (sums_from c.args.from c.args.gaps.now) c.requires.rise
+last_of-requires c = rise_below most_ids (next_after 0 c.args.self.now) (sums_from c.args.from c.args.gaps.now) c.requires.rise
 
 pub overflow_add-self-2 : goal.overflow_add-self-2
 overflow_add-self-2 c =

@@ -2,7 +2,7 @@ use Rattle.std.proofs.Common.{◌∙◌, sym, ap}
 use Rattle.std.proofs.lemmas.List.{take_all}
 use Rattle.std.specs.List.{count_by}
 use Rattle.cs_match.proofs.LinesLemmas.{is_newline, length-ended_lines}
-use Rattle.cs_search.proofs.tally.few_newlines.Goals as goal
+use Rattle.cs_search.proofs.tally.count_newlines.Goals as goal
 
 pub returns : goal.returns
 returns c =

@@ -1,6 +1,6 @@
 use Rattle.cs_syntax.proofs.CharSetLemmas.{same_runs}
 use Rattle.cs_syntax.proofs.CharRunLemmas.{runs_of_are}
-use Rattle.cs_syntax.proofs.laws.runs_are_told_by_their_characters.Goals as goal
+use Rattle.cs_syntax.proofs.laws.runs_are_decided_by_their_characters.Goals as goal
 
 pub returns : goal.returns
 returns c = record {

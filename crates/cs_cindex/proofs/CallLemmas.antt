@@ -1,8 +1,11 @@
 -- One job after another.
-use Rattle.std.proofs.Common.{◌≡◌, ℕ, ◌+◌, ◌<◌, List, [], ◌∷◌, ◌++◌, length, map, take, set, get_or, refl, sym, ap, subst, ◌∙◌, arith, Option}
+use Rattle.std.proofs.Common.{◌≡◌, ℕ, zero, suc, ◌+◌, ◌<◌, List, [], ◌∷◌, ◌++◌, length, map, take, set, get_or, refl, sym, ap, subst, ◌∙◌, arith, Option}
 use Rattle.cs_tree.specs.Folders.{Tells}
 use Rattle.std.proofs.lemmas.List.{take_more, take_more_set, length-take-le, get_or-map, length-map, map-append}
-use Rattle.std.specs.List.{AllByRecursion}
+use Rattle.std.specs.List.{AllByRecursion, AllZip, zip}
+use Rattle.cs_tree.specs.Clean.{longest_path}
+use Rattle.cs_tree.specs.Trees.{AsksWithin}
+use Rattle.cs_tree.proofs.Asking.{asks_nothing, asks_on}
 use Rattle.cs_tree.specs.Snapshot.{Snapshot}
 use Rattle.cs_words.specs.declared.jobs.IndexJob.{IndexJob}
 use Rattle.cs_words.specs.declared.jobs.Reply.{Reply}
@@ -10,10 +13,11 @@ use Rattle.cs_history.specs.History.{History, index_of}
 use Rattle.cs_history.specs.Jobs.{history_after, IsFitting}
 use Rattle.cs_history.specs.Premises.{snapshot_told, Premises}
 use Rattle.cs_history.specs.Headline.{Indexes}
-use Rattle.cs_history.proofs.FollowingLemmas.{followed-push, later_premises, zip_push}
+use Rattle.cs_history.proofs.FollowingLemmas.{followed-push, later_premises, zip_push as fitting_push}
 use Rattle.cs_history.proofs.RefusalLemmas.{right_more}
 use Rattle.cs_cindex.specs.Outcomes.{RightAfter}
-use Rattle.cs_cindex.specs.Steps.{RightAll, State, JobTree, job_tree, job_trees, IsWholeStep, Steps}
+use Rattle.cs_cindex.specs.Output.{JobTree, job_tree}
+use Rattle.cs_cindex.specs.Steps.{RightAll, State, job_trees, IsWholeStep, Steps}
 
 all_front : {A : Type 0} (P : A → Type 0) (xs ys : List A) → AllByRecursion P (xs ++ ys) → AllByRecursion P xs
 all_front P [] ys all = tt
@@ -40,7 +44,7 @@ module _ (jobs : List IndexJob) (trees : List (Option Snapshot)) (replies : List
         here.index (history_after earlier jobs (map snapshot_told trees) replies) (last_premises earlier p so_far)
         ∙ ap index_of (sym (ap (λ ts. history_after earlier (jobs ++ job ∷ []) ts (replies ++ reply ∷ [])) (map-append snapshot_told trees (tree ∷ []))
         ∙ followed-push earlier jobs (map snapshot_told trees) replies job (snapshot_told tree) reply (told_more e) f));
-    fitting = zip_push IsFitting jobs replies job reply so_far.fitting here.fitting.0;
+    fitting = fitting_push IsFitting jobs replies job reply so_far.fitting here.fitting.0;
     short = λ h. here.short (so_far.short h);
   }
 
@@ -89,35 +93,71 @@ indexes_none index = record { index = λ earlier p. sym p.they_left; fitting = t
 
 -- ---- one step after another
 
-module _ (job : IndexJob) (tree : JobTree) (reply : Reply) (mid new : State) where
-  pub steps_push : (jobs : List IndexJob) (trees : List JobTree) (replies : List Reply) (old : State) → Steps jobs trees replies old mid → IsWholeStep job tree reply mid new → Steps (jobs ++ job ∷ []) (trees ++ tree ∷ []) (replies ++ reply ∷ []) old new
-  steps_push [] [] [] old h step = (new, subst (λ (m : State). IsWholeStep job tree reply m new) h step, refl)
-  steps_push [] [] (r ∷ rs) old h step = absurd h
-  steps_push [] (t ∷ ts) rs old h step = absurd h
-  steps_push (j ∷ js) [] rs old h step = absurd h
-  steps_push (j ∷ js) (t ∷ ts) [] old h step = absurd h
-  steps_push (j ∷ js) (t ∷ ts) (r ∷ rs) old h step = (h.0, h.1, steps_push js ts rs h.0 h.2 step)
+steps_push : (one : IndexJob × (JobTree × Reply)) (before : List (IndexJob × (JobTree × Reply))) (old mid new : State) → Steps before old mid → IsWholeStep one.0 one.1.0 one.1.1 mid new → Steps (before ++ one ∷ []) old new
+steps_push one [] old mid new h step = (new, subst (λ (m : State). IsWholeStep one.0 one.1.0 one.1.1 m new) h step, refl)
+steps_push one (first ∷ before) old mid new h step = (h.0, h.1, steps_push one before h.0 mid new h.2 step)
+
+zip_push : {A B : Type 0} (xs : List A) (ys : List B) (x : A) (y : B) → length ys ≡ length xs → zip (xs ++ x ∷ []) (ys ++ y ∷ []) ≡ zip xs ys ++ (x, y) ∷ []
+zip_push [] [] x y e = refl
+zip_push [] (y' ∷ ys) x y e = absurd (omega (arith, e))
+zip_push (x' ∷ xs) [] x y e = absurd (omega (arith, e))
+zip_push (x' ∷ xs) (y' ∷ ys) x y e = ap (λ rest. (x', y') ∷ rest) (zip_push xs ys x y (omega (arith, e)))
 
 module _ {T : Type 0} (snapshot : T → Option Snapshot) (failed : T → ℕ) where
   trees_push : (trees later : List T) (tree then : T) → length later ≡ length trees → job_trees snapshot failed (trees ++ tree ∷ []) (later ++ then ∷ []) ≡ job_trees snapshot failed trees later ++ job_tree snapshot failed tree then ∷ []
-  trees_push [] [] tree then e = refl
-  trees_push [] (u ∷ us) tree then e = absurd (omega (arith, e))
-  trees_push (t ∷ ts) [] tree then e = absurd (omega (arith, e))
-  trees_push (t ∷ ts) (u ∷ us) tree then e = ap (λ rest. job_tree snapshot failed t u ∷ rest) (trees_push ts us tree then (omega (arith, e)))
+  trees_push trees later tree then e =
+      ap (map (λ both. job_tree snapshot failed both.0 both.1)) (zip_push trees later tree then e)
+      ∙ map-append (λ both. job_tree snapshot failed both.0 both.1) (zip trees later) ((tree, then) ∷ [])
 
-  pub steps_more : (jobs : List IndexJob) (trees later : List T) (replies : List Reply) (i : ℕ) (job : IndexJob) (tree then : T) (reply : Reply) (old mid new : State) → length trees ≡ length jobs → length later ≡ length jobs → length replies ≡ length jobs → i < length jobs → job ≡ get_or jobs i job → tree ≡ get_or trees i tree → Steps (take i jobs) (job_trees snapshot failed (take i trees) (take i later)) (take i replies) old mid → IsWholeStep job (job_tree snapshot failed tree then) reply mid new → Steps (take (i + 1) jobs) (job_trees snapshot failed (take (i + 1) trees) (take (i + 1) (set later i then))) (take (i + 1) (set replies i reply)) old new
+  trees_long : (trees later : List T) → length later ≡ length trees → length (job_trees snapshot failed trees later) ≡ length trees
+  trees_long [] [] e = refl
+  trees_long [] (u ∷ us) e = absurd (omega (arith, e))
+  trees_long (t ∷ ts) [] e = absurd (omega (arith, e))
+  trees_long (t ∷ ts) (u ∷ us) e = omega (arith, trees_long ts us (omega (arith, e)))
+
+  pub steps_more : (jobs : List IndexJob) (trees later : List T) (replies : List Reply) (i : ℕ) (job : IndexJob) (tree then : T) (reply : Reply) (old mid new : State) → length trees ≡ length jobs → length later ≡ length jobs → length replies ≡ length jobs → i < length jobs → job ≡ get_or jobs i job → tree ≡ get_or trees i tree → Steps (zip (take i jobs) (zip (job_trees snapshot failed (take i trees) (take i later)) (take i replies))) old mid → IsWholeStep job (job_tree snapshot failed tree then) reply mid new → Steps (zip (take (i + 1) jobs) (zip (job_trees snapshot failed (take (i + 1) trees) (take (i + 1) (set later i then))) (take (i + 1) (set replies i reply)))) old new
   steps_more jobs trees later replies i job tree then reply old mid new e g f within is_job is_tree so_far step =
       let one : JobTree = job_tree snapshot failed tree then in
       let js : take (i + 1) jobs ≡ take i jobs ++ job ∷ [] = take_more jobs i job within ∙ ap (λ j. take i jobs ++ j ∷ []) (sym is_job) in
       let ts : take (i + 1) trees ≡ take i trees ++ tree ∷ [] = take_more trees i tree (omega (arith, e, within)) ∙ ap (λ t. take i trees ++ t ∷ []) (sym is_tree) in
       let us : take (i + 1) (set later i then) ≡ take i later ++ then ∷ [] = take_more_set later i then (omega (arith, g, within)) in
       let rs : take (i + 1) (set replies i reply) ≡ take i replies ++ reply ∷ [] = take_more_set replies i reply (omega (arith, f, within)) in
-      let both : length (take i later) ≡ length (take i trees) = length-take-le i later (omega (arith, g, within)) ∙ sym (length-take-le i trees (omega (arith, e, within))) in
-      let ss : job_trees snapshot failed (take (i + 1) trees) (take (i + 1) (set later i then)) ≡ job_trees snapshot failed (take i trees) (take i later) ++ one ∷ [] =
+      let jobs_long : length (take i jobs) ≡ i = length-take-le i jobs (omega (arith, within)) in
+      let trees_long' : length (take i trees) ≡ i = length-take-le i trees (omega (arith, e, within)) in
+      let later_long : length (take i later) ≡ i = length-take-le i later (omega (arith, g, within)) in
+      let replies_long : length (take i replies) ≡ i = length-take-le i replies (omega (arith, f, within)) in
+      let old_trees : List JobTree = job_trees snapshot failed (take i trees) (take i later) in
+      let old_long : length old_trees ≡ i = trees_long (take i trees) (take i later) (later_long ∙ sym trees_long') ∙ trees_long' in
+      let ss : job_trees snapshot failed (take (i + 1) trees) (take (i + 1) (set later i then)) ≡ old_trees ++ one ∷ [] =
       ap (λ xs. job_trees snapshot failed xs (take (i + 1) (set later i then))) ts
       ∙ ap (λ xs. job_trees snapshot failed (take i trees ++ tree ∷ []) xs) us
-      ∙ trees_push (take i trees) (take i later) tree then both in
-      subst (λ xs. Steps xs (job_trees snapshot failed (take (i + 1) trees) (take (i + 1) (set later i then))) (take (i + 1) (set replies i reply)) old new) (sym js)
-      (subst (λ xs. Steps (take i jobs ++ job ∷ []) xs (take (i + 1) (set replies i reply)) old new) (sym ss)
-      (subst (λ xs. Steps (take i jobs ++ job ∷ []) (job_trees snapshot failed (take i trees) (take i later) ++ one ∷ []) xs old new) (sym rs)
-      (steps_push job one reply mid new (take i jobs) (job_trees snapshot failed (take i trees) (take i later)) (take i replies) old so_far step)))
+      ∙ trees_push (take i trees) (take i later) tree then (later_long ∙ sym trees_long') in
+      let both : zip (job_trees snapshot failed (take (i + 1) trees) (take (i + 1) (set later i then))) (take (i + 1) (set replies i reply)) ≡ zip old_trees (take i replies) ++ (one, reply) ∷ [] =
+      ap (λ xs. zip xs (take (i + 1) (set replies i reply))) ss
+      ∙ ap (zip (old_trees ++ one ∷ [])) rs
+      ∙ zip_push old_trees (take i replies) one reply (replies_long ∙ sym old_long) in
+      let both_long : length (zip old_trees (take i replies)) ≡ i = zip_long old_trees (take i replies) (replies_long ∙ sym old_long) ∙ old_long in
+      let all : zip (take (i + 1) jobs) (zip (job_trees snapshot failed (take (i + 1) trees) (take (i + 1) (set later i then))) (take (i + 1) (set replies i reply))) ≡ zip (take i jobs) (zip old_trees (take i replies)) ++ (job, (one, reply)) ∷ [] =
+      ap (λ xs. zip xs (zip (job_trees snapshot failed (take (i + 1) trees) (take (i + 1) (set later i then))) (take (i + 1) (set replies i reply)))) js
+      ∙ ap (zip (take i jobs ++ job ∷ [])) both
+      ∙ zip_push (take i jobs) (zip old_trees (take i replies)) job (one, reply) (both_long ∙ sym jobs_long) in
+      subst (λ xs. Steps xs old new) (sym all) (steps_push (job, (one, reply)) (zip (take i jobs) (zip old_trees (take i replies))) old mid new so_far step)
+    where
+      zip_long : {A B : Type 0} (xs : List A) (ys : List B) → length ys ≡ length xs → length (zip xs ys) ≡ length xs
+      zip_long [] ys e = refl
+      zip_long (x ∷ xs) [] e = absurd (omega (arith, e))
+      zip_long (x ∷ xs) (y ∷ ys) e = omega (arith, zip_long xs ys (omega (arith, e)))
+
+-- ---- what trees were asked for
+
+-- of no call
+pub asked_none : {T : Type 0} (longest : T → Option ℕ) (trees : List T) → AllZip (AsksWithin longest_path) (map longest trees) (map longest trees)
+asked_none longest [] = tt
+asked_none longest (tree ∷ trees) = (asks_nothing longest_path (longest tree), asked_none longest trees)
+
+-- of one call more, of the tree at i
+pub asked_more : {T : Type 0} (longest : T → Option ℕ) (before trees : List T) (i : ℕ) (tree then : T) → i < length trees → AllZip (AsksWithin longest_path) (map longest before) (map longest trees) → AsksWithin longest_path (longest (get_or trees i tree)) (longest then) → AllZip (AsksWithin longest_path) (map longest before) (map longest (set trees i then))
+asked_more longest before [] i tree then low all step = absurd (omega (arith, low))
+asked_more longest [] (t ∷ trees) i tree then low all step = absurd all
+asked_more longest (b ∷ before) (t ∷ trees) zero tree then low all step = (asks_on longest_path (longest b) (longest t) (longest then) all.0 step, all.1)
+asked_more longest (b ∷ before) (t ∷ trees) (suc i) tree then low all step = (all.0, asked_more longest before trees i tree then (omega (arith, low)) all.1 step)

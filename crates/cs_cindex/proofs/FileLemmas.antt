@@ -12,6 +12,7 @@ use Rattle.std.proofs.lemmas.List.Folds.{list_any-append}
 use Rattle.std.proofs.lemmas.List.{take_at, take-append-drop, map-append}
 use Rattle.std.proofs.lemmas.List.Elements.{filter_map-append}
 use Rattle.cs_tree.specs.Cover.{is_among}
+use Rattle.cs_tree.specs.Failures.{count_if}
 use Rattle.cs_tree.specs.Snapshot.{Snapshot}
 use Rattle.cs_tree.specs.Told.{Grows, Taken}
 use Rattle.cs_trigram.specs.Trigram.{set_of_numbers}
@@ -22,13 +23,13 @@ use Rattle.cs_history.specs.FileTrigrams.{file_trigrams}
 use Rattle.cs_cindex.specs.declared.verdicts.Verdict.{Verdict}
 use Rattle.cs_cindex.specs.declared.verdicts.Verdict.TheVariants.{Text, Skipped, Left}
 use Rattle.cs_tree.specs.Taken.{TakesFront}
-use Rattle.cs_cindex.specs.Notices.{Line, faulted, file_line, text_of, AreLinesCounted, PrintsLines, PrintsLinesFront}
-use Rattle.cs_cindex.specs.Verdicts.{verdict_trigrams, verdict_line, IsVerdict, IsVerdictIn, IsVerdictCounted, noted_line, added_entries, noted_entries}
-use Rattle.cs_cindex.specs.Files.{texts_at, are_storable, AreTextsIn, AreTooManyIn, AreFileLinesIn, BeginFileLinesIn, AreAbove, HaveNamesOf}
+use Rattle.cs_cindex.specs.Notices.{Line, faulted, file_line, text_of, failures_of}
+use Rattle.cs_cindex.specs.Verdicts.{verdict_trigrams, verdict_line, IsVerdict, IsVerdictIn, is_failed_verdict, noted_line, added_entries, noted_entries}
+use Rattle.cs_cindex.specs.Files.{texts_at, are_storable, AreTextsIn, AreTooManyIn, AreFileLinesIn, BeginFileLinesIn, PrintsFiles, PrintsFilesFront, AreAbove, HaveNamesOf}
 use Rattle.cs_index.proofs.PathOrderLemmas.{tail_up}
 use Rattle.cs_tree.proofs.BeforeLemmas.{before_chain}
 use Rattle.cs_tree.proofs.Fronts.{front_all}
-use Rattle.cs_cindex.proofs.LineLemmas.{front_after, text-append, AreLinesCounted-wider, AreLinesCounted-append}
+use Rattle.cs_cindex.proofs.LineLemmas.{front_after, text-append, failures-append}
 use Rattle.cs_tree.proofs.Growing.{Grows-chain, Grows-same}
 
 -- ---- lists of names
@@ -96,20 +97,25 @@ lines_step log_skip (Some tree) names lines name verdict are is = λ storable.
     ∙ ap (λ (ls : List Line). filter_map (file_line log_skip tree) names ++ ls) (lines_one log_skip tree name verdict parts.1 is)
     ∙ sym (filter_map-append (file_line log_skip tree) names (name ∷ []))
 
-noted_counted : (log_skip : Bool) (name : List ℕ) (verdict : Verdict) (old new : ℕ) → IsVerdictCounted verdict old new → AreLinesCounted (option_to_list (noted_line log_skip name verdict)) old new
-noted_counted log_skip name (Text trigrams) old new h = elim (is_storable name) as (λ b. AreLinesCounted (option_to_list (cond b None (Some (faulted name Unnamed)))) old new) [ true ↦ tt | false ↦ (λ fails. cc, tt) ]
-noted_counted true name (Skipped reason) old new h = (tt, tt)
-noted_counted false name (Skipped reason) old new h = tt
-noted_counted log_skip name (Left why) old new h = (h, tt)
+-- the line of a file tells of its failure
+noted_counted : (log_skip : Bool) (name : List ℕ) (verdict : Verdict) (n : ℕ) → failures_of (option_to_list (noted_line log_skip name verdict)) n ≡ count_if (is_failed_verdict verdict) n
+noted_counted log_skip name (Text trigrams) n = elim (is_storable name) as (λ b. failures_of (option_to_list (cond b None (Some (faulted name Unnamed)))) n ≡ n) [ true ↦ refl | false ↦ refl ]
+noted_counted true name (Skipped reason) n = refl
+noted_counted false name (Skipped reason) n = refl
+noted_counted log_skip name (Left why) n = refl
 
-module _ (log_skip : Bool) (told : Option Snapshot) (names : List (List ℕ)) (before failed failed' : ℕ) (rises : before ≤ failed) (more : failed ≤ failed') (taken now : Option Taken) (p : PrintsLines (AreFileLinesIn log_skip told names) before failed taken now) where
-  pub prints_step : (later : Option Taken) (name : List ℕ) (verdict : Verdict) → IsVerdictIn told name verdict → IsVerdictCounted verdict failed failed' → Grows now later (text_of (option_to_list (noted_line log_skip name verdict))) → PrintsLines (AreFileLinesIn log_skip told (names ++ name ∷ [])) before failed' taken later
+module _ (log_skip : Bool) (told : Option Snapshot) (names : List (List ℕ)) (before failed failed' : ℕ) (taken now : Option Taken) (p : PrintsFiles log_skip told names before failed taken now) where
+  counted_step : (name : List ℕ) (verdict : Verdict) → failed' ≡ count_if (is_failed_verdict verdict) failed → failed' ≡ failures_of (p.lines ++ option_to_list (noted_line log_skip name verdict)) before
+  counted_step name verdict counted =
+      counted ∙ sym (noted_counted log_skip name verdict failed)
+      ∙ ap (failures_of (option_to_list (noted_line log_skip name verdict))) p.counted
+      ∙ sym (failures-append p.lines (option_to_list (noted_line log_skip name verdict)) before)
+
+  pub prints_step : (later : Option Taken) (name : List ℕ) (verdict : Verdict) → IsVerdictIn told name verdict → failed' ≡ count_if (is_failed_verdict verdict) failed → Grows now later (text_of (option_to_list (noted_line log_skip name verdict))) → PrintsFiles log_skip told (names ++ name ∷ []) before failed' taken later
   prints_step later name verdict is counted grows = record {
     lines = p.lines ++ option_to_list (noted_line log_skip name verdict);
     due = lines_step log_skip told names p.lines name verdict p.due is;
-    counted = AreLinesCounted-append p.lines (option_to_list (noted_line log_skip name verdict)) before failed'
-        (AreLinesCounted-wider before before failed failed' (omega arith) more p.lines p.counted)
-        (AreLinesCounted-wider before failed failed' failed' rises (omega arith) (option_to_list (noted_line log_skip name verdict)) (noted_counted log_skip name verdict failed failed' counted));
+    counted = counted_step name verdict counted;
     grows = subst (Grows taken later) (sym (text-append p.lines (option_to_list (noted_line log_skip name verdict)))) (Grows-chain taken now later (text_of p.lines) (text_of (option_to_list (noted_line log_skip name verdict))) p.grows grows);
   }
 
@@ -126,27 +132,25 @@ module _ (log_skip : Bool) (told : Option Snapshot) (names : List (List ℕ)) (b
       ∙ take_at (filter_map give names) (filter_map give rest) (length lines) (sym (ap (λ (ls : List Line). length ls) (are parts.0))))
 
   -- before the next file is read
-  pub front_read : (all rest : List (List ℕ)) → all ≡ names ++ rest → PrintsLinesFront (BeginFileLinesIn log_skip told all) before failed' taken now
-  front_read all rest is =
+  pub front_read : (all rest : List (List ℕ)) → all ≡ names ++ rest → failed' ≡ failed → PrintsFilesFront log_skip told all before failed' taken now
+  front_read all rest is counted =
       let front = front_all (text_of p.lines) taken now p.grows in
       record {
         lines = p.lines;
         due = begin_lines told all names rest p.lines is p.due;
-        counted = AreLinesCounted-wider before before failed failed' (omega arith) more p.lines p.counted;
+        counted = counted ∙ p.counted;
         front = front;
       }
 
   -- while its line is printed
-  pub front_noted : (later : Option Taken) (all rest : List (List ℕ)) (name : List ℕ) (verdict : Verdict) → all ≡ names ++ name ∷ rest → IsVerdictIn told name verdict → IsVerdictCounted verdict failed failed' → TakesFront (text_of (option_to_list (noted_line log_skip name verdict))) now later → PrintsLinesFront (BeginFileLinesIn log_skip told all) before failed' taken later
+  pub front_noted : (later : Option Taken) (all rest : List (List ℕ)) (name : List ℕ) (verdict : Verdict) → all ≡ names ++ name ∷ rest → IsVerdictIn told name verdict → failed' ≡ count_if (is_failed_verdict verdict) failed → TakesFront (text_of (option_to_list (noted_line log_skip name verdict))) now later → PrintsFilesFront log_skip told all before failed' taken later
   front_noted later all rest name verdict is verdict_is counted front =
       let line = option_to_list (noted_line log_skip name verdict) in
       let whole = front_after p.lines line [] taken now later p.grows front in
       record {
         lines = p.lines ++ line;
         due = begin_lines told all (names ++ name ∷ []) rest (p.lines ++ line) (is ∙ sym (append_assoc names (name ∷ []) rest)) (lines_step log_skip told names p.lines name verdict p.due verdict_is);
-        counted = AreLinesCounted-append p.lines line before failed'
-            (AreLinesCounted-wider before before failed failed' (omega arith) more p.lines p.counted)
-            (AreLinesCounted-wider before failed failed' failed' rises (omega arith) line (noted_counted log_skip name verdict failed failed' counted));
+        counted = counted_step name verdict counted;
         front = subst (λ (ls : List Line). TakesFront (text_of (p.lines ++ ls)) taken later) (append-nil line) whole;
       }
 
@@ -264,5 +268,5 @@ lines_none : (log_skip : Bool) (told : Option Snapshot) → AreFileLinesIn log_s
 lines_none log_skip None = tt
 lines_none log_skip (Some tree) = λ storable. refl
 
-pub prints_none : (log_skip : Bool) (told : Option Snapshot) (failed : ℕ) (taken : Option Taken) → PrintsLines (AreFileLinesIn log_skip told []) failed failed taken taken
-prints_none log_skip told failed taken = record { lines = []; due = lines_none log_skip told; counted = tt; grows = Grows-same taken }
+pub prints_none : (log_skip : Bool) (told : Option Snapshot) (failed : ℕ) (taken : Option Taken) → PrintsFiles log_skip told [] failed failed taken taken
+prints_none log_skip told failed taken = record { lines = []; due = lines_none log_skip told; counted = refl; grows = Grows-same taken }

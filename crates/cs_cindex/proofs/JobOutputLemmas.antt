@@ -1,11 +1,12 @@
 -- What jobs print.
-use Rattle.std.proofs.Common.{◌≡◌, ◌≢◌, ◌⊎◌, ℕ, Bool, cond, List, [], ◌∷◌, ◌++◌, length, refl, sym, ap, subst, ◌∙◌, inl, inr, arith, append_assoc, append-nil, Option, Some, None, Result, Ok}
+use Rattle.std.proofs.Common.{◌≡◌, ◌≢◌, ◌⊎◌, ℕ, Bool, false, cond, List, [], ◌∷◌, ◌++◌, length, refl, sym, ap, subst, ◌∙◌, inl, inr, arith, append_assoc, append-nil, Option, Some, None, Result, Ok}
 use Rattle.cs_tree.specs.PathSet.{Paths}
 use Rattle.std.specs.Prelude.{codes, string_bytes, option_map}
 use Rattle.std.specs.Option.{option_or}
-use Rattle.std.proofs.lemmas.Bool.{ne_eqb, eq-eqb}
+use Rattle.std.proofs.lemmas.Bool.{true≢false, ne_eqb, eq-eqb}
 use Rattle.cs_tree.specs.PathSet as set
 use Rattle.cs_tree.specs.Cover.{least}
+use Rattle.cs_tree.specs.Failures.{count_if}
 use Rattle.cs_tree.specs.Snapshot.{Snapshot}
 use Rattle.cs_tree.specs.Told.{Grows, Taken}
 use Rattle.cs_index.specs.Opening.{opening}
@@ -16,14 +17,14 @@ use Rattle.cs_words.specs.declared.jobs.Reply.TheVariants.{Done, Refused}
 use Rattle.cs_words.specs.declared.fault.CindexFault.{CindexFault}
 use Rattle.cs_history.specs.Jobs.{given_paths, given_texts}
 use Rattle.cs_tree.specs.Taken.{TakesFront}
-use Rattle.cs_cindex.specs.Notices.{AreLinesIn, BeginLinesIn, PrintsLines, PrintsLinesFront}
+use Rattle.cs_cindex.specs.Notices.{BeginLinesIn, PrintsLines, PrintsLinesFront}
 use Rattle.cs_cindex.specs.Files.{IsIndexingFault}
 use Rattle.cs_history.specs.JobKinds.{JobKind, lists, clears, walks}
 use Rattle.cs_cindex.specs.Refusals.{base, early_fault_of, early_walk_fault, base_fault, EarlyOr, IsOutputFault}
 use Rattle.cs_cindex.specs.JobPaths.{AreCleanFault, AreCleaned, starts}
 use Rattle.cs_cindex.specs.Next.{opening_paths, base_paths, paths_of_job}
 use Rattle.cs_words.specs.declared.fault.CindexFault.TheVariants.{NoIndex, BadIndex, Unsorted, TooLarge, BadPath, Write, Memory}
-use Rattle.cs_cindex.specs.Output.{path_lines, AreTooMany, IsMidway, WalkPrints, WalkPrintsFront, WalkPrintsSome, JobPrintsBy}
+use Rattle.cs_cindex.specs.Output.{JobTree, Output, path_lines, AreTooMany, IsMidway, WalkPrints, WalkPrintsFront, WalkPrintsSome, JobPrintsBy, is_failed_write}
 use Rattle.cs_tree.proofs.Fronts.{front_none, front_left, front_right}
 use Rattle.cs_tree.proofs.Growing.{Grows-same}
 use Rattle.cs_cindex.proofs.GoingLemmas.{walk_as_set, count_texts}
@@ -34,19 +35,19 @@ begin_none : (log_skip : Bool) (tree : Option Snapshot) (paths : Paths) → Begi
 begin_none log_skip None paths = tt
 begin_none log_skip (Some tree) paths = λ is all h. refl
 
-cut_none : (job : IndexJob) (tree : Option Snapshot) (old : Option (List ℕ)) (n : ℕ) (taken : Option Taken) → WalkPrintsFront job tree old n n taken taken
-cut_none job tree old n taken = record { lines = []; due = begin_none job.log_skip tree (paths_of_job job old); counted = tt; front = front_none [] taken }
+cut_none : (job : IndexJob) (tree : JobTree) (old : Option (List ℕ)) (err : Output) → WalkPrintsFront job tree old err err
+cut_none job tree old err = record { lines = []; due = begin_none job.log_skip tree.snapshot (paths_of_job job old); counted = λ some. absurd (some refl); front = front_none [] err.taken }
 
--- nothing was printed
-pub nothing_printed : (early : Option CindexFault) (fault : CindexFault) (job : IndexJob) (tree : Option Snapshot) (old : Option (List ℕ)) (n : ℕ) (taken : Option Taken) → EarlyOr early (IsOutputFault fault) fault → WalkPrintsSome early fault job tree old n n taken taken
-nothing_printed None Write job tree old n taken h = inr (tt, cut_none job tree old n taken)
-nothing_printed None Memory job tree old n taken h = inr (tt, cut_none job tree old n taken)
-nothing_printed None TooLarge job tree old n taken h = absurd h
-nothing_printed None NoIndex job tree old n taken h = absurd h
-nothing_printed None (BadIndex fault) job tree old n taken h = absurd h
-nothing_printed None Unsorted job tree old n taken h = absurd h
-nothing_printed None (BadPath place) job tree old n taken h = absurd h
-nothing_printed (Some early) fault job tree old n taken h = Grows-same taken
+-- nothing was printed, and no write has failed
+pub nothing_printed : (early : Option CindexFault) (fault : CindexFault) (job : IndexJob) (snapshot : Option Snapshot) (old : Option (List ℕ)) (n : ℕ) (err : Output) → is_failed_write fault ≡ false → EarlyOr early (IsOutputFault fault) fault → WalkPrintsSome early fault job (record { snapshot = snapshot; failed = n; failed_then = n }) old err err
+nothing_printed None Write job snapshot old n err w h = absurd (true≢false w)
+nothing_printed None Memory job snapshot old n err w h = inr (tt, cut_none job _ old err)
+nothing_printed None TooLarge job snapshot old n err w h = absurd h
+nothing_printed None NoIndex job snapshot old n err w h = absurd h
+nothing_printed None (BadIndex fault) job snapshot old n err w h = absurd h
+nothing_printed None Unsorted job snapshot old n err w h = absurd h
+nothing_printed None (BadPath place) job snapshot old n err w h = absurd h
+nothing_printed (Some early) fault job snapshot old n err w h = (Grows-same err.taken, refl)
 
 -- where a path of the job is refused
 clean_midway : (job : IndexJob) (tree : Option Snapshot) (old : Option (List ℕ)) (fault : CindexFault) → AreCleanFault (string_bytes job.cwd) (given_texts job) fault → early_walk_fault job old ≡ None → IsOutputFault fault
@@ -62,12 +63,12 @@ clean_midway job tree old Unsorted h e = absurd h
 clean_midway job tree old TooLarge h e = absurd h
 clean_midway job tree old Write h e = absurd h
 
-pub unclean_printed : (job : IndexJob) (tree : Option Snapshot) (old : Option (List ℕ)) (fault : CindexFault) (n : ℕ) (taken : Option Taken) → AreCleanFault (string_bytes job.cwd) (given_texts job) fault → WalkPrintsSome (early_walk_fault job old) fault job tree old n n taken taken
-unclean_printed job tree old fault n taken h = by_early (early_walk_fault job old) (clean_midway job tree old fault h)
+pub unclean_printed : (job : IndexJob) (snapshot : Option Snapshot) (old : Option (List ℕ)) (fault : CindexFault) (n : ℕ) (err : Output) → is_failed_write fault ≡ false → AreCleanFault (string_bytes job.cwd) (given_texts job) fault → WalkPrintsSome (early_walk_fault job old) fault job (record { snapshot = snapshot; failed = n; failed_then = n }) old err err
+unclean_printed job snapshot old fault n err w h = by_early (early_walk_fault job old) (clean_midway job snapshot old fault h)
   where
-    by_early : (early : Option CindexFault) → (early ≡ None → IsOutputFault fault) → WalkPrintsSome early fault job tree old n n taken taken
-    by_early None midway = nothing_printed None fault job tree old n taken (midway refl)
-    by_early (Some early) midway = Grows-same taken
+    by_early : (early : Option CindexFault) → (early ≡ None → IsOutputFault fault) → WalkPrintsSome early fault job (record { snapshot = snapshot; failed = n; failed_then = n }) old err err
+    by_early None midway = nothing_printed None fault job snapshot old n err w (midway refl)
+    by_early (Some early) midway = (Grows-same err.taken, refl)
 
 -- ---- the paths that are walked
 
@@ -84,45 +85,53 @@ start_walk job old parts (t ∷ ts) paths clean opens e =
     own_walked job (t ∷ ts) paths (Some old) clean (λ none. let n = count_texts job (t ∷ ts) clean in omega (arith, none, n)) e
 
 -- the same lines, over the paths in other words
-pub prints_over : (job : IndexJob) (tree : Option Snapshot) (paths : Paths) (old : Option (List ℕ)) (n m : ℕ) (a b : Option Taken) → paths ≡ paths_of_job job old → PrintsLines (AreLinesIn job.log_skip tree paths) n m a b → WalkPrints job tree old n m a b
-prints_over job tree paths old n m a b e h = subst (λ ps. PrintsLines (AreLinesIn job.log_skip tree ps) n m a b) e h
+module _ (job : IndexJob) (tree : JobTree) (paths : Paths) (old : Option (List ℕ)) (err later : Output) (e : paths ≡ paths_of_job job old) where
+  abbrev Whole : Type 0
+  Whole = PrintsLines job.log_skip tree.snapshot paths tree.failed tree.failed_then err.taken later.taken
 
-module _ (job : IndexJob) (tree : Option Snapshot) (paths : Paths) (old : Option (List ℕ)) (early : Option CindexFault) (n m : ℕ) (a b : Option Taken) (fault : CindexFault) (e : paths ≡ paths_of_job job old) (none : early ≡ None) where
-  -- all of them
-  pub whole_over : PrintsLines (AreLinesIn job.log_skip tree paths) n m a b → WalkPrintsSome early fault job tree old n m a b
-  whole_over h = subst (λ o. WalkPrintsSome o fault job tree old n m a b) (sym none) (inl (prints_over job tree paths old n m a b e h))
+  abbrev Front : Type 0
+  Front = PrintsLinesFront job.log_skip tree.snapshot paths tree.failed tree.failed_then err.taken later.taken
 
-  midway_over : IsMidway fault tree paths → PrintsLinesFront (BeginLinesIn job.log_skip tree paths) n m a b → WalkPrintsSome early fault job tree old n m a b
-  midway_over midway h =
-      subst (λ o. WalkPrintsSome o fault job tree old n m a b) (sym none)
-      (inr (subst (IsMidway fault tree) e midway, subst (λ ps. PrintsLinesFront (BeginLinesIn job.log_skip tree ps) n m a b) e h))
+  pub prints_over : Whole → WalkPrints job tree old err later
+  prints_over h = subst (λ ps. PrintsLines job.log_skip tree.snapshot ps tree.failed tree.failed_then err.taken later.taken) e h
 
-  -- a front of them, or all where the index is too large
-  pub front_over : IsIndexingFault fault → (fault ≡ TooLarge → AreTooMany tree paths ⊎ PrintsLines (AreLinesIn job.log_skip tree paths) n m a b) → PrintsLinesFront (BeginLinesIn job.log_skip tree paths) n m a b → WalkPrintsSome early fault job tree old n m a b
-  front_over only whole h =
-      elim (cases_midway fault only) [
-        | inl large ↦ elim (whole large) [
-          | inl many ↦ midway_over (subst (λ f. IsMidway f tree paths) (sym large) many) h
-          | inr all ↦ whole_over all
+  module _ (early : Option CindexFault) (fault : CindexFault) (none : early ≡ None) where
+    -- all of them
+    pub whole_over : Whole → WalkPrintsSome early fault job tree old err later
+    whole_over h = subst (λ o. WalkPrintsSome o fault job tree old err later) (sym none) (inl (prints_over h))
+
+    midway_over : IsMidway fault tree.snapshot paths err later → Front → WalkPrintsSome early fault job tree old err later
+    midway_over midway h =
+        subst (λ o. WalkPrintsSome o fault job tree old err later) (sym none)
+        (inr (subst (λ ps. IsMidway fault tree.snapshot ps err later) e midway, subst (λ ps. PrintsLinesFront job.log_skip tree.snapshot ps tree.failed tree.failed_then err.taken later.taken) e h))
+
+    -- a front of them, or all where the index is too large
+    pub front_over : IsIndexingFault fault → later.failed ≡ count_if (is_failed_write fault) err.failed → (fault ≡ TooLarge → AreTooMany tree.snapshot paths ⊎ Whole) → Front → WalkPrintsSome early fault job tree old err later
+    front_over only counts whole h =
+        elim (cases_midway fault only counts) [
+          | inl large ↦ elim (whole large) [
+            | inl many ↦ midway_over (subst (λ f. IsMidway f tree.snapshot paths err later) (sym large) many) h
+            | inr all ↦ whole_over all
+          ]
+          | inr midway ↦ midway_over midway h
         ]
-        | inr midway ↦ midway_over midway h
-      ]
-    where
-      cases_midway : (f : CindexFault) → IsIndexingFault f → (f ≡ TooLarge) ⊎ IsMidway f tree paths
-      cases_midway TooLarge is = inl refl
-      cases_midway Write is = inr tt
-      cases_midway Memory is = inr tt
-      cases_midway NoIndex is = inr is
-      cases_midway (BadIndex bad) is = inr is
-      cases_midway Unsorted is = inr is
-      cases_midway (BadPath place) is = inr is
+      where
+        cases_midway : (f : CindexFault) → IsIndexingFault f → later.failed ≡ count_if (is_failed_write f) err.failed → (f ≡ TooLarge) ⊎ IsMidway f tree.snapshot paths err later
+        cases_midway TooLarge is counts = inl refl
+        cases_midway Write is counts = inr counts
+        cases_midway Memory is counts = inr tt
+        cases_midway NoIndex is counts = inr is
+        cases_midway (BadIndex bad) is counts = inr is
+        cases_midway Unsorted is counts = inr is
+        cases_midway (BadPath place) is counts = inr is
 
 -- ---- refusals after all was printed
 
-pub prints_refused : (kind : JobKind) (job : IndexJob) (tree : Option Snapshot) (old : Option (List ℕ)) (n m : ℕ) (a b : Option Taken) (fault : CindexFault) → early_fault_of kind job old ≡ None → JobPrintsBy kind Done job tree old n m a b → JobPrintsBy kind (Refused fault) job tree old n m a b
-prints_refused lists job tree old n m a b fault none h = h
-prints_refused clears job tree old n m a b fault none h = h
-prints_refused walks job tree old n m a b fault none h = subst (λ o. WalkPrintsSome o fault job tree (base job old) n m a b) (sym none) (inl h)
+-- with this count of failures
+pub prints_refused : (kind : JobKind) (job : IndexJob) (tree : JobTree) (old : Option (List ℕ)) (err later : Output) (n : ℕ) (fault : CindexFault) → early_fault_of kind job old ≡ None → JobPrintsBy kind Done job tree old err later → JobPrintsBy kind (Refused fault) job tree old err (record { taken = later.taken; failed = n })
+prints_refused lists job tree old err later n fault none h = h
+prints_refused clears job tree old err later n fault none h = h
+prints_refused walks job tree old err later n fault none h = subst (λ o. WalkPrintsSome o fault job tree (base job old) err (record { taken = later.taken; failed = n })) (sym none) (inl h)
 
 -- ---- the lines of paths
 

@@ -1,4 +1,5 @@
 mod CallLemmas
+mod Examples
 mod FileLemmas
 mod FoundIndexLemmas
 mod FoundNameLemmas

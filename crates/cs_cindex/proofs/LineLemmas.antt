@@ -1,17 +1,17 @@
 -- Lines that were printed, and failures that were counted.
-use Rattle.std.proofs.Common.{◌≡◌, ℕ, ◌+◌, ◌<◌, ◌≤◌, ◌⊎◌, inl, inr, Bool, List, [], ◌∷◌, ◌++◌, map, take, drop, get_or, length, refl, sym, ap, subst, ◌∙◌, arith, Option, Some, None, Result, Err, append-nil, append_assoc}
+use Rattle.std.proofs.Common.{◌≡◌, ℕ, ◌+◌, ◌<◌, Bool, List, [], ◌∷◌, ◌++◌, map, take, drop, get_or, length, refl, sym, ap, subst, ◌∙◌, Option, Some, None, Result, Err, append-nil, append_assoc}
 use Rattle.cs_words.specs.SkipLines.{skip_line_of}
 use Rattle.cs_tree.specs.PathSet.{Paths}
-use Rattle.cs_words.specs.FileFaults.{fault_line_of}
-use Rattle.cs_tree.specs.Failures.{most_failures}
-use Rattle.cs_tree.specs.FailureCount.{HasFailed}
+use Rattle.cs_words.specs.FileFaults.{fault_line_of, is_file_failure}
+use Rattle.cs_tree.specs.Failures.{count_if}
 use Rattle.std.proofs.lemmas.List.{take_more, take-append-drop, map-append}
 use Rattle.std.proofs.lemmas.List.Concat.{flat_map-append}
 use Rattle.cs_tree.specs.Snapshot.{Snapshot}
 use Rattle.cs_tree.specs.Told.{Grows, Taken}
-use Rattle.cs_tree.specs.Walks.{LeftPath, left_entry, CountsFault, CountsFaults}
+use Rattle.cs_tree.specs.Walks.{LeftPath, left_entry, is_failed_call, failures_walked}
 use Rattle.cs_tree.specs.declared.walking.WalkFault.{WalkFault}
 use Rattle.cs_tree.specs.declared.walking.WalkFault.TheVariants as walk
+use Rattle.cs_tree.specs.declared.fault.TreeFault.TheVariants.{Missing, Denied, Output, Failed, Memory}
 use Rattle.std.specs.Prelude.{String}
 use Rattle.std.specs.declared.alloc.Global.{Global}
 use Rattle.cs_tree.proofs.Growing.{Grows-chain}
@@ -20,7 +20,7 @@ use Rattle.cs_words.specs.declared.jobs.Tool.TheVariants.{Cindex}
 use Rattle.cs_words.specs.declared.fault.FileFault.{FileFault}
 use Rattle.cs_tree.proofs.Fronts.{front_none, front_left, front_right}
 use Rattle.cs_tree.specs.Taken.{TakesFront}
-use Rattle.cs_cindex.specs.Notices.{Line, faulted, skipped, line_text, text_of, left_line, walk_fault, BeginLinesIn, PrintsLinesFront, IsCounted, IsLineCounted, AreLinesCounted}
+use Rattle.cs_cindex.specs.Notices.{Line, left_line, faulted, skipped, line_text, text_of, walk_fault, tells_failure, failures_of, BeginLinesIn, PrintsLinesFront}
 use Rattle.cs_cindex.specs.Verdicts.{PrintsAll}
 
 -- ---- the text of lines
@@ -83,47 +83,51 @@ module _ {X : Type 0} (lines : List X → List Line) (lines-append : (a b : List
 abbrev pub LeftEntry : Type 0
 LeftEntry = String Global × WalkFault
 
-abbrev left_lines : List LeftEntry → List Line
+abbrev pub left_lines : List LeftEntry → List Line
 left_lines faults = map left_line (map left_entry faults)
 
 left-append : (a b : List LeftEntry) → left_lines (a ++ b) ≡ left_lines a ++ left_lines b
 left-append a b = ap (map left_line) (map-append left_entry a b) ∙ map-append left_line (map left_entry a) (map left_entry b)
 
-module _ (faults : List LeftEntry) (i : ℕ) (entry : LeftEntry) (low : i < length faults) (is : entry ≡ get_or faults i entry) (taken now later : Option Taken) (front : Grows taken now (text_of (map left_line (map left_entry (take i faults))))) (line : Line) (line_is : line ≡ left_line (left_entry entry)) where
-  pub left_more : Grows now later (text_of (line ∷ [])) → Grows taken later (text_of (map left_line (map left_entry (take (i + 1) faults))))
-  left_more grows = printed_more left_lines left-append faults i entry low is taken now later front (subst (λ (l : Line). Grows now later (text_of (l ∷ []))) line_is grows)
+module _ (faults : List LeftEntry) (i : ℕ) (entry : LeftEntry) (low : i < length faults) (is : entry ≡ get_or faults i entry) (taken now later : Option Taken) (front : Grows taken now (text_of (left_lines (take i faults)))) (line : Line) (line_is : line_text line ≡ line_text (left_line (left_entry entry))) where
+  text_is : text_of (line ∷ []) ≡ text_of (left_line (left_entry entry) ∷ [])
+  text_is = ap (λ (text : List ℕ). text ++ []) line_is
 
-  pub left_front : TakesFront (text_of (line ∷ [])) now later → TakesFront (text_of (map left_line (map left_entry faults))) taken later
-  left_front front' = front_all_lines left_lines left-append faults i entry low is taken now later front (subst (λ (l : Line). TakesFront (text_of (l ∷ [])) now later) line_is front')
+  pub left_more : Grows now later (text_of (line ∷ [])) → Grows taken later (text_of (left_lines (take (i + 1) faults)))
+  left_more grows = printed_more left_lines left-append faults i entry low is taken now later front (subst (Grows now later) text_is grows)
+
+  pub left_front : TakesFront (text_of (line ∷ [])) now later → TakesFront (text_of (left_lines faults)) taken later
+  left_front front' = front_all_lines left_lines left-append faults i entry low is taken now later front (subst (λ text. TakesFront text now later) text_is front')
 
 -- the line of a path that is left, by its parts
-pub left_is : (entry : LeftEntry) (path : List ℕ) (why : FileFault) → path ≡ (left_entry entry).0 → why ≡ walk_fault entry.1 → faulted path why ≡ left_line (left_entry entry)
-left_is entry path why is same = rw (is, same) refl
+pub left_is : (entry : LeftEntry) (path : List ℕ) (why : FileFault) → path ≡ (left_entry entry).0 → why ≡ walk_fault entry.1 → line_text (faulted path why) ≡ line_text (left_line (left_entry entry))
+unfolding line_text
+left_is entry path why is same = ap (λ p. fault_line_of Cindex p why) is ∙ ap (fault_line_of Cindex (left_entry entry).0) same
 
 -- ---- failures that were counted
 
-wider : (most a b c d : ℕ) → a ≤ b → c ≤ d → (b < c) ⊎ (most ≤ c) → (a < d) ⊎ (most ≤ d)
-wider most a b c d low high (inl before) = inl (omega (arith, before))
-wider most a b c d low high (inr ended) = inr (omega (arith, ended))
+pub failures-append : (a b : List Line) (n : ℕ) → failures_of (a ++ b) n ≡ failures_of b (failures_of a n)
+failures-append [] b n = refl
+failures-append (line ∷ a) b n = failures-append a b (count_if (tells_failure line) n)
 
-module _ (a b c d : ℕ) (low : a ≤ b) (high : c ≤ d) where
-  pub HasFailed-wider : HasFailed b c → HasFailed a d
-  HasFailed-wider h = wider most_failures a b c d low high h
+-- a path that is left for a call that has failed has a line that tells so
+told_so : (fault : WalkFault) → is_failed_call fault ≡ is_file_failure (walk_fault fault)
+told_so (walk.Tree Missing) = refl
+told_so (walk.Tree Denied) = refl
+told_so (walk.Tree Output) = refl
+told_so (walk.Tree Failed) = refl
+told_so (walk.Tree Memory) = refl
+told_so walk.Unnamed = refl
+told_so walk.TooLong = refl
 
-  pub IsCounted-wider : (why : FileFault) → IsCounted why b c → IsCounted why a d
-  IsCounted-wider why h = λ fails. HasFailed-wider (h fails)
+walk_told : (faults : List LeftPath) (n : ℕ) → failures_walked faults n ≡ failures_of (map left_line faults) n
+walk_told [] n = refl
+walk_told (left ∷ faults) n = walk_told faults (count_if (is_failed_call left.1) n) ∙ ap (λ b. failures_of (map left_line faults) (count_if b n)) (told_so left.1)
 
-  line-wider : (line : Line) → IsLineCounted b c line → IsLineCounted a d line
-  line-wider (faulted name why) h = IsCounted-wider why h
-  line-wider (skipped name reason) h = tt
-
-  pub AreLinesCounted-wider : (lines : List Line) → AreLinesCounted lines b c → AreLinesCounted lines a d
-  AreLinesCounted-wider [] h = tt
-  AreLinesCounted-wider (line ∷ lines) h = (line-wider line h.0, AreLinesCounted-wider lines h.1)
-
-pub AreLinesCounted-append : (front lines : List Line) (old new : ℕ) → AreLinesCounted front old new → AreLinesCounted lines old new → AreLinesCounted (front ++ lines) old new
-AreLinesCounted-append [] lines old new h g = g
-AreLinesCounted-append (line ∷ front) lines old new h g = (h.0, AreLinesCounted-append front lines old new h.1 g)
+-- the failures of a walk, and then of files
+pub all_counted : (faults : List LeftPath) (lines : List Line) (before walked later : ℕ) → walked ≡ failures_walked faults before → later ≡ failures_of lines walked → later ≡ failures_of (map left_line faults ++ lines) before
+all_counted faults lines before walked later told files =
+    files ∙ ap (failures_of lines) (told ∙ walk_told faults before) ∙ sym (failures-append (map left_line faults) lines before)
 
 -- ---- nothing was printed
 
@@ -132,16 +136,5 @@ module _ (log_skip : Bool) (paths : Paths) where
   Begin-none None = tt
   Begin-none (Some tree) = λ is all are. refl
 
-  pub Front-none : (told : Option Snapshot) (failed failed' : ℕ) (taken : Option Taken) → PrintsLinesFront (BeginLinesIn log_skip told paths) failed failed' taken taken
-  Front-none told failed failed' taken = record { lines = []; due = Begin-none told; counted = tt; front = front_none [] taken }
-
--- ---- the failures of a walk
-
-left_counted : (fault : WalkFault) (old new : ℕ) → CountsFault fault old new → IsCounted (walk_fault fault) old new
-left_counted (walk.Tree fault) old new h = λ fails. h
-left_counted walk.Unnamed old new h = λ fails. cc
-left_counted walk.TooLong old new h = λ fails. cc
-
-pub walk_counted : (faults : List LeftPath) (old new : ℕ) → CountsFaults faults old new → AreLinesCounted (map left_line faults) old new
-walk_counted [] old new h = tt
-walk_counted (left ∷ faults) old new h = (left_counted left.1 old new h.0, walk_counted faults old new h.1)
+  pub Front-none : (told : Option Snapshot) (failed failed' : ℕ) (taken : Option Taken) → PrintsLinesFront log_skip told paths failed failed' taken taken
+  Front-none told failed failed' taken = record { lines = []; due = Begin-none told; counted = λ some. absurd (some refl); front = front_none [] taken }

@@ -1,6 +1,6 @@
 -- The index after a job that walks.
 use Rattle.std.proofs.Common.{◌≡◌, ℕ, ◌<◌, ◌≤◌, ◌^◌, ◌⊎◌, ◌&&◌, Bool, true, false, cond, List, [], ◌∷◌, length, map, refl, sym, ap, subst, ◌∙◌, inl, inr, arith, Option, Some, None, Result, Ok, Err}
-use Rattle.cs_history.specs.JobIndex.{files_found, tree_index}
+use Rattle.cs_history.specs.JobIndex.{tree_index}
 use Rattle.cs_tree.specs.Folders.{Tells}
 use Rattle.cs_tree.specs.PathSet.{Paths}
 use Rattle.cs_tree.specs.NameOrder.{bytes_cmp}
@@ -22,7 +22,7 @@ use Rattle.cs_cindex.specs.Files.{IsIndexingFault}
 use Rattle.cs_words.specs.declared.jobs.IndexJob.{IndexJob}
 use Rattle.cs_words.specs.declared.fault.CindexFault.{CindexFault}
 use Rattle.cs_words.specs.declared.fault.CindexFault.TheVariants.{NoIndex, BadIndex, Unsorted, TooLarge, BadPath, Write, Memory}
-use Rattle.cs_history.specs.History.{History, nothing, ◌⊳◌, Visit, walked_paths, paths_of, index_of}
+use Rattle.cs_history.specs.History.{History, nothing, ◌⊳◌, Visit, walked_paths, paths_of, index_of, files_found}
 use Rattle.cs_history.specs.WellFormed.{IsJoinable, IsHistory}
 use Rattle.cs_history.specs.Jobs.{given_texts, given_paths, has_no_path, AreTaken, visit_of, after_done}
 use Rattle.cs_history.specs.Premises.{snapshot_told, IsShort, Premises}

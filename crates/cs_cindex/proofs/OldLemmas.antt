@@ -19,7 +19,7 @@ use Rattle.cs_index.specs.Image.{Files, Entry, image, names_of}
 use Rattle.cs_index.specs.Indexable.{IsIndexable}
 use Rattle.cs_index.proofs.WrittenLemmas.{image_has, image_opens}
 use Rattle.cs_index.specs.Opening.{opening}
-use Rattle.cs_index.specs.OpenedParts.{Parts, are_whole, paths_in, files_in}
+use Rattle.cs_index.specs.OpenedParts.{Parts, are_whole, paths_in, files_in, are_covered}
 use Rattle.cs_index.specs.declared.fault.IndexFault.{IndexFault}
 use Rattle.cs_index.specs.declared.fault.IndexFault.TheVariants.{BadPaths}
 use Rattle.cs_words.specs.declared.fault.CindexFault.TheVariants.{BadIndex, Unsorted}
@@ -67,7 +67,8 @@ each_key P files h = each (map'.keys files) (λ name member. by_option name (map
     each [] g = tt
     each (n ∷ ns) g = (g n (or_left (eq_by_cmp bytes_cmp n n) _ (tied_same n)), each ns (λ name member. g name (or_right (eq_by_cmp bytes_cmp name n) _ member)))
 
-covered_names : (parts : Parts) (paths : Paths) (files : Files) → set.from_list parts.paths ≡ paths → parts.names ≡ names_of (map'.entries files) → LieUnder paths files → list_all (is_covered (paths_in parts)) parts.names ≡ true
+covered_names : (parts : Parts) (paths : Paths) (files : Files) → set.from_list parts.paths ≡ paths → parts.names ≡ names_of (map'.entries files) → LieUnder paths files → are_covered parts ≡ true
+unfolding are_covered
 covered_names parts paths files p n under =
     ap (λ s. list_all (λ name. is_covered s name) parts.names) p
     ∙ ap (λ ns. list_all (λ name. is_covered paths name) ns) n

@@ -21,13 +21,13 @@ use Rattle.cs_history.specs.Jobs.{given_texts, has_no_path, IsTaken, visit_of}
 use Rattle.cs_history.specs.Premises.{snapshot_told}
 use Rattle.cs_history.specs.Headline.{Indexes}
 use Rattle.cs_history.specs.JobKinds.{JobKind, lists, clears, walks, job_kind}
-use Rattle.cs_cindex.specs.Bytes.{index_bytes}
 use Rattle.std.specs.Option.{option_copied}
 use Rattle.cs_tree.specs.Taken.{TakesFront, MayEnd}
 use Rattle.cs_cindex.specs.Next.{IsNext}
-use Rattle.cs_cindex.specs.Output.{JobPrintsBy, WalkPrints, WalkPrintsSome, index_lines, list_lines, is_failed_write}
+use Rattle.cs_cindex.specs.Output.{JobTree, IsSilent, JobPrintsBy, WalkPrints, WalkPrintsSome, index_lines, list_lines, is_failed_write}
 use Rattle.cs_cindex.specs.Refusals.{base, list_fault, early_walk_fault, early_fault_of, IsOutputFault, IsWalkFault, IsLateFault, EarlyOr}
-use Rattle.cs_cindex.specs.Steps.{JobTree, Outputs, State, IsStep, IsWholeStep}
+use Rattle.cs_cindex.specs.Bytes.{index_bytes}
+use Rattle.cs_cindex.specs.Steps.{Outputs, State, IsStep, IsWholeStep}
 use Rattle.cs_cindex.specs.declared.outcome.Outcome.{Outcome}
 use Rattle.cs_cindex.specs.Outcomes.{IsWholeStepTo, index_from, reply_of}
 use Rattle.cs_tree.proofs.Fronts.{front_none, front_all}
@@ -81,7 +81,7 @@ never_done fault e = cc
 -- ---- a job, before the outputs are flushed
 
 module _ (job : IndexJob) (tree : JobTree) (old : State) (later : Outputs) where
-  pub list_done : job.list ≡ true → list_fault old.index ≡ None → Grows old.outputs.out later.out (index_lines old.index) → Grows old.outputs.err later.err [] → later.out_failed ≡ old.outputs.out_failed → later.err_failed ≡ old.outputs.err_failed → IsStep job tree Done old (record { index = old.index; outputs = later })
+  pub list_done : job.list ≡ true → list_fault old.index ≡ None → Grows old.outputs.out.taken later.out.taken (index_lines old.index) → IsSilent tree old.outputs.err later.err → later.out.failed ≡ old.outputs.out.failed → later.err.failed ≡ old.outputs.err.failed → IsStep job tree Done old (record { index = old.index; outputs = later })
   list_done l none out err o e =
       let kind = ap (λ b. cond b lists (cond (job.reset && has_no_path job) clears walks)) l in
       record {
@@ -89,12 +89,12 @@ module _ (job : IndexJob) (tree : JobTree) (old : State) (later : Outputs) where
         cause = ap (λ k. early_fault_of k job old.index) kind ∙ none;
         keeps = ((λ _. refl), (λ f r n. absurd (true≢false (sym l ∙ f))));
         walked = λ _ w. absurd (true≢false (sym l ∙ (walks_parts job w).0));
-        out = subst (λ k. Grows old.outputs.out later.out (list_lines k old.index)) (sym kind) out;
-        err = subst (λ k. JobPrintsBy k Done job tree.snapshot old.index tree.failed tree.failed_then old.outputs.err later.err) (sym kind) err;
+        out = subst (λ k. Grows old.outputs.out.taken later.out.taken (list_lines k old.index)) (sym kind) out;
+        err = subst (λ k. JobPrintsBy k Done job tree old.index old.outputs.err later.err) (sym kind) err;
         writes = (o, e);
       }
 
-  pub list_refused : (fault : CindexFault) → job.list ≡ true → EarlyOr (list_fault old.index) (IsOutputFault fault) fault → TakesFront (index_lines old.index) old.outputs.out later.out → Grows old.outputs.err later.err [] → later.out_failed ≡ count_if (is_failed_write fault) old.outputs.out_failed → later.err_failed ≡ old.outputs.err_failed → IsStep job tree (Refused fault) old (record { index = old.index; outputs = later })
+  pub list_refused : (fault : CindexFault) → job.list ≡ true → EarlyOr (list_fault old.index) (IsOutputFault fault) fault → TakesFront (index_lines old.index) old.outputs.out.taken later.out.taken → IsSilent tree old.outputs.err later.err → later.out.failed ≡ count_if (is_failed_write fault) old.outputs.out.failed → later.err.failed ≡ old.outputs.err.failed → IsStep job tree (Refused fault) old (record { index = old.index; outputs = later })
   list_refused fault l cause out err o e =
       let kind = ap (λ b. cond b lists (cond (job.reset && has_no_path job) clears walks)) l in
       record {
@@ -102,12 +102,12 @@ module _ (job : IndexJob) (tree : JobTree) (old : State) (later : Outputs) where
         cause = subst (λ k. EarlyOr (early_fault_of k job old.index) (IsLateFault k job tree.snapshot old.index fault) fault) (sym kind) cause;
         keeps = refl;
         walked = λ h. absurd (never_done fault h);
-        out = subst (λ k. TakesFront (list_lines k old.index) old.outputs.out later.out) (sym kind) out;
-        err = subst (λ k. JobPrintsBy k (Refused fault) job tree.snapshot old.index tree.failed tree.failed_then old.outputs.err later.err) (sym kind) err;
-        writes = counts_out (is_failed_write fault) old.outputs.out_failed later.out_failed old.outputs.err_failed later.err_failed o e;
+        out = subst (λ k. TakesFront (list_lines k old.index) old.outputs.out.taken later.out.taken) (sym kind) out;
+        err = subst (λ k. JobPrintsBy k (Refused fault) job tree old.index old.outputs.err later.err) (sym kind) err;
+        writes = counts_out (is_failed_write fault) old.outputs.out.failed later.out.failed old.outputs.err.failed later.err.failed o e;
       }
 
-  pub clear_done : job.list ≡ false → job.reset ≡ true → has_no_path job ≡ true → Grows old.outputs.out later.out [] → Grows old.outputs.err later.err [] → later.out_failed ≡ old.outputs.out_failed → later.err_failed ≡ old.outputs.err_failed → IsStep job tree Done old (record { index = None; outputs = later })
+  pub clear_done : job.list ≡ false → job.reset ≡ true → has_no_path job ≡ true → Grows old.outputs.out.taken later.out.taken [] → IsSilent tree old.outputs.err later.err → later.out.failed ≡ old.outputs.out.failed → later.err.failed ≡ old.outputs.err.failed → IsStep job tree Done old (record { index = None; outputs = later })
   clear_done l r n out err o e =
       let alone = ap (λ b. b && has_no_path job) r ∙ n in
       let kind = ap (λ b. cond b lists (cond (job.reset && has_no_path job) clears walks)) l ∙ ap (λ b. cond b clears walks) alone in
@@ -116,13 +116,13 @@ module _ (job : IndexJob) (tree : JobTree) (old : State) (later : Outputs) where
         cause = ap (λ k. early_fault_of k job old.index) kind;
         keeps = ((λ f. absurd (true≢false (sym f ∙ l))), (λ _ _ _. refl));
         walked = λ _ w. absurd (true≢false (sym alone ∙ (walks_parts job w).1));
-        out = subst (λ k. Grows old.outputs.out later.out (list_lines k old.index)) (sym kind) out;
-        err = subst (λ k. JobPrintsBy k Done job tree.snapshot old.index tree.failed tree.failed_then old.outputs.err later.err) (sym kind) err;
+        out = subst (λ k. Grows old.outputs.out.taken later.out.taken (list_lines k old.index)) (sym kind) out;
+        err = subst (λ k. JobPrintsBy k Done job tree old.index old.outputs.err later.err) (sym kind) err;
         writes = (o, e);
       }
 
-  module _ (w : (job.list ≡ false) × ((job.reset && has_no_path job) ≡ false)) (from : Option (List ℕ)) (is : base job old.index ≡ from) (out : Grows old.outputs.out later.out []) (o : later.out_failed ≡ old.outputs.out_failed) where
-    pub walk_done : (bytes : List ℕ) → early_walk_fault job from ≡ None → IsNext job tree.snapshot from (Some bytes) → WalkPrints job tree.snapshot from tree.failed tree.failed_then old.outputs.err later.err → later.err_failed ≡ old.outputs.err_failed → IsStep job tree Done old (record { index = Some bytes; outputs = later })
+  module _ (w : (job.list ≡ false) × ((job.reset && has_no_path job) ≡ false)) (from : Option (List ℕ)) (is : base job old.index ≡ from) (out : Grows old.outputs.out.taken later.out.taken []) (o : later.out.failed ≡ old.outputs.out.failed) where
+    pub walk_done : (bytes : List ℕ) → early_walk_fault job from ≡ None → IsNext job tree.snapshot from (Some bytes) → WalkPrints job tree from old.outputs.err later.err → later.err.failed ≡ old.outputs.err.failed → IsStep job tree Done old (record { index = Some bytes; outputs = later })
     walk_done bytes none next err e =
         let kind = walks_kind job w in
         let early = ap (early_walk_fault job) is ∙ none in
@@ -132,13 +132,13 @@ module _ (job : IndexJob) (tree : JobTree) (old : State) (later : Outputs) where
           cause = ap (λ k. early_fault_of k job old.index) kind ∙ early;
           keeps = ((λ f. absurd (true≢false (sym f ∙ w.0))), (λ f r n. absurd (true≢false (sym (ap (λ b. b && has_no_path job) r ∙ n) ∙ w.1))));
           walked = λ _ _. next';
-          out = subst (λ k. Grows old.outputs.out later.out (list_lines k old.index)) (sym kind) out;
-          err = subst (λ k. JobPrintsBy k Done job tree.snapshot old.index tree.failed tree.failed_then old.outputs.err later.err) (sym kind)
-              (subst (λ b. WalkPrints job tree.snapshot b tree.failed tree.failed_then old.outputs.err later.err) (sym is) err);
+          out = subst (λ k. Grows old.outputs.out.taken later.out.taken (list_lines k old.index)) (sym kind) out;
+          err = subst (λ k. JobPrintsBy k Done job tree old.index old.outputs.err later.err) (sym kind)
+              (subst (λ b. WalkPrints job tree b old.outputs.err later.err) (sym is) err);
           writes = (o, e);
         }
 
-    pub walk_refused : (fault : CindexFault) → EarlyOr (early_walk_fault job from) (IsWalkFault job tree.snapshot from fault) fault → WalkPrintsSome (early_walk_fault job from) fault job tree.snapshot from tree.failed tree.failed_then old.outputs.err later.err → later.err_failed ≡ count_if (is_failed_write fault) old.outputs.err_failed → IsStep job tree (Refused fault) old (record { index = old.index; outputs = later })
+    pub walk_refused : (fault : CindexFault) → EarlyOr (early_walk_fault job from) (IsWalkFault job tree.snapshot from fault) fault → WalkPrintsSome (early_walk_fault job from) fault job tree from old.outputs.err later.err → later.err.failed ≡ count_if (is_failed_write fault) old.outputs.err.failed → IsStep job tree (Refused fault) old (record { index = old.index; outputs = later })
     walk_refused fault cause err e =
         let kind = walks_kind job w in
         record {
@@ -147,10 +147,10 @@ module _ (job : IndexJob) (tree : JobTree) (old : State) (later : Outputs) where
               (subst (λ b. EarlyOr (early_walk_fault job b) (IsWalkFault job tree.snapshot b fault) fault) (sym is) cause);
           keeps = refl;
           walked = λ h. absurd (never_done fault h);
-          out = subst (λ k. TakesFront (list_lines k old.index) old.outputs.out later.out) (sym kind) (front_all [] old.outputs.out later.out out);
-          err = subst (λ k. JobPrintsBy k (Refused fault) job tree.snapshot old.index tree.failed tree.failed_then old.outputs.err later.err) (sym kind)
-              (subst (λ b. WalkPrintsSome (early_walk_fault job b) fault job tree.snapshot b tree.failed tree.failed_then old.outputs.err later.err) (sym is) err);
-          writes = counts_err (is_failed_write fault) old.outputs.out_failed later.out_failed old.outputs.err_failed later.err_failed o e;
+          out = subst (λ k. TakesFront (list_lines k old.index) old.outputs.out.taken later.out.taken) (sym kind) (front_all [] old.outputs.out.taken later.out.taken out);
+          err = subst (λ k. JobPrintsBy k (Refused fault) job tree old.index old.outputs.err later.err) (sym kind)
+              (subst (λ b. WalkPrintsSome (early_walk_fault job b) fault job tree b old.outputs.err later.err) (sym is) err);
+          writes = counts_err (is_failed_write fault) old.outputs.out.failed later.out.failed old.outputs.err.failed later.err.failed o e;
         }
 
 -- ---- and then the outputs are flushed
@@ -172,21 +172,24 @@ pub step_refused : (job : IndexJob) (tree : JobTree) (old : State) (later : Outp
 step_refused job tree old later fault step = record {
   printed = later;
   step = step;
-  flushes = (inl (front_none [] later.out), Grows-same later.err);
+  flushes = (inl (front_none [] later.out.taken), Grows-same later.err.taken);
   out_failed = refl;
   err_failed = refl;
 }
 
 module _ (job : IndexJob) (tree : JobTree) (old : State) (index : Option (List ℕ)) (mid later : Outputs) (done : IsStep job tree Done old (record { index = index; outputs = mid })) where
-  pub step_flushed : GrowsFlushed mid.out later.out [] → GrowsFlushed mid.err later.err [] → later.out_failed ≡ mid.out_failed → later.err_failed ≡ mid.err_failed → IsWholeStep job tree Done old (record { index = index; outputs = later })
+  pub step_flushed : GrowsFlushed mid.out.taken later.out.taken [] → GrowsFlushed mid.err.taken later.err.taken [] → later.out.failed ≡ mid.out.failed → later.err.failed ≡ mid.err.failed → IsWholeStep job tree Done old (record { index = index; outputs = later })
   step_flushed out err o e = record { printed = mid; step = done; flushes = (out, err); out_failed = o; err_failed = e }
 
   -- a flush has failed: what was printed before it, with the failure counted
   module _ (fault : CindexFault) (why : IoFault) (is : fault ≡ write_refusal why) where
     abbrev printed : Outputs
-    printed = record { out = mid.out; err = mid.err; out_failed = later.out_failed; err_failed = later.err_failed }
+    printed = record {
+      out = record { taken = mid.out.taken; failed = later.out.failed };
+      err = record { taken = mid.err.taken; failed = later.err.failed };
+    }
 
-    unflushed : CountsOne (is_failed_write (write_refusal why)) old.outputs.out_failed later.out_failed old.outputs.err_failed later.err_failed → MayEnd [] mid.out later.out → Grows mid.err later.err [] → IsWholeStep job tree (Refused fault) old (record { index = old.index; outputs = later })
+    unflushed : CountsOne (is_failed_write (write_refusal why)) old.outputs.out.failed later.out.failed old.outputs.err.failed later.err.failed → MayEnd [] mid.out.taken later.out.taken → Grows mid.err.taken later.err.taken [] → IsWholeStep job tree (Refused fault) old (record { index = old.index; outputs = later })
     unflushed counts out err = rw is (record {
       printed = printed;
       step = record {
@@ -194,8 +197,8 @@ module _ (job : IndexJob) (tree : JobTree) (old : State) (index : Option (List �
         cause = subst (λ early. EarlyOr early (IsLateFault (job_kind job) job tree.snapshot old.index (write_refusal why)) (write_refusal why)) (sym done.cause) (late_output (job_kind job) job tree.snapshot old.index why);
         keeps = refl;
         walked = λ h. absurd (never_done (write_refusal why) h);
-        out = front_all (list_lines (job_kind job) old.index) old.outputs.out mid.out done.out;
-        err = prints_refused (job_kind job) job tree.snapshot old.index tree.failed tree.failed_then old.outputs.err mid.err (write_refusal why) done.cause done.err;
+        out = front_all (list_lines (job_kind job) old.index) old.outputs.out.taken mid.out.taken done.out;
+        err = prints_refused (job_kind job) job tree old.index old.outputs.err mid.err later.err.failed (write_refusal why) done.cause done.err;
         writes = counts;
       };
       flushes = (out, err);
@@ -203,14 +206,14 @@ module _ (job : IndexJob) (tree : JobTree) (old : State) (index : Option (List �
       err_failed = refl;
     })
 
-    pub out_unflushed : later.out_failed ≡ count_if (is_io_failure why) mid.out_failed → later.err_failed ≡ mid.err_failed → Grows mid.out later.out [] → Grows mid.err later.err [] → IsWholeStep job tree (Refused fault) old (record { index = old.index; outputs = later })
-    out_unflushed o e out err = unflushed (counts_out (is_failed_write (write_refusal why)) old.outputs.out_failed later.out_failed old.outputs.err_failed later.err_failed
-        (o ∙ ap (λ b. count_if b mid.out_failed) (is_write why) ∙ ap (count_if (is_failed_write (write_refusal why))) done.writes.0) (e ∙ done.writes.1))
-        (inl (front_all [] mid.out later.out out)) err
+    pub out_unflushed : later.out.failed ≡ count_if (is_io_failure why) mid.out.failed → later.err.failed ≡ mid.err.failed → Grows mid.out.taken later.out.taken [] → Grows mid.err.taken later.err.taken [] → IsWholeStep job tree (Refused fault) old (record { index = old.index; outputs = later })
+    out_unflushed o e out err = unflushed (counts_out (is_failed_write (write_refusal why)) old.outputs.out.failed later.out.failed old.outputs.err.failed later.err.failed
+        (o ∙ ap (λ b. count_if b mid.out.failed) (is_write why) ∙ ap (count_if (is_failed_write (write_refusal why))) done.writes.0) (e ∙ done.writes.1))
+        (inl (front_all [] mid.out.taken later.out.taken out)) err
 
-    pub err_unflushed : later.out_failed ≡ mid.out_failed → later.err_failed ≡ count_if (is_io_failure why) mid.err_failed → GrowsFlushed mid.out later.out [] → Grows mid.err later.err [] → IsWholeStep job tree (Refused fault) old (record { index = old.index; outputs = later })
-    err_unflushed o e out err = unflushed (counts_err (is_failed_write (write_refusal why)) old.outputs.out_failed later.out_failed old.outputs.err_failed later.err_failed
-        (o ∙ done.writes.0) (e ∙ ap (λ b. count_if b mid.err_failed) (is_write why) ∙ ap (count_if (is_failed_write (write_refusal why))) done.writes.1))
+    pub err_unflushed : later.out.failed ≡ mid.out.failed → later.err.failed ≡ count_if (is_io_failure why) mid.err.failed → GrowsFlushed mid.out.taken later.out.taken [] → Grows mid.err.taken later.err.taken [] → IsWholeStep job tree (Refused fault) old (record { index = old.index; outputs = later })
+    err_unflushed o e out err = unflushed (counts_err (is_failed_write (write_refusal why)) old.outputs.out.failed later.out.failed old.outputs.err.failed later.err.failed
+        (o ∙ done.writes.0) (e ∙ ap (λ b. count_if b mid.err.failed) (is_write why) ∙ ap (count_if (is_failed_write (write_refusal why))) done.writes.1))
         (inr out) err
 
 -- ---- and then the new index is taken

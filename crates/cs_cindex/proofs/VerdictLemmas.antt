@@ -1,7 +1,9 @@
 -- What becomes of a file, by what stands at its name.
 use Rattle.std.proofs.Common.{◌≡◌, ◌≢◌, ℕ, Bool, List, [], refl, sym, subst, ◌∙◌, Option, Some, None, Result, Ok, Err, Bor}
 use Rattle.cs_tree.specs.TreeAnswers.{opening_of}
-use Rattle.cs_words.specs.FileFaults.{file_fault_of}
+use Rattle.cs_tree.specs.Failures.{count_if}
+use Rattle.cs_tree.specs.Trees.{is_tree_failure}
+use Rattle.cs_words.specs.FileFaults.{file_fault_of, is_file_failure}
 use Rattle.cs_trigram.specs.Scans.{Finding, found_or, finding, SaysInAnyOrder, IsRightGathering, text, left_out, unread}
 use Rattle.cs_tree.specs.Snapshot.{Snapshot, Item, folder, file, cut, other, bad, item_at}
 use Rattle.cs_tree.specs.Told.{Told}
@@ -9,7 +11,8 @@ use Rattle.cs_tree.specs.Reached.{read_item}
 use Rattle.cs_tree.specs.Trees.{OpensFile, OpensFileAs, OpenedAs, open_told}
 use Rattle.cs_tree.specs.declared.fault.TreeFault.{TreeFault}
 use Rattle.cs_tree.specs.declared.fault.TreeFault.TheVariants as tree
-use Rattle.cs_trigram.specs.Text.{limits, text_trigrams, skip, first_broken, none_skipped}
+use Rattle.cs_trigram.specs.Text.{limits, text_trigrams, skip, first_broken}
+use Rattle.cs_trigram.proofs.LawLemmas.{none_skipped}
 use Rattle.cs_trigram.specs.Trigram.{tri}
 use Rattle.cs_trigram.specs.declared.scan.Reason.{Reason}
 use Rattle.cs_trigram.specs.declared.scan.Gathered.{Gathered}
@@ -64,6 +67,14 @@ refused_at tree.Denied opening later not o = o.0
 refused_at tree.Output opening later not o = o.0
 refused_at tree.Failed opening later not o = o.0
 refused_at tree.Memory opening later not o = absurd (not refl)
+
+-- a call that has failed is one that the line tells of
+pub open_counted : (fault : TreeFault) (n : ℕ) → fault ≢ tree.Memory → count_if (is_tree_failure fault) n ≡ count_if (is_file_failure (file_fault_of fault)) n
+open_counted tree.Missing n not = refl
+open_counted tree.Denied n not = refl
+open_counted tree.Output n not = refl
+open_counted tree.Failed n not = refl
+open_counted tree.Memory n not = absurd (not refl)
 
 pub verdict_refused : (snapshot : Option Snapshot) (name : List ℕ) (fault : TreeFault) (later : Option Told) → fault ≢ tree.Memory → OpensFile snapshot name (Err fault) later → IsVerdictIn snapshot name (Left (file_fault_of fault))
 verdict_refused None name fault later not opens = tt

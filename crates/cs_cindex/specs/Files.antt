@@ -4,12 +4,14 @@ use Rattle.std.specs.List.{list_all, AllByRecursion}
 use Rattle.cs_tree.specs.Cover.{is_among}
 use Rattle.cs_tree.specs.Reached.{with_values}
 use Rattle.cs_tree.specs.Snapshot.{Snapshot}
+use Rattle.cs_tree.specs.Told.{Taken, Grows}
+use Rattle.cs_tree.specs.Taken.{TakesFront}
 use Rattle.cs_index.specs.Image.{Entry, names_of}
 use Rattle.cs_index.specs.Built.{is_storable, is_above, most_names}
 use Rattle.cs_words.specs.declared.fault.CindexFault.{CindexFault}
 use Rattle.cs_words.specs.declared.fault.CindexFault.TheVariants.{TooLarge, Write, Memory}
 use Rattle.cs_history.specs.FileTrigrams.{file_trigrams}
-use Rattle.cs_cindex.specs.Notices.{Line, file_line}
+use Rattle.cs_cindex.specs.Notices.{Line, file_line, text_of, failures_of}
 
 -- the files at these names that are text, each with its trigrams
 abbrev pub texts_at : Snapshot → List (List ℕ) → List Entry
@@ -46,6 +48,24 @@ BeginFileLinesIn log_skip (Some tree) names lines =
 -- Each of these names is above the names of the entries.
 abbrev pub AreAbove : List Entry → List (List ℕ) → Type 0
 AreAbove entries names = AllByRecursion (λ name. is_above (names_of entries) name ≡ true) names
+
+-- ---- what was printed
+
+-- The lines of the files at these names were printed, and of the failures that were counted one line each tells.
+pub record PrintsFiles (log_skip : Bool) (tree : Option Snapshot) (names : List (List ℕ)) (failed failed' : ℕ)
+    (taken taken' : Option Taken) : Type 0 where
+  pub lines : List Line
+  pub due : AreFileLinesIn log_skip tree names lines
+  pub counted : failed' ≡ failures_of lines failed
+  pub grows : Grows taken taken' (text_of lines)
+
+-- The same, but the first of these lines, and of the last one maybe not all bytes.
+pub record PrintsFilesFront (log_skip : Bool) (tree : Option Snapshot) (names : List (List ℕ)) (failed failed' : ℕ)
+    (taken taken' : Option Taken) : Type 0 where
+  pub lines : List Line
+  pub due : BeginFileLinesIn log_skip tree names lines
+  pub counted : failed' ≡ failures_of lines failed
+  pub front : TakesFront (text_of lines) taken taken'
 
 -- ---- refusals
 

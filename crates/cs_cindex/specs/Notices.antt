@@ -1,15 +1,15 @@
 -- What is printed while the files of a tree are indexed: a line for each path that a walk leaves, in the
 -- order of the paths, and then one for each file that is left out, in the order of the names.
 -- docs/PROMISES.md, "Jobs of cindex"; docs/FORMAT.md, "Which files are text".
-use Rattle.std.specs.Prelude.{◌≡◌, ℕ, Bool, true, if◌then◌else◌, List, ◌++◌, map, filter_map, take, length, Option, Some, None, Result, Ok, Err}
+use Rattle.std.specs.Prelude.{◌≡◌, ◌≢◌, ℕ, Bool, false, if◌then◌else◌, List, [], ◌∷◌, ◌++◌, map, filter_map, take, length, Option, Some, None, Result, Ok, Err}
 use Rattle.cs_words.specs.SkipLines.{skip_line_of}
 use Rattle.cs_tree.specs.TreeAnswers.{opening_of}
 use Rattle.cs_tree.specs.Folders.{IsTree}
 use Rattle.cs_tree.specs.PathSet.{Paths}
 use Rattle.cs_words.specs.FileFaults.{fault_line_of, file_fault_of, is_file_failure}
 use Rattle.cs_trigram.specs.Scans.{Finding, finding, text, left_out, unread}
-use Rattle.cs_tree.specs.FailureCount.{HasFailed}
-use Rattle.std.specs.List.{AllByRecursion, flat_map}
+use Rattle.cs_tree.specs.Failures.{count_if}
+use Rattle.std.specs.List.{flat_map}
 use Rattle.cs_tree.specs.Snapshot.{Snapshot, item_at}
 use Rattle.cs_tree.specs.Told.{Told, Grows, Taken}
 use Rattle.cs_tree.specs.Taken.{TakesFront}
@@ -39,6 +39,7 @@ text_of lines = flat_map line_text lines
 
 -- ---- of a walk
 
+-- why a path that a walk leaves was left, as why a file was
 abbrev pub walk_fault : WalkFault → FileFault
 walk_fault (walk.Tree fault) = file_fault_of fault
 walk_fault walk.Unnamed = Unnamed
@@ -87,30 +88,33 @@ BeginLinesIn log_skip None paths lines = Unit {0}
 BeginLinesIn log_skip (Some tree) paths lines =
     IsTree tree → (all : List Line) → AreLines log_skip tree paths all → lines ≡ take (length lines) all
 
+-- ---- failures that are told
+
+-- whether a line tells of a call that has failed
+abbrev pub tells_failure : Line → Bool
+tells_failure (faulted name why) = is_file_failure why
+tells_failure (skipped name reason) = false
+
+-- the count after the failures that lines tell of, one for each
+abbrev pub failures_of : List Line → ℕ → ℕ
+failures_of [] n = n
+failures_of (line ∷ lines) n = failures_of lines (count_if (tells_failure line) n)
+
 -- ---- what was printed
 
--- a fault that is a failure tells of a call that has failed, and that was counted
-abbrev pub IsCounted : FileFault → ℕ → ℕ → Type 0
-IsCounted why old new = is_file_failure why ≡ true → HasFailed old new
-
-abbrev pub IsLineCounted : ℕ → ℕ → Line → Type 0
-IsLineCounted old new (faulted name why) = IsCounted why old new
-IsLineCounted old new (skipped name reason) = Unit {0}
-
-abbrev pub AreLinesCounted : List Line → ℕ → ℕ → Type 0
-AreLinesCounted lines old new = AllByRecursion (IsLineCounted old new) lines
-
--- The lines that are due were printed and nothing else, and the failures that they tell of were counted.
-pub record PrintsLines (Due : List Line → Type 0) (failed failed' : ℕ) (taken taken' : Option Taken) : Type 0 where
-  pub lines : List Line
-  pub due : Due lines
-  pub counted : AreLinesCounted lines failed failed'
-  pub grows : Grows taken taken' (text_of lines)
-
--- The same, but of the last of these lines maybe not all bytes.
-pub record PrintsLinesFront (Due : List Line → Type 0) (failed failed' : ℕ)
+-- The lines that are due were printed and nothing else, and of the failures that were counted one line each tells.
+pub record PrintsLines (log_skip : Bool) (tree : Option Snapshot) (paths : Paths) (failed failed' : ℕ)
     (taken taken' : Option Taken) : Type 0 where
   pub lines : List Line
-  pub due : Due lines
-  pub counted : AreLinesCounted lines failed failed'
+  pub due : AreLinesIn log_skip tree paths lines
+  pub counted : failed' ≡ failures_of lines failed
+  pub grows : Grows taken taken' (text_of lines)
+
+-- The same of the first of them, of whose text a front was printed. Where there are none, a walk that was refused may
+-- have counted failures.
+pub record PrintsLinesFront (log_skip : Bool) (tree : Option Snapshot) (paths : Paths) (failed failed' : ℕ)
+    (taken taken' : Option Taken) : Type 0 where
+  pub lines : List Line
+  pub due : BeginLinesIn log_skip tree paths lines
+  pub counted : lines ≢ [] → failed' ≡ failures_of lines failed
   pub front : TakesFront (text_of lines) taken taken'

@@ -1,7 +1,6 @@
 -- What functions inside promise of a job: its reply, what becomes of the index, and what was printed.
 use Rattle.std.specs.Prelude.{◌≡◌, ℕ, List, [], ◌∷◌, Option, Some, None, Result, Ok, Err, MatchResult}
 use Rattle.cs_tree.specs.Snapshot.{Snapshot}
-use Rattle.cs_tree.specs.Told.{Taken}
 use Rattle.cs_words.specs.declared.jobs.Reply.{Reply}
 use Rattle.cs_words.specs.declared.jobs.Reply.TheVariants.{Done, Refused}
 use Rattle.cs_words.specs.declared.jobs.IndexJob.{IndexJob}
@@ -12,8 +11,8 @@ use Rattle.cs_history.specs.History.{History}
 use Rattle.cs_history.specs.Premises.{snapshot_told, Premises}
 use Rattle.cs_history.specs.Replies.{IsRightReply}
 use Rattle.cs_cindex.specs.Refusals.{EarlyOr}
-use Rattle.cs_cindex.specs.Output.{WalkPrints, WalkPrintsSome}
-use Rattle.cs_cindex.specs.Steps.{JobTree, Outputs, State, IsStep, IsWholeStep}
+use Rattle.cs_cindex.specs.Output.{JobTree, Output, WalkPrints, WalkPrintsSome}
+use Rattle.cs_cindex.specs.Steps.{Outputs, State, IsStep, IsWholeStep}
 
 -- ---- the index
 
@@ -60,8 +59,7 @@ AnswersFor result early IsLate =
 -- ---- what was printed
 
 -- by a job that walks, by its answer
-abbrev pub WalkPrintsFor : {A : Type 0} → Result A CindexFault → Option CindexFault → IndexJob →
-    Option Snapshot → Option (List ℕ) → ℕ → ℕ → Option Taken → Option Taken → Type 0
-WalkPrintsFor result early job tree old failed failed_then err later =
-    MatchResult result (λ _. WalkPrints job tree old failed failed_then err later)
-    (λ fault. WalkPrintsSome early fault job tree old failed failed_then err later)
+abbrev pub WalkPrintsFor : {A : Type 0} → Result A CindexFault → Option CindexFault → IndexJob → JobTree →
+    Option (List ℕ) → Output → Output → Type 0
+WalkPrintsFor result early job tree old err later =
+    MatchResult result (λ _. WalkPrints job tree old err later) (λ fault. WalkPrintsSome early fault job tree old err later)

@@ -1,8 +1,9 @@
 -- What a job prints. docs/PROMISES.md, "Jobs of cindex".
-use Rattle.std.specs.Prelude.{◌≤◌, ◌⊎◌, ℕ, length, List, [], ◌++◌, codes, Option, Some, None, Result, Ok, Err, Bool, true, false}
+use Rattle.std.specs.Prelude.{◌≡◌, ◌≤◌, ◌⊎◌, ℕ, length, List, [], ◌++◌, codes, Option, Some, None, Result, Ok, Err, Bool, true, false}
 use Rattle.std.specs.List.{flat_map}
 use Rattle.cs_tree.specs.Snapshot.{Snapshot}
 use Rattle.cs_tree.specs.Told.{Taken, Grows}
+use Rattle.cs_tree.specs.Failures.{next_count}
 use Rattle.cs_tree.specs.Folders.{IsTree}
 use Rattle.cs_tree.specs.PathSet.{Paths}
 use Rattle.cs_tree.specs.Reached.{files_reached}
@@ -18,10 +19,31 @@ use Rattle.cs_words.specs.declared.jobs.Reply.TheVariants.{Done, Refused}
 use Rattle.cs_words.specs.declared.fault.CindexFault.{CindexFault}
 use Rattle.cs_words.specs.declared.fault.CindexFault.TheVariants.{NoIndex, BadIndex, Unsorted, TooLarge, BadPath, Write, Memory}
 use Rattle.cs_tree.specs.Taken.{TakesFront}
-use Rattle.cs_cindex.specs.Notices.{AreLinesIn, BeginLinesIn, PrintsLines, PrintsLinesFront}
+use Rattle.cs_cindex.specs.Notices.{PrintsLines, PrintsLinesFront}
 use Rattle.cs_cindex.specs.Next.{paths_of_job}
 use Rattle.cs_history.specs.JobKinds.{JobKind, lists, clears, walks}
 use Rattle.cs_cindex.specs.Refusals.{base, early_walk_fault}
+
+-- ---- the tree and the outputs
+
+-- the tree of a job: what it tells, and how many of its calls have failed before the job and after it
+pub record JobTree : Type 0 where
+  pub snapshot : Option Snapshot
+  pub failed : ℕ
+  pub failed_then : ℕ
+
+-- what an output has taken, where it tells it, and how many of its calls have failed
+pub record Output : Type 0 where
+  pub taken : Option Taken
+  pub failed : ℕ
+
+-- by what a tree tells, before the job and after it
+abbrev pub job_tree : {T : Type 0} → (T → Option Snapshot) → (T → ℕ) → T → T → JobTree
+job_tree snapshot failed tree then = record { snapshot = snapshot tree; failed = failed tree; failed_then = failed then }
+
+-- by what a sink tells
+abbrev pub output : {S : Type 0} → (S → Option Taken) → (S → ℕ) → S → Output
+output taken failed sink = record { taken = taken sink; failed = failed sink }
 
 -- ---- standard output
 
@@ -51,16 +73,14 @@ TakesBy (Refused fault) bytes taken later = TakesFront bytes taken later
 -- ---- standard error
 
 -- a job that walks has printed the lines that are due, of what its walk leaves and of its files
-abbrev pub WalkPrints : IndexJob → Option Snapshot → Option (List ℕ) → ℕ → ℕ → Option Taken → Option Taken →
-    Type 0
-WalkPrints job tree old failed failed_then err later =
-    PrintsLines (AreLinesIn job.log_skip tree (paths_of_job job old)) failed failed_then err later
+abbrev pub WalkPrints : IndexJob → JobTree → Option (List ℕ) → Output → Output → Type 0
+WalkPrints job tree old err later =
+    PrintsLines job.log_skip tree.snapshot (paths_of_job job old) tree.failed tree.failed_then err.taken later.taken
 
 -- a front of them
-abbrev pub WalkPrintsFront : IndexJob → Option Snapshot → Option (List ℕ) → ℕ → ℕ → Option Taken →
-    Option Taken → Type 0
-WalkPrintsFront job tree old failed failed_then err later =
-    PrintsLinesFront (BeginLinesIn job.log_skip tree (paths_of_job job old)) failed failed_then err later
+abbrev pub WalkPrintsFront : IndexJob → JobTree → Option (List ℕ) → Output → Output → Type 0
+WalkPrintsFront job tree old err later =
+    PrintsLinesFront job.log_skip tree.snapshot (paths_of_job job old) tree.failed tree.failed_then err.taken later.taken
 
 -- More texts are found than an index may name: then it would be too large in any case.
 abbrev pub AreTooMany : Option Snapshot → Paths → Type 0
@@ -68,39 +88,40 @@ AreTooMany None paths = Unit {0}
 AreTooMany (Some tree) paths =
     IsTree tree → most_names ≤ length (map'.entries (files_reached (text_trigrams limits) tree paths))
 
--- a refusal that may come while lines are printed: for an output or for memory, or for too many texts
-abbrev pub IsMidway : CindexFault → Option Snapshot → Paths → Type 0
-IsMidway Write tree paths = Unit {0}
-IsMidway Memory tree paths = Unit {0}
-IsMidway TooLarge tree paths = AreTooMany tree paths
-IsMidway NoIndex tree paths = ⊥
-IsMidway (BadIndex fault) tree paths = ⊥
-IsMidway Unsorted tree paths = ⊥
-IsMidway (BadPath place) tree paths = ⊥
+-- nothing was printed there, and no call of the tree has failed
+abbrev pub IsSilent : JobTree → Output → Output → Type 0
+IsSilent tree err later = Grows err.taken later.taken [] × (tree.failed_then ≡ tree.failed)
 
--- One that was refused early has printed nothing, and another all of them, or a front where it was refused midway.
-abbrev pub WalkPrintsSome : Option CindexFault → CindexFault → IndexJob → Option Snapshot →
-    Option (List ℕ) → ℕ → ℕ → Option Taken → Option Taken → Type 0
-WalkPrintsSome None fault job tree old failed failed_then err later =
-    WalkPrints job tree old failed failed_then err later
-    ⊎ (IsMidway fault tree (paths_of_job job old) × WalkPrintsFront job tree old failed failed_then err later)
-WalkPrintsSome (Some early) fault job tree old failed failed_then err later = Grows err later []
+-- a refusal that may come while lines are printed: for `err`, of which a call has failed, for memory, or for too many texts
+abbrev pub IsMidway : CindexFault → Option Snapshot → Paths → Output → Output → Type 0
+IsMidway Write tree paths err later = later.failed ≡ next_count err.failed
+IsMidway Memory tree paths err later = Unit {0}
+IsMidway TooLarge tree paths err later = AreTooMany tree paths
+IsMidway NoIndex tree paths err later = ⊥
+IsMidway (BadIndex fault) tree paths err later = ⊥
+IsMidway Unsorted tree paths err later = ⊥
+IsMidway (BadPath place) tree paths err later = ⊥
+
+-- One that was refused early is silent, and another all of them, or a front where it was refused midway. So
+-- where `out` has failed, which is flushed when all is printed, all of them were printed.
+abbrev pub WalkPrintsSome : Option CindexFault → CindexFault → IndexJob → JobTree → Option (List ℕ) → Output →
+    Output → Type 0
+WalkPrintsSome None fault job tree old err later =
+    WalkPrints job tree old err later
+    ⊎ (IsMidway fault tree.snapshot (paths_of_job job old) err later × WalkPrintsFront job tree old err later)
+WalkPrintsSome (Some early) fault job tree old err later = IsSilent tree err later
 
 -- what one has printed, by its reply
-abbrev pub WalkPrintsBy : Reply → IndexJob → Option Snapshot → Option (List ℕ) → ℕ → ℕ → Option Taken →
-    Option Taken → Type 0
-WalkPrintsBy Done job tree old failed failed_then err later =
-    WalkPrints job tree old failed failed_then err later
-WalkPrintsBy (Refused fault) job tree old failed failed_then err later =
-    WalkPrintsSome (early_walk_fault job old) fault job tree old failed failed_then err later
+abbrev pub WalkPrintsBy : Reply → IndexJob → JobTree → Option (List ℕ) → Output → Output → Type 0
+WalkPrintsBy Done job tree old err later = WalkPrints job tree old err later
+WalkPrintsBy (Refused fault) job tree old err later =
+    WalkPrintsSome (early_walk_fault job old) fault job tree old err later
 
 -- No other job prints there.
-abbrev pub JobPrintsBy : JobKind → Reply → IndexJob → Option Snapshot → Option (List ℕ) → ℕ → ℕ →
-    Option Taken → Option Taken → Type 0
-JobPrintsBy lists reply job tree old failed failed_then err later = Grows err later []
-JobPrintsBy clears reply job tree old failed failed_then err later = Grows err later []
-JobPrintsBy walks reply job tree old failed failed_then err later =
-    WalkPrintsBy reply job tree (base job old) failed failed_then err later
+abbrev pub JobPrintsBy : JobKind → Reply → IndexJob → JobTree → Option (List ℕ) → Output → Output → Type 0
+JobPrintsBy lists reply job tree old err later = IsSilent tree err later
+JobPrintsBy clears reply job tree old err later = IsSilent tree err later
+JobPrintsBy walks reply job tree old err later = WalkPrintsBy reply job tree (base job old) err later
 
 -- ---- outputs that fail
 

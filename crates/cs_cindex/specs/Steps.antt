@@ -1,6 +1,7 @@
 -- What one job does, and jobs one after another, whatever bytes the old index has.
 -- docs/PROMISES.md, "Jobs of cindex".
 use Rattle.std.specs.Prelude.{◌≡◌, ℕ, true, false, List, [], ◌∷◌, map, Option, None}
+use Rattle.std.specs.List.{zip}
 use Rattle.cs_tree.specs.Failures.{CountsOne}
 use Rattle.cs_tree.specs.Told.{Taken, Grows, HasFlushed, GrowsFlushed}
 use Rattle.cs_tree.specs.Taken.{MayEnd}
@@ -10,7 +11,7 @@ use Rattle.cs_words.specs.declared.jobs.Reply.{Reply}
 use Rattle.cs_words.specs.declared.jobs.Reply.TheVariants.{Done, Refused}
 use Rattle.cs_cindex.specs.Next.{IsNext}
 use Rattle.cs_cindex.specs.Refusals.{HasCause, base}
-use Rattle.cs_cindex.specs.Output.{TakesBy, JobPrintsBy, list_lines, is_write_refusal}
+use Rattle.cs_cindex.specs.Output.{JobTree, Output, job_tree, output, TakesBy, JobPrintsBy, list_lines, is_write_refusal}
 use Rattle.cs_history.specs.History.{History}
 use Rattle.cs_history.specs.Jobs.{has_no_path}
 use Rattle.cs_history.specs.Premises.{snapshot_told, Premises}
@@ -37,12 +38,10 @@ RightAll trees old jobs replies =
 
 -- ---- job by job
 
--- what the outputs have taken, where they tell it, and how many of their calls have failed
+-- both outputs
 pub record Outputs : Type 0 where
-  pub out : Option Taken
-  pub err : Option Taken
-  pub out_failed : ℕ
-  pub err_failed : ℕ
+  pub out : Output
+  pub err : Output
 
 -- What jobs change: the index and the outputs.
 pub record State : Type 0 where
@@ -53,31 +52,14 @@ pub record State : Type 0 where
 module _ {O E : Type 0} (out_taken : O → Option Taken) (out_failed : O → ℕ) (err_taken : E → Option Taken)
     (err_failed : E → ℕ) where
   abbrev pub outputs : O → E → Outputs
-  outputs out err = record {
-    out = out_taken out;
-    err = err_taken err;
-    out_failed = out_failed out;
-    err_failed = err_failed err;
-  }
+  outputs out err = record { out = output out_taken out_failed out; err = output err_taken err_failed err }
 
   abbrev pub state : Option (List ℕ) → O → E → State
   state index out err = record { index = index; outputs = outputs out err }
 
--- the tree of a job: what it tells, and how many of its calls have failed before the job and after it
-pub record JobTree : Type 0 where
-  pub snapshot : Option Snapshot
-  pub failed : ℕ
-  pub failed_then : ℕ
-
--- by what trees tell, before these jobs and after them
-module _ {T : Type 0} (snapshot : T → Option Snapshot) (failed : T → ℕ) where
-  abbrev pub job_tree : T → T → JobTree
-  job_tree tree then = record { snapshot = snapshot tree; failed = failed tree; failed_then = failed then }
-
-  abbrev pub job_trees : List T → List T → List JobTree
-  job_trees [] later = []
-  job_trees (tree ∷ trees) [] = []
-  job_trees (tree ∷ trees) (then ∷ later) = job_tree tree then ∷ job_trees trees later
+-- the trees of jobs, by what they tell before these and after them
+abbrev pub job_trees : {T : Type 0} → (T → Option Snapshot) → (T → ℕ) → List T → List T → List JobTree
+job_trees snapshot failed trees later = map (λ both. job_tree snapshot failed both.0 both.1) (zip trees later)
 
 -- What a job does, but for flushes: the index after it is that of its history, its refusal has a cause, the index is
 -- kept where it has to be and joined where the job walks, and the lines that are due are printed.
@@ -87,37 +69,33 @@ pub record IsStep (job : IndexJob) (tree : JobTree) (reply : Reply) (old new : S
   pub keeps : KeepsIndex job reply old.index new.index
   -- where the job walks; with `-reset` it goes on from none
   pub walked : reply ≡ Done → Walks job → IsNext job tree.snapshot (base job old.index) new.index
-  pub out : TakesBy reply (list_lines (job_kind job) old.index) old.outputs.out new.outputs.out
-  pub err : JobPrintsBy (job_kind job) reply job tree.snapshot old.index
-      tree.failed tree.failed_then old.outputs.err new.outputs.err
-  pub writes : CountsOne (is_write_refusal reply) old.outputs.out_failed new.outputs.out_failed
-      old.outputs.err_failed new.outputs.err_failed
+  pub out : TakesBy reply (list_lines (job_kind job) old.index) old.outputs.out.taken new.outputs.out.taken
+  pub err : JobPrintsBy (job_kind job) reply job tree old.index old.outputs.err new.outputs.err
+  pub writes : CountsOne (is_write_refusal reply) old.outputs.out.failed new.outputs.out.failed
+      old.outputs.err.failed new.outputs.err.failed
 
 -- A job that is done ends by flushing both outputs once; in a refused one `out` was flushed once at most and `err` never:
 -- so `out` is flushed first.
 abbrev pub FlushesBy : Reply → Outputs → Outputs → Type 0
-FlushesBy Done printed later = GrowsFlushed printed.out later.out [] × GrowsFlushed printed.err later.err []
-FlushesBy (Refused fault) printed later = MayEnd [] printed.out later.out × Grows printed.err later.err []
+FlushesBy Done printed later =
+    GrowsFlushed printed.out.taken later.out.taken [] × GrowsFlushed printed.err.taken later.err.taken []
+FlushesBy (Refused fault) printed later =
+    MayEnd [] printed.out.taken later.out.taken × Grows printed.err.taken later.err.taken []
 
 -- What a job does: it prints, and then it flushes.
 pub record IsWholeStep (job : IndexJob) (tree : JobTree) (reply : Reply) (old new : State) : Type 0 where
   pub printed : Outputs
   pub step : IsStep job tree reply old (record { index = new.index; outputs = printed })
   pub flushes : FlushesBy reply printed new.outputs
-  pub out_failed : new.outputs.out_failed ≡ printed.out_failed
-  pub err_failed : new.outputs.err_failed ≡ printed.err_failed
+  pub out_failed : new.outputs.out.failed ≡ printed.out.failed
+  pub err_failed : new.outputs.err.failed ≡ printed.err.failed
 
 -- Where a job is done both outputs were flushed after all that it printed.
 abbrev pub LeavesFlushed : Reply → Outputs → Type 0
-LeavesFlushed Done outputs = HasFlushed outputs.out × HasFlushed outputs.err
+LeavesFlushed Done outputs = HasFlushed outputs.out.taken × HasFlushed outputs.err.taken
 LeavesFlushed (Refused fault) outputs = Unit {0}
 
--- each job in order goes on from what the one before it left
-abbrev pub Steps : List IndexJob → List JobTree → List Reply → State → State → Type 0
-Steps [] [] [] old new = new ≡ old
-Steps (job ∷ jobs) (tree ∷ trees) (reply ∷ replies) old new =
-    (mid : State) × IsWholeStep job tree reply old mid × Steps jobs trees replies mid new
-Steps [] [] (reply ∷ replies) old new = ⊥
-Steps [] (tree ∷ trees) replies old new = ⊥
-Steps (job ∷ jobs) [] replies old new = ⊥
-Steps (job ∷ jobs) (tree ∷ trees) [] old new = ⊥
+-- each job, with its tree and its reply, goes on from what the one before it left
+abbrev pub Steps : List (IndexJob × (JobTree × Reply)) → State → State → Type 0
+Steps [] old new = new ≡ old
+Steps (one ∷ more) old new = (mid : State) × IsWholeStep one.0 one.1.0 one.1.1 old mid × Steps more mid new

@@ -1,17 +1,19 @@
 -- What becomes of a file that a walk finds, once it was read.
-use Rattle.std.specs.Prelude.{◌≡◌, ℕ, Bool, if◌then◌else◌, List, [], ◌∷◌, Option, Some, None, Result}
+use Rattle.std.specs.Prelude.{◌≡◌, ℕ, Bool, false, if◌then◌else◌, List, [], ◌∷◌, Option, Some, None, Result, Ok, Err}
 use Rattle.cs_trigram.specs.Trigram.{set_of_numbers}
 use Rattle.cs_trigram.specs.Scans.{AreTrigramsOnce}
 use Rattle.cs_tree.specs.Snapshot.{Snapshot}
 use Rattle.cs_index.specs.Image.{Entry}
 use Rattle.cs_index.specs.Built.{is_storable}
+use Rattle.cs_tree.specs.Failures.{count_if}
+use Rattle.cs_words.specs.FileFaults.{is_file_failure}
 use Rattle.cs_words.specs.declared.fault.FileFault.TheVariants.{Unnamed}
 use Rattle.cs_history.specs.FileTrigrams.{file_trigrams}
 use Rattle.cs_cindex.specs.declared.verdicts.Verdict.{Verdict}
 use Rattle.cs_cindex.specs.declared.verdicts.Verdict.TheVariants.{Text, Skipped, Left}
 use Rattle.cs_tree.specs.Told.{Taken}
 use Rattle.cs_tree.specs.TakenAll.{TakesBytes}
-use Rattle.cs_cindex.specs.Notices.{Line, faulted, skipped, file_line, text_of, IsCounted}
+use Rattle.cs_cindex.specs.Notices.{Line, faulted, skipped, file_line, text_of}
 
 -- ---- what it says
 
@@ -40,11 +42,16 @@ HasTrigramsOnce (Text trigrams) = AreTrigramsOnce trigrams.now
 HasTrigramsOnce (Skipped reason) = Unit {0}
 HasTrigramsOnce (Left why) = Unit {0}
 
--- a call that has failed was counted
-abbrev pub IsVerdictCounted : Verdict → ℕ → ℕ → Type 0
-IsVerdictCounted (Text trigrams) old new = Unit {0}
-IsVerdictCounted (Skipped reason) old new = Unit {0}
-IsVerdictCounted (Left why) old new = IsCounted why old new
+-- whether it says that a call has failed
+abbrev pub is_failed_verdict : Verdict → Bool
+is_failed_verdict (Text trigrams) = false
+is_failed_verdict (Skipped reason) = false
+is_failed_verdict (Left why) = is_file_failure why
+
+-- the count after a reading, and after one that memory ended
+abbrev pub count_read : {E : Type 0} → Result Verdict E → ℕ → ℕ
+count_read (Ok verdict) n = count_if (is_failed_verdict verdict) n
+count_read (Err fault) n = n
 
 -- ---- what is done of it; a text is left out where no index can hold its name
 

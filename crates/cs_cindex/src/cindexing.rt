@@ -1,5 +1,8 @@
 // Lists of jobs.
 ghost use Rattle.std.specs.Prelude.{◌≡◌, map, length, All};
+ghost use Rattle.std.specs.List.{AllZip, zip};
+ghost use Rattle.cs_tree.specs.Clean.{longest_path};
+ghost use Rattle.cs_tree.specs.Trees.{AsksWithin};
 ghost use Rattle.cs_history.specs.Headline.{Indexes};
 ghost use Rattle.cs_history.specs.Jobs.{HasAbsoluteFolder};
 ghost use Rattle.cs_cindex.specs.Bytes.{index_bytes};
@@ -29,11 +32,14 @@ pub fn cindex<T: Tree, O: Sink, E: Sink>(
     ensures indexes { Indexes jobs.now (map T.snapshot trees.old) replies.new
         (index_bytes old) (index_bytes result) }
     ensures replies { RightAll (map T.snapshot trees.old) (index_bytes old) jobs.now replies.new }
-    ensures steps { Steps jobs.now (job_trees T.snapshot T.failed trees.old trees.new) replies.new
+    ensures steps { Steps
+        (zip jobs.now (zip (job_trees T.snapshot T.failed trees.old trees.new) replies.new))
         (state O.taken O.failed E.taken E.failed
         (index_bytes old) out.old err.old)
         (state O.taken O.failed E.taken E.failed
         (index_bytes result) out.new err.new) }
+    ensures asked { AllZip (AsksWithin longest_path)
+        (map T.longest_asked trees.old) (map T.longest_asked trees.new) }
     ensures keeps { map T.snapshot trees.new ≡ map T.snapshot trees.old }
 {
     let mut index = old;

@@ -1,6 +1,9 @@
 // The files of a tree, one after the other, put into an index.
 ghost use Rattle.std.specs.Prelude.{◌≡◌, ◌≤◌, ◌⊎◌, ◌++◌, true, [], map, string_bytes, length, Some, IfOk, IfErr, OnOk, OnErr, option_to_list};
+ghost use Rattle.cs_tree.specs.Clean.{longest_path};
 ghost use Rattle.cs_tree.specs.NamesAscending.{are_ascending};
+ghost use Rattle.cs_tree.specs.Trees.{AsksWithin};
+ghost use Rattle.cs_tree.specs.Walks.{AreAskable};
 ghost use Rattle.cs_tree.specs.FailureCount.{count_after};
 ghost use Rattle.cs_trigram.specs.Trigram.{set_of_numbers};
 ghost use Rattle.cs_trigram.specs.Scans.{AreTrigramsOnce};
@@ -9,10 +12,9 @@ ghost use Rattle.cs_index.specs.Image.{image_of, names_of};
 ghost use Rattle.cs_history.specs.Premises.{IsShort};
 ghost use Rattle.cs_history.specs.Replies.{IsLong};
 ghost use Rattle.cs_cindex.specs.Output.{is_failed_write};
-ghost use Rattle.cs_cindex.specs.Notices.{PrintsLines, PrintsLinesFront};
 ghost use Rattle.cs_cindex.specs.Refusals.{IsOutputFault};
 ghost use Rattle.cs_cindex.specs.Verdicts.{HasTrigramsOnce, added_entries, added_line, noted_entries, noted_line, PrintsAll};
-ghost use Rattle.cs_cindex.specs.Files.{AreTextsIn, AreTooManyIn, AreFileLinesIn, BeginFileLinesIn, HaveNamesOf, IsIndexingFault};
+ghost use Rattle.cs_cindex.specs.Files.{AreTextsIn, AreTooManyIn, HaveNamesOf, IsIndexingFault, PrintsFiles, PrintsFilesFront};
 
 use crate::printing::{print_fault, print_skipped};
 use crate::verdicts::{Verdict, read_file};
@@ -63,23 +65,24 @@ impl Indexer {
         err: &mut E,
     ) -> Result<(), CindexFault>
         requires ascend { are_ascending (map string_bytes names.now) ≡ true }
+        requires askable { AreAskable (map string_bytes names.now) }
         requires empty { self.old.builder.entries ≡ [] }
         ensures texts { OnOk result (AreTextsIn
             (T.snapshot tree.old) (map string_bytes names.now) self.new.builder.entries) }
         ensures names { OnOk result
             (HaveNamesOf (map string_bytes names.now) self.new.builder.entries) }
-        ensures prints { OnOk result (PrintsLines
-            (AreFileLinesIn self.old.log_skip (T.snapshot tree.old) (map string_bytes names.now))
+        ensures prints { OnOk result (PrintsFiles
+            self.old.log_skip (T.snapshot tree.old) (map string_bytes names.now)
             (T.failed tree.old) (T.failed tree.new) (E.taken err.old) (E.taken err.new)) }
-        ensures front { OnErr result (PrintsLinesFront
-            (BeginFileLinesIn self.old.log_skip (T.snapshot tree.old) (map string_bytes names.now))
+        ensures front { OnErr result (PrintsFilesFront
+            self.old.log_skip (T.snapshot tree.old) (map string_bytes names.now)
             (T.failed tree.old) (T.failed tree.new) (E.taken err.old) (E.taken err.new)) }
         ensures too_large { result ≡ Err CindexFault.TooLarge →
             AreTooManyIn (T.snapshot tree.old) (map string_bytes names.now) }
         ensures paths { self.new.builder.paths ≡ self.old.builder.paths }
         ensures writes { E.failed err.new ≡ count_after is_failed_write result (E.failed err.old) }
         ensures only { IfErr result IsIndexingFault }
-        ensures rises { T.failed tree.old ≤ T.failed tree.new }
+        ensures asked { AsksWithin longest_path (T.longest_asked tree.old) (T.longest_asked tree.new) }
         ensures keeps { T.snapshot tree.new ≡ T.snapshot tree.old }
     {
         for name in names {

@@ -1,13 +1,15 @@
 // The index of the files below some paths.
 ghost use Rattle.std.specs.Prelude.{◌≡◌, ◌⊎◌, true, map, string_bytes, IfOk, IfErr, Some};
+ghost use Rattle.cs_tree.specs.Clean.{longest_path};
 ghost use Rattle.cs_tree.specs.FailureCount.{count_after};
+ghost use Rattle.cs_tree.specs.Trees.{AsksWithin};
 ghost use Rattle.cs_tree.specs.PathSet as set;
 ghost use Rattle.cs_index.specs.Built.{are_paths};
 ghost use Rattle.cs_cindex.specs.Output.{AreTooMany, is_failed_write};
 ghost use Rattle.cs_history.specs.Premises.{IsShort};
 ghost use Rattle.cs_cindex.specs.Files.{IsIndexingFault};
 ghost use Rattle.cs_cindex.specs.Next.{IsIndex, IsIndexOf, IsTreeTooLarge};
-ghost use Rattle.cs_cindex.specs.Notices.{AreLinesIn, BeginLinesIn, PrintsLines, PrintsLinesFront};
+ghost use Rattle.cs_cindex.specs.Notices.{PrintsLines, PrintsLinesFront};
 
 use crate::indexer::Indexer;
 use crate::printing::print_left;
@@ -42,20 +44,20 @@ pub(crate) fn index_paths<T: Tree, E: Sink>(
     ensures well_formed { IfOk result
         (λ index. IsIndex (set.from_list (map string_bytes paths.now)) index.items) }
     ensures prints { IfOk result (λ _. PrintsLines
-        (AreLinesIn log_skip (T.snapshot tree.old) (set.from_list (map string_bytes paths.now)))
+        log_skip (T.snapshot tree.old) (set.from_list (map string_bytes paths.now))
         (T.failed tree.old) (T.failed tree.new) (E.taken err.old) (E.taken err.new)) }
     ensures too_large { result ≡ Err CindexFault.TooLarge →
         IsTreeTooLarge (T.snapshot tree.old) (set.from_list (map string_bytes paths.now)) }
     ensures whole { result ≡ Err CindexFault.TooLarge →
         AreTooMany (T.snapshot tree.old) (set.from_list (map string_bytes paths.now)) ⊎
-        PrintsLines
-        (AreLinesIn log_skip (T.snapshot tree.old) (set.from_list (map string_bytes paths.now)))
+        PrintsLines log_skip (T.snapshot tree.old) (set.from_list (map string_bytes paths.now))
         (T.failed tree.old) (T.failed tree.new) (E.taken err.old) (E.taken err.new) }
     ensures only { IfErr result IsIndexingFault }
     ensures front { IfErr result (λ _. PrintsLinesFront
-        (BeginLinesIn log_skip (T.snapshot tree.old) (set.from_list (map string_bytes paths.now)))
+        log_skip (T.snapshot tree.old) (set.from_list (map string_bytes paths.now))
         (T.failed tree.old) (T.failed tree.new) (E.taken err.old) (E.taken err.new)) }
     ensures writes { E.failed err.new ≡ count_after is_failed_write result (E.failed err.old) }
+    ensures asked { AsksWithin longest_path (T.longest_asked tree.old) (T.longest_asked tree.new) }
     ensures keeps { T.snapshot tree.new ≡ T.snapshot tree.old }
 {
     let mut indexer = Indexer::new(alloc, paths, log_skip)?;

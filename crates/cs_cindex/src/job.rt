@@ -2,9 +2,12 @@
 ghost use Rattle.std.specs.Prelude.{◌≡◌};
 ghost use Rattle.cs_cindex.specs.Bytes.{index_bytes};
 ghost use Rattle.std.specs.Option.{option_copied};
+ghost use Rattle.cs_tree.specs.Clean.{longest_path};
+ghost use Rattle.cs_tree.specs.Trees.{AsksWithin};
 ghost use Rattle.cs_cindex.specs.Outcomes.{IsStepTo, IsWholeStepTo, RightAfter};
 ghost use Rattle.cs_history.specs.Jobs.{HasAbsoluteFolder};
-ghost use Rattle.cs_cindex.specs.Steps.{IsWholeStep, job_tree, outputs, state};
+ghost use Rattle.cs_cindex.specs.Output.{job_tree};
+ghost use Rattle.cs_cindex.specs.Steps.{IsWholeStep, outputs, state};
 
 use crate::listing::list_paths;
 use crate::outcome::{Outcome, index_and_reply};
@@ -29,6 +32,7 @@ pub(crate) fn do_job<T: Tree, O: Sink, E: Sink>(
         (index_bytes old) out.old err.old)
         (state O.taken O.failed E.taken E.failed
         (index_bytes result.0) out.new err.new) }
+    ensures asked { AsksWithin longest_path (T.longest_asked tree.old) (T.longest_asked tree.new) }
     ensures tree_keeps { T.snapshot tree.new ≡ T.snapshot tree.old }
 {
     let outcome = run_job(alloc, old.as_deref(), job, tree, out, err);
@@ -49,6 +53,7 @@ fn run_job<T: Tree, O: Sink, E: Sink>(
         (state O.taken O.failed E.taken E.failed
         (option_copied old.entry) out.old err.old)
         (outputs O.taken O.failed E.taken E.failed out.new err.new) }
+    ensures asked { AsksWithin longest_path (T.longest_asked tree.old) (T.longest_asked tree.new) }
     ensures tree_keeps { T.snapshot tree.new ≡ T.snapshot tree.old }
 {
     let outcome = outcome_of(alloc, old, job, tree, out, err)?;
@@ -71,6 +76,7 @@ fn outcome_of<T: Tree, O: Sink, E: Sink>(
         (state O.taken O.failed E.taken E.failed
         (option_copied old.entry) out.old err.old)
         (outputs O.taken O.failed E.taken E.failed out.new err.new) }
+    ensures asked { AsksWithin longest_path (T.longest_asked tree.old) (T.longest_asked tree.new) }
     ensures tree_keeps { T.snapshot tree.new ≡ T.snapshot tree.old }
 {
     if job.list {

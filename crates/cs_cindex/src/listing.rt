@@ -1,14 +1,15 @@
 // The paths of an index, on lines.
-ghost use Rattle.std.specs.Prelude.{◌≡◌, ◌++◌, ℕ, List, Some, codes, true, IfErr};
+ghost use Rattle.std.specs.Prelude.{◌≡◌, ◌++◌, ℕ, List, Some, Err, codes, true, IfErr};
 ghost use Rattle.cs_tree.specs.FailureCount.{count_after};
 ghost use Rattle.cs_tree.specs.TakenAll.{TakesBytes};
 ghost use Rattle.cs_index.specs.Stored.{OpensAs};
+ghost use Rattle.cs_words.specs.Faults.{index_refusal};
 ghost use Rattle.cs_words.specs.declared.jobs.IndexJob.{IndexJob as IndexJob'};
 ghost use Rattle.std.specs.Option.{option_copied};
 ghost use Rattle.cs_cindex.specs.Outcomes.{AnswersFor, reply_of};
-ghost use Rattle.cs_cindex.specs.Output.{index_lines, path_lines, is_failed_write};
+ghost use Rattle.cs_cindex.specs.Output.{JobTree, index_lines, output, path_lines, is_failed_write};
 ghost use Rattle.cs_cindex.specs.Refusals.{IsOutputFault, list_fault};
-ghost use Rattle.cs_cindex.specs.Steps.{IsWholeStep, JobTree, LeavesFlushed, outputs, state};
+ghost use Rattle.cs_cindex.specs.Steps.{IsWholeStep, LeavesFlushed, outputs, state};
 
 use cs_index::{Index, IndexFault, StoredIndex, Texts};
 use cs_tree::{Sink, write_all};
@@ -22,11 +23,14 @@ pub fn list_stored<O: Sink, E: Sink>(
     err: &mut E,
 ) -> Reply
     ensures step { (job : IndexJob') (tree : JobTree) (bytes : List ℕ) → job.list ≡ true →
-        OpensAs bytes opened → IsWholeStep job tree result
+        tree.failed_then ≡ tree.failed → OpensAs bytes opened → IsWholeStep job tree result
         (state O.taken O.failed E.taken E.failed
         (Some bytes) out.old err.old)
         (state O.taken O.failed E.taken E.failed
         (Some bytes) out.new err.new) }
+    ensures unopened { IfErr opened (λ fault. (result ≡ Reply.Refused (index_refusal fault)) ×
+        (outputs O.taken O.failed E.taken E.failed out.new err.new ≡
+        outputs O.taken O.failed E.taken E.failed out.old err.old)) }
     ensures flushed { LeavesFlushed result
         (outputs O.taken O.failed E.taken E.failed out.new err.new) }
 {
@@ -43,11 +47,14 @@ fn list_opened<O: Sink, E: Sink>(
     err: &mut E,
 ) -> Result<(), CindexFault>
     ensures step { (job : IndexJob') (tree : JobTree) (bytes : List ℕ) → job.list ≡ true →
-        OpensAs bytes opened → IsWholeStep job tree (reply_of result)
+        tree.failed_then ≡ tree.failed → OpensAs bytes opened → IsWholeStep job tree (reply_of result)
         (state O.taken O.failed E.taken E.failed
         (Some bytes) out.old err.old)
         (state O.taken O.failed E.taken E.failed
         (Some bytes) out.new err.new) }
+    ensures unopened { IfErr opened (λ fault. (result ≡ Err (index_refusal fault)) ×
+        (outputs O.taken O.failed E.taken E.failed out.new err.new ≡
+        outputs O.taken O.failed E.taken E.failed out.old err.old)) }
     ensures flushed { LeavesFlushed (reply_of result)
         (outputs O.taken O.failed E.taken E.failed out.new err.new) }
 {
@@ -66,6 +73,8 @@ fn print_opened<O: Sink>(
         AnswersFor result (list_fault (Some bytes)) IsOutputFault }
     ensures out { (bytes : List ℕ) → OpensAs bytes opened →
         TakesBytes (index_lines (Some bytes)) (O.taken out.old) (O.taken out.new) result }
+    ensures unopened { IfErr opened (λ fault. (result ≡ Err (index_refusal fault)) ×
+        (output O.taken O.failed out.new ≡ output O.taken O.failed out.old)) }
     ensures writes { O.failed out.new ≡ count_after is_failed_write result (O.failed out.old) }
 {
     let index = opened?;

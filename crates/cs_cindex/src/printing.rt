@@ -3,7 +3,7 @@ ghost use Rattle.std.specs.Prelude.{◌≡◌, [], ◌∷◌, map, IfErr};
 ghost use Rattle.cs_tree.specs.FailureCount.{count_after};
 ghost use Rattle.cs_tree.specs.Walks.{left_entry};
 ghost use Rattle.cs_cindex.specs.Output.{is_failed_write};
-ghost use Rattle.cs_cindex.specs.Notices.{faulted, skipped, left_line, walk_fault as walk_fault'};
+ghost use Rattle.cs_cindex.specs.Notices.{left_line, faulted, skipped, walk_fault as walk_fault'};
 ghost use Rattle.cs_cindex.specs.Refusals.{IsOutputFault};
 ghost use Rattle.cs_cindex.specs.Verdicts.{PrintsAll};
 

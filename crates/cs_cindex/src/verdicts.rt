@@ -1,6 +1,7 @@
 // The reading of a file that a walk finds.
-ghost use Rattle.std.specs.Prelude.{◌≡◌, ◌≤◌, IfOk};
-ghost use Rattle.cs_cindex.specs.Verdicts.{IsVerdictIn, HasTrigramsOnce, IsVerdictCounted};
+ghost use Rattle.std.specs.Prelude.{◌≡◌, IfOk};
+ghost use Rattle.cs_tree.specs.Trees.{AsksPath};
+ghost use Rattle.cs_cindex.specs.Verdicts.{IsVerdictIn, HasTrigramsOnce, count_read};
 
 use cs_tree::{Tree, TreeReader};
 use cs_trigram::{Gathered, Reason, ScanFault, Scanner};
@@ -26,9 +27,8 @@ pub(crate) fn read_file<'a, T: Tree>(
 ) -> Result<Verdict<'a>, AllocError>
     ensures told { IfOk result (λ verdict. IsVerdictIn (T.snapshot tree.old) name.now verdict) }
     ensures once { IfOk result HasTrigramsOnce }
-    ensures counted { IfOk result
-        (λ verdict. IsVerdictCounted verdict (T.failed tree.old) (T.failed tree.new)) }
-    ensures rises { T.failed tree.old ≤ T.failed tree.new }
+    ensures counted { T.failed tree.new ≡ count_read result (T.failed tree.old) }
+    ensures asked { AsksPath (T.longest_asked tree.old) (T.longest_asked tree.new) name.now }
     ensures keeps { T.snapshot tree.new ≡ T.snapshot tree.old }
 {
     if let Err(fault) = tree.open(name) {

@@ -1,6 +1,8 @@
 // Jobs that walk.
 ghost use Rattle.std.specs.Prelude.{◌≡◌, true, Some, None, map, string_bytes, IfOk, IfErr};
+ghost use Rattle.cs_tree.specs.Clean.{longest_path};
 ghost use Rattle.cs_tree.specs.Folders.{are_distinct};
+ghost use Rattle.cs_tree.specs.Trees.{AsksWithin};
 ghost use Rattle.cs_tree.specs.FailureCount.{count_after};
 ghost use Rattle.std.specs.Option.{option_copied};
 ghost use Rattle.cs_tree.specs.PathSet as set;
@@ -11,7 +13,7 @@ ghost use Rattle.cs_cindex.specs.Next.{IsNext};
 ghost use Rattle.cs_cindex.specs.Refusals.{IsWalkFault, base_fault, early_walk_fault};
 ghost use Rattle.cs_history.specs.Premises.{IsShort};
 ghost use Rattle.cs_history.specs.Jobs.{HasAbsoluteFolder};
-ghost use Rattle.cs_cindex.specs.Output.{is_failed_write};
+ghost use Rattle.cs_cindex.specs.Output.{is_failed_write, job_tree, output};
 ghost use Rattle.cs_cindex.specs.Outcomes.{AnswersFor, WalkPrintsFor};
 ghost use Rattle.cs_cindex.specs.JobPaths.{AreCleaned, starts};
 
@@ -40,9 +42,10 @@ pub(crate) fn walked_index<T: Tree, E: Sink>(
     ensures refusal { AnswersFor result (early_walk_fault job.now (option_copied old.entry))
         (IsWalkFault job.now (T.snapshot tree.old) (option_copied old.entry)) }
     ensures prints { WalkPrintsFor result (early_walk_fault job.now (option_copied old.entry))
-        job.now (T.snapshot tree.old) (option_copied old.entry)
-        (T.failed tree.old) (T.failed tree.new) (E.taken err.old) (E.taken err.new) }
+        job.now (job_tree T.snapshot T.failed tree.old tree.new) (option_copied old.entry)
+        (output E.taken E.failed err.old) (output E.taken E.failed err.new) }
     ensures writes { E.failed err.new ≡ count_after is_failed_write result (E.failed err.old) }
+    ensures asked { AsksWithin longest_path (T.longest_asked tree.old) (T.longest_asked tree.new) }
     ensures tree_keeps { T.snapshot tree.new ≡ T.snapshot tree.old }
 {
     let given = clean_all(alloc, &job.cwd, &job.paths)?;
@@ -73,9 +76,10 @@ fn index_anew<T: Tree, E: Sink>(
     ensures refusal { AnswersFor result (base_fault job.now None)
         (IsWalkFault job.now (T.snapshot tree.old) None) }
     ensures prints { WalkPrintsFor result (base_fault job.now None)
-        job.now (T.snapshot tree.old) None
-        (T.failed tree.old) (T.failed tree.new) (E.taken err.old) (E.taken err.new) }
+        job.now (job_tree T.snapshot T.failed tree.old tree.new) None
+        (output E.taken E.failed err.old) (output E.taken E.failed err.new) }
     ensures writes { E.failed err.new ≡ count_after is_failed_write result (E.failed err.old) }
+    ensures asked { AsksWithin longest_path (T.longest_asked tree.old) (T.longest_asked tree.new) }
     ensures tree_keeps { T.snapshot tree.new ≡ T.snapshot tree.old }
 {
     if given.is_empty() {
@@ -102,9 +106,10 @@ fn index_onto<T: Tree, E: Sink>(
     ensures refusal { AnswersFor result (base_fault job.now (Some old.now))
         (IsWalkFault job.now (T.snapshot tree.old) (Some old.now)) }
     ensures prints { WalkPrintsFor result (base_fault job.now (Some old.now))
-        job.now (T.snapshot tree.old) (Some old.now)
-        (T.failed tree.old) (T.failed tree.new) (E.taken err.old) (E.taken err.new) }
+        job.now (job_tree T.snapshot T.failed tree.old tree.new) (Some old.now)
+        (output E.taken E.failed err.old) (output E.taken E.failed err.new) }
     ensures writes { E.failed err.new ≡ count_after is_failed_write result (E.failed err.old) }
+    ensures asked { AsksWithin longest_path (T.longest_asked tree.old) (T.longest_asked tree.new) }
     ensures tree_keeps { T.snapshot tree.new ≡ T.snapshot tree.old }
 {
     let index = open_old(alloc, old)?;

@@ -16,8 +16,9 @@ use Rattle.cs_trigram.specs.Trigram.{Ascends, closing_trigram}
 use Rattle.cs_trigram.specs.TrigramSets.{IsTrigramSet}
 use Rattle.cs_index.specs.Image.{Entry, ListEntry, Posting, SectionBytes, IsString, three_bytes}
 use Rattle.cs_index.specs.PostingLists.{damage, read_ids, set_at, entries_of}
-use Rattle.cs_index.specs.Opening.{opening, cut_of, read_cut, parts_of, texts_of, is_section, is_names_section, is_name_index, is_list_index, is_entry, rises}
-use Rattle.cs_index.specs.OpenedParts.{Parts, ids_read, whole_ids, lists_in, files_in}
+use Rattle.cs_index.specs.Opening.{opening, cut_of, parts_of, texts_of, is_section, is_names_section, is_name_index, is_list_index, is_entry, rises}
+use Rattle.cs_index.specs.SectionsRead.{read_cut}
+use Rattle.cs_index.specs.OpenedParts.{Parts, ids_read, whole_ids, lists_in, files_in, are_covered}
 use Rattle.cs_index.specs.declared.fault.IndexFault.{IndexFault}
 use Rattle.cs_index.specs.declared.fault.IndexFault.TheVariants.{BadPaths, BadNames, BadNameIndex, BadListIndex}
 use Rattle.cs_index.proofs.OpenLemmas.{entries_rise}
@@ -149,5 +150,6 @@ begun_clean bytes parts is path member = record {
 }
 
 pub begun_lies : (bytes : List ℕ) (parts : Parts) → IsBeginning bytes parts → LieUnder (set.from_list parts.paths) (files_in parts)
+unfolding are_covered
 begun_lies bytes parts is name trigrams there =
     (each_spelled parts (λ n. is_covered (set.from_list parts.paths) n ≡ true) (λ (t : List ℕ). Unit {0}) (all_true (is_covered (set.from_list parts.paths)) parts.names is.joinable.covered) (λ id. tt) name trigrams there).0

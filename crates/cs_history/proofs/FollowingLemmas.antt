@@ -92,4 +92,4 @@ pub first_premises : (trees : List (Option Snapshot)) → AllByRecursion Tells t
 first_premises trees tell = record { trees_tell = tell; jobs_were = tt; they_left = refl; short = tt }
 
 pub handed_premises : (trees : List (Option Snapshot)) (bytes : List ℕ) (parts : Parts) → AllByRecursion Tells trees → IsBeginning bytes parts → Premises trees (Some bytes) (handed_in bytes parts)
-handed_premises trees bytes parts tell is = record { trees_tell = tell; jobs_were = is; they_left = refl; short = is.spelled.spelled.are_laid.short }
+handed_premises trees bytes parts tell is = record { trees_tell = tell; jobs_were = is; they_left = refl; short = is.spelled.are_laid.short }

@@ -19,14 +19,13 @@ use Rattle.cs_merge.proofs.JoinLemmas.{newer_at, old_at}
 use Rattle.cs_merge.proofs.ContentLemmas.{content_joined, under_joined}
 use Rattle.cs_merge.proofs.HoldingLemmas.{content_held, held_once, held_names, held_set}
 use Rattle.cs_index.specs.Opening.{opening}
-use Rattle.cs_index.specs.OpenedParts.{Parts, are_whole, paths_in, files_in}
-use Rattle.cs_history.specs.History.{Visit, History, nothing, handed_in, ◌⊳◌, all_given_paths, paths_of, walked_paths, files_of, index_of}
-use Rattle.cs_history.specs.JobIndex.{files_found}
+use Rattle.cs_index.specs.OpenedParts.{Parts, are_whole, lists_in, paths_in, files_in}
+use Rattle.cs_history.specs.History.{Visit, History, nothing, handed_in, ◌⊳◌, all_given_paths, paths_of, walked_paths, files_of, index_of, files_found}
+use Rattle.cs_history.specs.Left.{IsByJobs, indexed_names}
 use Rattle.cs_history.specs.FileTrigrams.{file_trigrams, ReadAsIndexed}
 use Rattle.cs_tree.proofs.SettledLemmas.{settled_filled, settled_no_nul, no_nul_bytes}
 use Rattle.cs_history.specs.WellFormed.{IsClean, AreClean, IsHistory}
 use Rattle.cs_history.specs.Beginning.{HasBeginning}
-use Rattle.cs_history.specs.SearchHeadline.{IsByJobs, indexed_names}
 use Rattle.cs_history.proofs.BeginningLemmas.{find_all, spelled_content, begun_clean, begun_lies, begun_opens}
 use Rattle.cs_history.proofs.KeepingLemmas.{join_kept, join_paths_of, kept_spelled, get-kept}
 use Rattle.cs_history.proofs.WalkLemmas.{AreStrings, found_content, found_lies}
@@ -77,14 +76,14 @@ pub walk_lies : (visit : Visit) (before : History) → LieUnder (walked_paths vi
 walk_lies visit before name trigrams h = found_lies (text_trigrams limits) visit.tree (walked_paths visit before) name trigrams h
 
 nothing_kept : (name trigrams : List ℕ) → map.get (files_of nothing) name ≡ Some trigrams → ⊥
-nothing_kept name trigrams h = none_some (sym (get-kept (text_trigrams limits) files_in nothing name) ∙ h)
+nothing_kept name trigrams h = none_some (sym (get-kept nothing name) ∙ h)
   where
     none_some : None ≡ Some trigrams → ⊥
     none_some e = cc
 
 -- an index that was handed in has the files that it spells
 pub files_begun : (bytes : List ℕ) (parts : Parts) → files_of (handed_in bytes parts) ≡ files_in parts
-files_begun bytes parts = kept_spelled (text_trigrams limits) files_in bytes parts
+files_begun bytes parts = kept_spelled bytes parts
 
 pub has_beginning : (history : History) → IsHistory history → HasBeginning history
 has_beginning nothing is = tt
@@ -103,7 +102,7 @@ history_content (handed_in bytes parts) is =
     (record { paths_are = clean_strings (paths_of (handed_in bytes parts)) (clean_paths (handed_in bytes parts) is); names_are = content.names_are; sets_are = content.sets_are })
 history_content (visit ⊳ before) is =
     let joined = content_joined (paths_of before) (walked_paths visit before) (files_of before) (files_found visit before) (history_content before is.1) (walk_content visit before is) in
-    subst (λ files. IsContent (paths_of (visit ⊳ before)) files) (join_kept (text_trigrams limits) files_in before visit)
+    subst (λ files. IsContent (paths_of (visit ⊳ before)) files) (join_kept before visit)
     (subst (λ paths. IsContent paths (join_files (walked_paths visit before) (files_of before) (files_found visit before))) (join_paths_of before visit) joined)
 
 pub history_lies : (history : History) → HasBeginning history → LieUnder (paths_of history) (files_of history)
@@ -113,7 +112,7 @@ history_lies (handed_in bytes parts) is name trigrams h =
 history_lies (visit ⊳ before) is name trigrams h =
     let joined = under_joined (paths_of before) (walked_paths visit before) (files_of before) (files_found visit before) (history_lies before is) (walk_lies visit before) in
     subst (λ paths. is_covered paths name ≡ true) (join_paths_of before visit)
-    (joined name trigrams (subst (λ files. map.get files name ≡ Some trigrams) (sym (join_kept (text_trigrams limits) files_in before visit)) h))
+    (joined name trigrams (subst (λ files. map.get files name ≡ Some trigrams) (sym (join_kept before visit)) h))
 
 -- ---- the index
 
@@ -166,21 +165,21 @@ history_opens (visit ⊳ before) bytes is h short =
 
 pub newest_at : (visit : Visit) (before : History) (name : List ℕ) → is_covered (walked_paths visit before) name ≡ true → map.get (files_of (visit ⊳ before)) name ≡ map.get (files_found visit before) name
 newest_at visit before name h =
-    ap (λ files. map.get files name) (sym (join_kept (text_trigrams limits) files_in before visit))
+    ap (λ files. map.get files name) (sym (join_kept before visit))
     ∙ newer_at (walked_paths visit before) (files_of before) (files_found visit before) name h
 
 pub others_at : (visit : Visit) (before : History) (name : List ℕ) → is_covered (walked_paths visit before) name ≡ false → map.get (files_of (visit ⊳ before)) name ≡ map.get (files_of before) name
 others_at visit before name h =
-    ap (λ files. map.get files name) (sym (join_kept (text_trigrams limits) files_in before visit))
+    ap (λ files. map.get files name) (sym (join_kept before visit))
     ∙ old_at (walked_paths visit before) (files_of before) (files_found visit before) name (found_under (text_trigrams limits) visit.tree (walked_paths visit before) name h) h
 
 -- ---- files that still read as they were indexed
 
-pub names_held : (history : History) (bytes : List ℕ) (paths : Paths) (files : Files) → IsHistory history → IsByJobs history → index_of history ≡ Some bytes → length bytes < 2 ^ 32 → (holds : HoldsContent bytes paths files) → indexed_names history ≡ holds.names
+pub names_held : (history : History) (bytes : List ℕ) (paths : Paths) (files : Files) → IsHistory history → IsByJobs history → index_of history ≡ Some bytes → length bytes < 2 ^ 32 → (holds : HoldsContent bytes paths files) → indexed_names history ≡ holds.parts.names
 names_held history bytes paths files is by h short holds =
     ap map.keys (index_once history bytes paths files is by h short holds).1 ∙ held_names bytes paths files holds
 
-pub reads_agree : (history : History) (bytes : List ℕ) (paths : Paths) (files : Files) (tree : Snapshot) → IsHistory history → IsByJobs history → index_of history ≡ Some bytes → length bytes < 2 ^ 32 → ReadAsIndexed tree (map.entries (files_of history)) → (holds : HoldsContent bytes paths files) (id : ℕ) (d : List ℕ) → id < length holds.names → file_trigrams tree (get_or holds.names id d) ≡ Some (set_at id holds.lists)
+pub reads_agree : (history : History) (bytes : List ℕ) (paths : Paths) (files : Files) (tree : Snapshot) → IsHistory history → IsByJobs history → index_of history ≡ Some bytes → length bytes < 2 ^ 32 → ReadAsIndexed tree (map.entries (files_of history)) → (holds : HoldsContent bytes paths files) (id : ℕ) (d : List ℕ) → id < length holds.parts.names → file_trigrams tree (get_or holds.parts.names id d) ≡ Some (set_at id (lists_in holds.parts))
 reads_agree history bytes paths files tree is by h short still holds id d within =
-    find_all (λ name (trigrams : List ℕ). file_trigrams tree name ≡ Some trigrams) (map.entries (files_of history)) (get_or holds.names id d) (set_at id holds.lists) still
-    (sym (map.get-entries (files_of history) (get_or holds.names id d)) ∙ ap (λ m. map.get m (get_or holds.names id d)) (index_once history bytes paths files is by h short holds).1 ∙ held_set bytes paths files holds id d within)
+    find_all (λ name (trigrams : List ℕ). file_trigrams tree name ≡ Some trigrams) (map.entries (files_of history)) (get_or holds.parts.names id d) (set_at id (lists_in holds.parts)) still
+    (sym (map.get-entries (files_of history) (get_or holds.parts.names id d)) ∙ ap (λ m. map.get m (get_or holds.parts.names id d)) (index_once history bytes paths files is by h short holds).1 ∙ held_set bytes paths files holds id d within)

@@ -23,11 +23,10 @@ use Rattle.cs_merge.proofs.OpeningLemmas.{held_opens}
 use Rattle.cs_tree.proofs.Least.{least-union}
 use Rattle.cs_merge.specs.Content.{HoldsContent}
 use Rattle.cs_merge.proofs.HoldingLemmas.{content_held}
-use Rattle.cs_history.specs.History.{History, nothing, handed_in, ◌⊳◌, Visit, all_given_paths, paths_of, walked_paths, kept_at, files_of, index_of}
-use Rattle.cs_history.specs.JobIndex.{files_found}
+use Rattle.cs_history.specs.History.{History, nothing, handed_in, ◌⊳◌, Visit, all_given_paths, paths_of, walked_paths, kept_at, files_of, index_of, files_found}
+use Rattle.cs_history.specs.Left.{IsByJobs}
 use Rattle.cs_history.specs.WellFormed.{IsHistory}
 use Rattle.cs_history.specs.Beginning.{HasBeginning}
-use Rattle.cs_history.specs.SearchHeadline.{IsByJobs}
 use Rattle.cs_history.specs.Jobs.{given_texts, given_paths, has_no_path, visit_of, after_done}
 use Rattle.cs_words.specs.declared.jobs.IndexJob.{IndexJob}
 use Rattle.cs_history.proofs.KeepingLemmas.{join_kept, join_paths_of, kept_first, paths_first, get-kept, no_paths}
@@ -39,10 +38,10 @@ use Rattle.cs_history.proofs.JobLemmas.{reset_begins}
 pub index_first : (visit : Visit) → Some (image (walked_paths visit nothing) (files_found visit nothing)) ≡ index_of (visit ⊳ nothing)
 index_first visit =
     ap (λ p. Some (image p (files_found visit nothing))) (sym (paths_first visit))
-    ∙ ap (λ f. Some (image (paths_of (visit ⊳ nothing)) f)) (sym (kept_first (text_trigrams limits) files_in visit))
+    ∙ ap (λ f. Some (image (paths_of (visit ⊳ nothing)) f)) (sym (kept_first visit))
 
 pub index_joined : (before : History) (visit : Visit) → Some (image (join_paths (paths_of before) (walked_paths visit before)) (join_files (walked_paths visit before) (files_of before) (files_found visit before))) ≡ index_of (visit ⊳ before)
-index_joined before visit = λ i. Some (image (join_paths_of before visit i) (join_kept (text_trigrams limits) files_in before visit i))
+index_joined before visit = λ i. Some (image (join_paths_of before visit i) (join_kept before visit i))
 
 -- the same of the parts that an index of the history and that of the job open as
 pub joined_as : (before : History) (visit : Visit) (a b : Parts) → least (paths_in a) ≡ paths_of before → files_in a ≡ files_of before → paths_in b ≡ walked_paths visit before → files_in b ≡ files_found visit before → Some (joined_index a b) ≡ index_of (visit ⊳ before)
@@ -88,16 +87,16 @@ walked_again visit before none = ap (λ n. cond (eqb n 0) (paths_of before) (lea
 -- all that was kept lies under the paths that are walked again
 pub files_again : (visit : Visit) (before : History) → set.len visit.given ≡ 0 → HasBeginning before → files_of (visit ⊳ before) ≡ files_reached (text_trigrams limits) visit.tree (paths_of before)
 files_again visit before none begun =
-    map'.same_map nat_list_cmp_total alike (files_of (visit ⊳ before)) _ (λ name. get-kept (text_trigrams limits) files_in (visit ⊳ before) name ∙ at name (is_covered (walked_paths visit before) name) refl ∙ ap (λ paths. map'.get (files_reached (text_trigrams limits) visit.tree paths) name) (walked_again visit before none))
+    map'.same_map nat_list_cmp_total alike (files_of (visit ⊳ before)) _ (λ name. get-kept (visit ⊳ before) name ∙ at name (is_covered (walked_paths visit before) name) refl ∙ ap (λ paths. map'.get (files_reached (text_trigrams limits) visit.tree paths) name) (walked_again visit before none))
   where
-    kept_none : (name : List ℕ) → is_covered (walked_paths visit before) name ≡ false → kept_at (text_trigrams limits) files_in before name ≡ None
+    kept_none : (name : List ℕ) → is_covered (walked_paths visit before) name ≡ false → kept_at before name ≡ None
     kept_none name h = by_option (map'.get (files_of before) name) refl
       where
-        by_option : (o : Option (List ℕ)) → map'.get (files_of before) name ≡ o → kept_at (text_trigrams limits) files_in before name ≡ None
-        by_option None e = sym (get-kept (text_trigrams limits) files_in before name) ∙ e
+        by_option : (o : Option (List ℕ)) → map'.get (files_of before) name ≡ o → kept_at before name ≡ None
+        by_option None e = sym (get-kept before name) ∙ e
         by_option (Some trigrams) e = absurd (true≢false (sym (history_lies before begun name trigrams e) ∙ ap (λ paths. is_covered paths name) (sym (walked_again visit before none)) ∙ h))
 
-    at : (name : List ℕ) (b : Bool) → is_covered (walked_paths visit before) name ≡ b → cond b (map'.get (files_found visit before) name) (kept_at (text_trigrams limits) files_in before name) ≡ map'.get (files_found visit before) name
+    at : (name : List ℕ) (b : Bool) → is_covered (walked_paths visit before) name ≡ b → cond b (map'.get (files_found visit before) name) (kept_at before name) ≡ map'.get (files_found visit before) name
     at name true h = refl
     at name false h = kept_none name h ∙ sym (found_under (text_trigrams limits) visit.tree (walked_paths visit before) name h)
 

@@ -14,7 +14,7 @@ use Rattle.cs_tree.specs.Clean.{absolute, clean_path, has_nul, longest_path}
 use Rattle.cs_tree.proofs.SettledLemmas.{cleaned_settled, settled_from, bytes_no_nul, no_nul_bytes, no_fault_parts}
 use Rattle.cs_merge.proofs.HoldingLemmas.{from_list_all}
 use Rattle.cs_history.specs.History.{History, nothing, ◌⊳◌}
-use Rattle.cs_history.specs.SearchHeadline.{IsByJobs}
+use Rattle.cs_history.specs.Left.{IsByJobs}
 use Rattle.cs_history.specs.WellFormed.{IsClean, AreClean, IsVisit, IsHistory}
 use Rattle.cs_history.specs.Jobs.{given_texts, given_paths, has_no_path, IsTaken, AreTaken, IsFitting, visit_of, reset_history, after_done, after, history_after}
 use Rattle.cs_history.specs.Premises.{snapshot_told}

@@ -10,7 +10,6 @@ use Rattle.std.specs.Ordering.{eq_by_cmp}
 use Rattle.std.specs.FinMap as map
 use Rattle.cs_tree.specs.PathSet as set
 use Rattle.cs_tree.specs.Cover.{is_covered, least}
-use Rattle.cs_tree.specs.Reached.{files_reached}
 use Rattle.cs_tree.proofs.Sets.{alike, same_set, contains-union, contains-empty}
 use Rattle.std.specs.Option.{option_or}
 use Rattle.cs_tree.proofs.Least.{least-union, least_settled, covered-union, covered-least}
@@ -18,67 +17,68 @@ use Rattle.cs_tree.proofs.Collect.{get-collected}
 use Rattle.cs_tree.proofs.Found.{found_under}
 use Rattle.cs_merge.specs.Join.{join_files, join_paths}
 use Rattle.cs_merge.proofs.JoinLemmas.{get-join_files}
-use Rattle.cs_index.specs.OpenedParts.{Parts}
-use Rattle.cs_history.specs.History.{Visit, History, nothing, handed_in, ◌⊳◌, all_given_paths, paths_of, walked_paths, kept_at, names_found, kept_files}
+use Rattle.cs_trigram.specs.Text.{text_trigrams, limits}
+use Rattle.cs_index.specs.Image.{Files}
+use Rattle.cs_index.specs.OpenedParts.{Parts, files_in}
+use Rattle.cs_history.specs.History.{Visit, History, nothing, handed_in, ◌⊳◌, all_given_paths, paths_of, walked_paths, files_found, kept_at, names_found, files_of}
 
 list_any-append : (test : List ℕ → Bool) (xs ys : List (List ℕ)) → list_any test (xs ++ ys) ≡ (list_any test xs || list_any test ys)
 list_any-append test [] ys = refl
 list_any-append test (x ∷ xs) ys = elim (test x) as (λ b. (b || list_any test (xs ++ ys)) ≡ ((b || list_any test xs) || list_any test ys)) [ true ↦ refl | false ↦ list_any-append test xs ys ]
 
-module _ {X : Type 0} (read : List ℕ → Option X) (spelled : Parts → map.FinMap bytes_cmp X) where
-  absent : (o : Option X) → is_some o ≡ false → o ≡ None
-  absent None h = refl
-  absent (Some x) h = absurd (true≢false h)
+absent : (o : Option (List ℕ)) → is_some o ≡ false → o ≡ None
+absent None h = refl
+absent (Some x) h = absurd (true≢false h)
 
-  -- only names that some job found are kept
-  kept_found : (history : History) (name : List ℕ) → list_any (eq_by_cmp bytes_cmp name) (names_found read spelled history) ≡ false → kept_at read spelled history name ≡ None
-  kept_found nothing name h = refl
-  kept_found (handed_in bytes parts) name h = absent (map.get (spelled parts) name) (map.contains_key-keys (spelled parts) name ∙ h)
-  kept_found (visit ⊳ before) name h =
-      let here : map.FinMap bytes_cmp X = files_reached read visit.tree (walked_paths visit before) in
-      let split = sym (list_any-append (eq_by_cmp bytes_cmp name) (map.keys here) (names_found read spelled before)) ∙ h in
-      elim (cases_Bool (is_covered (walked_paths visit before) name)) [
-        | inl under ↦ ap (λ b. cond b (map.get here name) (kept_at read spelled before name)) under ∙ absent (map.get here name) (map.contains_key-keys here name ∙ left_false _ _ split)
-        | inr beside ↦ ap (λ b. cond b (map.get here name) (kept_at read spelled before name)) beside ∙ kept_found before name (right_false _ _ split)
-      ]
-    where
-      left_false : (a b : Bool) → (a || b) ≡ false → a ≡ false
-      left_false true b h = absurd (true≢false h)
-      left_false false b h = refl
+-- only names that some job found are kept
+kept_found : (history : History) (name : List ℕ) → list_any (eq_by_cmp bytes_cmp name) (names_found history) ≡ false → kept_at history name ≡ None
+kept_found nothing name h = refl
+kept_found (handed_in bytes parts) name h = absent (map.get (files_in parts) name) (map.contains_key-keys (files_in parts) name ∙ h)
+kept_found (visit ⊳ before) name h =
+    let here : Files = files_found visit before in
+    let split = sym (list_any-append (eq_by_cmp bytes_cmp name) (map.keys here) (names_found before)) ∙ h in
+    elim (cases_Bool (is_covered (walked_paths visit before) name)) [
+      | inl under ↦ ap (λ b. cond b (map.get here name) (kept_at before name)) under ∙ absent (map.get here name) (map.contains_key-keys here name ∙ left_false _ _ split)
+      | inr beside ↦ ap (λ b. cond b (map.get here name) (kept_at before name)) beside ∙ kept_found before name (right_false _ _ split)
+    ]
+  where
+    left_false : (a b : Bool) → (a || b) ≡ false → a ≡ false
+    left_false true b h = absurd (true≢false h)
+    left_false false b h = refl
 
-      right_false : (a b : Bool) → (a || b) ≡ false → b ≡ false
-      right_false true b h = absurd (true≢false h)
-      right_false false b h = h
+    right_false : (a b : Bool) → (a || b) ≡ false → b ≡ false
+    right_false true b h = absurd (true≢false h)
+    right_false false b h = h
 
-  pub get-kept : (history : History) (name : List ℕ) → map.get (kept_files read spelled history) name ≡ kept_at read spelled history name
-  get-kept history name =
-      get-collected (kept_at read spelled history) (names_found read spelled history) name
-      ∙ elim (cases_Bool (list_any (eq_by_cmp bytes_cmp name) (names_found read spelled history))) [
-        | inl there ↦ ap (λ b. cond b (kept_at read spelled history name) None) there
-        | inr absent ↦ ap (λ b. cond b (kept_at read spelled history name) None) absent ∙ sym (kept_found history name absent)
-      ]
+pub get-kept : (history : History) (name : List ℕ) → map.get (files_of history) name ≡ kept_at history name
+get-kept history name =
+    get-collected (kept_at history) (names_found history) name
+    ∙ elim (cases_Bool (list_any (eq_by_cmp bytes_cmp name) (names_found history))) [
+      | inl there ↦ ap (λ b. cond b (kept_at history name) None) there
+      | inr absent ↦ ap (λ b. cond b (kept_at history name) None) absent ∙ sym (kept_found history name absent)
+    ]
 
-  -- what a join has at a name is what is kept there
-  kept_joined : (history : History) (visit : Visit) (name : List ℕ) (b : Bool) → is_covered (walked_paths visit history) name ≡ b → option_or (map.get (files_reached read visit.tree (walked_paths visit history)) name) (cond (not b) (kept_at read spelled history name) None) ≡ cond b (map.get (files_reached read visit.tree (walked_paths visit history)) name) (kept_at read spelled history name)
-  kept_joined history visit name true h = or_none (map.get (files_reached read visit.tree (walked_paths visit history)) name)
-    where
-      or_none : (o : Option X) → option_or o None ≡ o
-      or_none None = refl
-      or_none (Some x) = refl
-  kept_joined history visit name false h =
-      ap (λ o. option_or o (kept_at read spelled history name)) (found_under read visit.tree (walked_paths visit history) name h)
+-- what a join has at a name is what is kept there
+kept_joined : (history : History) (visit : Visit) (name : List ℕ) (b : Bool) → is_covered (walked_paths visit history) name ≡ b → option_or (map.get (files_found visit history) name) (cond (not b) (kept_at history name) None) ≡ cond b (map.get (files_found visit history) name) (kept_at history name)
+kept_joined history visit name true h = or_none (map.get (files_found visit history) name)
+  where
+    or_none : (o : Option (List ℕ)) → option_or o None ≡ o
+    or_none None = refl
+    or_none (Some x) = refl
+kept_joined history visit name false h =
+    ap (λ o. option_or o (kept_at history name)) (found_under (text_trigrams limits) visit.tree (walked_paths visit history) name h)
 
-  pub join_kept : (history : History) (visit : Visit) → join_files (walked_paths visit history) (kept_files read spelled history) (files_reached read visit.tree (walked_paths visit history)) ≡ kept_files read spelled (visit ⊳ history)
-  join_kept history visit =
-      map.same_map nat_list_cmp_total alike _ _ (λ name.
-      get-join_files (walked_paths visit history) (kept_files read spelled history) (files_reached read visit.tree (walked_paths visit history)) name
-      ∙ ap (λ o. option_or (map.get (files_reached read visit.tree (walked_paths visit history)) name) (cond (not (is_covered (walked_paths visit history) name)) o None)) (get-kept history name)
-      ∙ kept_joined history visit name (is_covered (walked_paths visit history) name) refl
-      ∙ sym (get-kept (visit ⊳ history) name))
+pub join_kept : (history : History) (visit : Visit) → join_files (walked_paths visit history) (files_of history) (files_found visit history) ≡ files_of (visit ⊳ history)
+join_kept history visit =
+    map.same_map nat_list_cmp_total alike _ _ (λ name.
+    get-join_files (walked_paths visit history) (files_of history) (files_found visit history) name
+    ∙ ap (λ o. option_or (map.get (files_found visit history) name) (cond (not (is_covered (walked_paths visit history) name)) o None)) (get-kept history name)
+    ∙ kept_joined history visit name (is_covered (walked_paths visit history) name) refl
+    ∙ sym (get-kept (visit ⊳ history) name))
 
-  -- before any job it is what was handed in
-  pub kept_spelled : (bytes : List ℕ) (parts : Parts) → kept_files read spelled (handed_in bytes parts) ≡ spelled parts
-  kept_spelled bytes parts = map.same_map nat_list_cmp_total alike _ _ (get-kept (handed_in bytes parts))
+-- before any job it is what was handed in
+pub kept_spelled : (bytes : List ℕ) (parts : Parts) → files_of (handed_in bytes parts) ≡ files_in parts
+kept_spelled bytes parts = map.same_map nat_list_cmp_total alike _ _ (get-kept (handed_in bytes parts))
 
 union_itself : (a b : Paths) → ((name : List ℕ) → is_covered a name ≡ is_covered b name) → is_covered (set.union a b) ≡ is_covered a
 union_itself a b h = λ i name. (covered-union a b name ∙ ap (λ t. is_covered a name || t) (sym (h name)) ∙ twice (is_covered a name)) i
@@ -117,13 +117,12 @@ union_none given =
     same_set _ _ (λ q.
     contains-union set.empty given q ∙ ap (λ t. t || set.contains given q) (contains-empty q))
 
-module _ {X : Type 0} (read : List ℕ → Option X) (spelled : Parts → map.FinMap bytes_cmp X) where
-  kept_alone : (visit : Visit) (name : List ℕ) (b : Bool) → is_covered (walked_paths visit nothing) name ≡ b → cond b (map.get (files_reached read visit.tree (walked_paths visit nothing)) name) None ≡ map.get (files_reached read visit.tree (walked_paths visit nothing)) name
-  kept_alone visit name true h = refl
-  kept_alone visit name false h = sym (found_under read visit.tree (walked_paths visit nothing) name h)
+kept_alone : (visit : Visit) (name : List ℕ) (b : Bool) → is_covered (walked_paths visit nothing) name ≡ b → cond b (map.get (files_found visit nothing) name) None ≡ map.get (files_found visit nothing) name
+kept_alone visit name true h = refl
+kept_alone visit name false h = sym (found_under (text_trigrams limits) visit.tree (walked_paths visit nothing) name h)
 
-  pub kept_first : (visit : Visit) → kept_files read spelled (visit ⊳ nothing) ≡ files_reached read visit.tree (walked_paths visit nothing)
-  kept_first visit = map.same_map nat_list_cmp_total alike _ _ (λ name. get-kept read spelled (visit ⊳ nothing) name ∙ kept_alone visit name (is_covered (walked_paths visit nothing) name) refl)
+pub kept_first : (visit : Visit) → files_of (visit ⊳ nothing) ≡ files_found visit nothing
+kept_first visit = map.same_map nat_list_cmp_total alike _ _ (λ name. get-kept (visit ⊳ nothing) name ∙ kept_alone visit name (is_covered (walked_paths visit nothing) name) refl)
 
 pub paths_first : (visit : Visit) → paths_of (visit ⊳ nothing) ≡ walked_paths visit nothing
 paths_first visit =

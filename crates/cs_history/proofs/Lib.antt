@@ -3,10 +3,10 @@ pub mod FollowingLemmas
 pub mod HistoryLemmas
 pub mod IndexLemmas
 pub mod JobLemmas
+pub mod KeepingLemmas
 pub mod RefusalLemmas
 mod CleanedPathLemmas
 mod Examples
-mod KeepingLemmas
 mod PathElementLemmas
 mod RowLemmas
 mod ShardLemmas

@@ -20,7 +20,7 @@ use Rattle.cs_index.specs.Image.{Entry, image, image_of}
 use Rattle.cs_merge.specs.Join.{join_files}
 use Rattle.cs_history.specs.Shards.{files_of_both}
 use Rattle.cs_index.specs.OpenedParts.{Parts, files_read}
-use Rattle.cs_history.specs.History.{Visit, History, nothing, handed_in, ◌⊳◌, all_given_paths, paths_of, walked_paths, kept_at, names_found, kept_files, files_of, index_of}
+use Rattle.cs_history.specs.History.{Visit, History, nothing, handed_in, ◌⊳◌, all_given_paths, paths_of, walked_paths, files_found, kept_at, names_found, files_of, index_of}
 
 -- ---- maps
 
@@ -187,27 +187,27 @@ module _ {X : Type 0} (read : List ℕ → Option X) (listed : Parts → List (L
   abbrev files_in : Option Parts → List Rows → List (List ℕ × X)
   files_in begun rows = laid (filter_map (λ name. option_map (λ (x : X). (name, x)) (kept_in begun rows name)) (names_found_in begun rows))
 
-  walk-rows : (visit : Visit) (before : History) → map'.entries (files_reached read visit.tree (walked_paths visit before)) ≡ reached_in read (map'.entries visit.tree) (walked_in (begun_of before) (record { given = map'.entries visit.given; tree = map'.entries visit.tree }) (jobs_of before))
-  walk-rows visit before = reached-rows read visit.tree (walked_paths visit before) ∙ ap (reached_in read (map'.entries visit.tree)) (walked-rows visit before)
+walk-rows : (visit : Visit) (before : History) → map'.entries (files_found visit before) ≡ reached_in (text_trigrams limits) (map'.entries visit.tree) (walked_in (begun_of before) (record { given = map'.entries visit.given; tree = map'.entries visit.tree }) (jobs_of before))
+walk-rows visit before = reached-rows (text_trigrams limits) visit.tree (walked_paths visit before) ∙ ap (reached_in (text_trigrams limits) (map'.entries visit.tree)) (walked-rows visit before)
 
-  kept-rows : (history : History) (name : List ℕ) → kept_at read spelled history name ≡ kept_in (begun_of history) (jobs_of history) name
-  kept-rows nothing name = refl
-  kept-rows (handed_in bytes parts) name = map'.get-entries (spelled parts) name ∙ ap (find bytes_cmp name) (entries-laid (listed parts))
-  kept-rows (visit ⊳ before) name =
-      let paths : Paths = walked_paths visit before in
-      λ i. cond (list_any (λ path. covers path name) (names_in (walked-rows visit before i)))
-      ((map'.get-entries (files_reached read visit.tree paths) name ∙ ap (find bytes_cmp name) (walk-rows visit before)) i)
-      (kept-rows before name i)
+kept-rows : (history : History) (name : List ℕ) → kept_at history name ≡ kept_in (text_trigrams limits) files_read (begun_of history) (jobs_of history) name
+kept-rows nothing name = refl
+kept-rows (handed_in bytes parts) name = map'.get-entries (spelled (text_trigrams limits) files_read parts) name ∙ ap (find bytes_cmp name) (entries-laid (files_read parts))
+kept-rows (visit ⊳ before) name =
+    let paths : Paths = walked_paths visit before in
+    λ i. cond (list_any (λ path. covers path name) (names_in (walked-rows visit before i)))
+    ((map'.get-entries (files_found visit before) name ∙ ap (find bytes_cmp name) (walk-rows visit before)) i)
+    (kept-rows before name i)
 
-  names-rows : (history : History) → names_found read spelled history ≡ names_found_in (begun_of history) (jobs_of history)
-  names-rows nothing = refl
-  names-rows (handed_in bytes parts) = ap names_in (entries-laid (listed parts))
-  names-rows (visit ⊳ before) = λ i. names_in (walk-rows visit before i) ++ names-rows before i
+names-rows : (history : History) → names_found history ≡ names_found_in (text_trigrams limits) files_read (begun_of history) (jobs_of history)
+names-rows nothing = refl
+names-rows (handed_in bytes parts) = ap names_in (entries-laid (files_read parts))
+names-rows (visit ⊳ before) = λ i. names_in (walk-rows visit before i) ++ names-rows before i
 
-  files-rows : (history : History) → map'.entries (kept_files read spelled history) ≡ files_in (begun_of history) (jobs_of history)
-  files-rows history =
-      entries-laid (filter_map (λ name. option_map (λ (x : X). (name, x)) (kept_at read spelled history name)) (names_found read spelled history))
-      ∙ (λ i. laid (filter_map (λ name. option_map (λ (x : X). (name, x)) (kept-rows history name i)) (names-rows history i)))
+files-rows : (history : History) → map'.entries (files_of history) ≡ files_in (text_trigrams limits) files_read (begun_of history) (jobs_of history)
+files-rows history =
+    entries-laid (filter_map (λ name. option_map (λ (x : List ℕ). (name, x)) (kept_at history name)) (names_found history))
+    ∙ (λ i. laid (filter_map (λ name. option_map (λ (x : List ℕ). (name, x)) (kept-rows history name i)) (names-rows history i)))
 
 -- ---- histories as they are written down
 
@@ -263,7 +263,7 @@ module _ (begun : Option Parts) where
   paths_computed jobs = ap names_in (paths-rows (history_from begun jobs)) ∙ (λ i. names_in (least_rows (given_in (begun_made begun jobs i) (made begun jobs i))))
 
   pub files_computed : (jobs : List Job) → map'.entries (files_of (history_from begun jobs)) ≡ files_after jobs
-  files_computed jobs = files-rows (text_trigrams limits) files_read (history_from begun jobs) ∙ (λ i. files_in (text_trigrams limits) files_read (begun_made begun jobs i) (made begun jobs i))
+  files_computed jobs = files-rows (history_from begun jobs) ∙ (λ i. files_in (text_trigrams limits) files_read (begun_made begun jobs i) (made begun jobs i))
 
   pub index_computed : (job : Job) (before : List Job) → index_of (history_from begun (job ∷ before)) ≡ Some (image_of (paths_after (job ∷ before)) (files_after (job ∷ before)))
   unfolding image

@@ -202,5 +202,5 @@ module _ (p : Paths) (f : Files) (q : Paths) (g : Files) (apart : AreShards p f 
       ∙ passing_joined (λ (e : Entry). true) p f q g apart
       ∙ (λ i. by_name (names (all_pass (map'.entries f) i) ++ names (all_pass (map'.entries g) i)))
 
-  pub names_joined : (bytes : List ℕ) (holds : HoldsContent bytes (join_paths p q) (join_files q f g)) → holds.names ≡ by_name (map'.keys f ++ map'.keys g)
+  pub names_joined : (bytes : List ℕ) (holds : HoldsContent bytes (join_paths p q) (join_files q f g)) → holds.parts.names ≡ by_name (map'.keys f ++ map'.keys g)
   names_joined bytes holds = sym (held_names bytes (join_paths p q) (join_files q f g) holds) ∙ keys_joined

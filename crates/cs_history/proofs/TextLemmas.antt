@@ -2,10 +2,11 @@
 use Rattle.std.proofs.Common.{◌≡◌, ℕ, List, [], ◌∷◌, refl, subst, Option, Some, None}
 use Rattle.cs_trigram.specs.Trigram.{trigram_sequence, tri, Ascends as Rises, Ascends}
 use Rattle.cs_trigram.specs.TrigramSets.{IsTrigramSet}
-use Rattle.cs_trigram.specs.Text.{first_broken, too_many, skip, none_skipped, text_trigrams}
+use Rattle.cs_trigram.specs.Text.{first_broken, too_many, skip, text_trigrams}
 use Rattle.cs_trigram.specs.declared.limits.Limits.{Limits}
 use Rattle.cs_trigram.specs.declared.scan.Reason.{Reason}
 use Rattle.cs_trigram.proofs.SetLemmas.{ascends_set}
+use Rattle.cs_trigram.proofs.LawLemmas.{none_skipped}
 use Rattle.cs_trigram.proofs.RuleLemmas.{option_or-none, tri_below}
 
 -- the set of a scan is one of an index

@@ -1,8 +1,7 @@
 -- Jobs over trees, one after another, and the index that they amount to. Each job has a tree of its
 -- own, and nothing ties one to the next. docs/PROMISES.md, "Histories".
-use Rattle.std.specs.Prelude.{ℕ, nat_eq, if◌then◌else◌, List, [], ◌++◌, Option, Some, None, option_map, filter_map}
+use Rattle.std.specs.Prelude.{ℕ, nat_eq, if◌then◌else◌, List, [], ◌++◌, Option, Some, None}
 use Rattle.cs_tree.specs.PathSet.{Paths}
-use Rattle.cs_tree.specs.NameOrder.{bytes_cmp}
 use Rattle.std.specs.FinMap as map
 use Rattle.cs_tree.specs.PathSet as set
 use Rattle.cs_tree.specs.Cover.{is_covered, least}
@@ -44,31 +43,29 @@ walked_paths visit before = if nat_eq (set.len visit.given) 0 then paths_of befo
 
 -- ---- the text last read
 
--- what is kept of files, by any reading of texts, and of an index that was handed in
-module _ {X : Type 0} (read : List ℕ → Option X) (spelled : Parts → map.FinMap bytes_cmp X) where
-  -- of a name: what the latest job whose paths cover it found there, and nothing where that found nothing
-  abbrev pub kept_at : History → List ℕ → Option X
-  kept_at nothing name = None
-  kept_at (handed_in bytes parts) name = map.get (spelled parts) name
-  kept_at (visit ⊳ before) name =
-      if is_covered (walked_paths visit before) name then map.get (files_reached read visit.tree (walked_paths visit before)) name
-      else kept_at before name
+-- what a job finds: each text, with its trigrams
+abbrev pub files_found : Visit → History → Files
+files_found visit before = files_reached (text_trigrams limits) visit.tree (walked_paths visit before)
 
-  -- the names that some job found
-  abbrev pub names_found : History → List (List ℕ)
-  names_found nothing = []
-  names_found (handed_in bytes parts) = map.keys (spelled parts)
-  names_found (visit ⊳ before) = map.keys (files_reached read visit.tree (walked_paths visit before)) ++ names_found before
+-- of a name: what the latest job whose paths cover it found there, and nothing where that found nothing
+abbrev pub kept_at : History → List ℕ → Option (List ℕ)
+kept_at nothing name = None
+kept_at (handed_in bytes parts) name = map.get (files_in parts) name
+kept_at (visit ⊳ before) name =
+    if is_covered (walked_paths visit before) name then map.get (files_found visit before) name
+    else kept_at before name
 
-  -- each name of which something is kept, with that
-  abbrev pub kept_files : History → map.FinMap bytes_cmp X
-  kept_files history = map.from_entries (with_values (kept_at history) (names_found history))
+-- the names that some job found
+abbrev pub names_found : History → List (List ℕ)
+names_found nothing = []
+names_found (handed_in bytes parts) = map.keys (files_in parts)
+names_found (visit ⊳ before) = map.keys (files_found visit before) ++ names_found before
 
 -- ---- the index
 
--- the files of the index: each name with the trigrams of the text that was last read there
+-- the files of the index: each name of which something is kept, with the trigrams of the text that was last read there
 abbrev pub files_of : History → Files
-files_of history = kept_files (text_trigrams limits) files_in history
+files_of history = map.from_entries (with_values (kept_at history) (names_found history))
 
 -- The index that the jobs amount to: built at once from the paths that remain and the files. No index
 -- of an earlier job occurs in it. Before any job it is what was handed in, and without that there is none.

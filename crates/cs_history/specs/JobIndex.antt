@@ -1,15 +1,11 @@
--- What one job finds, and the index of that alone.
+-- The index of what one job finds, alone.
 use Rattle.std.specs.Prelude.{ℕ, List}
 use Rattle.cs_tree.specs.PathSet.{Paths}
 use Rattle.cs_tree.specs.Snapshot.{Snapshot}
 use Rattle.cs_tree.specs.Reached.{files_reached}
 use Rattle.cs_trigram.specs.Text.{text_trigrams, limits}
-use Rattle.cs_index.specs.Image.{Files, image}
+use Rattle.cs_index.specs.Image.{image}
 use Rattle.cs_history.specs.History.{Visit, History, walked_paths}
-
--- what a job finds: each text, with its trigrams
-abbrev pub files_found : Visit → History → Files
-files_found visit before = files_reached (text_trigrams limits) visit.tree (walked_paths visit before)
 
 -- the index of what a walk from the paths finds in the tree: each text, with its trigrams
 abbrev pub tree_index : Snapshot → Paths → List ℕ

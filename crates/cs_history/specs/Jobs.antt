@@ -1,9 +1,9 @@
 -- What jobs and their replies make of a history.
 -- docs/PROMISES.md, "Histories"; the comment of Go's command cindex.
-use Rattle.std.specs.Prelude.{◌≡◌, ℕ, Bool, true, false, nat_eq, if◌then◌else◌, List, [], ◌∷◌, None, map, string_bytes, length}
+use Rattle.std.specs.Prelude.{◌≡◌, ℕ, Bool, true, false, nat_eq, if◌then◌else◌, List, None, map, string_bytes, length}
 use Rattle.std.specs.Path.{slash}
 use Rattle.cs_tree.specs.PathSet.{Paths}
-use Rattle.std.specs.List.{AllByRecursion}
+use Rattle.std.specs.List.{AllByRecursion, fold, zip}
 use Rattle.cs_tree.specs.PathSet as set
 use Rattle.cs_tree.specs.Snapshot.{Snapshot}
 use Rattle.cs_tree.specs.Cover.{is_absolute}
@@ -69,7 +69,5 @@ after before job tree (Refused fault) = before
 
 -- jobs in order, each with its tree and its reply
 abbrev pub history_after : History → List IndexJob → List Snapshot → List Reply → History
-history_after before [] trees replies = before
-history_after before (job ∷ jobs) [] replies = before
-history_after before (job ∷ jobs) (tree ∷ trees) [] = before
-history_after before (job ∷ jobs) (tree ∷ trees) (reply ∷ replies) = history_after (after before job tree reply) jobs trees replies
+history_after before jobs trees replies =
+    fold (λ so_far one. after so_far one.0 one.1.0 one.1.1) before (zip jobs (zip trees replies))

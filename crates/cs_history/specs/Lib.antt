@@ -13,8 +13,8 @@ pub use Rattle.cs_merge.specs.Join
 pub use Rattle.cs_merge.specs.Joinable
 pub use Rattle.cs_merge.specs.Content
 pub mod Headline
-pub mod SearchHeadline
 pub mod Premises
+pub mod Left
 pub mod History
 pub mod WellFormed
 pub mod Beginning
@@ -22,7 +22,6 @@ pub mod Jobs
 pub mod JobIndex
 pub mod FileTrigrams
 pub mod Meeting
-pub mod Left
 pub mod JobKinds
 pub mod Replies
 pub mod Shards

@@ -1,5 +1,5 @@
 -- What the main promise rests on. docs/PROMISES.md, "The main promise".
-use Rattle.std.specs.Prelude.{◌≡◌, ◌<◌, ◌^◌, ℕ, List, Option, IfSome, length, unwrap_or}
+use Rattle.std.specs.Prelude.{◌≡◌, ◌<◌, ◌^◌, ℕ, List, [], Option, Some, IfSome, length, unwrap_or}
 use Rattle.cs_tree.specs.Folders.{Tells}
 use Rattle.std.specs.List.{AllByRecursion}
 use Rattle.cs_tree.specs.Snapshot.{Snapshot}

@@ -1,6 +1,7 @@
 -- Why a job is refused, where the index is the one that some earlier jobs left.
 -- docs/PROMISES.md, "Refusals of cindex".
 use Rattle.std.specs.Prelude.{◌≡◌, ◌≢◌, ◌≤◌, ◌^◌, ◌⊎◌, ◌↔◌, ℕ, true, false, if◌then◌else◌, List, [], ◌∷◌, length, position, Option, Some, None, is_some, string_bytes}
+use Rattle.std.specs.List.{zip}
 use Rattle.cs_tree.specs.Cleaning.{clean_fault}
 use Rattle.cs_tree.specs.Snapshot.{Snapshot}
 use Rattle.cs_index.specs.declared.fault.IndexFault.{IndexFault}
@@ -55,10 +56,11 @@ pub record IsRightReply (before : History) (job : IndexJob) (tree : Snapshot) (r
   pub bad_index : (fault : IndexFault) → reply ≢ Refused (BadIndex fault)
   pub unsorted : reply ≢ Refused Unsorted
 
--- jobs in order, each reply right after the jobs before it
+-- jobs in order, each with its tree and a reply that is right after the jobs before it
+abbrev pub AreRightAfter : History → List (IndexJob × (Snapshot × Reply)) → Type 0
+AreRightAfter before [] = Unit {0}
+AreRightAfter before (one ∷ more) =
+    IsRightReply before one.0 one.1.0 one.1.1 × AreRightAfter (after before one.0 one.1.0 one.1.1) more
+
 abbrev pub AreRightReplies : History → List IndexJob → List Snapshot → List Reply → Type 0
-AreRightReplies before [] trees replies = Unit {0}
-AreRightReplies before (job ∷ jobs) [] replies = Unit {0}
-AreRightReplies before (job ∷ jobs) (tree ∷ trees) [] = Unit {0}
-AreRightReplies before (job ∷ jobs) (tree ∷ trees) (reply ∷ replies) =
-    IsRightReply before job tree reply × AreRightReplies (after before job tree reply) jobs trees replies
+AreRightReplies before jobs trees replies = AreRightAfter before (zip jobs (zip trees replies))

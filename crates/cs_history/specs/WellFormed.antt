@@ -5,10 +5,9 @@ use Rattle.cs_tree.specs.Folders.{IsTree, are_distinct}
 use Rattle.cs_tree.specs.PathSet.{Paths}
 use Rattle.std.specs.List.{list_all}
 use Rattle.cs_tree.specs.PathSet as set
-use Rattle.cs_tree.specs.Cover.{is_covered}
 use Rattle.cs_tree.specs.Cleaning.{is_settled}
-use Rattle.cs_index.specs.Spelling.{SpellsParts}
-use Rattle.cs_index.specs.OpenedParts.{Parts, are_whole, paths_in}
+use Rattle.cs_index.specs.Spelling.{Spells}
+use Rattle.cs_index.specs.OpenedParts.{Parts, are_covered, are_whole}
 use Rattle.cs_history.specs.History.{Visit, History, nothing, handed_in, ◌⊳◌}
 
 -- ---- paths
@@ -33,12 +32,12 @@ pub record IsVisit (visit : Visit) : Type 0 where
 pub record IsJoinable (parts : Parts) : Type 0 where
   pub whole : are_whole parts ≡ true
   pub distinct : are_distinct parts.names ≡ true
-  pub covered : list_all (is_covered (paths_in parts)) parts.names ≡ true
+  pub covered : are_covered parts ≡ true
 
 -- An index that a history may begin with, whoever wrote it: the bytes spell these parts, each path is as cleaning
 -- gives it, and it can be joined to another one.
 pub record IsBeginning (bytes : List ℕ) (parts : Parts) : Type 0 where
-  pub spelled : SpellsParts bytes parts
+  pub spelled : Spells bytes parts
   pub settled : list_all is_settled parts.paths ≡ true
   pub joinable : IsJoinable parts
 

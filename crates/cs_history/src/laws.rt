@@ -11,22 +11,21 @@ ghost use Rattle.cs_tree.specs.Snapshot.{Snapshot};
 ghost use Rattle.cs_tree.specs.Reached.{files_reached};
 ghost use Rattle.cs_index.specs.Image.{Files, image};
 ghost use Rattle.cs_index.specs.Opening.{opening};
-ghost use Rattle.cs_index.specs.OpenedParts.{Parts, paths_in, files_in};
+ghost use Rattle.cs_index.specs.OpenedParts.{Parts, lists_in, paths_in, files_in};
 ghost use Rattle.cs_trigram.specs.Text.{text_trigrams, limits};
 ghost use Rattle.cs_merge.specs.Join.{join_files, join_paths};
 ghost use Rattle.cs_merge.specs.Joinable.{joined_index};
 ghost use Rattle.cs_merge.specs.Content.{IsContent, LieUnder, HoldsContent};
-ghost use Rattle.cs_history.specs.History.{History, nothing, handed_in, ◌⊳◌, Visit, kept_files, walked_paths, paths_of, files_of, index_of};
-ghost use Rattle.cs_history.specs.JobIndex.{files_found, tree_index, visit_index};
+ghost use Rattle.cs_history.specs.History.{History, nothing, handed_in, ◌⊳◌, Visit, walked_paths, paths_of, files_found, files_of, index_of};
+ghost use Rattle.cs_history.specs.JobIndex.{tree_index, visit_index};
 ghost use Rattle.cs_history.specs.FileTrigrams.{file_trigrams, ReadAsIndexed};
 ghost use Rattle.cs_history.specs.WellFormed.{AreClean, IsBeginning, IsHistory};
 ghost use Rattle.cs_history.specs.Beginning.{HasBeginning};
-ghost use Rattle.cs_history.specs.Left.{HasLeft};
+ghost use Rattle.cs_history.specs.Left.{HasLeft, IsByJobs, indexed_names};
 ghost use Rattle.cs_history.specs.Jobs.{given_paths, has_no_path, AreTaken, IsFitting, after, history_after};
 ghost use Rattle.cs_history.specs.Premises.{snapshot_told, Premises};
 ghost use Rattle.cs_history.specs.Replies.{NeedsIndex, IsFirstBad, IsRightReply, AreRightReplies};
 ghost use Rattle.cs_history.specs.Headline.{Indexes};
-ghost use Rattle.cs_history.specs.SearchHeadline.{IsByJobs, indexed_names};
 ghost use Rattle.cs_history.specs.Shards.{LieBeside, AreShards, files_of_both, by_name, searched_names};
 ghost use Rattle.cs_trigram.specs.declared.queries.Query.{Query};
 ghost use Rattle.cs_words.specs.declared.jobs.IndexJob.{IndexJob};
@@ -47,11 +46,9 @@ pub fn histories_may_begin_with_an_index()
 
 /// Joining what is kept with what one more job found gives what is kept after that job.
 pub fn joining_keeps()
-    ensures files { (read : List ℕ → Option (List ℕ)) (spelled : Parts → Files)
-        (history : History) (visit : Visit) →
-        join_files (walked_paths visit history) (kept_files read spelled history)
-        (files_reached read visit.tree (walked_paths visit history)) ≡
-        kept_files read spelled (visit ⊳ history) }
+    ensures files { (history : History) (visit : Visit) →
+        join_files (walked_paths visit history) (files_of history) (files_found visit history) ≡
+        files_of (visit ⊳ history) }
     ensures paths { (history : History) (visit : Visit) →
         join_paths (paths_of history) (walked_paths visit history) ≡ paths_of (visit ⊳ history) }
 {}
@@ -176,12 +173,13 @@ pub fn indexes_tell_their_content()
 pub fn still_reading_agrees()
     ensures names { (history : History) (bytes : List ℕ) (paths : Paths) (files : Files) →
         HasLeft history bytes → IsByJobs history → (holds : HoldsContent bytes paths files) →
-        indexed_names history ≡ holds.names }
+        indexed_names history ≡ holds.parts.names }
     ensures sets { (history : History) (bytes : List ℕ) (paths : Paths) (files : Files)
         (tree : Snapshot) → HasLeft history bytes → IsByJobs history →
         ReadAsIndexed tree (map'.entries (files_of history)) →
-        (holds : HoldsContent bytes paths files) (id : ℕ) (d : List ℕ) → id < length holds.names →
-        file_trigrams tree (slice_index_or holds.names id d) ≡ Some (set_at id holds.lists) }
+        (holds : HoldsContent bytes paths files) (id : ℕ) (d : List ℕ) →
+        id < length holds.parts.names → file_trigrams tree (slice_index_or holds.parts.names id d) ≡
+        Some (set_at id (lists_in holds.parts)) }
 {}
 
 /// There is no index exactly where no job is left, and none was handed in.
@@ -247,7 +245,7 @@ pub fn shards_join_by_name()
         map'.contains_key f name ≡ true → map'.contains_key g name ≡ false }
     ensures names { (p q : Paths) (f g : Files) (bytes : List ℕ) → AreShards p f q g →
         (holds : HoldsContent bytes (join_paths p q) (join_files q f g)) →
-        holds.names ≡ by_name (map'.keys f ++ map'.keys g) }
+        holds.parts.names ≡ by_name (map'.keys f ++ map'.keys g) }
     ensures searched { (p q : Paths) (f g : Files) (query : Query) (keeps : List ℕ → Bool) →
         AreShards p f q g → searched_names query keeps (join_files q f g) ≡
         by_name (searched_names query keeps f ++ searched_names query keeps g) }

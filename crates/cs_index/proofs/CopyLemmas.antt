@@ -3,8 +3,9 @@ use Rattle.std.proofs.Common.{◌≡◌, ℕ, zero, suc, ◌+◌, ◌-◌, ◌*�
 use Rattle.std.proofs.lemmas.List.{drop-drop, take-append-drop}
 use Rattle.std.specs.Prelude.{option_map, option_and_then, bytes_eq}
 use Rattle.cs_index.specs.Image.{ListEntry, three_bytes}
-use Rattle.cs_index.specs.PostingLists.{Ids, after_delta, below_limit, damage, is_zero, onto, read_ids, read_list, read_varint, varint_at}
+use Rattle.cs_index.specs.PostingLists.{Ids, damage, onto, read_ids, read_list, read_varint, varint_at}
 use Rattle.cs_index.specs.Copies.{IsCopy, endless, piece_of}
+use Rattle.cs_index.proofs.VarintLemmas.{after_delta, below_limit, is_zero}
 
 -- ---- numbers at the front of bytes that were cut
 

@@ -5,7 +5,8 @@ use Rattle.cs_index.specs.Postings.{entry_of}
 use Rattle.std.proofs.lemmas.Bool.{and_parts, eq-eqb, ne_eqb, ltb-true, cases_order}
 use Rattle.std.proofs.lemmas.List.{length_push}
 use Rattle.cs_index.specs.Image.{with_nul, starts_from}
-use Rattle.cs_index.specs.Opening.{has_starts, number_at, trigram_at, numbers_from, entry_at, entries_from, entries_in, rises}
+use Rattle.cs_index.specs.Opening.{number_at, trigram_at, numbers_from, entry_at, entries_from, entries_in, rises}
+use Rattle.cs_index.specs.SectionsRead.{has_starts}
 use Rattle.std.proofs.Math.Bool.{and-false, and-true}
 
 -- ---- offsets of names

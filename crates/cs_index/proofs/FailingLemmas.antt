@@ -6,7 +6,8 @@ use Rattle.std.specs.List.{starts_with, ends_with, concat}
 use Rattle.std.specs.Cmp.Lexicographic.{bytes_decides}
 use Rattle.cs_tree.specs.ByteList.{AreBytes}
 use Rattle.cs_index.specs.Image.{with_nul, SectionBytes, magic, trailer_magic, ListEntry}
-use Rattle.cs_index.specs.Opening.{is_names_section, cut_before, cut_of, entries_in, has_trailer, is_list_index, is_name_index, is_section, opening, parts_of, read_cut, read_sections, texts_of}
+use Rattle.cs_index.specs.Opening.{is_names_section, cut_before, cut_of, entries_in, has_trailer, is_list_index, is_name_index, is_section, opening, parts_of, read_sections, texts_of}
+use Rattle.cs_index.specs.SectionsRead.{read_cut}
 use Rattle.cs_index.specs.OpenedParts.{Parts}
 use Rattle.cs_index.specs.Failing.{HasMagic, HasTrailer, HavePaths, HaveNames, Fails}
 use Rattle.cs_index.specs.Spelling.{AreLaid, AreEntries, AreNames, AreOffsets, AreStrings}

@@ -1,11 +1,12 @@
 -- A step of the reading of ids.
 use Rattle.std.proofs.Common.{◌≡◌, ℕ, zero, suc, ◌+◌, ◌-◌, ◌<◌, ◌≤◌, cond, ltb, ◌&&◌, true, false, Bool, List, [], ◌∷◌, Some, Ok, Err, refl, sym, ap, ◌∙◌, inl, inr, ◌⊎◌, arith}
 use Rattle.cs_index.specs.Postings.{ids_given}
-use Rattle.cs_index.specs.PostingLists.{read_varint, Ids, damage, onto, after_delta, read_ids}
+use Rattle.cs_index.specs.PostingLists.{read_varint, Ids, damage, onto, read_ids}
 use Rattle.std.proofs.lemmas.Bool.{lt-ltb, le-ltb, and_from}
 use Rattle.cs_index.specs.declared.fault.IndexFault.TheVariants.{BadList}
 use Rattle.cs_index.specs.ListRest.{ids_left}
 use Rattle.std.proofs.Math.Bool.{and-false}
+use Rattle.cs_index.proofs.VarintLemmas.{after_delta}
 
 pub step_ok : (ended : Bool) (name_count left next delta : ℕ) (bytes rest rest' : List ℕ) (now : Ids) → ended ≡ false → (left ≡ 0 → ⊥) → ids_left ended name_count left next bytes ≡ now → read_varint bytes ≡ Some (delta, rest) → rest' ≡ rest → (delta ≡ 0 → ⊥) → delta ≤ name_count - next → next ≤ name_count → ids_given now ≡ Ok (next + delta - 1) ∷ ids_given (ids_left ended name_count (left - 1) (next + delta) rest')
 step_ok ended name_count zero next delta bytes rest rest' now runs some is read same above within order = absurd (some refl)

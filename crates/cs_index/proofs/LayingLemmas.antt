@@ -3,7 +3,8 @@ use Rattle.std.proofs.Common.{◌≡◌, ℕ, ◌+◌, ◌-◌, ◌<◌, ◌≤�
 use Rattle.std.proofs.lemmas.List.{append-nil, length_push}
 use Rattle.std.specs.Prelude.{flat_map}
 use Rattle.std.specs.List.{AllByRecursion, concat}
-use Rattle.cs_index.specs.Image.{closing_list, four_bytes, entry_bytes, starts_from, SectionBytes, in_order, magic, sections_of, strings_section, trailer, trailer_magic, layout, list_entries, posting_list, with_nul, ListEntry, Posting}
+use Rattle.cs_trigram.specs.Trigram.{closing_trigram}
+use Rattle.cs_index.specs.Image.{four_bytes, entry_bytes, starts_from, SectionBytes, in_order, magic, sections_of, strings_section, trailer, trailer_magic, layout, list_entries, posting_list, with_nul, ListEntry, Posting}
 use Rattle.cs_index.specs.Laying.{entry_from, front_of}
 
 pub starts_below : (limit at : ℕ) (pieces : List (List ℕ)) → at + length (concat pieces) < limit →
@@ -129,10 +130,10 @@ front_2_long paths names ps bytes more is also =
     omega (arith, first, text, whole, same)
 
 pub third_is : (paths names : List (List ℕ)) (ps : List Posting) (bytes third : List ℕ) →
-    bytes ≡ front_of paths names ++ concat (map posting_list ps) → third ≡ bytes ++ closing_list →
+    bytes ≡ front_of paths names ++ concat (map posting_list ps) → third ≡ bytes ++ (posting_list (closing_trigram, [])) →
     third ≡ front_3 (sections_of paths names ps)
-third_is paths names ps bytes third is also = also ∙ ap (λ bs. bs ++ closing_list) is
-    ∙ append_assoc (front_of paths names) (concat (map posting_list ps)) closing_list
+third_is paths names ps bytes third is also = also ∙ ap (λ bs. bs ++ (posting_list (closing_trigram, []))) is
+    ∙ append_assoc (front_of paths names) (concat (map posting_list ps)) (posting_list (closing_trigram, []))
 
 pub list_index_is : (paths names : List (List ℕ)) (ps : List Posting) (entries : List ListEntry) (start : ℕ) →
     entries ≡ list_entries (length (front_of paths names)) ps → start ≡ length (front_of paths names) →

@@ -7,7 +7,8 @@ use Rattle.std.proofs.lemmas.List.{drop_at, drop-drop}
 use Rattle.std.specs.Prelude.{flat_map, bytes_eq}
 use Rattle.std.specs.List.{AllByRecursion, AllZip, concat}
 use Rattle.std.specs.Cmp.Lexicographic.{bytes_decides}
-use Rattle.cs_index.specs.Image.{three_bytes, varint, Posting, posting_list, deltas_from, ListEntry, list_entries, Entry, ids_from, postings_of, trigrams_of, closing_list}
+use Rattle.cs_trigram.specs.Trigram.{closing_trigram}
+use Rattle.cs_index.specs.Image.{three_bytes, varint, Posting, posting_list, deltas_from, ListEntry, list_entries, Entry, ids_from, postings_of, trigrams_of}
 use Rattle.cs_index.proofs.VarintLemmas.{ids_read}
 use Rattle.cs_index.proofs.SpellingLemmas.{ids_rise}
 
@@ -39,5 +40,5 @@ all_rise name_count entries [] h = tt
 all_rise name_count entries (g ∷ gs) h = (ids_rise name_count 0 g entries (omega (arith, h)), all_rise name_count entries gs h)
 
 -- each list of an image
-pub image_lists : (entries : List Entry) → length entries < 2 ^ 31 → AllZip (λ (e : ListEntry) (p : Posting). IsList (concat (map posting_list (postings_of entries)) ++ closing_list) (length entries) e p.1) (list_entries 0 (postings_of entries)) (postings_of entries)
-image_lists entries bound = lists_are [] closing_list (postings_of entries) (length entries) (omega (arith, bound)) (all_rise (length entries) entries (trigrams_of entries) (omega arith))
+pub image_lists : (entries : List Entry) → length entries < 2 ^ 31 → AllZip (λ (e : ListEntry) (p : Posting). IsList (concat (map posting_list (postings_of entries)) ++ (posting_list (closing_trigram, []))) (length entries) e p.1) (list_entries 0 (postings_of entries)) (postings_of entries)
+image_lists entries bound = lists_are [] (posting_list (closing_trigram, [])) (postings_of entries) (length entries) (omega (arith, bound)) (all_rise (length entries) entries (trigrams_of entries) (omega arith))

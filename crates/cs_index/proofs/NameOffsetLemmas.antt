@@ -45,7 +45,7 @@ unfolding is_name_index
 name_begins names name_index id is index h =
     let texts : List (List ℕ) = texts_of names in
     let starts : List ℕ = starts_from 0 (map with_nul texts) in
-    let both = and_parts (eqb (length name_index) (0 + 4 * (length texts + 1))) (bytes_eq (numbers_from name_index 0 (length texts)) starts) index in
+    let both = and_parts (eqb (length name_index) (4 * (length texts + 1))) (bytes_eq (numbers_from name_index 0 (length texts)) starts) index in
     let numbers : numbers_from name_index 0 (length texts) ≡ starts = (bytes_decides (numbers_from name_index 0 (length texts)) starts).0 both.1 in
     let offset : number_at name_index (4 * id) ≡ get_or starts id 0 =
     ap (number_at name_index) (let z : 4 * id ≡ 0 + 4 * id = omega arith in z) ∙ sym (number_in name_index 0 (length texts) id h) ∙ ap (λ (ns : List ℕ). get_or ns id 0) numbers in

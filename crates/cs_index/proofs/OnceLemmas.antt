@@ -6,6 +6,7 @@ use Rattle.std.specs.Prelude.{flat_map}
 use Rattle.std.specs.Int.{from_be_bytes, w32}
 use Rattle.std.specs.List.{AllByRecursion, concat}
 use Rattle.cs_index.specs.Image.{three_bytes, four_bytes, with_nul, starts_from, SectionBytes, in_order, trailer, trailer_magic, magic, layout, ListEntry, entry_bytes, IsString}
+use Rattle.cs_index.specs.OpenedParts.{Parts}
 use Rattle.cs_index.specs.Spelling.{AreLaid, AreStrings, IsEntry, Spells}
 
 pub apart : (a b c d : List ℕ) → length a ≡ length c → a ++ b ≡ c ++ d → (a ≡ c) × (b ≡ d)
@@ -140,12 +141,13 @@ pub names_tail : (section : List ℕ) (names : List (List ℕ)) → AreStrings (
 names_tail section names (inl are) = (0 ∷ [], are, inr refl)
 names_tail section names (inr are) = ([], are, inl refl)
 
-pub spelled_once : (bytes : List ℕ) (p q n m : List (List ℕ)) (d e : List ListEntry) → Spells bytes p n d → Spells bytes q m e → (p ≡ q) × (n ≡ m) × (d ≡ e)
-spelled_once bytes p q n m d e g h =
+pub spelled_once : (bytes : List ℕ) (one other : Parts) → Spells bytes one → Spells bytes other → one ≡ other
+spelled_once bytes one other g h =
     let s = laid_once bytes g.sections h.sections g.are_laid h.are_laid in
-    let a = names_tail g.sections.names n g.names_are in
-    let b = names_tail h.sections.names m h.names_are in (
-      strings_once p q (0 ∷ []) (0 ∷ []) g.paths_are.0 h.paths_are.0 (inr refl) (inr refl) (sym g.paths_are.1 ∙ ap (λ (t : SectionBytes). t.paths) s ∙ h.paths_are.1),
-      strings_once n m a.0 b.0 a.1.0 b.1.0 a.2 b.2 (sym a.1.1 ∙ ap (λ (t : SectionBytes). t.names) s ∙ b.1.1),
-      entries_once d e g.sections.postings h.sections.postings g.list_index_is.0 h.list_index_is.0 (sym g.list_index_is.2 ∙ ap (λ (t : SectionBytes). t.list_index) s ∙ h.list_index_is.2),
-    )
+    let a = names_tail g.sections.names one.names g.names_are in
+    let b = names_tail h.sections.names other.names h.names_are in
+    let paths : one.paths ≡ other.paths = strings_once one.paths other.paths (0 ∷ []) (0 ∷ []) g.paths_are.0 h.paths_are.0 (inr refl) (inr refl) (sym g.paths_are.1 ∙ ap (λ (t : SectionBytes). t.paths) s ∙ h.paths_are.1) in
+    let names : one.names ≡ other.names = strings_once one.names other.names a.0 b.0 a.1.0 b.1.0 a.2 b.2 (sym a.1.1 ∙ ap (λ (t : SectionBytes). t.names) s ∙ b.1.1) in
+    let entries : one.entries ≡ other.entries = entries_once one.entries other.entries g.sections.postings h.sections.postings g.list_index_is.0 h.list_index_is.0 (sym g.list_index_is.2 ∙ ap (λ (t : SectionBytes). t.list_index) s ∙ h.list_index_is.2) in
+    let postings : one.postings ≡ other.postings = sym g.postings_are ∙ ap (λ (t : SectionBytes). t.postings) s ∙ h.postings_are in
+    λ i. record { paths = paths i; names = names i; entries = entries i; postings = postings i }

@@ -31,8 +31,8 @@ cut_there bytes h g = ap (λ b. cond (not b) (Err BadMagic) (cut_ended bytes)) h
 pub offsets_long : (bytes : List ℕ) (names : List (List ℕ)) → is_name_index bytes names ≡ true → length bytes ≡ 4 * (length names + 1)
 unfolding is_name_index
 offsets_long bytes names h =
-    let both = and_parts (eqb (length bytes) (0 + 4 * (length names + 1))) (bytes_eq (numbers_from bytes 0 (length names)) (starts_from 0 (map with_nul names))) h in
-    let long = eqb-true (length bytes) (0 + 4 * (length names + 1)) both.0 in
+    let both = and_parts (eqb (length bytes) (4 * (length names + 1))) (bytes_eq (numbers_from bytes 0 (length names)) (starts_from 0 (map with_nul names))) h in
+    let long = eqb-true (length bytes) (4 * (length names + 1)) both.0 in
     omega (arith, long)
 
 pub entries_rise : (room : ℕ) (bytes : List ℕ) → is_list_index room bytes ≡ true → rises (entries_in bytes) ≡ true

@@ -1,7 +1,7 @@
 -- Bytes open where they are spelled.
 use Rattle.std.proofs.Common.{◌≡◌, ℕ, zero, suc, ◌+◌, ◌-◌, ◌*◌, ◌/◌, ◌%◌, ◌<◌, ◌≤◌, ◌^◌, Bool, true, false, not, cond, ◌&&◌, ◌||◌, eqb, ltb, leb, List, [], ◌∷◌, ◌++◌, length, map, take, drop, get_or, Result, Ok, Err, refl, sym, ap, subst, ◌∙◌, ◌⊎◌, inl, inr, arith, append_assoc, length-append, length-drop, length-take}
 use Rattle.cs_tree.specs.ByteList.{AreBytes}
-use Rattle.cs_index.specs.Spelling.{AreEntries, AreOffsets, AreStrings, SpellsParts, IsEntry}
+use Rattle.cs_index.specs.Spelling.{AreEntries, AreOffsets, AreStrings, Spells, IsEntry}
 use Rattle.cs_trigram.specs.Trigram.{Ascends}
 use Rattle.std.proofs.lemmas.Bool.{or_cases, or_left, or_right, and_parts, and_from, cases_lt, eqb-true, eq-eqb, leb-true, le-leb, ltb-true, lt-ltb}
 use Rattle.std.proofs.lemmas.List.{take_at, drop_at, append-nil, drop_all, length-map}
@@ -13,7 +13,8 @@ use Rattle.cs_index.specs.declared.fault.IndexFault.{IndexFault}
 use Rattle.cs_index.specs.declared.fault.IndexFault.TheVariants.{BadMagic, BadTrailer, BadOffsets, BadPaths, BadNames, BadNameIndex, BadListIndex}
 use Rattle.cs_index.specs.Image.{four_bytes, with_nul, starts_from, in_order, SectionBytes, magic, trailer, trailer_magic, layout, ListEntry, entry_bytes, name_offsets}
 use Rattle.cs_index.proofs.OpenLemmas.{cut_ended, cut_there, offsets_long}
-use Rattle.cs_index.specs.Opening.{are_starts, cut_at, cut_before, cut_of, entries_from, entries_in, entry_at, has_trailer, is_entry, is_list_index, is_name_index, is_section, number_at, numbers_from, opening, parts_of, read_cut, read_sections, rises, texts_of}
+use Rattle.cs_index.specs.Opening.{are_starts, cut_at, cut_before, cut_of, entries_from, entries_in, entry_at, has_trailer, is_entry, is_list_index, is_name_index, is_section, number_at, numbers_from, opening, parts_of, read_sections, rises, texts_of}
+use Rattle.cs_index.specs.SectionsRead.{read_cut}
 use Rattle.cs_index.specs.OpenedParts.{Parts}
 use Rattle.cs_index.proofs.OnceLemmas.{lengths, names_tail, small_trigram, starts_fit}
 use Rattle.cs_index.proofs.BytePlaceLemmas.{Fits, entries_back, entries_laid, length-entries, length-fours, number_small, numbers_back, numbers_laid, slice_laid, slice_small}
@@ -126,8 +127,8 @@ name_index_spelled names last four short =
     let bytes : List ℕ = flat_map four_bytes starts ++ last in
     let count : length starts ≡ length names = length-starts_from 0 (map with_nul names) ∙ length-map names with_nul in
     let numbers : numbers_from bytes 0 (length names) ≡ starts = ap (numbers_from bytes 0) (sym count) ∙ numbers_laid [] starts last (starts_small 0 names (omega (arith, short))) in
-    let long : length bytes ≡ 0 + 4 * (length names + 1) = let a = length-append (flat_map four_bytes starts) last in let b = length-fours starts in omega (arith, a, b, four, count) in
-    and_from (eqb (length bytes) (0 + 4 * (length names + 1))) (bytes_eq (numbers_from bytes 0 (length names)) starts) (eq-eqb (length bytes) (0 + 4 * (length names + 1)) long) ((bytes_decides (numbers_from bytes 0 (length names)) starts).1 numbers)
+    let long : length bytes ≡ 4 * (length names + 1) = let a = length-append (flat_map four_bytes starts) last in let b = length-fours starts in omega (arith, a, b, four, count) in
+    and_from (eqb (length bytes) (4 * (length names + 1))) (bytes_eq (numbers_from bytes 0 (length names)) starts) (eq-eqb (length bytes) (4 * (length names + 1)) long) ((bytes_decides (numbers_from bytes 0 (length names)) starts).1 numbers)
 
 entries_fit : (postings : List ℕ) (es : List ListEntry) → AllByRecursion (IsEntry postings) es → AllByRecursion Fits es
 entries_fit postings [] all = tt
@@ -188,16 +189,15 @@ opens_sections s parts postings paths names offsets lists short =
     (list_index_spelled s.postings s.list_index parts.entries lists)
     (λ i. record { paths = path_texts i; names = texts i; entries = entries i; postings = postings i })
 
-pub opens_spelled : (bytes : List ℕ) (parts : Parts) → SpellsParts bytes parts → opening bytes ≡ Ok parts
+pub opens_spelled : (bytes : List ℕ) (parts : Parts) → Spells bytes parts → opening bytes ≡ Ok parts
 unfolding opening
-opens_spelled bytes parts h =
-    let spelled = h.spelled in
+opens_spelled bytes parts spelled =
     let s : SectionBytes = spelled.sections in
     let are = spelled.are_laid in
     let short : length (layout s) < 2 ^ 32 = subst (λ (bs : List ℕ). length bs < 2 ^ 32) are.laid are.short in
     let cut : cut_of bytes ≡ Ok s = ap cut_of are.laid ∙ cut_spelled s short in
     let l = lengths s in
-    ap read_cut cut ∙ opens_sections s parts h.postings spelled.paths_are spelled.names_are spelled.name_index_is spelled.list_index_is (omega (arith, l.whole, l.laid, short))
+    ap read_cut cut ∙ opens_sections s parts spelled.postings_are spelled.paths_are spelled.names_are spelled.name_index_is spelled.list_index_is (omega (arith, l.whole, l.laid, short))
 
 -- ---- what opens is laid out
 
@@ -326,7 +326,7 @@ unfolding is_name_index
 offsets_read bytes names small h =
     let starts : List ℕ = starts_from 0 (map with_nul names) in
     let long = offsets_long bytes names h in
-    let both = and_parts (eqb (length bytes) (0 + 4 * (length names + 1))) (bytes_eq (numbers_from bytes 0 (length names)) starts) h in
+    let both = and_parts (eqb (length bytes) (4 * (length names + 1))) (bytes_eq (numbers_from bytes 0 (length names)) starts) h in
     let numbers : numbers_from bytes 0 (length names) ≡ starts = (bytes_decides (numbers_from bytes 0 (length names)) starts).0 both.1 in
     let at : 0 + 4 * length names ≡ 4 * length names = omega arith in (
       drop (4 * length names) bytes,
@@ -388,24 +388,22 @@ names_read section h = elim (or_cases (is_section (0 ∷ []) section) (is_sectio
   | inr bare ↦ inr (section_read [] section bare)
 ]
 
-spells_parts : (bytes : List ℕ) (s : SectionBytes) (parts : Parts) → CutFrom bytes s → Pass s parts → SpellsParts bytes parts
+spells_parts : (bytes : List ℕ) (s : SectionBytes) (parts : Parts) → CutFrom bytes s → Pass s parts → Spells bytes parts
 spells_parts bytes s parts cut pass =
-    subst (SpellsParts bytes) pass.are (record {
-      spelled = record {
-        sections = s;
-        are_laid = record { laid = cut.laid; short = cut.short };
-        paths_are = section_read (0 ∷ []) s.paths pass.paths;
-        names_are = names_read s.names pass.names;
-        name_index_is = offsets_read s.name_index (texts_of s.names) cut.name_index pass.name_index;
-        list_index_is = list_index_read s.postings s.list_index cut.list_index pass.list_index;
-      };
-      postings = refl;
+    subst (Spells bytes) pass.are (record {
+      sections = s;
+      are_laid = record { laid = cut.laid; short = cut.short };
+      paths_are = section_read (0 ∷ []) s.paths pass.paths;
+      names_are = names_read s.names pass.names;
+      postings_are = refl;
+      name_index_is = offsets_read s.name_index (texts_of s.names) cut.name_index pass.name_index;
+      list_index_is = list_index_read s.postings s.list_index cut.list_index pass.list_index;
     })
 
-pub spells_opened : (bytes : List ℕ) (parts : Parts) → AreBytes bytes → opening bytes ≡ Ok parts → SpellsParts bytes parts
+pub spells_opened : (bytes : List ℕ) (parts : Parts) → AreBytes bytes → opening bytes ≡ Ok parts → Spells bytes parts
 unfolding opening
 spells_opened bytes parts are h = from_cut (cut_of bytes) refl h
   where
-    from_cut : (r : Result SectionBytes IndexFault) → cut_of bytes ≡ r → read_cut r ≡ Ok parts → SpellsParts bytes parts
+    from_cut : (r : Result SectionBytes IndexFault) → cut_of bytes ≡ r → read_cut r ≡ Ok parts → Spells bytes parts
     from_cut (Ok s) is read = spells_parts bytes s parts (cut_from bytes s (small_bytes bytes are) is) (pass_from s parts read)
     from_cut (Err fault) is read = cc

@@ -1,13 +1,14 @@
 -- Ids that pass a test, and ids of two lists.
 use Rattle.std.proofs.Common.{◌≡◌, ℕ, zero, suc, ◌+◌, ◌-◌, ◌<◌, ◌≤◌, Bool, true, false, cond, ◌&&◌, ◌||◌, eqb, ltb, List, [], ◌∷◌, ◌++◌, length, take, drop, get_or, set, refl, sym, ap, subst, ◌∙◌, ◌⊎◌, inl, inr, arith, Option, Some, None, append_assoc, length-drop, drop-cons}
 use Rattle.cs_index.specs.Rising.{RiseWithin}
-use Rattle.cs_index.specs.PostingLists.{read_varint, Ids, damage, onto, after_delta, read_ids}
+use Rattle.cs_index.specs.PostingLists.{read_varint, Ids, damage, onto, read_ids}
 use Rattle.cs_trigram.specs.Trigram.{has, Ascends}
 use Rattle.std.proofs.lemmas.Bool.{true≢false, and_parts, ltb-true, cases_Bool, cond_both, cases_order, eqb-true, eq-eqb, ne_eqb, lt-ltb, le-ltb, or_left}
 use Rattle.std.proofs.lemmas.List.{drop-drop, drop-set-lt, drop_all, get_or-drop, take_more_set}
 use Rattle.std.specs.Prelude.{filter}
 use Rattle.std.specs.List.{AllByRecursion, range_with_len}
 use Rattle.cs_trigram.proofs.SetLemmas.{Above, all_filter, ascends_cons, ascends_tail, ascends_head, below_none}
+use Rattle.cs_index.proofs.VarintLemmas.{after_delta}
 
 -- ---- filters
 

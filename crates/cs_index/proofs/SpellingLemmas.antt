@@ -1,13 +1,14 @@
 -- What is written is spelled so.
 use Rattle.std.proofs.Common.{◌≡◌, ℕ, ◌+◌, ◌^◌, ◌<◌, ◌≤◌, List, [], ◌∷◌, ◌++◌, length, map, refl, sym, ap, subst, ◌∙◌, inl, arith, length-append}
 use Rattle.cs_index.specs.Rising.{RiseWithin}
-use Rattle.cs_trigram.specs.Trigram.{has, Ascends}
+use Rattle.cs_trigram.specs.Trigram.{has, Ascends, closing_trigram}
 use Rattle.std.proofs.lemmas.Bool.{cond_both}
 use Rattle.std.specs.Prelude.{flat_map}
 use Rattle.std.specs.List.{AllByRecursion, concat}
-use Rattle.cs_index.specs.Image.{four_bytes, with_nul, Entry, ids_from, Posting, posting_list, postings_of, trigrams_of, closing_list, ListEntry, list_entries, SectionBytes, sections_of, names_of, image_of}
+use Rattle.cs_index.specs.Image.{four_bytes, with_nul, Entry, ids_from, Posting, posting_list, postings_of, trigrams_of, ListEntry, list_entries, SectionBytes, sections_of, names_of, image_of}
 use Rattle.cs_index.specs.Spelling.{IsEntry, Spells}
 use Rattle.cs_index.specs.Indexable.{IsIndexable}
+use Rattle.cs_index.specs.Roundtrip.{parts_written}
 use Rattle.cs_trigram.proofs.SetLemmas.{ascends_set, all_set}
 use Rattle.cs_tree.proofs.Gathering.{all-append}
 use Rattle.cs_index.proofs.OnceLemmas.{lengths}
@@ -71,16 +72,18 @@ postings_fit : (entries : List Entry) (gs : List ℕ) → length entries < 2 ^ 3
 postings_fit entries [] bound all = tt
 postings_fit entries (g ∷ gs) bound all = ((all.0, let n = few_ids 0 g entries in omega (arith, bound, n)), postings_fit entries gs bound all.1)
 
-pub image_spelled : (paths : List (List ℕ)) (entries : List Entry) → IsIndexable paths entries → Spells (image_of paths entries) paths (names_of entries) (list_entries 0 (postings_of entries))
+pub image_spelled : (paths : List (List ℕ)) (entries : List Entry) → IsIndexable paths entries → Spells (image_of paths entries) (parts_written paths entries)
+unfolding parts_written
 image_spelled paths entries h =
     let s : SectionBytes = sections_of paths (names_of entries) (postings_of entries) in
     let short : length s.postings < 2 ^ 32 = let l = lengths s in omega (arith, l.whole, l.laid, h.short) in
-    let whole : 0 + length (concat (map posting_list (postings_of entries))) + 4 ≡ length s.postings = let l = length-append (concat (map posting_list (postings_of entries))) closing_list in omega (arith, l) in
+    let whole : 0 + length (concat (map posting_list (postings_of entries))) + 4 ≡ length s.postings = let l = length-append (concat (map posting_list (postings_of entries))) (posting_list (closing_trigram, [])) in omega (arith, l) in
     record {
       sections = s;
       are_laid = record { laid = refl; short = h.short };
       paths_are = (h.each_path, refl);
       names_are = inl (h.each_name, refl);
+      postings_are = refl;
       name_index_is = (four_bytes (length (concat (map with_nul (names_of entries)))), refl, refl);
       list_index_is = (
         entries_fit s.postings 0 (postings_of entries) (postings_fit entries (trigrams_of entries) h.bound (all_set (λ g. g < 16777215) _ (all_sets (λ g. g < 16777215) entries h.trigrams))) whole short,
@@ -88,7 +91,3 @@ image_spelled paths entries h =
         refl,
       );
     }
-
-pub image_sections : (paths : List (List ℕ)) (entries : List Entry) (h : IsIndexable paths entries) → (image_spelled paths entries h).sections ≡ sections_of paths (names_of entries) (postings_of entries)
-unfolding image_spelled
-image_sections paths entries h = refl

@@ -6,8 +6,8 @@ use Rattle.cs_tree.specs.Store.{part_of}
 use Rattle.cs_index.specs.declared.fault.IndexFault.{IndexFault}
 use Rattle.cs_index.specs.declared.fault.IndexFault.TheVariants.{BadPaths, BadNames, BadNameIndex, BadListIndex}
 use Rattle.cs_index.specs.declared.reading.starts.SectionStarts.{SectionStarts}
-use Rattle.cs_index.specs.Opening.{cut_of, entries_in, is_list_index, opening, parts_of, read_cut, read_sections, texts_of}
-use Rattle.cs_index.specs.SectionsRead.{AreRead}
+use Rattle.cs_index.specs.Opening.{cut_of, entries_in, is_list_index, opening, parts_of, read_sections, texts_of}
+use Rattle.cs_index.specs.SectionsRead.{AreRead, read_cut}
 use Rattle.cs_index.specs.Starts.{AreInOrder, sections_at, with_lists, SectionsOpenAs}
 use Rattle.cs_index.specs.Stored.{StoredParts, LiesBefore, OpensAs, whole_of}
 use Rattle.cs_index.proofs.OpenedLemmas.{rise_from}

@@ -8,10 +8,10 @@ use Rattle.std.specs.Prelude.{flat_map, fold, sum}
 use Rattle.cs_index.specs.Image.{varint, varint_within, deltas_from, stream_of}
 use Rattle.cs_index.specs.IdStream.{ids_in, IsStream}
 use Rattle.cs_index.specs.Rising.{ids_onward, most_ids, next_after, RiseWithin}
-use Rattle.cs_index.specs.PostingLists.{Ids, read_ids, read_varint, after_delta, onto, damage}
+use Rattle.cs_index.specs.PostingLists.{Ids, read_ids, read_varint, onto, damage}
 use Rattle.cs_index.specs.ListRest.{ids_left}
 use Rattle.cs_index.proofs.StreamLemmas.{rise_length, short_varint, stream_from, stream_more}
-use Rattle.cs_index.proofs.VarintLemmas.{varint_read}
+use Rattle.cs_index.proofs.VarintLemmas.{varint_read, after_delta}
 
 -- ---- ids that are counted from a number on
 

@@ -1,11 +1,27 @@
 -- What is written as varints is read again.
-use Rattle.std.proofs.Common.{◌≡◌, ℕ, zero, suc, ◌+◌, ◌-◌, ◌*◌, ◌/◌, ◌%◌, ◌^◌, ◌<◌, true, false, cond, ltb, List, [], ◌∷◌, ◌++◌, length, refl, ap, subst, ◌∙◌, inl, inr, Some, None, arith, append_assoc}
+use Rattle.std.proofs.Common.{◌≡◌, Bool, eqb, ℕ, zero, suc, ◌+◌, ◌-◌, ◌*◌, ◌/◌, ◌%◌, ◌^◌, ◌<◌, true, false, cond, ltb, ◌&&◌, List, [], ◌∷◌, ◌++◌, length, refl, ap, subst, ◌∙◌, inl, inr, Some, None, arith, append_assoc}
 use Rattle.cs_index.specs.Rising.{RiseWithin}
-use Rattle.cs_index.specs.PostingLists.{varint_at, below_limit, read_varint, Ids, damage, onto, after_delta, read_ids}
+use Rattle.cs_index.specs.PostingLists.{varint_at, read_varint, Ids, damage, onto, read_ids}
 use Rattle.std.proofs.lemmas.Bool.{lt-ltb, le-ltb, cases_lt, and_from}
 use Rattle.std.proofs.Math.Nat.{pow-succ'}
-use Rattle.std.specs.Prelude.{option_map, option_and_then, flat_map}
+use Rattle.std.specs.Prelude.{Option, option_map, option_and_then, flat_map}
 use Rattle.cs_index.specs.Image.{varint, varint_within, deltas_from}
+
+-- ---- the steps of reading a number, and an id
+
+abbrev pub below_limit : ℕ × List ℕ → Option (ℕ × List ℕ)
+below_limit found = cond (ltb found.0 (2 ^ 32)) (Some found) None
+
+abbrev pub is_zero : Option (ℕ × List ℕ) → Bool
+is_zero None = false
+is_zero (Some found) = eqb found.0 0
+
+abbrev pub after_delta : ℕ → ℕ → (ℕ → List ℕ → Ids) → Option (ℕ × List ℕ) → Ids
+after_delta name_count next more None = damage
+after_delta name_count next more (Some found) =
+    cond (ltb 0 found.0 && ltb (next + found.0) (name_count + 1)) (onto (next + found.0 - 1) (more (next + found.0) found.1)) damage
+
+-- ---- numbers
 
 quotient_below : (n p : ℕ) → n < 128 * p → n / 128 < p
 quotient_below n p h = omega (arith, h)

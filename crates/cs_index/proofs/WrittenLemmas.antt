@@ -6,18 +6,17 @@ use Rattle.cs_index.specs.WholeLists.{IsList}
 use Rattle.cs_trigram.specs.Trigram.{Ascends}
 use Rattle.std.proofs.lemmas.List.{length-map}
 use Rattle.std.specs.List.{AllByRecursion, AllZip, list_all}
-use Rattle.cs_index.specs.Image.{Entry, ListEntry, Posting, image_of, list_entries, names_of, postings_of, posting_list, SectionBytes}
+use Rattle.cs_index.specs.Image.{Entry, ListEntry, Posting, image_of, list_entries, names_of, postings_of, posting_list}
 use Rattle.cs_index.specs.Indexable.{IsIndexable}
 use Rattle.cs_index.specs.Opening.{opening}
 use Rattle.cs_index.specs.OpenedParts.{Parts, lists_in, whole_ids}
 use Rattle.cs_index.proofs.ListedLemmas.{image_lists}
 use Rattle.cs_index.proofs.OpenedLemmas.{opens_spelled}
-use Rattle.cs_index.proofs.SpellingLemmas.{image_sections, image_spelled}
+use Rattle.cs_index.proofs.SpellingLemmas.{image_spelled}
 use Rattle.cs_index.proofs.TransposeLemmas.{set_back}
 
 pub image_opens : (paths : List (List ℕ)) (entries : List Entry) → IsIndexable paths entries → opening (image_of paths entries) ≡ Ok (parts_written paths entries)
-unfolding parts_written
-image_opens paths entries h = opens_spelled (image_of paths entries) (parts_written paths entries) (record { spelled = image_spelled paths entries h; postings = ap (λ (s : SectionBytes). s.postings) (image_sections paths entries h) })
+image_opens paths entries h = opens_spelled (image_of paths entries) (parts_written paths entries) (image_spelled paths entries h)
 
 -- ---- lists
 

@@ -22,4 +22,5 @@ asks_for query g = fold-Query Bool (asks_step g) query
 
 -- whether each list that the query asks for is whole
 unfoldable pub is_answerable : Parts → Query → Bool
-is_answerable parts query = list_all (λ (e : ListEntry). not (asks_for query e.trigram) || (ids_read parts e).whole) parts.entries
+is_answerable parts query =
+    list_all (λ (e : ListEntry). not (asks_for query e.trigram) || (ids_read parts e).whole) parts.entries

@@ -68,5 +68,5 @@ pub record IsBuilt (built : Built) : Type 0 where
   pub each_path : AllByRecursion IsString built.paths
   pub each_name : AllByRecursion IsString (names_of built.entries)
   pub ascend : are_ascending (names_of built.entries) ≡ true
-  pub sets : AllByRecursion (λ (entry : Entry). IsTrigramSet entry.1) built.entries
+  pub sets : AllByRecursion (λ ((name, trigrams) : Entry). IsTrigramSet trigrams) built.entries
   pub bound : length built.entries ≤ most_names

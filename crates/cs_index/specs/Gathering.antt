@@ -1,4 +1,4 @@
--- Posting lists while an index is built: one for each trigram that was met, in the order in which they were met.
+-- Posting lists while an index is built: one for each trigram that was met, in the order of the meetings.
 use Rattle.std.specs.Prelude.{◌≡◌, ℕ, List, map}
 use Rattle.cs_trigram.specs.Trigram.{has, set_of_numbers}
 use Rattle.cs_index.specs.Image.{Posting}
@@ -6,7 +6,7 @@ use Rattle.cs_index.specs.Laid.{ids_of}
 
 -- the trigrams of lists
 abbrev pub keys : List Posting → List ℕ
-keys lists = map (λ (p : Posting). p.0) lists
+keys lists = map (λ ((trigram, ids) : Posting). trigram) lists
 
 -- the ids of each trigram are the same in both
 abbrev pub GiveSame : List Posting → List Posting → Type 0

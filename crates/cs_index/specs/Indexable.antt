@@ -10,6 +10,6 @@ use Rattle.cs_index.specs.Rising.{most_ids}
 pub record IsIndexable (paths : List (List ℕ)) (entries : List Entry) : Type 0 where
   pub each_path : AllByRecursion IsString paths
   pub each_name : AllByRecursion IsString (names_of entries)
-  pub trigrams : AllByRecursion (λ (entry : Entry). AllByRecursion (λ g. g < closing_trigram) entry.1) entries
+  pub trigrams : AllByRecursion (λ ((name, gs) : Entry). AllByRecursion (λ g. g < closing_trigram) gs) entries
   pub bound : length entries < most_ids
   pub short : length (image_of paths entries) < 2 ^ 32

@@ -16,12 +16,13 @@ pub record Laid : Type 0 where
 -- the ids of a trigram
 abbrev pub ids_of : List Posting → ℕ → List ℕ
 ids_of [] g = []
-ids_of (p ∷ ps) g = if nat_eq p.0 g then p.1 else ids_of ps g
+ids_of ((trigram, ids) ∷ lists) g = if nat_eq trigram g then ids else ids_of lists g
 
 -- the lists after a trigram was given one more id
 abbrev pub with_id : List Posting → ℕ → ℕ → List Posting
 with_id [] g id = (g, id ∷ []) ∷ []
-with_id (p ∷ ps) g id = if nat_eq p.0 g then (p.0, p.1 ++ id ∷ []) ∷ ps else p ∷ with_id ps g id
+with_id ((trigram, ids) ∷ lists) g id =
+    if nat_eq trigram g then (trigram, ids ++ id ∷ []) ∷ lists else (trigram, ids) ∷ with_id lists g id
 
 -- each name with the trigrams whose list has its id
 abbrev pub entries_laid : Laid → List Entry
@@ -56,4 +57,4 @@ with_last_ids laid (id ∷ ids) = with_last_ids (with_last_id laid id) ids
 
 -- the trigrams of all lists are below this one
 abbrev pub AllBelow : List Posting → ℕ → Type 0
-AllBelow lists trigram = AllByRecursion (λ (p : Posting). p.0 < trigram) lists
+AllBelow lists bound = AllByRecursion (λ ((trigram, ids) : Posting). trigram < bound) lists

@@ -8,7 +8,12 @@ use Rattle.cs_index.specs.Rising.{ArePostings, most_ids}
 
 -- with one more list, begun and given its ids
 abbrev pub with_posting : Laid → Posting → Laid
-with_posting laid p = record { paths = laid.paths; names = laid.names; lists = laid.lists ++ p ∷ []; last_trigram = Some p.0 }
+with_posting laid (trigram, ids) = record {
+  paths = laid.paths;
+  names = laid.names;
+  lists = laid.lists ++ (trigram, ids) ∷ [];
+  last_trigram = Some trigram;
+}
 
 -- with more of them, one after the other
 abbrev pub with_postings : Laid → List Posting → Laid
@@ -18,7 +23,8 @@ with_postings laid (p ∷ ps) = with_postings (with_posting laid p) ps
 -- the list that was begun last comes after all lists but its own
 abbrev pub IsLastList : List Posting → Option ℕ → Type 0
 IsLastList lists None = lists ≡ []
-IsLastList lists (Some trigram) = (trigram < closing_trigram) × AllByRecursion (λ (p : Posting). p.0 ≤ trigram) lists
+IsLastList lists (Some last) =
+    (last < closing_trigram) × AllByRecursion (λ ((trigram, ids) : Posting). trigram ≤ last) lists
 
 -- What is true of whatever is laid out.
 pub record IsLaid (laid : Laid) : Type 0 where

@@ -6,9 +6,10 @@ use Rattle.std.specs.List.{list_all}
 use Rattle.std.specs.FinMap as map
 use Rattle.cs_tree.specs.PathSet.{Paths}
 use Rattle.cs_tree.specs.PathSet as set
+use Rattle.cs_tree.specs.Cover.{is_covered}
 use Rattle.cs_index.specs.Image.{Entry, Files, ListEntry, Posting}
 
--- What an index holds: its paths, its names, the entries of its list index, and the section that has the lists.
+-- What an index has: its paths, its names, the entries of its list index, and the section of the lists.
 pub record Parts : Type 0 where
   pub paths : List (List ℕ)
   pub names : List (List ℕ)
@@ -38,6 +39,10 @@ files_read parts = entries_of 0 parts.names (lists_in parts)
 -- the set of its paths
 abbrev pub paths_in : Parts → Paths
 paths_in parts = set.from_list parts.paths
+
+-- whether each name lies under some path
+unfoldable pub are_covered : Parts → Bool
+are_covered parts = list_all (is_covered (paths_in parts)) parts.names
 
 -- its files
 abbrev pub files_in : Parts → Files

@@ -15,10 +15,10 @@ use Rattle.cs_index.specs.OpenedParts.{Parts}
 
 -- the number of four bytes at a place, and of three
 unfoldable pub number_at : List ℕ → ℕ → ℕ
-number_at bytes at = from_be_bytes w32 (slice_index bytes at ∷ slice_index bytes (at + 1) ∷ slice_index bytes (at + 2) ∷ slice_index bytes (at + 3) ∷ [])
+number_at bytes at = from_be_bytes w32 (map (slice_index bytes) (at ∷ (at + 1) ∷ (at + 2) ∷ (at + 3) ∷ []))
 
 unfoldable pub trigram_at : List ℕ → ℕ → ℕ
-trigram_at bytes at = from_be_bytes w32 (0 ∷ slice_index bytes at ∷ slice_index bytes (at + 1) ∷ slice_index bytes (at + 2) ∷ [])
+trigram_at bytes at = from_be_bytes w32 (0 ∷ map (slice_index bytes) (at ∷ (at + 1) ∷ (at + 2) ∷ []))
 
 -- numbers in a row
 abbrev pub numbers_from : List ℕ → ℕ → ℕ → List ℕ
@@ -33,7 +33,8 @@ texts_of section = before_first (λ text. bytes_eq text []) (texts_in section)
 
 -- the section is its strings, each one UTF-8 and ended by a NUL, and then just these bytes
 unfoldable pub is_section : List ℕ → List ℕ → Bool
-is_section closing section = bytes_eq section (concat (map with_nul (texts_of section)) ++ closing) && list_all is_utf8 (texts_of section)
+is_section closing section = bytes_eq section (concat (map with_nul (texts_of section)) ++ closing)
+    && list_all is_utf8 (texts_of section)
 
 -- strings, and at most one NUL behind them
 abbrev pub is_names_section : List ℕ → Bool
@@ -42,7 +43,8 @@ is_names_section section = is_section (0 ∷ []) section || is_section [] sectio
 -- ---- entries
 
 abbrev pub entry_at : List ℕ → ℕ → ListEntry
-entry_at bytes at = record { trigram = trigram_at bytes at; count = number_at bytes (at + 3); offset = number_at bytes (at + 7) }
+entry_at bs at =
+    record { trigram = trigram_at bs at; count = number_at bs (at + 3); offset = number_at bs (at + 7) }
 
 abbrev pub entries_from : List ℕ → ℕ → ℕ → List ListEntry
 entries_from bytes at zero = []
@@ -65,11 +67,13 @@ rises (d ∷ e ∷ es) = nat_lt d.trigram e.trigram && rises (e ∷ es)
 -- ---- the tests, in their order
 
 abbrev pub has_trailer : List ℕ → Bool
-has_trailer bytes = nat_le 52 (length bytes) && (nat_lt (length bytes) (2 ^ 32) && ends_with nat_eq bytes trailer_magic)
+has_trailer bytes =
+    nat_le 52 (length bytes) && (nat_lt (length bytes) (2 ^ 32) && ends_with nat_eq bytes trailer_magic)
 
 -- places that rise from 16 to the start of the trailer
 abbrev pub are_starts : ℕ → ℕ → ℕ → ℕ → ℕ → ℕ → Bool
-are_starts a b c d e trailer = nat_eq a 16 && (nat_le a b && (nat_le b c && (nat_le c d && (nat_le d e && nat_le e trailer))))
+are_starts a b c d e trailer =
+    nat_eq a 16 && (nat_le a b && (nat_le b c && (nat_le c d && (nat_le d e && nat_le e trailer))))
 
 -- the sections that begin at these places
 abbrev pub cut_at : List ℕ → ℕ → ℕ → ℕ → ℕ → ℕ → ℕ → Result SectionBytes IndexFault
@@ -84,7 +88,8 @@ cut_at bytes a b c d e trailer =
 
 -- the sections, which begin where the trailer says
 abbrev pub cut_before : List ℕ → ℕ → Result SectionBytes IndexFault
-cut_before bytes at = cut_at bytes (number_at bytes at) (number_at bytes (at + 4)) (number_at bytes (at + 8)) (number_at bytes (at + 12)) (number_at bytes (at + 16)) at
+cut_before bytes at = cut_at bytes (number_at bytes at) (number_at bytes (at + 4)) (number_at bytes (at + 8))
+    (number_at bytes (at + 12)) (number_at bytes (at + 16)) at
 
 -- the sections of bytes with both magics
 unfoldable pub cut_of : List ℕ → Result SectionBytes IndexFault
@@ -92,18 +97,22 @@ cut_of bytes =
     if not (starts_with nat_eq bytes magic) then Err BadMagic
     else (if not (has_trailer bytes) then Err BadTrailer else cut_before bytes (length bytes - 36))
 
--- from a place on stand the numbers where names begin, and one number more
-abbrev pub has_starts : List ℕ → ℕ → ℕ → List (List ℕ) → Bool
-has_starts bytes at offset names = nat_eq (length bytes) (at + 4 * (length names + 1)) && bytes_eq (numbers_from bytes at (length names)) (starts_from offset (map with_nul names))
-
+-- the numbers where the names begin, and one number more
 unfoldable pub is_name_index : List ℕ → List (List ℕ) → Bool
-is_name_index bytes names = has_starts bytes 0 0 names
+is_name_index bytes names = nat_eq (length bytes) (4 * (length names + 1))
+    && bytes_eq (numbers_from bytes 0 (length names)) (starts_from 0 (map with_nul names))
 
 unfoldable pub is_list_index : ℕ → List ℕ → Bool
-is_list_index room bytes = nat_eq (length bytes % 11) 0 && (rises (entries_in bytes) && list_all (is_entry room) (entries_in bytes))
+is_list_index room bytes =
+    nat_eq (length bytes % 11) 0 && (rises (entries_in bytes) && list_all (is_entry room) (entries_in bytes))
 
 abbrev pub parts_of : SectionBytes → Parts
-parts_of s = record { paths = texts_of s.paths; names = texts_of s.names; entries = entries_in s.list_index; postings = s.postings }
+parts_of s = record {
+  paths = texts_of s.paths;
+  names = texts_of s.names;
+  postings = s.postings;
+  entries = entries_in s.list_index;
+}
 
 abbrev pub read_sections : SectionBytes → Result Parts IndexFault
 read_sections s =
@@ -113,10 +122,6 @@ read_sections s =
     else (if not (is_list_index (length s.postings) s.list_index) then Err BadListIndex
     else Ok (parts_of s))))
 
-abbrev pub read_cut : Result SectionBytes IndexFault → Result Parts IndexFault
-read_cut (Ok s) = read_sections s
-read_cut (Err fault) = Err fault
-
 -- what the bytes open as
 unfoldable pub opening : List ℕ → Result Parts IndexFault
-opening bytes = read_cut (cut_of bytes)
+opening bytes = elim (cut_of bytes) [ Ok s ↦ read_sections s | Err fault ↦ Err fault ]

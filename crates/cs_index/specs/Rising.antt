@@ -24,9 +24,9 @@ ids_onward from ids = map (λ id. from + id) ids
 
 -- a list that some name has, of ids in order
 abbrev pub IsPosting : ℕ → Posting → Type 0
-IsPosting name_count p = (p.1 ≢ []) × RiseWithin name_count 0 p.1
+IsPosting name_count (trigram, ids) = (ids ≢ []) × RiseWithin name_count 0 ids
 
 -- lists as an index has them
 pub record ArePostings (name_count : ℕ) (postings : List Posting) : Type 0 where
-  pub ascend : Ascends (map (λ (p : Posting). p.0) postings)
+  pub ascend : Ascends (map (λ ((trigram, ids) : Posting). trigram) postings)
   pub each : AllByRecursion (IsPosting name_count) postings

@@ -21,4 +21,4 @@ pub record IsIndexWith (parts : Parts) (paths : List (List ℕ)) (entries : List
   pub has_names : parts.names ≡ names_of entries
   pub has_lists : lists_in parts ≡ postings_of entries
   pub whole : are_whole parts ≡ true
-  pub has_files : AllByRecursion (λ (entry : Entry). Ascends entry.1) entries → files_read parts ≡ entries
+  pub has_files : AllByRecursion (λ ((name, trigrams) : Entry). Ascends trigrams) entries → files_read parts ≡ entries

@@ -1,7 +1,19 @@
--- What is true of sections that were read.
-use Rattle.std.specs.Prelude.{◌≡◌, ℕ, true, List, [], ◌∷◌, length, ◌<◌, ◌^◌, bytes_eq}
-use Rattle.cs_index.specs.Image.{SectionBytes}
-use Rattle.cs_index.specs.Opening.{texts_of, is_section, is_names_section, is_name_index, is_list_index}
+-- Sections as they are read, and what is true of those that were.
+use Rattle.std.specs.Prelude.{◌≡◌, ℕ, ◌+◌, ◌*◌, Bool, true, ◌&&◌, nat_eq, List, [], ◌∷◌, length, map, ◌<◌, ◌^◌, bytes_eq, Result, Ok, Err}
+use Rattle.cs_index.specs.declared.fault.IndexFault.{IndexFault}
+use Rattle.cs_index.specs.Image.{with_nul, starts_from, SectionBytes}
+use Rattle.cs_index.specs.OpenedParts.{Parts}
+use Rattle.cs_index.specs.Opening.{texts_of, is_section, is_names_section, is_name_index, is_list_index, numbers_from, read_sections}
+
+-- what the sections open as, or the fault for which there are none
+abbrev pub read_cut : Result SectionBytes IndexFault → Result Parts IndexFault
+read_cut (Ok s) = read_sections s
+read_cut (Err fault) = Err fault
+
+-- from a place on stand the numbers where names begin, and one number more
+abbrev pub has_starts : List ℕ → ℕ → ℕ → List (List ℕ) → Bool
+has_starts bytes at offset names = nat_eq (length bytes) (at + 4 * (length names + 1))
+    && bytes_eq (numbers_from bytes at (length names)) (starts_from offset (map with_nul names))
 
 -- No string stands in front: the section can only be its closing bytes.
 pub record HasNoText (section : List ℕ) : Type 0 where

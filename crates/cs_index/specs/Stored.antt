@@ -1,4 +1,4 @@
--- An index that lies in a store: what of it is held in memory, and which index that is with the bytes of the store.
+-- An index that lies in a store: what of it is held in memory, and which index that is with the bytes there.
 -- docs/FORMAT.md, "The index as it is read".
 use Rattle.std.specs.Prelude.{◌≡◌, ◌≤◌, ℕ, ◌+◌, List, length, Result, Ok, Err}
 use Rattle.cs_tree.specs.Store.{part_of}
@@ -17,7 +17,12 @@ pub record StoredParts : Type 0 where
 
 -- the index that this is part of, where the lists lie in these bytes
 abbrev pub whole_of : List ℕ → StoredParts → Parts
-whole_of bytes held = record { paths = held.paths; names = held.names; entries = held.entries; postings = part_of bytes held.start held.room }
+whole_of bytes held = record {
+  paths = held.paths;
+  names = held.names;
+  entries = held.entries;
+  postings = part_of bytes held.start held.room;
+}
 
 -- the lists end at this place or before it
 abbrev pub LiesBefore : StoredParts → ℕ → Type 0

@@ -14,6 +14,8 @@ use Rattle.cs_match.specs.Skipping.{AreWholeLines}
 use Rattle.cs_match.specs.Standings.{standing, is_left_before}
 use Rattle.cs_match.specs.Table.{blank_cell}
 use Rattle.cs_match.specs.Chains.{row_after}
+use Rattle.cs_match.specs.Automaton.{GrowsOver}
+use Rattle.cs_match.specs.Size.{positions_per_weight}
 use Rattle.cs_match.specs.NeededWindows.{HasOne, AreNeeded}
 
 lines_of_two : lines (codes "ab\ncd\n") ≡ codes "ab" ∷ codes "cd" ∷ []
@@ -150,3 +152,13 @@ lowered_places :
     × (places (utf8_tree ((233, 233) ∷ [])) ≡ 2)
     × (places (utf8_tree ((192, 255) ∷ [])) ≡ 2)
 lowered_places = (refl, refl, refl, refl)
+
+sets_of_a_run_of_characters : 1 + 6 + 13 + 13 + 22 ≡ positions_per_weight
+sets_of_a_run_of_characters = refl
+
+-- the first of two bytes empties the full table, and each adds a state
+full_table_is_emptied : GrowsOver 2 254 3
+full_table_is_emptied = record { added = omega arith; kept = λ room. omega (arith, room) }
+
+no_state_is_forgotten_where_there_is_room : ¬ GrowsOver 1 5 2
+no_state_is_forgotten_where_there_is_room h = omega (arith, h.kept (omega arith))

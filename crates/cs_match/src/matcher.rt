@@ -1,6 +1,7 @@
 // Matchers: programs with what their runs remember.
-ghost use Rattle.std.specs.Prelude.{◌≡◌, ◌≤◌, ◌<◌, ◌-◌, ◌↔◌, ℕ, Bool, List, IsTrue, IfOk, IfSome, length, slice_range, drop, count_by};
+ghost use Rattle.std.specs.Prelude.{◌≡◌, ◌≤◌, ◌<◌, ◌+◌, ◌-◌, ◌↔◌, ℕ, Bool, List, IsTrue, IfOk, IfSome, length, slice_range, drop, count_by};
 ghost use Rattle.cs_syntax.specs.Matching.{HasMatch};
+ghost use Rattle.cs_match.specs.Automaton.{GrowsOver, most_states};
 ghost use Rattle.cs_match.specs.Finding.{Decides};
 ghost use Rattle.cs_match.specs.Lines.{ended_lines};
 ghost use Rattle.cs_match.specs.Passed.{ArePassed};
@@ -35,7 +36,8 @@ const DENSE: usize = 192;
 /// And faster than the table finds each.
 const LESS_DENSE: usize = 2048;
 
-/// A program with what its runs remember. Contracts see it as the program's tree.
+/// A program with what its runs remember. Contracts see it as the program's tree, and how many
+/// states are remembered.
 #[derive(Drop)]
 pub struct Matcher<'a> {
     pub(crate) table: Table<'a>,
@@ -68,18 +70,17 @@ pub(crate) struct CountedLines {
 }
 
 impl<'a> Model for Matcher<'a> {
-    ghost use Rattle.cs_syntax.specs.Matching.{Tree};
-    ghost use Rattle.cs_syntax.specs.TreeCode.{tree_code};
+    ghost use Rattle.cs_match.specs.Automaton.{Automaton, automaton_code};
 
-    ghost Value = { Tree };
+    ghost Value = { Automaton };
 
-    ghost coded = { tree_code };
+    ghost coded = { automaton_code };
 
     ghost use Rattle.std.specs.Prelude.{IfSome};
     ghost use Rattle.cs_match.specs.Remembering.{HasNeedle, tree_in};
     ghost use Rattle.cs_match.specs.NeededWindows.{AreNeeded};
 
-    ghost view = { λ matcher. tree_in matcher.table };
+    ghost view = { λ matcher. record { tree = tree_in matcher.table; states = matcher.table.used } };
 
     ghost invariant = { λ matcher. HasNeedle matcher.table matcher.finder
         × IfSome matcher.sieve (λ sieve. AreNeeded (tree_in matcher.table) sieve.now) };
@@ -88,7 +89,8 @@ impl<'a> Model for Matcher<'a> {
 impl<'a> Matcher<'a> {
     /// A matcher that runs the program. It takes all memory that its runs need.
     pub fn new(alloc: Global, program: &'a Program) -> Result<Matcher<'a>, AllocError>
-        ensures { IfOk result (λ matcher. matcher ≡ program.now) }
+        ensures tree { IfOk result (λ matcher. matcher.tree ≡ program.now) }
+        ensures states { IfOk result (λ matcher. matcher.states ≡ 1) }
     {
         let table = Table::new(alloc, program)?;
         let needle = program.needle();
@@ -110,8 +112,9 @@ impl<'a> Matcher<'a> {
 
     /// How many standings are remembered. One is that of a line's start.
     pub fn standings(&self) -> usize
+        ensures exact { result ≡ self.now.states }
         ensures some { 1 ≤ result }
-        ensures bound { result ≤ 254 }
+        ensures bound { result ≤ most_states }
     {
         self.table.used
     }
@@ -119,8 +122,9 @@ impl<'a> Matcher<'a> {
     /// Whether the program takes some part of the line, whatever lines were asked before. It takes
     /// no memory.
     pub fn is_match(&mut self, line: &[u8]) -> bool
-        ensures found { IsTrue result ↔ HasMatch self.old line.now }
-        ensures same { self.new ≡ self.old }
+        ensures found { IsTrue result ↔ HasMatch self.old.tree line.now }
+        ensures same { self.new.tree ≡ self.old.tree }
+        ensures states { GrowsOver (length line.now + 1) self.old.states self.new.states }
     {
         let found = self.table.is_match(line);
         self.missed = !found;
@@ -134,9 +138,10 @@ impl<'a> Matcher<'a> {
         ensures low { from ≤ result }
         ensures high { result ≤ length block.now }
         ensures whole { AreWholeLines (slice_range block.now from result) }
-        ensures none { (finds : List ℕ → Bool) → Decides finds self.old →
+        ensures none { (finds : List ℕ → Bool) → Decides finds self.old.tree →
             NoneFound finds (ended_lines (slice_range block.now from result)) }
-        ensures same { self.new ≡ self.old }
+        ensures same { self.new.tree ≡ self.old.tree }
+        ensures states { GrowsOver (length block.now - from) self.old.states self.new.states }
     {
         if !self.rests() {
             if let Some(to) = self.seek(block, from) {
@@ -164,10 +169,10 @@ impl<'a> Matcher<'a> {
     /// In how many lines of the block something is found. The block is whole lines.
     pub fn count(&mut self, block: &[u8]) -> u64
         requires whole { AreWholeLines block.now }
-        ensures found { (finds : List ℕ → Bool) → Decides finds self.old →
+        ensures found { (finds : List ℕ → Bool) → Decides finds self.old.tree →
             result ≡ count_by finds (ended_lines block.now) }
         ensures bound { result ≤ length (ended_lines block.now) }
-        ensures same { self.new ≡ self.old }
+        ensures same { self.new.tree ≡ self.old.tree }
     {
         let mut at = 0;
         let mut hits = 0u64;
@@ -183,10 +188,10 @@ impl<'a> Matcher<'a> {
     fn count_some(&mut self, block: &[u8], from: usize) -> CountedLines
         requires within { from < length block.now }
         requires whole { AreWholeLines (drop from block.now) }
-        ensures counted { CountsHits (λ finds. Decides finds self.old)
+        ensures counted { CountsHits (λ finds. Decides finds self.old.tree)
             block.now from result.to result.hits }
         ensures moves { from < result.to }
-        ensures same { self.new ≡ self.old }
+        ensures same { self.new.tree ≡ self.old.tree }
     {
         if self.dense <= MOST_MISSES {
             return self.count_next(block, from);
@@ -200,10 +205,10 @@ impl<'a> Matcher<'a> {
     fn count_next(&mut self, block: &[u8], from: usize) -> CountedLines
         requires within { from < length block.now }
         requires whole { AreWholeLines (drop from block.now) }
-        ensures counted { CountsHits (λ finds. Decides finds self.old)
+        ensures counted { CountsHits (λ finds. Decides finds self.old.tree)
             block.now from result.to result.hits }
         ensures moves { from < result.to }
-        ensures same { self.new ≡ self.old }
+        ensures same { self.new.tree ≡ self.old.tree }
     {
         let at = self.skip(block, from);
         if at == block.len() {
@@ -218,10 +223,10 @@ impl<'a> Matcher<'a> {
     fn count_group(&mut self, block: &[u8], from: usize) -> CountedLines
         requires within { from < length block.now }
         requires whole { AreWholeLines (drop from block.now) }
-        ensures counted { CountsHits (λ finds. Decides finds self.old)
+        ensures counted { CountsHits (λ finds. Decides finds self.old.tree)
             block.now from result.to result.hits }
         ensures moves { from < result.to }
-        ensures same { self.new ≡ self.old }
+        ensures same { self.new.tree ≡ self.old.tree }
     {
         let group = count_group(&self.table.cells, block, from);
         match group.hits {
@@ -235,10 +240,10 @@ impl<'a> Matcher<'a> {
         requires low { from < least }
         requires high { least ≤ length block.now }
         requires whole { AreWholeLines (drop from block.now) }
-        ensures counted { CountsHits (λ finds. Decides finds self.old)
+        ensures counted { CountsHits (λ finds. Decides finds self.old.tree)
             block.now from result.to result.hits }
         ensures moves { from < result.to }
-        ensures same { self.new ≡ self.old }
+        ensures same { self.new.tree ≡ self.old.tree }
     {
         let mut at = from;
         let mut hits = 0u64;
@@ -255,7 +260,7 @@ impl<'a> Matcher<'a> {
     fn seek(&self, block: &[u8], from: usize) -> Option<usize>
         requires within { from ≤ length block.now }
         requires whole { AreWholeLines (drop from block.now) }
-        ensures { IfSome result (ArePassed (λ finds. Decides finds self.now) block.now from) }
+        ensures { IfSome result (ArePassed (λ finds. Decides finds self.now.tree) block.now from) }
     {
         if self.seeks {
             return Some(skip_to_needle(&self.finder, block, from));
@@ -270,7 +275,7 @@ impl<'a> Matcher<'a> {
     fn pass_quiet(&self, block: &[u8], from: usize) -> usize
         requires within { from ≤ length block.now }
         requires whole { AreWholeLines (drop from block.now) }
-        ensures { ArePassed (λ finds. Decides finds self.now) block.now from result }
+        ensures { ArePassed (λ finds. Decides finds self.now.tree) block.now from result }
     {
         pass_quiet(&self.table.cells, block, from)
     }
@@ -279,7 +284,7 @@ impl<'a> Matcher<'a> {
     fn pass_run(&mut self, block: &[u8], from: usize) -> usize
         requires within { from ≤ length block.now }
         requires whole { AreWholeLines (drop from block.now) }
-        ensures passed { ArePassed (λ finds. Decides finds self.old) block.now from result }
+        ensures passed { ArePassed (λ finds. Decides finds self.old.tree) block.now from result }
         ensures same { self.new ≡ self.old }
     {
         if self.stops() {
@@ -294,7 +299,7 @@ impl<'a> Matcher<'a> {
     fn run_to(&self, block: &[u8], from: usize) -> usize
         requires within { from ≤ length block.now }
         requires whole { AreWholeLines (drop from block.now) }
-        ensures { ArePassed (λ finds. Decides finds self.now) block.now from result }
+        ensures { ArePassed (λ finds. Decides finds self.now.tree) block.now from result }
     {
         pass_run(&self.table.cells, block, from)
     }
@@ -302,8 +307,9 @@ impl<'a> Matcher<'a> {
     /// The start of the first line of a part in which something is found, or the part's end.
     fn first_hit(&mut self, part: &[u8]) -> usize
         requires { AreWholeLines part.now }
-        ensures passed { ArePassed (λ finds. Decides finds self.old) part.now 0 result }
-        ensures same { self.new ≡ self.old }
+        ensures passed { ArePassed (λ finds. Decides finds self.old.tree) part.now 0 result }
+        ensures same { self.new.tree ≡ self.old.tree }
+        ensures states { GrowsOver (length part.now) self.old.states self.new.states }
     {
         let mut at = 0;
         'lines: while at < part.len() {

@@ -6,6 +6,7 @@ ghost use Rattle.cs_match.specs.Places.{places, repeats, IsLooped};
 ghost use Rattle.cs_match.specs.Needle.{IsNeeded};
 ghost use Rattle.cs_match.specs.NeededWindows.{AreNeeded};
 ghost use Rattle.cs_match.specs.Shifts.{AreShifts};
+ghost use Rattle.cs_match.specs.Size.{FitsWeight};
 
 use crate::compiler::write_out;
 use crate::needle::needle;
@@ -63,7 +64,8 @@ impl Program {
     /// out, and sets of characters lowered to sets of bytes, so that it has at most 55 places for
     /// each unit of the weight of the pattern.
     pub fn compile(alloc: Global, pattern: &Pattern) -> Result<Program, AllocError>
-        ensures { IfOk result (λ program. FindAlike program pattern.now) }
+        ensures alike { IfOk result (λ program. FindAlike program pattern.now) }
+        ensures small { IfOk result (λ program. FitsWeight program pattern.now) }
     {
         let root = write_out(alloc, pattern.tree())?;
         let count = count(&root);

@@ -2,6 +2,7 @@
 ghost use Rattle.std.specs.Prelude.{◌≡◌, ◌≢◌, ◌↔◌, ◌+◌, ◌<◌, ◌≤◌, ◌*◌, ◌/◌, ℕ, IfOk, IfSome, IsTrue, MatchOption, EachIndex, length, vec_len, replicate, slice_index, slice_index_or, slice_set, true, false};
 ghost use Rattle.cs_syntax.specs.Node.{tree_of};
 ghost use Rattle.cs_syntax.specs.Matching.{HasMatch};
+ghost use Rattle.cs_match.specs.Automaton.{GrowsOver};
 ghost use Rattle.cs_match.specs.Lines.{newline};
 ghost use Rattle.cs_match.specs.Places.{places, repeats, IsLooped};
 ghost use Rattle.cs_match.specs.Shifts.{AreShifts};
@@ -129,7 +130,8 @@ fn pass_from(
 impl<'a> Table<'a> {
     /// A table in which nothing is known but the row of a line's start.
     pub(crate) fn new(alloc: Global, program: &'a Program) -> Result<Table<'a>, AllocError>
-        ensures { IfOk result (λ table. (tree_in table ≡ program.now) × IsConsistent table) }
+        ensures { IfOk result (λ table. (tree_in table ≡ program.now)
+            × IsConsistent table × (table.used ≡ 1)) }
     {
         let places = program.places();
         let rows = starts(alloc, places)?;
@@ -158,6 +160,7 @@ impl<'a> Table<'a> {
         ensures leads { LeadsIn self.new (standing_in self.old from) byte result }
         ensures right { IsConsistent self.new }
         ensures same { tree_in self.new ≡ tree_in self.old }
+        ensures states { GrowsOver 1 self.old.used self.new.used }
     {
         let next = self.cells[(from | u16::from(byte)) as usize];
         if next == UNKNOWN {
@@ -175,6 +178,7 @@ impl<'a> Table<'a> {
         ensures found { IsTrue result ↔ HasMatch (tree_in self.old) line.now }
         ensures right { IsConsistent self.new }
         ensures same { tree_in self.new ≡ tree_in self.old }
+        ensures states { self.new.used ≡ self.old.used }
     {
         self.now
             .search(self.root, self.shifts, &mut self.loops, line)
@@ -186,6 +190,7 @@ impl<'a> Table<'a> {
         ensures found { IsTrue result ↔ HasMatch (tree_in self.old) line.now }
         ensures right { IsConsistent self.new }
         ensures same { tree_in self.new ≡ tree_in self.old }
+        ensures states { GrowsOver (length line.now + 1) self.old.used self.new.used }
     {
         let mut at = 0;
         for b in line {
@@ -210,6 +215,7 @@ impl<'a> Table<'a> {
         ensures leads { LeadsIn self.new (standing_in self.old from) byte result }
         ensures right { IsConsistent self.new }
         ensures same { tree_in self.new ≡ tree_in self.old }
+        ensures states { GrowsOver 1 self.old.used self.new.used }
     {
         if pass_from(
             self.root,
@@ -239,6 +245,7 @@ impl<'a> Table<'a> {
         ensures leads { LeadsIn self.new (standing_in self.old from) byte result }
         ensures right { IsConsistent self.new }
         ensures same { tree_in self.new ≡ tree_in self.old }
+        ensures states { GrowsOver 1 self.old.used self.new.used }
     {
         let print = self.now.print();
         if let Some(row) = find(&self.rows, self.used, &self.prints, print, &self.now) {
@@ -264,6 +271,7 @@ impl<'a> Table<'a> {
         ensures leads { LeadsIn self.new (standing_in self.old from) byte next }
         ensures right { IsConsistent self.new }
         ensures same { tree_in self.new ≡ tree_in self.old }
+        ensures states { self.new.used ≡ self.old.used }
     {
         self.cells[(from | u16::from(byte)) as usize] = next;
     }
@@ -277,6 +285,7 @@ impl<'a> Table<'a> {
             → HasRow self.new number standing }
         ensures right { IsConsistent self.new }
         ensures same { tree_in self.new ≡ tree_in self.old }
+        ensures states { self.new.used ≡ self.old.used + 1 }
     {
         let row = self.used;
         put_row(&mut self.rows, row, &self.now);

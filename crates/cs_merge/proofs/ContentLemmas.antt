@@ -1,15 +1,13 @@
 -- What can be held is kept by a join, and is determined by its image.
-use Rattle.std.proofs.Common.{◌≡◌, ℕ, suc, ◌+◌, ◌*◌, ◌<◌, ◌≤◌, ◌^◌, Bool, true, false, cond, ◌&&◌, List, [], ◌∷◌, ◌++◌, length, map, refl, sym, ap, subst, ◌∙◌, inl, inr, None, Some, arith, length-append, append_assoc}
+use Rattle.std.proofs.Common.{◌≡◌, ℕ, ◌+◌, ◌*◌, ◌<◌, ◌≤◌, ◌^◌, Bool, true, false, cond, ◌&&◌, List, [], ◌∷◌, length, map, refl, sym, ap, subst, ◌∙◌, inl, inr, None, Some, arith}
 use Rattle.cs_tree.specs.PathSet.{Paths}
 use Rattle.cs_tree.specs.NameOrder.{bytes_cmp}
-use Rattle.cs_index.specs.PostingLists.{set_at, entries_of}
-use Rattle.cs_index.specs.WholeLists.{IsList}
 use Rattle.cs_trigram.specs.Trigram.{Ascends}
 use Rattle.cs_trigram.specs.TrigramSets.{IsTrigramSet}
 use Rattle.std.proofs.lemmas.Bool.{cases_Bool}
 use Rattle.std.proofs.lemmas.List.{length-map}
-use Rattle.std.specs.Prelude.{T, slice_index_or, is_some}
-use Rattle.std.specs.List.{AllByRecursion, AllZip, list_any, concat}
+use Rattle.std.specs.Prelude.{T, is_some}
+use Rattle.std.specs.List.{AllByRecursion, list_any}
 use Rattle.std.specs.Ordering.{eq_by_cmp, is_lt, is_eq}
 use Rattle.std.specs.declared.cmp.Ordering.{Ordering}
 use Rattle.std.specs.declared.cmp.Ordering.TheVariants.{Less, Equal, Greater}
@@ -17,13 +15,14 @@ use Rattle.std.specs.FinMap.Entries.{below_all, is_sorted, find}
 use Rattle.std.specs.FinMap as map'
 use Rattle.cs_tree.specs.PathSet as set
 use Rattle.cs_tree.proofs.Sets.{tied_is, tied_same, same_set}
-use Rattle.cs_index.specs.Image.{Files, Entry, image, image_of, names_of, Posting, posting_list, postings_of, ListEntry, list_entries, closing_list, SectionBytes, sections_of, IsString}
+use Rattle.cs_index.specs.Image.{Files, Entry, image, image_of, names_of, postings_of, IsString}
 use Rattle.cs_index.specs.Spelling.{Spells}
 use Rattle.cs_index.specs.Indexable.{IsIndexable}
+use Rattle.cs_index.specs.Roundtrip.{parts_written}
+use Rattle.cs_index.specs.OpenedParts.{Parts, files_read}
 use Rattle.cs_index.proofs.SpellingLemmas.{image_spelled}
-use Rattle.cs_index.proofs.OnceLemmas.{sections_once, spelled_once}
-use Rattle.cs_index.proofs.ListedLemmas.{image_lists}
-use Rattle.cs_index.proofs.TransposeLemmas.{set_back}
+use Rattle.cs_index.proofs.WrittenLemmas.{image_has}
+use Rattle.cs_index.proofs.OnceLemmas.{spelled_once}
 use Rattle.cs_merge.specs.Join.{join_files, join_paths}
 use Rattle.cs_merge.specs.Content.{EachFile, IsContent, LieUnder}
 use Rattle.cs_merge.proofs.JoinLemmas.{joined_from, path_from, covered_left, covered_right}
@@ -134,47 +133,11 @@ content_indexable paths files h short =
     (each_of_map (λ name (trigrams : List ℕ). IsTrigramSet trigrams) files h.sets_are)
     short
 
-pub content_spelled : (paths : Paths) (files : Files) → IsContent paths files → length (image paths files) < 2 ^ 32 → Spells (image paths files) (set.items paths) (map'.keys files) (list_entries 0 (postings_of (map'.entries files)))
+pub content_spelled : (paths : Paths) (files : Files) → IsContent paths files → length (image paths files) < 2 ^ 32 → Spells (image paths files) (parts_written (set.items paths) (map'.entries files))
 unfolding image
 content_spelled paths files h short = image_spelled (set.items paths) (map'.entries files) (content_indexable paths files h short)
 
 -- ---- one content for one image
-
--- lists that are read at the same entries of one section are the same
-pub lists_once : (section : List ℕ) (name_count at : ℕ) (es : List ListEntry) (ps qs : List Posting) → es ≡ list_entries at ps → es ≡ list_entries at qs → AllZip (λ (e : ListEntry) (p : Posting). IsList section name_count e p.1) es ps → AllZip (λ (e : ListEntry) (p : Posting). IsList section name_count e p.1) es qs → ps ≡ qs
-lists_once section name_count at [] [] [] e f a b = refl
-lists_once section name_count at [] [] (q ∷ qs) e f a b = absurd b
-lists_once section name_count at [] (p ∷ ps) qs e f a b = absurd a
-lists_once section name_count at (x ∷ es) [] qs e f a b = absurd a
-lists_once section name_count at (x ∷ es) (p ∷ ps) [] e f a b = absurd b
-lists_once section name_count at (x ∷ es) (p ∷ ps) (q ∷ qs) e f a b =
-    let ids : p.1 ≡ q.1 = ap (λ r. r.ids) (sym a.0 ∙ b.0) in
-    let xp : x ≡ record { trigram = p.0; count = length p.1; offset = at } = cc in
-    let xq : x ≡ record { trigram = q.0; count = length q.1; offset = at } = cc in
-    let trigram : p.0 ≡ q.0 = ap (λ (y : ListEntry). y.trigram) (sym xp ∙ xq) in
-    let head : p ≡ q = λ i. (trigram i, ids i) in
-    let te : es ≡ list_entries (at + length (posting_list p)) ps = cc in
-    let tf : es ≡ list_entries (at + length (posting_list q)) qs = cc in
-    let rest : ps ≡ qs = lists_once section name_count (at + length (posting_list p)) es ps qs te (tf ∙ ap (λ r. list_entries (at + length (posting_list r)) qs) (sym head)) a.1 b.1 in
-    λ i. head i ∷ rest i
-
--- ---- sets are read back from the lists
-
-index_at : (front rest : List Entry) (entry d : Entry) → slice_index_or (front ++ entry ∷ rest) (length front) d ≡ entry
-index_at [] rest entry d = refl
-index_at (x ∷ front) rest entry d = index_at front rest entry d
-
-pub read_back : (front entries : List Entry) → AllByRecursion (λ (e : Entry). Ascends e.1) entries → entries_of (length front) (names_of entries) (postings_of (front ++ entries)) ≡ entries
-read_back front [] all = refl
-read_back front (entry ∷ entries) all =
-    let whole : List Entry = front ++ entry ∷ entries in
-    let long : length whole ≡ length front + suc (length entries) = length-append front (entry ∷ entries) in
-    let here : slice_index_or whole (length front) entry ≡ entry = index_at front entries entry entry in
-    let back : set_at (length front) (postings_of whole) ≡ entry.1 = set_back whole (length front) entry (omega (arith, long)) (subst (λ (e : Entry). Ascends e.1) (sym here) all.0) ∙ ap (λ (e : Entry). e.1) here in
-    let on : length (front ++ entry ∷ []) ≡ length front + 1 = length-append front (entry ∷ []) in
-    let rest = read_back (front ++ entry ∷ []) entries all.1 in
-    let rest' : entries_of (length front + 1) (names_of entries) (postings_of whole) ≡ entries = ap (λ n. entries_of n (names_of entries) (postings_of whole)) (sym on) ∙ ap (λ es. entries_of (length (front ++ entry ∷ [])) (names_of entries) (postings_of es)) (sym (append_assoc front (entry ∷ []) entries)) ∙ rest in
-    λ i. (entry.0, back i) ∷ rest' i
 
 pub ascending_sets : (files : Files) → EachFile (λ name trigrams. IsTrigramSet trigrams) files → AllByRecursion (λ (e : Entry). Ascends e.1) (map'.entries files)
 ascending_sets files h = all_firsts (λ (e : Entry). Ascends e.1) (λ (e : Entry). AllByRecursion (λ g. g < 16777215) e.1) (map'.entries files) (each_of_map (λ name (trigrams : List ℕ). IsTrigramSet trigrams) files h)
@@ -182,15 +145,10 @@ ascending_sets files h = all_firsts (λ (e : Entry). Ascends e.1) (λ (e : Entry
 -- the entries of two images with the same bytes
 entries_once : (p q : List (List ℕ)) (d e : List Entry) → IsIndexable p d → IsIndexable q e → AllByRecursion (λ (x : Entry). Ascends x.1) d → AllByRecursion (λ (x : Entry). Ascends x.1) e → image_of p d ≡ image_of q e → (p ≡ q) × (d ≡ e)
 entries_once p q d e g h a b same =
-    let s : SectionBytes = sections_of p (names_of d) (postings_of d) in
-    let t : SectionBytes = sections_of q (names_of e) (postings_of e) in
-    let once = spelled_once (image_of p d) p q (names_of d) (names_of e) (list_entries 0 (postings_of d)) (list_entries 0 (postings_of e)) (image_spelled p d g) (subst (λ bytes. Spells bytes q (names_of e) (list_entries 0 (postings_of e))) (sym same) (image_spelled q e h)) in
-    let sections = sections_once s t g.short h.short same in
-    let lists : concat (map posting_list (postings_of d)) ++ closing_list ≡ concat (map posting_list (postings_of e)) ++ closing_list = ap (λ (u : SectionBytes). u.postings) sections in
-    let count : length d ≡ length e = sym (length-map d (λ (x : Entry). x.0)) ∙ ap length once.1 ∙ length-map e (λ (x : Entry). x.0) in
-    let moved = subst (λ section. AllZip (λ (x : ListEntry) (r : Posting). IsList section (length d) x r.1) (list_entries 0 (postings_of e)) (postings_of e)) (sym lists) (subst (λ n. AllZip (λ (x : ListEntry) (r : Posting). IsList (concat (map posting_list (postings_of e)) ++ closing_list) n x r.1) (list_entries 0 (postings_of e)) (postings_of e)) (sym count) (image_lists e h.bound)) in
-    let postings : postings_of d ≡ postings_of e = lists_once (concat (map posting_list (postings_of d)) ++ closing_list) (length d) 0 (list_entries 0 (postings_of d)) (postings_of d) (postings_of e) refl once.2 (image_lists d g.bound) (subst (λ xs. AllZip (λ (x : ListEntry) (r : Posting). IsList (concat (map posting_list (postings_of d)) ++ closing_list) (length d) x r.1) xs (postings_of e)) (sym once.2) moved) in
-    (once.0, sym (read_back [] d a) ∙ ap (λ names. entries_of 0 names (postings_of d)) once.1 ∙ ap (entries_of 0 (names_of e)) postings ∙ read_back [] e b)
+    let once = spelled_once (image_of p d) (parts_written p d) (parts_written q e) (image_spelled p d g) (subst (λ bytes. Spells bytes (parts_written q e)) (sym same) (image_spelled q e h)) in
+    let one = image_has p d g in
+    let other = image_has q e h in
+    (sym one.has_paths ∙ ap (λ (parts : Parts). parts.paths) once ∙ other.has_paths, sym (one.has_files a) ∙ ap files_read once ∙ other.has_files b)
 
 pub same_paths : (p q : Paths) → set.items p ≡ set.items q → p ≡ q
 same_paths p q e = same_set p q (λ path. map'.contains_key-keys p path ∙ ap (list_any (eq_by_cmp bytes_cmp path)) e ∙ sym (map'.contains_key-keys q path))

@@ -1,26 +1,30 @@
 -- What bytes hold.
-use Rattle.std.proofs.Common.{◌≡◌, ℕ, zero, suc, ◌+◌, ◌<◌, ◌^◌, Bool, true, false, cond, List, [], ◌∷◌, ◌++◌, length, map, take, drop, get_or, refl, sym, ap, subst, ◌∙◌, inl, inr, ◌⊎◌, Some, arith}
+use Rattle.std.proofs.Common.{◌≡◌, ℕ, zero, suc, ◌+◌, ◌<◌, ◌^◌, Bool, true, false, cond, List, [], ◌∷◌, length, map, take, drop, get_or, refl, sym, ap, subst, ◌∙◌, inl, inr, ◌⊎◌, Some, arith}
 use Rattle.cs_tree.specs.PathSet.{Paths}
 use Rattle.cs_tree.specs.NameOrder.{bytes_cmp}
 use Rattle.cs_index.specs.PostingLists.{damage, read_ids, set_at, entries_of}
 use Rattle.cs_index.specs.WholeLists.{IsList}
 use Rattle.cs_trigram.specs.Trigram.{has, Ascends}
 use Rattle.cs_trigram.specs.TrigramSets.{IsTrigramSet}
-use Rattle.std.proofs.lemmas.Bool.{true≢false, cases_Bool}
+use Rattle.std.proofs.lemmas.Bool.{true≢false, cases_Bool, and_parts}
 use Rattle.std.specs.Prelude.{T, is_some, filter, bytes_eq}
-use Rattle.std.specs.List.{AllByRecursion, AllZip, concat}
+use Rattle.std.specs.List.{AllByRecursion, list_all}
 use Rattle.std.specs.Cmp.Lexicographic.{nat_list_cmp_total}
 use Rattle.std.specs.Ordering.{eq_by_cmp}
 use Rattle.std.specs.FinMap as map'
 use Rattle.std.specs.FinMap.Entries.{is_sorted, find}
 use Rattle.cs_tree.specs.PathSet as set
 use Rattle.cs_tree.proofs.Sets.{tied_is, same_set, entries_in_order}
-use Rattle.cs_index.specs.Image.{Files, Entry, image, names_of, Posting, posting_list, postings_of, ListEntry, list_entries, closing_list, SectionBytes, sections_of, layout, three_bytes, IsString}
+use Rattle.cs_index.specs.Image.{Files, Entry, image, Posting, ListEntry, three_bytes, IsString}
 use Rattle.cs_index.specs.Spelling.{IsEntry}
-use Rattle.cs_index.proofs.OnceLemmas.{laid_once, names_tail, sections_once, spelled_once}
-use Rattle.cs_index.proofs.ListedLemmas.{image_lists}
-use Rattle.cs_merge.specs.Content.{IsContent, IsListOf, HoldsContent}
-use Rattle.cs_merge.proofs.ContentLemmas.{each_of_map, content_indexable, content_spelled, read_back, ascending_sets}
+use Rattle.cs_index.proofs.OnceLemmas.{names_tail, spelled_once}
+use Rattle.cs_index.specs.Roundtrip.{parts_written}
+use Rattle.cs_index.specs.OpenedParts.{Parts, ids_read, whole_ids, lists_in, files_read, paths_in, files_in}
+use Rattle.cs_index.proofs.WrittenLemmas.{image_has}
+use Rattle.cs_index.proofs.SpellingLemmas.{image_spelled}
+use Rattle.cs_merge.proofs.ReadLemmas.{read_posting}
+use Rattle.cs_merge.specs.Content.{IsContent, HoldsContent}
+use Rattle.cs_merge.proofs.ContentLemmas.{each_of_map, content_indexable, ascending_sets}
 use Rattle.cs_trigram.proofs.SetLemmas.{all_above, ascends_tail}
 use Rattle.cs_merge.proofs.FileOrderLemmas.{names_up, sorted_up, up_named, up_sorted}
 use Rattle.cs_index.proofs.BuildingLemmas.{names_entries}
@@ -64,61 +68,31 @@ map_of_entries files = map'.same_entries_map files (map'.from_entries (map'.entr
 
 -- ---- the image of what can be held
 
-lists_of : (section : List ℕ) (name_count at : ℕ) (ps : List Posting) → AllZip (λ (e : ListEntry) (p : Posting). IsList section name_count e p.1) (list_entries at ps) ps → AllZip (IsListOf section name_count) (list_entries at ps) ps
-lists_of section name_count at [] all = tt
-lists_of section name_count at (p ∷ ps) all = ((refl, all.0), lists_of section name_count (at + length (posting_list p)) ps all.1)
-
-length-names : (es : List Entry) → length (names_of es) ≡ length es
-length-names [] = refl
-length-names (e ∷ es) = ap suc (length-names es)
-
 pub content_held : (paths : Paths) (files : Files) → IsContent paths files → length (image paths files) < 2 ^ 32 → HoldsContent (image paths files) paths files
 unfolding image
 content_held paths files content short =
     let es : List Entry = map'.entries files in
-    let spells = content_spelled paths files content short in
-    let back : entries_of 0 (names_of es) (postings_of es) ≡ es = read_back [] es (ascending_sets files content.sets_are) in
-    let laid : layout (sections_of (set.items paths) (names_of es) (postings_of es)) ≡ layout spells.sections = spells.are_laid.laid in
-    let sections = sections_once (sections_of (set.items paths) (names_of es) (postings_of es)) spells.sections short (subst (λ b. length b < 2 ^ 32) laid short) laid in
-    let lists = lists_of (concat (map posting_list (postings_of es)) ++ closing_list) (length es) 0 (postings_of es) (image_lists es (content_indexable paths files content short).bound) in
+    let parts : Parts = parts_written (set.items paths) es in
+    let is = content_indexable paths files content short in
+    let index = image_has (set.items paths) es is in
+    let back : files_read parts ≡ es = index.has_files (ascending_sets files content.sets_are) in
     record {
-      path_list = set.items paths;
-      names = map'.keys files;
-      entries = list_entries 0 (postings_of es);
-      lists = postings_of es;
-      spells = spells;
-      each_list = subst (λ section. AllZip (IsListOf section (length (names_of es))) (list_entries 0 (postings_of es)) (postings_of es)) (ap (λ (s : SectionBytes). s.postings) sections) (subst (λ n. AllZip (IsListOf (concat (map posting_list (postings_of es)) ++ closing_list) n) (list_entries 0 (postings_of es)) (postings_of es)) (sym (length-names es)) lists);
-      ascend = names_up 0 (names_of es) (postings_of es) (up_sorted (entries_of 0 (names_of es) (postings_of es)) (ap (is_sorted bytes_cmp) back ∙ true_from_T (is_sorted bytes_cmp es) (map'.entries_sorted files)));
-      paths_are = set_of_items paths;
-      files_are = map_of_entries files ∙ ap map'.from_entries (sym back);
+      parts = parts;
+      spells = image_spelled (set.items paths) es is;
+      has = record {
+        paths_are = ap set.from_list index.has_paths ∙ sym (set_of_items paths);
+        files_are = ap map'.from_entries back ∙ sym (map_of_entries files);
+        ascend = names_up 0 parts.names (lists_in parts) (up_sorted (files_read parts) (ap (is_sorted bytes_cmp) back ∙ true_from_T (is_sorted bytes_cmp es) (map'.entries_sorted files)));
+        whole = index.whole;
+      };
     }
 
 -- ---- one content
 
-lists_same : (section : List ℕ) (name_count : ℕ) (es : List ListEntry) (ps qs : List Posting) → AllZip (IsListOf section name_count) es ps → AllZip (IsListOf section name_count) es qs → ps ≡ qs
-lists_same section name_count [] [] [] a b = refl
-lists_same section name_count [] [] (q ∷ qs) a b = absurd b
-lists_same section name_count [] (p ∷ ps) qs a b = absurd a
-lists_same section name_count (e ∷ es) [] qs a b = absurd a
-lists_same section name_count (e ∷ es) (p ∷ ps) [] a b = absurd b
-lists_same section name_count (e ∷ es) (p ∷ ps) (q ∷ qs) a b =
-    let trigram : p.0 ≡ q.0 = sym a.0.0 ∙ b.0.0 in
-    let ids : p.1 ≡ q.1 = ap (λ r. r.ids) (sym a.0.1 ∙ b.0.1) in
-    let rest : ps ≡ qs = lists_same section name_count es ps qs a.1 b.1 in
-    λ i. (trigram i, ids i) ∷ rest i
-
 pub held_once : (bytes : List ℕ) (p q : Paths) (f g : Files) → HoldsContent bytes p f → HoldsContent bytes q g → (p ≡ q) × (f ≡ g)
 held_once bytes p q f g a b =
-    let once = spelled_once bytes a.path_list b.path_list a.names b.names a.entries b.entries a.spells b.spells in
-    let sections = laid_once bytes a.spells.sections b.spells.sections a.spells.are_laid b.spells.are_laid in
-    let moved : AllZip (IsListOf a.spells.sections.postings (length a.names)) a.entries b.lists =
-    subst (λ section. AllZip (IsListOf section (length a.names)) a.entries b.lists) (sym (ap (λ (s : SectionBytes). s.postings) sections))
-    (subst (λ names. AllZip (IsListOf b.spells.sections.postings (length names)) a.entries b.lists) (sym once.1)
-    (subst (λ es. AllZip (IsListOf b.spells.sections.postings (length b.names)) es b.lists) (sym once.2) b.each_list)) in
-    let lists : a.lists ≡ b.lists = lists_same a.spells.sections.postings (length a.names) a.entries a.lists b.lists a.each_list moved in (
-      a.paths_are ∙ ap set.from_list once.0 ∙ sym b.paths_are,
-      a.files_are ∙ (λ i. map'.from_entries (entries_of 0 (once.1 i) (lists i))) ∙ sym b.files_are,
-    )
+    let once = spelled_once bytes a.parts b.parts a.spells b.spells in
+    (sym a.has.paths_are ∙ ap paths_in once ∙ b.has.paths_are, sym a.has.files_are ∙ ap files_in once ∙ b.has.files_are)
 
 -- ---- what is held can be held
 
@@ -133,26 +107,21 @@ no_ids section ids name_count e none h = by_count e.count none (ap (λ r. r.ids)
     by_count zero z h = sym h ∙ elim (bytes_eq (take 3 (drop e.offset section)) (three_bytes e.trigram)) as (λ t. (cond t (read_ids name_count 0 0 (drop (e.offset + 3) section)) damage).ids ≡ []) [ true ↦ refl | false ↦ refl ]
     by_count (suc count) z h = absurd (omega (arith, z))
 
-all_fit : (section : List ℕ) (name_count : ℕ) (es : List ListEntry) (ps : List Posting) → AllByRecursion (IsEntry section) es → AllZip (IsListOf section name_count) es ps → AllByRecursion Fits ps
-all_fit section name_count [] [] is all = tt
-all_fit section name_count [] (p ∷ ps) is all = absurd all
-all_fit section name_count (e ∷ es) [] is all = absurd all
-all_fit section name_count (e ∷ es) (p ∷ ps) is all = (
-  elim is.0.trigram [
-    | inl below ↦ inl (let t : e.trigram ≡ p.0 = all.0.0 in omega (arith, t, below))
-    | inr closing ↦ inr (no_ids section p.1 name_count e closing.1 all.0.1)
-  ],
-  all_fit section name_count es ps is.1 all.1,
-)
+all_fit : (section : List ℕ) (parts : Parts) (es : List ListEntry) → AllByRecursion (IsEntry section) es → list_all (λ (e : ListEntry). (ids_read parts e).whole) es ≡ true → AllByRecursion Fits (map (read_posting parts) es)
+all_fit section parts [] is all = tt
+all_fit section parts (e ∷ es) is all =
+    let both = and_parts ((ids_read parts e).whole) (list_all (λ (d : ListEntry). (ids_read parts d).whole) es) all in
+    let ids : (ids_read parts e).ids ≡ whole_ids (ids_read parts e) = sym (ap (λ b. cond b (ids_read parts e).ids []) both.0) in (
+      elim is.0.trigram [
+        | inl below ↦ inl below
+        | inr closing ↦ inr (no_ids parts.postings (whole_ids (ids_read parts e)) (length parts.names) e closing.1 (λ i. record { ids = ids i; whole = both.0 i }))
+      ],
+      all_fit section parts es is.1 both.1,
+    )
 
-same_trigrams : (section : List ℕ) (name_count : ℕ) (es : List ListEntry) (ps : List Posting) → AllZip (IsListOf section name_count) es ps → map (λ (e : ListEntry). e.trigram) es ≡ map (λ (p : Posting). p.0) ps
-same_trigrams section name_count [] [] all = refl
-same_trigrams section name_count [] (p ∷ ps) all = absurd all
-same_trigrams section name_count (e ∷ es) [] all = absurd all
-same_trigrams section name_count (e ∷ es) (p ∷ ps) all =
-    let head : e.trigram ≡ p.0 = all.0.0 in
-    let rest = same_trigrams section name_count es ps all.1 in
-    λ i. head i ∷ rest i
+same_trigrams : (parts : Parts) (es : List ListEntry) → map (λ (e : ListEntry). e.trigram) es ≡ map (λ (p : Posting). p.0) (map (read_posting parts) es)
+same_trigrams parts [] = refl
+same_trigrams parts (e ∷ es) = ap (λ rest. e.trigram ∷ rest) (same_trigrams parts es)
 
 pub set_fits : (id : ℕ) (ps : List Posting) → AllByRecursion Fits ps → AllByRecursion (λ g. g < 16777215) (set_at id ps)
 set_fits id [] all = tt
@@ -193,22 +162,25 @@ all_files P Q first (name ∷ names) ps all sets = ((all.0, sets first), all_fil
 
 pub held_content : (bytes : List ℕ) (paths : Paths) (files : Files) → HoldsContent bytes paths files → IsContent paths files
 held_content bytes paths files h =
-    let fit = all_fit h.spells.sections.postings (length h.names) h.entries h.lists h.spells.list_index_is.0 h.each_list in
-    let up : Ascends (map (λ (p : Posting). p.0) h.lists) = subst Ascends (same_trigrams h.spells.sections.postings (length h.names) h.entries h.lists h.each_list) h.spells.list_index_is.1 in
-    let all = all_files IsString IsTrigramSet 0 h.names h.lists (names_tail h.spells.sections.names h.names h.spells.names_are).1.0 (λ id. (set_ascends id h.lists up, set_fits id h.lists fit)) in
+    let names : List (List ℕ) = h.parts.names in
+    let lists : List Posting = lists_in h.parts in
+    let spells = h.spells in
+    let fit = all_fit spells.sections.postings h.parts h.parts.entries spells.list_index_is.0 h.has.whole in
+    let up : Ascends (map (λ (p : Posting). p.0) lists) = subst Ascends (same_trigrams h.parts h.parts.entries) spells.list_index_is.1 in
+    let all = all_files IsString IsTrigramSet 0 names lists (names_tail spells.sections.names names spells.names_are).1.0 (λ id. (set_ascends id lists up, set_fits id lists fit)) in
     let each : (name trigrams : List ℕ) → map'.get files name ≡ Some trigrams → IsString name × IsTrigramSet trigrams =
-    λ name trigrams there. find_all (λ (n : List ℕ) (t : List ℕ). IsString n × IsTrigramSet t) (entries_of 0 h.names h.lists) name trigrams all (sym (map'.get-from_entries nat_list_cmp_total (entries_of 0 h.names h.lists) name) ∙ ap (λ m. map'.get m name) (sym h.files_are) ∙ there) in
+    λ name trigrams there. find_all (λ (n : List ℕ) (t : List ℕ). IsString n × IsTrigramSet t) (entries_of 0 names lists) name trigrams all (sym (map'.get-from_entries nat_list_cmp_total (entries_of 0 names lists) name) ∙ ap (λ m. map'.get m name) h.has.files_are ∙ there) in
     record {
-      paths_are = λ path member. from_list_all IsString h.path_list h.spells.paths_are.0 path (ap (λ s. set.contains s path) (sym h.paths_are) ∙ member);
+      paths_are = λ path member. from_list_all IsString h.parts.paths spells.paths_are.0 path (ap (λ s. set.contains s path) h.has.paths_are ∙ member);
       names_are = λ name trigrams there. (each name trigrams there).0;
       sets_are = λ name trigrams there. (each name trigrams there).1;
     }
 
-held_entries : (bytes : List ℕ) (paths : Paths) (files : Files) (h : HoldsContent bytes paths files) → map'.entries files ≡ entries_of 0 h.names h.lists
-held_entries bytes paths files h = ap map'.entries h.files_are ∙ entries_in_order (entries_of 0 h.names h.lists) (subst T (sym (sorted_up (entries_of 0 h.names h.lists) (up_named 0 h.names h.lists h.ascend))) tt)
+held_entries : (bytes : List ℕ) (paths : Paths) (files : Files) (h : HoldsContent bytes paths files) → map'.entries files ≡ files_read h.parts
+held_entries bytes paths files h = ap map'.entries (sym h.has.files_are) ∙ entries_in_order (files_read h.parts) (subst T (sym (sorted_up (files_read h.parts) (up_named 0 h.parts.names (lists_in h.parts) h.has.ascend))) tt)
 
-pub held_names : (bytes : List ℕ) (paths : Paths) (files : Files) (h : HoldsContent bytes paths files) → map'.keys files ≡ h.names
-held_names bytes paths files h = ap (map (λ (e : Entry). e.0)) (held_entries bytes paths files h) ∙ names_entries 0 h.names h.lists
+pub held_names : (bytes : List ℕ) (paths : Paths) (files : Files) (h : HoldsContent bytes paths files) → map'.keys files ≡ h.parts.names
+held_names bytes paths files h = ap (map (λ (e : Entry). e.0)) (held_entries bytes paths files h) ∙ names_entries 0 h.parts.names (lists_in h.parts)
 
 -- what holds of each entry holds of the name and the set with an id
 at_id : (P : List ℕ → List ℕ → Type 0) (first : ℕ) (names : List (List ℕ)) (ps : List Posting) (k : ℕ) (d : List ℕ) → AllByRecursion (λ (e : Entry). P e.0 e.1) (entries_of first names ps) → k < length names → P (get_or names k d) (set_at (first + k) ps)
@@ -216,8 +188,8 @@ at_id P first [] ps k d all within = absurd (omega (arith, within))
 at_id P first (name ∷ names) ps zero d all within = subst (λ n. P name (set_at n ps)) (let e : first ≡ first + 0 = omega arith in e) all.0
 at_id P first (name ∷ names) ps (suc k) d all within = subst (λ n. P (get_or names k d) (set_at n ps)) (let e : first + 1 + k ≡ first + suc k = omega arith in e) (at_id P (first + 1) names ps k d all.1 (omega (arith, within)))
 
-pub held_set : (bytes : List ℕ) (paths : Paths) (files : Files) (h : HoldsContent bytes paths files) (id : ℕ) (d : List ℕ) → id < length h.names → map'.get files (get_or h.names id d) ≡ Some (set_at id h.lists)
+pub held_set : (bytes : List ℕ) (paths : Paths) (files : Files) (h : HoldsContent bytes paths files) (id : ℕ) (d : List ℕ) → id < length h.parts.names → map'.get files (get_or h.parts.names id d) ≡ Some (set_at id (lists_in h.parts))
 held_set bytes paths files h id d within =
     let P = λ (name : List ℕ) (trigrams : List ℕ). map'.get files name ≡ Some trigrams in
     let all = subst (AllByRecursion (λ (e : Entry). P e.0 e.1)) (held_entries bytes paths files h) (each_of_map P files (λ name trigrams there. there)) in
-    subst (λ n. map'.get files (get_or h.names id d) ≡ Some (set_at n h.lists)) (let e : 0 + id ≡ id = omega arith in e) (at_id P 0 h.names h.lists id d all within)
+    subst (λ n. map'.get files (get_or h.parts.names id d) ≡ Some (set_at n (lists_in h.parts))) (let e : 0 + id ≡ id = omega arith in e) (at_id P 0 h.parts.names (lists_in h.parts) id d all within)

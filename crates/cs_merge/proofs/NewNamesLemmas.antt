@@ -15,10 +15,10 @@ use Rattle.cs_tree.specs.PathSet as set
 use Rattle.cs_tree.proofs.Sets.{alike, tied_is, tied_same, entries_in_order}
 use Rattle.std.specs.Option.{option_or}
 use Rattle.cs_index.specs.Image.{Posting, image, image_of}
-use Rattle.cs_index.specs.OpenedParts.{Parts, files_read, lists_in, files_in, paths_in}
+use Rattle.cs_index.specs.OpenedParts.{Parts, files_read, lists_in, files_in, paths_in, are_covered}
 use Rattle.cs_index.specs.PostingLists.{set_at, entries_of}
 use Rattle.cs_merge.specs.Join.{join_files, join_paths}
-use Rattle.cs_merge.specs.Joinable.{are_covered, joined_index, AreTested}
+use Rattle.cs_merge.specs.Joinable.{joined_index, AreTested}
 use Rattle.cs_merge.specs.Renumbering.{NewIds, AreCarried, IsOfOne, new, kept, AreRenumbered}
 use Rattle.cs_merge.proofs.FileOrderLemmas.{sorted_up, up_named}
 use Rattle.cs_merge.proofs.JoinLemmas.{get-join_files}

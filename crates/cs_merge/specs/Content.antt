@@ -1,16 +1,13 @@
 -- What an index holds: a set of paths, and a map from the names of files to their sets of trigrams.
 -- docs/FORMAT.md, "The index as it is written" and "The index as it is read".
-use Rattle.std.specs.Prelude.{◌≡◌, ℕ, true, List, length, Some, Ok}
+use Rattle.std.specs.Prelude.{◌≡◌, ℕ, true, List, Some, Ok}
 use Rattle.cs_tree.specs.PathSet.{Paths}
 use Rattle.cs_tree.specs.NamesAscending.{are_ascending}
-use Rattle.cs_index.specs.PostingLists.{entries_of}
-use Rattle.cs_index.specs.WholeLists.{IsList}
 use Rattle.cs_trigram.specs.TrigramSets.{IsTrigramSet}
-use Rattle.std.specs.List.{AllZip}
 use Rattle.std.specs.FinMap as map
 use Rattle.cs_tree.specs.PathSet as set
 use Rattle.cs_tree.specs.Cover.{is_covered}
-use Rattle.cs_index.specs.Image.{Files, ListEntry, Posting, IsString}
+use Rattle.cs_index.specs.Image.{Files, IsString}
 use Rattle.cs_index.specs.Opening.{opening as opened_as}
 use Rattle.cs_index.specs.OpenedParts.{Parts, are_whole, paths_in, files_in}
 use Rattle.cs_index.specs.Spelling.{Spells}
@@ -33,31 +30,18 @@ LieUnder paths files = EachFile (λ name trigrams. is_covered paths name ≡ tru
 
 -- ---- what bytes hold, whoever wrote them
 
--- at an entry of the list index stands this list, whole
-abbrev pub IsListOf : List ℕ → ℕ → ListEntry → Posting → Type 0
-IsListOf postings name_count entry list = (entry.trigram ≡ list.0) × IsList postings name_count entry list.1
-
--- The bytes hold these paths and files: they spell the paths, and names that strictly ascend, and each
--- entry has its list. The set of a name is that of the trigrams whose list has its id.
-pub record HoldsContent (bytes : List ℕ) (paths : Paths) (files : Files) : Type 0 where
-  pub path_list : List (List ℕ)
-  pub names : List (List ℕ)
-  pub entries : List ListEntry
-  pub lists : List Posting
-  pub spells : Spells bytes path_list names entries
-  pub each_list : AllZip (IsListOf spells.sections.postings (length names)) entries lists
-  pub ascend : are_ascending names ≡ true
-  pub paths_are : paths ≡ set.from_list path_list
-  pub files_are : files ≡ map.from_entries (entries_of 0 names lists)
-
--- ---- what an index that was opened holds
-
 -- The parts have these paths and files, their names ascend and their lists are whole.
 pub record HasContent (parts : Parts) (paths : Paths) (files : Files) : Type 0 where
   pub paths_are : paths_in parts ≡ paths
   pub files_are : files_in parts ≡ files
   pub ascend : are_ascending parts.names ≡ true
   pub whole : are_whole parts ≡ true
+
+-- The bytes hold these paths and files: they spell parts that have them.
+pub record HoldsContent (bytes : List ℕ) (paths : Paths) (files : Files) : Type 0 where
+  pub parts : Parts
+  pub spells : Spells bytes parts
+  pub has : HasContent parts paths files
 
 -- The bytes open as an index that has these paths and files.
 pub record Opens (bytes : List ℕ) (paths : Paths) (files : Files) : Type 0 where

@@ -3,10 +3,8 @@
 use Rattle.std.specs.Prelude.{◌≡◌, ℕ, Bool, true, ◌&&◌, List}
 use Rattle.cs_tree.specs.Folders.{are_distinct}
 use Rattle.cs_tree.specs.NamesAscending.{are_ascending}
-use Rattle.std.specs.List.{list_all}
-use Rattle.cs_tree.specs.Cover.{is_covered}
 use Rattle.cs_index.specs.Image.{image}
-use Rattle.cs_index.specs.OpenedParts.{Parts, are_whole, files_in, paths_in}
+use Rattle.cs_index.specs.OpenedParts.{Parts, are_covered, are_whole, files_in, paths_in}
 use Rattle.cs_merge.specs.Join.{join_files, join_paths}
 
 -- the names of both strictly ascend
@@ -16,10 +14,6 @@ both_ascend old newer = are_ascending old.names && are_ascending newer.names
 -- neither holds a name twice, in whatever order its names stand
 abbrev pub both_distinct : Parts → Parts → Bool
 both_distinct old newer = are_distinct old.names && are_distinct newer.names
-
--- each name lies under some path
-unfoldable pub are_covered : Parts → Bool
-are_covered parts = list_all (λ name. is_covered (paths_in parts) name) parts.names
 
 -- each list of both is whole
 abbrev pub both_whole : Parts → Parts → Bool
@@ -37,4 +31,5 @@ pub record AreJoinable (old newer : Parts) : Type 0 where
 
 -- the index of what both have
 abbrev pub joined_index : Parts → Parts → List ℕ
-joined_index old newer = image (join_paths (paths_in old) (paths_in newer)) (join_files (paths_in newer) (files_in old) (files_in newer))
+joined_index old newer =
+    image (join_paths (paths_in old) (paths_in newer)) (join_files (paths_in newer) (files_in old) (files_in newer))

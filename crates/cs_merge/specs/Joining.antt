@@ -1,11 +1,11 @@
 -- What the joining of two indexes answers.
 use Rattle.std.specs.Prelude.{◌≡◌, ℕ, ◌-◌, ◌<◌, ◌^◌, true, false, List, length}
-use Rattle.cs_index.specs.OpenedParts.{Parts}
+use Rattle.cs_index.specs.OpenedParts.{Parts, are_covered}
 use Rattle.cs_index.specs.declared.fault.IndexFault.TheVariants.{BadList}
 use Rattle.cs_merge.specs.declared.fault.MergeFault.{MergeFault}
 use Rattle.cs_merge.specs.declared.fault.MergeFault.TheVariants.{Unsorted, Uncovered, Index, TooLarge, Memory}
 use Rattle.cs_merge.specs.JoinOutcome.{IsIndexWithin}
-use Rattle.cs_merge.specs.Joinable.{are_covered, both_ascend, both_distinct, both_whole, joined_index, AreJoinable, AreTested}
+use Rattle.cs_merge.specs.Joinable.{both_ascend, both_distinct, both_whole, joined_index, AreJoinable, AreTested}
 
 -- the most bytes of an index: 32 bits count them
 abbrev pub most_bytes : ℕ

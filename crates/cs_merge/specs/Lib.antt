@@ -1,7 +1,6 @@
 -- What public contracts rest on.
 pub use Rattle.cs_index.specs.Spelling
 pub use Rattle.cs_index.specs.PostingLists
-pub use Rattle.cs_index.specs.WholeLists
 pub use Rattle.cs_tree.specs.PathSet
 pub use Rattle.cs_tree.specs.ByteList
 pub use Rattle.cs_tree.specs.Cover

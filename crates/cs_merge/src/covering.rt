@@ -3,9 +3,8 @@ ghost use Rattle.std.specs.Prelude.{◌≡◌, ◌∷◌, [], is_some, IfOk, IfS
 ghost use Rattle.std.specs.List.{list_any};
 ghost use Rattle.cs_tree.specs.Cover.{covers as covers', is_covered as is_covered'};
 ghost use Rattle.cs_tree.specs.PathSet as set;
-ghost use Rattle.cs_index.specs.OpenedParts.{paths_in};
+ghost use Rattle.cs_index.specs.OpenedParts.{paths_in, are_covered};
 ghost use Rattle.cs_merge.specs.SomePaths.{AreAmong};
-ghost use Rattle.cs_merge.specs.Joinable.{are_covered};
 
 use cs_index::{Index, Texts};
 use cs_tree::{covers, is_covered};

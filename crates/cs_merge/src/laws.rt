@@ -7,9 +7,10 @@ ghost use Rattle.cs_index.specs.PostingLists.{set_at};
 ghost use Rattle.std.specs.FinMap as map;
 ghost use Rattle.cs_tree.specs.PathSet as set;
 ghost use Rattle.cs_tree.specs.Cover.{is_covered, least};
-ghost use Rattle.cs_index.specs.Image.{Files, image, list_entries, postings_of};
+ghost use Rattle.cs_index.specs.Image.{Files, image};
+ghost use Rattle.cs_index.specs.Roundtrip.{parts_written};
 ghost use Rattle.cs_index.specs.Opening.{opening};
-ghost use Rattle.cs_index.specs.OpenedParts.{Parts};
+ghost use Rattle.cs_index.specs.OpenedParts.{Parts, lists_in};
 ghost use Rattle.cs_index.specs.Spelling.{Spells};
 ghost use Rattle.cs_merge.specs.Join.{join_files, join_paths};
 ghost use Rattle.cs_merge.specs.Replacing.{IsCoveredBy};
@@ -56,8 +57,7 @@ pub fn joining_keeps_content()
 pub fn images_hold_their_content()
     ensures spelled { (paths : Paths) (files : Files) → IsContent paths files →
         length (image paths files) < 2 ^ 32 →
-        Spells (image paths files) (set.items paths) (map.keys files)
-        (list_entries 0 (postings_of (map.entries files))) }
+        Spells (image paths files) (parts_written (set.items paths) (map.entries files)) }
     ensures held { (paths : Paths) (files : Files) → IsContent paths files →
         length (image paths files) < 2 ^ 32 →
         HoldsContent (image paths files) paths files }
@@ -76,10 +76,11 @@ pub fn bytes_hold_one_content()
 pub fn names_have_their_sets()
     ensures names { (bytes : List ℕ) (paths : Paths) (files : Files)
         (holds : HoldsContent bytes paths files) →
-        map.keys files ≡ holds.names }
+        map.keys files ≡ holds.parts.names }
     ensures sets { (bytes : List ℕ) (paths : Paths) (files : Files)
-        (holds : HoldsContent bytes paths files) (id : ℕ) (d : List ℕ) → id < length holds.names →
-        map.get files (slice_index_or holds.names id d) ≡ Some (set_at id holds.lists) }
+        (holds : HoldsContent bytes paths files) (id : ℕ) (d : List ℕ) →
+        id < length holds.parts.names → map.get files (slice_index_or holds.parts.names id d) ≡
+        Some (set_at id (lists_in holds.parts)) }
 {}
 
 /// Bytes that 32 bits can count are the image of one content alone.

@@ -12,12 +12,12 @@ use Rattle.cs_tree.specs.Told.{Told, ends}
 use Rattle.cs_tree.specs.Snapshot.{Snapshot, Item, folder, file, cut, other, bad, item_at}
 use Rattle.cs_tree.specs.Reached.{read_item}
 use Rattle.cs_trigram.specs.Trigram.{tri, has}
-use Rattle.cs_trigram.specs.Text.{rule_broken, first_broken, too_many, skip, none_skipped, text_trigrams, limits, may_follow, last_byte, line_so_far}
+use Rattle.cs_trigram.specs.Text.{rule_broken, first_broken, too_many, skip, text_trigrams, limits, may_follow, last_byte, line_so_far}
 use Rattle.cs_trigram.specs.declared.limits.Limits.{Limits}
 use Rattle.cs_trigram.specs.declared.scan.Reason.{Reason}
 use Rattle.cs_trigram.specs.declared.scan.Reason.TheVariants.{Nul, Utf8, TooLong as TooManyBytes, LongLine}
 use Rattle.cs_trigram.proofs.RuleLemmas.{option_or-none}
-use Rattle.cs_trigram.proofs.LawLemmas.{has-part_of}
+use Rattle.cs_trigram.proofs.LawLemmas.{has-part_of, none_skipped}
 use Rattle.cs_trigram.specs.Query.{holds, HasTrigrams, LosesNoLine}
 use Rattle.cs_trigram.specs.declared.queries.Query.{Query}
 use Rattle.cs_index.specs.Image.{Entry}
@@ -26,7 +26,7 @@ use Rattle.cs_words.specs.declared.jobs.Tool.{Tool}
 use Rattle.cs_words.specs.declared.jobs.Style.{Style}
 use Rattle.cs_search.specs.declared.grep_fault.ReadFault.{ReadFault}
 use Rattle.cs_search.specs.declared.grep_fault.ReadFault.TheVariants.{TooLong}
-use Rattle.cs_search.specs.declared.report.TheConstants.{MOST_SEARCHED}
+use Rattle.cs_search.specs.InputReport.{most_searched}
 use Rattle.cs_match.specs.Lines.{newline, lines}
 use Rattle.cs_search.specs.Report.{Hit, hits_from, some_hit, name_line, hits_output, report}
 use Rattle.cs_search.specs.InputReport.{told_report}
@@ -188,7 +188,7 @@ short_enough most front (b ∷ bytes) small h =
 
 -- what is known of bytes that are a text with these trigrams
 pub record IsTextOf (bytes trigrams : List ℕ) : Type 0 where
-  pub small : length bytes ≤ MOST_SEARCHED
+  pub small : length bytes ≤ most_searched
   pub are : tri bytes ≡ trigrams
 
 pub text_is : (bytes trigrams : List ℕ) → text_trigrams limits bytes ≡ Some trigrams → IsTextOf bytes trigrams
@@ -204,25 +204,25 @@ text_is bytes trigrams h = by_skip (skip limits bytes) refl h
 -- ---- the search of one file that reads as it was indexed
 
 module _ (style : Style) (finds : List ℕ → Bool) (tree : Snapshot) (name trigrams : List ℕ) where
-  opened_at : (tool : Tool) (bytes : List ℕ) → item_at tree name ≡ file bytes → file_printed MOST_SEARCHED tool style finds tree name ≡ input_printed MOST_SEARCHED tool style finds name (record { bytes = bytes; ending = ends })
+  opened_at : (tool : Tool) (bytes : List ℕ) → item_at tree name ≡ file bytes → file_printed most_searched tool style finds tree name ≡ input_printed most_searched tool style finds name (record { bytes = bytes; ending = ends })
   unfolding file_printed
-  opened_at tool bytes e = ap (λ (item : Item). opened_printed MOST_SEARCHED tool style finds name (opening_of item)) e
+  opened_at tool bytes e = ap (λ (item : Item). opened_printed most_searched tool style finds name (opening_of item)) e
 
   -- by either tool
-  pub file_alike : (item : Item) → item_at tree name ≡ item → read_item (text_trigrams limits) item ≡ Some trigrams → (a b : Tool) → file_printed MOST_SEARCHED a style finds tree name ≡ file_printed MOST_SEARCHED b style finds tree name
+  pub file_alike : (item : Item) → item_at tree name ≡ item → read_item (text_trigrams limits) item ≡ Some trigrams → (a b : Tool) → file_printed most_searched a style finds tree name ≡ file_printed most_searched b style finds tree name
   file_alike (file bytes) e h a b =
       let small = (text_is bytes trigrams h).small in
-      opened_at a bytes e ∙ printed_alike MOST_SEARCHED style finds name bytes small a ∙ sym (opened_at b bytes e ∙ printed_alike MOST_SEARCHED style finds name bytes small b)
+      opened_at a bytes e ∙ printed_alike most_searched style finds name bytes small a ∙ sym (opened_at b bytes e ∙ printed_alike most_searched style finds name bytes small b)
   file_alike (folder names unnamed) e h a b = cc
   file_alike (cut bytes) e h a b = cc
   file_alike other e h a b = cc
   file_alike (bad fault) e h a b = cc
 
   -- it has no fault
-  pub file_silent : (item : Item) → item_at tree name ≡ item → read_item (text_trigrams limits) item ≡ Some trigrams → (a : Tool) → (file_printed MOST_SEARCHED a style finds tree name).errors ≡ []
+  pub file_silent : (item : Item) → item_at tree name ≡ item → read_item (text_trigrams limits) item ≡ Some trigrams → (a : Tool) → (file_printed most_searched a style finds tree name).errors ≡ []
   file_silent (file bytes) e h a =
       let small = (text_is bytes trigrams h).small in
-      ap (λ (p : Printed). p.errors) (opened_at a bytes e ∙ printed_alike MOST_SEARCHED style finds name bytes small a)
+      ap (λ (p : Printed). p.errors) (opened_at a bytes e ∙ printed_alike most_searched style finds name bytes small a)
   file_silent (folder names unnamed) e h a = cc
   file_silent (cut bytes) e h a = cc
   file_silent other e h a = cc
@@ -230,12 +230,12 @@ module _ (style : Style) (finds : List ℕ → Bool) (tree : Snapshot) (name tri
 
   -- where the query leaves it out
   module _ (query : Query) (pattern : Tree) (loses : LosesNoLine query pattern) (decides : Decides finds pattern) where
-    pub file_empty : (item : Item) → item_at tree name ≡ item → read_item (text_trigrams limits) item ≡ Some trigrams → holds query (has trigrams) ≡ false → (a : Tool) → file_printed MOST_SEARCHED a style finds tree name ≡ none_printed
+    pub file_empty : (item : Item) → item_at tree name ≡ item → read_item (text_trigrams limits) item ≡ Some trigrams → holds query (has trigrams) ≡ false → (a : Tool) → file_printed most_searched a style finds tree name ≡ none_printed
     file_empty (file bytes) e h out a =
         let text = text_is bytes trigrams h in
         let known : AllByRecursion (HasTrigrams (has trigrams)) (lines bytes) = subst (λ (ns : List ℕ). AllByRecursion (HasTrigrams (has ns)) (lines bytes)) text.are (lines_known bytes) in
-        opened_at a bytes e ∙ printed_alike MOST_SEARCHED style finds name bytes text.small a
-        ∙ printed_nothing MOST_SEARCHED style finds name bytes text.small (no_hits_in query pattern loses finds decides (has trigrams) out bytes known)
+        opened_at a bytes e ∙ printed_alike most_searched style finds name bytes text.small a
+        ∙ printed_nothing most_searched style finds name bytes text.small (no_hits_in query pattern loses finds decides (has trigrams) out bytes known)
     file_empty (folder names unnamed) e h out a = cc
     file_empty (cut bytes) e h out a = cc
     file_empty other e h out a = cc
@@ -245,13 +245,13 @@ module _ (style : Style) (finds : List ℕ → Bool) (tree : Snapshot) (name tri
 
 module _ (style : Style) (finds keeps : List ℕ → Bool) (tree : Snapshot) (tool : Tool) where
   -- where all of them read as they were indexed, none has a fault
-  pub search_silent : (es : List Entry) → ReadAsIndexed tree es → (all_printed (file_printed MOST_SEARCHED tool style finds tree) (filter keeps (map (λ (e : Entry). e.0) es))).errors ≡ []
+  pub search_silent : (es : List Entry) → ReadAsIndexed tree es → (all_printed (file_printed most_searched tool style finds tree) (filter keeps (map (λ (e : Entry). e.0) es))).errors ≡ []
   unfolding all_printed
   search_silent [] all = refl
   search_silent (e ∷ es) all =
       let rest = search_silent es all.1 in
-      elim (keeps e.0) as (λ t. (all_printed (file_printed MOST_SEARCHED tool style finds tree) (cond t (e.0 ∷ filter keeps (map (λ (e : Entry). e.0) es)) (filter keeps (map (λ (e : Entry). e.0) es)))).errors ≡ []) [
-        | true ↦ ap (λ first. first ++ (all_printed (file_printed MOST_SEARCHED tool style finds tree) (filter keeps (map (λ (e : Entry). e.0) es))).errors) (file_silent style finds tree e.0 e.1 (item_at tree e.0) refl all.0 tool) ∙ rest
+      elim (keeps e.0) as (λ t. (all_printed (file_printed most_searched tool style finds tree) (cond t (e.0 ∷ filter keeps (map (λ (e : Entry). e.0) es)) (filter keeps (map (λ (e : Entry). e.0) es)))).errors ≡ []) [
+        | true ↦ ap (λ first. first ++ (all_printed (file_printed most_searched tool style finds tree) (filter keeps (map (λ (e : Entry). e.0) es))).errors) (file_silent style finds tree e.0 e.1 (item_at tree e.0) refl all.0 tool) ∙ rest
         | false ↦ rest
       ]
 
@@ -260,24 +260,24 @@ module _ (style : Style) (finds keeps : List ℕ → Bool) (tree : Snapshot) (qu
   met es = map (λ (e : Entry). e.0) (filter (λ (e : Entry). holds query (has e.1)) es)
 
   pub search_alike : (es : List Entry) → ReadAsIndexed tree es →
-      all_printed (file_printed MOST_SEARCHED a style finds tree) (filter keeps (map (λ (e : Entry). e.0) (filter (λ (e : Entry). holds query (has e.1)) es)))
-      ≡ all_printed (file_printed MOST_SEARCHED b style finds tree) (filter keeps (map (λ (e : Entry). e.0) es))
+      all_printed (file_printed most_searched a style finds tree) (filter keeps (map (λ (e : Entry). e.0) (filter (λ (e : Entry). holds query (has e.1)) es)))
+      ≡ all_printed (file_printed most_searched b style finds tree) (filter keeps (map (λ (e : Entry). e.0) es))
   unfolding all_printed
   search_alike [] all = refl
   search_alike (e ∷ es) all = by_test (holds query (has e.1)) (keeps e.0) refl (search_alike es all.1)
     where
       by_test : (meets chosen : Bool) → holds query (has e.1) ≡ meets →
-          all_printed (file_printed MOST_SEARCHED a style finds tree) (filter keeps (map (λ (e : Entry). e.0) (filter (λ (e : Entry). holds query (has e.1)) es)))
-          ≡ all_printed (file_printed MOST_SEARCHED b style finds tree) (filter keeps (map (λ (e : Entry). e.0) es)) →
-          all_printed (file_printed MOST_SEARCHED a style finds tree) (filter keeps (map (λ (e : Entry). e.0) (cond meets (e ∷ filter (λ (e : Entry). holds query (has e.1)) es) (filter (λ (e : Entry). holds query (has e.1)) es))))
-          ≡ all_printed (file_printed MOST_SEARCHED b style finds tree) (filter keeps (e.0 ∷ map (λ (e : Entry). e.0) es))
+          all_printed (file_printed most_searched a style finds tree) (filter keeps (map (λ (e : Entry). e.0) (filter (λ (e : Entry). holds query (has e.1)) es)))
+          ≡ all_printed (file_printed most_searched b style finds tree) (filter keeps (map (λ (e : Entry). e.0) es)) →
+          all_printed (file_printed most_searched a style finds tree) (filter keeps (map (λ (e : Entry). e.0) (cond meets (e ∷ filter (λ (e : Entry). holds query (has e.1)) es) (filter (λ (e : Entry). holds query (has e.1)) es))))
+          ≡ all_printed (file_printed most_searched b style finds tree) (filter keeps (e.0 ∷ map (λ (e : Entry). e.0) es))
       by_test true chosen is rest =
-          elim (keeps e.0) as (λ t. all_printed (file_printed MOST_SEARCHED a style finds tree) (cond t (e.0 ∷ filter keeps (met es)) (filter keeps (met es))) ≡ all_printed (file_printed MOST_SEARCHED b style finds tree) (cond t (e.0 ∷ filter keeps (map (λ (e : Entry). e.0) es)) (filter keeps (map (λ (e : Entry). e.0) es)))) [
-            | true ↦ ap (λ (one : Printed). both_printed one (all_printed (file_printed MOST_SEARCHED a style finds tree) (filter keeps (met es)))) (file_alike style finds tree e.0 e.1 (item_at tree e.0) refl all.0 a b) ∙ ap (λ (more : Printed). both_printed (file_printed MOST_SEARCHED b style finds tree e.0) more) rest
+          elim (keeps e.0) as (λ t. all_printed (file_printed most_searched a style finds tree) (cond t (e.0 ∷ filter keeps (met es)) (filter keeps (met es))) ≡ all_printed (file_printed most_searched b style finds tree) (cond t (e.0 ∷ filter keeps (map (λ (e : Entry). e.0) es)) (filter keeps (map (λ (e : Entry). e.0) es)))) [
+            | true ↦ ap (λ (one : Printed). both_printed one (all_printed (file_printed most_searched a style finds tree) (filter keeps (met es)))) (file_alike style finds tree e.0 e.1 (item_at tree e.0) refl all.0 a b) ∙ ap (λ (more : Printed). both_printed (file_printed most_searched b style finds tree e.0) more) rest
             | false ↦ rest
           ]
       by_test false chosen is rest =
-          elim (keeps e.0) as (λ t. all_printed (file_printed MOST_SEARCHED a style finds tree) (filter keeps (met es)) ≡ all_printed (file_printed MOST_SEARCHED b style finds tree) (cond t (e.0 ∷ filter keeps (map (λ (e : Entry). e.0) es)) (filter keeps (map (λ (e : Entry). e.0) es)))) [
-            | true ↦ rest ∙ sym (ap (λ (one : Printed). both_printed one (all_printed (file_printed MOST_SEARCHED b style finds tree) (filter keeps (map (λ (e : Entry). e.0) es)))) (file_empty style finds tree e.0 e.1 query pattern loses decides (item_at tree e.0) refl all.0 is b))
+          elim (keeps e.0) as (λ t. all_printed (file_printed most_searched a style finds tree) (filter keeps (met es)) ≡ all_printed (file_printed most_searched b style finds tree) (cond t (e.0 ∷ filter keeps (map (λ (e : Entry). e.0) es)) (filter keeps (map (λ (e : Entry). e.0) es)))) [
+            | true ↦ rest ∙ sym (ap (λ (one : Printed). both_printed one (all_printed (file_printed most_searched b style finds tree) (filter keeps (map (λ (e : Entry). e.0) es)))) (file_empty style finds tree e.0 e.1 query pattern loses decides (item_at tree e.0) refl all.0 is b))
             | false ↦ rest
           ]

@@ -17,11 +17,11 @@ use Rattle.cs_words.specs.declared.jobs.Tool.TheVariants.{Cgrep}
 use Rattle.cs_words.specs.declared.jobs.GrepJob.{GrepJob}
 use Rattle.cs_search.specs.declared.status.Status.{Status}
 use Rattle.cs_search.specs.Printed.{Printed, PrintsStatus, status_of, input_printed, file_printed, all_printed, PrintsFaults, searched_by_cgrep}
-use Rattle.cs_search.specs.Searcher.{IsSearchFault, Prints}
+use Rattle.cs_search.specs.Searcher.{Prints}
 use Rattle.cs_search.specs.Cgrep.{cgrep_printed, standard_name}
 use Rattle.cs_search.specs.CgrepFaults.{PatternFirst, PrintsFaultsOf}
 use Rattle.cs_search.specs.Programs.{IsProgramOf, RefusesPattern}
-use Rattle.cs_search.specs.Refusals.{IsAccepted, SilentAtRefusal}
+use Rattle.cs_search.specs.Refusals.{IsAccepted, IsSearchFault, SilentAtRefusal}
 use Rattle.cs_words.specs.declared.fault.ToolFault.{ToolFault}
 use Rattle.cs_words.specs.declared.fault.ToolFault.TheVariants.{Pattern, FilePattern, NoIndex, BadIndex, Write, Memory}
 use Rattle.cs_search.proofs.PrintedLemmas.{PrintsFaults-no}

@@ -32,10 +32,10 @@ use Rattle.cs_index.specs.Opening.{opening}
 use Rattle.cs_index.specs.OpenedParts.{Parts, lists_in, files_read}
 use Rattle.cs_index.specs.Candidates.{candidates_of}
 use Rattle.cs_index.specs.Answerable.{is_answerable}
-use Rattle.cs_search.specs.declared.report.TheConstants.{MOST_SEARCHED}
+use Rattle.cs_search.specs.InputReport.{most_searched}
 use Rattle.cs_match.specs.Finding.{Decides}
-use Rattle.cs_search.specs.Refusals.{IsAccepted, SilentAtRefusal, has_write_failed}
-use Rattle.cs_search.specs.Searcher.{IsSearchFault, Prints, IsPrinted, PrintsAllFaults, PrintsFront}
+use Rattle.cs_search.specs.Refusals.{IsAccepted, IsSearchFault, SilentAtRefusal, has_write_failed}
+use Rattle.cs_search.specs.Searcher.{Prints, IsPrinted, PrintsAllFaults, PrintsFront}
 use Rattle.cs_history.specs.Meeting.{names_meeting}
 use Rattle.cs_search.specs.Csearch.{IsQueryOf, Asks, file_text, Keeps, csearch_printed, AreAccepted, IsReady, RefusedInOrder}
 use Rattle.cs_search.specs.Plans.{IsPlan, RefusesPlan}
@@ -233,7 +233,7 @@ chosen most style finds keeps parts query tree ids is =
 -- what a searcher prints of the names with some ids, where its tool, its style and what it finds by are these
 module _ (Holds : Option Printed → Type 0) (tree : Option Snapshot) (names : List (List ℕ)) where
   abbrev By : Tool → Style → List ℕ → (List ℕ → Bool) → (List ℕ → Bool) → Type 0
-  By tool style ids finds keeps = Holds (option_map (λ (s : Snapshot). all_printed (file_printed MOST_SEARCHED tool style finds s) (filter keeps (names_at names ids))) tree)
+  By tool style ids finds keeps = Holds (option_map (λ (s : Snapshot). all_printed (file_printed most_searched tool style finds s) (filter keeps (names_at names ids))) tree)
 
   pub by_csearch : (tool : Tool) (style wanted : Style) (matcher program : Tree) (kept file : Option Tree) (ids plan : List ℕ) → tool ≡ Csearch → style ≡ wanted → matcher ≡ program → kept ≡ file → ids ≡ plan →
       ((finds keeps : List ℕ → Bool) → Decides finds matcher → DecidesNames keeps kept → By tool style ids finds keeps) →

@@ -14,5 +14,6 @@ mod ProgressLemmas
 mod PromiseLemmas
 mod ReportLemmas
 mod ReportedLemmas
+mod SearchExamples
 mod SearchLemmas
 mod TestedLemmas

@@ -25,11 +25,11 @@ use Rattle.cs_search.specs.InputReport.{told_report}
 use Rattle.cs_tree.specs.Taken.{TakesFront, EndsAfter, MayEnd}
 use Rattle.cs_tree.specs.TakenAll.{TakesBytes}
 use Rattle.cs_search.specs.GrepFaults.{is_failed_read}
-use Rattle.cs_search.specs.Printed.{left_fault, Printed, both_printed, none_printed, all_printed, input_printed, opened_printed, file_printed, NamedFault, fault_lines, failures_of, AreFaultsOf, PrintsSome, PrintsFaults}
+use Rattle.cs_search.specs.Printed.{left_fault, Printed, both_printed, none_printed, all_printed, input_printed, opened_printed, file_printed, NamedFault, fault_lines, failures_of, AreFaultsOf, PrintsNothing, PrintsSome, PrintsFaults}
 use Rattle.cs_search.specs.Searcher.{Prints, IsPrinted, PrintsAllFaults, PrintsFront}
 use Rattle.cs_tree.proofs.Growing.{Grows-chain, Grows-same}
 use Rattle.cs_tree.proofs.NameLemmas.{mapped_more}
-use Rattle.cs_tree.proofs.Fronts.{front_none, front_all, front_left, front_right, front_after, ends_quiet, ends_after, may_end_after}
+use Rattle.cs_tree.proofs.Fronts.{front_none, front_all, front_written, front_left, front_right, front_after, ends_quiet, ends_after, may_end_after}
 
 -- the line of a fault, where there is one
 abbrev pub fault_text : Tool → List ℕ → Option ReadFault → List ℕ
@@ -108,8 +108,8 @@ pub PrintsSome-front : (printed : Option Printed) (out out' err err' : Option Ta
 PrintsSome-front None out out' err err' p = tt
 PrintsSome-front (Some printed) out out' err err' p = (inl p.0, p.1)
 
-pub PrintsSome-none : (printed : Option Printed) (out err : Option Taken) → PrintsSome printed out out err err
-PrintsSome-none printed out err = PrintsSome-front printed out out err err (PrintsFront-none printed out err)
+pub PrintsSome-nothing : (printed : Printed) (out out' err err' : Option Taken) → PrintsNothing out out' err err' → PrintsSome (Some printed) out out' err err'
+PrintsSome-nothing printed out out' err err' nothing = (inl (front_written printed.output out out' 0 nothing.0), front_written printed.errors err err' 0 nothing.1)
 
 -- all, and then a flush has failed
 pub PrintsSome-all : (printed : Option Printed) (out now later err err-now err-later : Option Taken) (matched : Bool) → Prints printed out now err err-now matched → MayEnd [] now later → TakesFront [] err-now err-later → PrintsSome printed out later err err-later

@@ -17,17 +17,19 @@ use Rattle.cs_index.specs.OpenedParts.{Parts, files_read, lists_in}
 use Rattle.cs_index.proofs.WrittenLemmas.{image_opens, image_has}
 use Rattle.cs_merge.proofs.ContentLemmas.{content_indexable, ascending_sets}
 use Rattle.cs_history.specs.History.{History, index_of, paths_of, files_of}
+use Rattle.cs_history.specs.Left.{indexed_names, IsByJobs}
 use Rattle.cs_history.specs.FileTrigrams.{ReadAsIndexed}
 use Rattle.cs_history.specs.Meeting.{names_meeting}
 use Rattle.cs_history.specs.Premises.{snapshot_told, IsShort}
-use Rattle.cs_history.specs.SearchHeadline.{IsByJobs, indexed_names, SearchPremises}
 use Rattle.cs_history.specs.WellFormed.{IsHistory}
 use Rattle.cs_history.proofs.HistoryLemmas.{history_content, index_is}
 use Rattle.cs_words.specs.declared.jobs.Tool.TheVariants.{Csearch, Cgrep}
 use Rattle.cs_words.specs.declared.jobs.SearchJob.{SearchJob}
 use Rattle.cs_search.specs.Searcher.{PrintsAllFaults}
-use Rattle.cs_search.specs.declared.report.TheConstants.{MOST_SEARCHED}
-use Rattle.cs_search.specs.Printed.{searched_by_cgrep, Printed, all_printed, file_printed, PrintsSome}
+use Rattle.cs_search.specs.InputReport.{most_searched}
+use Rattle.cs_search.specs.SearchHeadline.{SearchPremises, SearchesLikeGrep}
+use Rattle.cs_search.specs.SameSearch.{PrintsLikeCgrep}
+use Rattle.cs_search.specs.Printed.{searched_by_cgrep, Printed, all_printed, file_printed}
 use Rattle.cs_search.specs.IndexSearch.{names_at, DecidesNames}
 use Rattle.cs_index.specs.Candidates.{candidates_of}
 use Rattle.cs_index.specs.Answerable.{is_answerable}
@@ -36,9 +38,8 @@ use Rattle.cs_index.specs.declared.fault.IndexFault.{IndexFault}
 use Rattle.cs_words.specs.Faults.{index_fault}
 use Rattle.cs_search.specs.Plans.{IsPlan, IsLent, RefusesPlan}
 use Rattle.cs_search.specs.declared.plan.Plan.{Plan}
-use Rattle.cs_search.specs.Csearch.{file_text, OpensWith, IsQueryOf, Asks, Seeks, csearch_printed, AreAccepted, IsReady, PrintsAsked, PrintsLikeCgrep, PrintsAsPromised}
+use Rattle.cs_search.specs.Csearch.{file_text, OpensWith, IsQueryOf, Asks, Seeks, csearch_printed, AreAccepted, IsReady, PrintsAsked}
 use Rattle.cs_search.proofs.AgreementLemmas.{search_alike}
-use Rattle.cs_search.proofs.PrintedLemmas.{PrintsSome-none}
 use Rattle.cs_search.proofs.CgrepLemmas.{decides_program}
 use Rattle.cs_search.proofs.CsearchLemmas.{names_of_files, names_decided, accepted_plan, lists_fourth, chosen, PrintsAllFaults-chosen}
 
@@ -54,11 +55,11 @@ opens_once (Some bytes) a b x y = cc
 
 module _ (job : SearchJob) (index : Option (List ℕ)) (finds keeps : List ℕ → Bool) (asks : Asks job index) (tests : Seeks job finds keeps) (tree : Snapshot) where
   -- the search by the index, and that by cgrep
-  alike : ReadAsIndexed tree (files_read asks.parts) → all_printed (file_printed MOST_SEARCHED Csearch job.style finds tree) (filter keeps (names_meeting asks.query (files_read asks.parts))) ≡ searched_by_cgrep MOST_SEARCHED job.style finds tree (filter keeps asks.parts.names)
+  alike : ReadAsIndexed tree (files_read asks.parts) → all_printed (file_printed most_searched Csearch job.style finds tree) (filter keeps (names_meeting asks.query (files_read asks.parts))) ≡ searched_by_cgrep most_searched job.style finds tree (filter keeps asks.parts.names)
   unfolding names_meeting searched_by_cgrep
   alike agrees =
       search_alike job.style finds keeps tree asks.query tests.pattern (loses job.brute tests.pattern asks.query (asks.is_right tests.pattern tests.reads)) tests.decides Csearch Cgrep (files_read asks.parts) agrees
-      ∙ ap (λ (names : List (List ℕ)). all_printed (file_printed MOST_SEARCHED Cgrep job.style finds tree) (filter keeps names)) (names_of_files 0 asks.parts.names (lists_in asks.parts))
+      ∙ ap (λ (names : List (List ℕ)). all_printed (file_printed most_searched Cgrep job.style finds tree) (filter keeps names)) (names_of_files 0 asks.parts.names (lists_in asks.parts))
 
 -- what a plan asks, and the index that is lent to it
 module _ (job : SearchJob) (index : Option (List ℕ)) (plan : Plan) (is : IsPlan job plan) (parts : Parts) (lent : IsLent plan.query index parts) where
@@ -86,7 +87,7 @@ module _ (job : SearchJob) (index : Option (List ℕ)) (plan : Plan) (is : IsPla
       -- what is printed of the files that are chosen
       module _ (tree : Option Snapshot) (Prints : Option Printed → Type 0) where
         abbrev Chosen : (List ℕ → Bool) → (List ℕ → Bool) → List (List ℕ) → Option Printed
-        Chosen finds keeps names = option_map (λ (s : Snapshot). all_printed (file_printed MOST_SEARCHED Csearch job.style finds s) (filter keeps (names_at names ids))) tree
+        Chosen finds keeps names = option_map (λ (s : Snapshot). all_printed (file_printed most_searched Csearch job.style finds s) (filter keeps (names_at names ids))) tree
 
         pub searched : ((finds keeps : List ℕ → Bool) → Decides finds plan.program → DecidesNames keeps plan.file → Prints (Chosen finds keeps parts.names)) → PrintsAsked job index tree Prints
         searched prints = (
@@ -95,7 +96,7 @@ module _ (job : SearchJob) (index : Option (List ℕ)) (plan : Plan) (is : IsPla
           λ finds keeps seeks.
               let decides = decides_program (string_bytes job.pattern) job.fold plan.program seeks.pattern finds is.program seeks.reads seeks.decides in
               let kept = names_decided (file_text job) plan.file keeps is.file seeks.names in
-              subst Prints (ap (Chosen finds keeps) lent.answers.names ∙ chosen MOST_SEARCHED job.style finds keeps lent.whole plan.query tree ids chosen_ids)
+              subst Prints (ap (Chosen finds keeps) lent.answers.names ∙ chosen most_searched job.style finds keeps lent.whole plan.query tree ids chosen_ids)
               (prints finds keeps decides kept),
         )
 
@@ -109,21 +110,17 @@ module _ (job : SearchJob) (index : Option (List ℕ)) (plan : Plan) (is : IsPla
 
 module _ (job : SearchJob) (index : Option (List ℕ)) (tree : Option Snapshot) (Prints : Option Printed → Type 0) (by_index : PrintsAsked job index tree Prints) where
   -- what was printed, where the tree tells its snapshot
-  told_printed : (snapshot : Snapshot) (finds keeps : List ℕ → Bool) → tree ≡ Some snapshot → Seeks job finds keeps → Prints (Some (all_printed (file_printed MOST_SEARCHED Csearch job.style finds snapshot) (filter keeps (names_meeting by_index.0.query (files_read by_index.0.parts)))))
+  told_printed : (snapshot : Snapshot) (finds keeps : List ℕ → Bool) → tree ≡ Some snapshot → Seeks job finds keeps → Prints (Some (all_printed (file_printed most_searched Csearch job.style finds snapshot) (filter keeps (names_meeting by_index.0.query (files_read by_index.0.parts)))))
   unfolding csearch_printed
   told_printed snapshot finds keeps is tests =
-      subst (λ (t : Option Snapshot). Prints (csearch_printed MOST_SEARCHED job.style finds keeps by_index.0.parts by_index.0.query t)) is (by_index.2 finds keeps tests)
+      subst (λ (t : Option Snapshot). Prints (csearch_printed most_searched job.style finds keeps by_index.0.parts by_index.0.query t)) is (by_index.2 finds keeps tests)
 
-  pub like_cgrep : PrintsLikeCgrep job index tree Prints
+  pub like_cgrep : PrintsLikeCgrep job index tree (λ printed. Prints (Some printed))
   like_cgrep parts snapshot finds keeps opens is agrees tests =
       let asks = by_index.0 in
       let same : parts ≡ asks.parts = opens_once index parts asks.parts opens asks.opens in
       let there : ReadAsIndexed snapshot (files_read asks.parts) = subst (λ (p : Parts). ReadAsIndexed snapshot (files_read p)) same agrees in
-      subst Prints (ap (λ (p : Printed). Some p) (alike job index finds keeps asks tests snapshot there ∙ ap (λ (p : Parts). searched_by_cgrep MOST_SEARCHED job.style finds snapshot (filter keeps p.names)) (sym same))) (told_printed snapshot finds keeps is tests)
-
--- where nothing was printed
-pub like_cgrep_silent : (job : SearchJob) (index : Option (List ℕ)) (tree : Option Snapshot) (out err : Option Taken) → PrintsLikeCgrep job index tree (λ printed. PrintsSome printed out out err err)
-like_cgrep_silent job index tree out err parts snapshot finds keeps opens is agrees seeks = PrintsSome-none (Some (searched_by_cgrep MOST_SEARCHED job.style finds snapshot (filter keeps parts.names))) out err
+      subst Prints (ap (λ (p : Printed). Some p) (alike job index finds keeps asks tests snapshot there ∙ ap (λ (p : Parts). searched_by_cgrep most_searched job.style finds snapshot (filter keeps p.names)) (sym same))) (told_printed snapshot finds keeps is tests)
 
 -- ---- an index that a job built
 
@@ -159,25 +156,25 @@ module _ (history : History) (bytes : List ℕ) (is : IsHistory history) (by : I
       subst (λ (p : Parts). ReadAsIndexed tree (files_read p)) same (subst (ReadAsIndexed tree) (sym files) still)
 
 module _ (job : SearchJob) (index : Option (List ℕ)) (tree : Option Snapshot) (finds keeps : List ℕ → Bool) (asks : Asks job index) (tests : Seeks job finds keeps) (snapshot : Snapshot) (tells : tree ≡ Some snapshot) (earlier : History) (premises : SearchPremises tree index earlier) where
-  promised : all_printed (file_printed MOST_SEARCHED Csearch job.style finds snapshot) (filter keeps (names_meeting asks.query (files_read asks.parts))) ≡ searched_by_cgrep MOST_SEARCHED job.style finds (snapshot_told tree) (filter keeps (indexed_names earlier))
+  promised : all_printed (file_printed most_searched Csearch job.style finds snapshot) (filter keeps (names_meeting asks.query (files_read asks.parts))) ≡ searched_by_cgrep most_searched job.style finds (snapshot_told tree) (filter keeps (indexed_names earlier))
   promised = by_bytes index refl asks.opens premises.jobs_left.they_left premises.jobs_left.short
     where
       snapshot_is : snapshot ≡ snapshot_told tree
       snapshot_is = sym (ap snapshot_told tells)
 
       by_bytes : (i : Option (List ℕ)) → index ≡ i → OpensWith i asks.parts → index_of earlier ≡ index → IsShort index →
-          all_printed (file_printed MOST_SEARCHED Csearch job.style finds snapshot) (filter keeps (names_meeting asks.query (files_read asks.parts))) ≡ searched_by_cgrep MOST_SEARCHED job.style finds (snapshot_told tree) (filter keeps (indexed_names earlier))
+          all_printed (file_printed most_searched Csearch job.style finds snapshot) (filter keeps (names_meeting asks.query (files_read asks.parts))) ≡ searched_by_cgrep most_searched job.style finds (snapshot_told tree) (filter keeps (indexed_names earlier))
       by_bytes None e opens left short = absurd opens
       by_bytes (Some bytes) e opens left short =
           let left' : index_of earlier ≡ Some bytes = left ∙ e in
           let short' = subst IsShort e short in
           let agrees = agrees_still earlier bytes premises.jobs_left.jobs_were premises.by_jobs left' short' asks.parts snapshot opens (subst (λ (s : Snapshot). ReadAsIndexed s (map'.entries (files_of earlier))) (sym snapshot_is) premises.still_reads) in
           alike job index finds keeps asks tests snapshot agrees
-          ∙ ap (λ (s : Snapshot). searched_by_cgrep MOST_SEARCHED job.style finds s (filter keeps asks.parts.names)) snapshot_is
-          ∙ ap (λ (names : List (List ℕ)). searched_by_cgrep MOST_SEARCHED job.style finds (snapshot_told tree) (filter keeps names)) (named earlier bytes premises.jobs_left.jobs_were premises.by_jobs left' short' asks.parts opens)
+          ∙ ap (λ (s : Snapshot). searched_by_cgrep most_searched job.style finds s (filter keeps asks.parts.names)) snapshot_is
+          ∙ ap (λ (names : List (List ℕ)). searched_by_cgrep most_searched job.style finds (snapshot_told tree) (filter keeps names)) (named earlier bytes premises.jobs_left.jobs_were premises.by_jobs left' short' asks.parts opens)
 
-module _ (job : SearchJob) (index : Option (List ℕ)) (tree : Option Snapshot) (Prints : Option Printed → Type 0) (by_index : PrintsAsked job index tree Prints) where
-  pub as_promised : PrintsAsPromised job index tree Prints
-  as_promised snapshot finds keeps tells tests earlier premises =
-      subst (λ (p : Printed). Prints (Some p)) (promised job index tree finds keeps by_index.0 tests snapshot tells earlier premises)
-      (told_printed job index tree Prints by_index snapshot finds keeps tells tests)
+pub as_promised : (job : SearchJob) (index : Option (List ℕ)) (tree : Option Snapshot) (Prints : Option Printed → Type 0) → PrintsAsked job index tree Prints → SearchesLikeGrep job index tree (λ printed. Prints (Some printed))
+as_promised job index None Prints by_index earlier finds keeps premises tests = absurd premises.jobs_left.trees_tell.0
+as_promised job index (Some snapshot) Prints by_index earlier finds keeps premises tests =
+    subst (λ (p : Printed). Prints (Some p)) (promised job index (Some snapshot) finds keeps by_index.0 tests snapshot refl earlier premises)
+    (told_printed job index (Some snapshot) Prints by_index snapshot finds keeps refl tests)

@@ -1,5 +1,5 @@
 -- The bytes of a line buffer that were read and not yet searched.
-use Rattle.std.specs.Prelude.{ℕ, ◌≡◌, ◌+◌, List, [], length, take, slice_range, Option, Result, MatchResult}
+use Rattle.std.specs.Prelude.{ℕ, ◌≡◌, ◌+◌, List, [], length, take, slice_range, vec_len, Option, Result, MatchResult}
 use Rattle.cs_tree.specs.Transfers.{Loses, IsAt, RefusedBy}
 use Rattle.cs_tree.specs.declared.fault.IoFault.{IoFault}
 use Rattle.cs_tree.specs.Told.{Told, ends}
@@ -7,6 +7,10 @@ use Rattle.cs_search.specs.declared.buffer.LineBuffer.{LineBuffer}
 
 unfoldable pub pending_bytes : LineBuffer → List ℕ
 pending_bytes buffer = slice_range buffer.bytes.items buffer.start buffer.end
+
+-- how many bytes there is room for
+abbrev pub size_of : LineBuffer → ℕ
+size_of buffer = vec_len buffer.bytes
 
 -- The second bytes are the first, and then these.
 pub record GrowsBy (old new : List ℕ) (n : ℕ) : Type 0 where

@@ -12,9 +12,7 @@ use Rattle.cs_index.specs.Opening.{opening}
 use Rattle.cs_index.specs.OpenedParts.{Parts, files_read}
 use Rattle.cs_index.specs.declared.fault.IndexFault.{IndexFault}
 use Rattle.cs_index.specs.declared.fault.IndexFault.TheVariants.{BadList}
-use Rattle.cs_history.specs.FileTrigrams.{ReadAsIndexed}
 use Rattle.cs_history.specs.Meeting.{names_meeting}
-use Rattle.cs_history.specs.SearchHeadline.{SearchesLikeGrep}
 use Rattle.cs_words.specs.declared.jobs.Tool.TheVariants.{Csearch}
 use Rattle.cs_words.specs.declared.jobs.Style.{Style}
 use Rattle.cs_words.specs.declared.jobs.SearchJob.{SearchJob}
@@ -22,8 +20,8 @@ use Rattle.cs_words.specs.declared.fault.ToolFault.{ToolFault}
 use Rattle.cs_words.specs.declared.fault.ToolFault.TheVariants.{Pattern, FilePattern, NoIndex, BadIndex, Write, Memory}
 use Rattle.cs_index.specs.Answerable.{is_answerable}
 use Rattle.cs_search.specs.Refusals.{IsAccepted, IsPatternRefused}
-use Rattle.cs_search.specs.declared.report.TheConstants.{MOST_SEARCHED}
-use Rattle.cs_search.specs.Printed.{searched_by_cgrep, Printed, file_printed, all_printed}
+use Rattle.cs_search.specs.InputReport.{most_searched}
+use Rattle.cs_search.specs.Printed.{Printed, file_printed, all_printed}
 
 -- ---- which files are searched
 
@@ -69,28 +67,14 @@ module _ (most : ℕ) (style : Style) (finds : List ℕ → Bool) where
       let names = filter keeps (names_meeting query (files_read parts)) in
       option_map (λ (tree : Snapshot). all_printed (file_printed most Csearch style finds tree) names) tree
 
--- `Prints` says that something was printed and answered.
-module _ (job : SearchJob) (index : Option (List ℕ)) (tree : Option Snapshot) (Prints : Option Printed → Type 0) where
-  -- The lists that the query asks for are whole, and what is printed is what is found in the files that meet it.
-  abbrev pub PrintsAsked : Type 0
-  PrintsAsked =
-      (asks : Asks job index)
-      × (is_answerable asks.parts asks.query ≡ true)
-      × ((finds keeps : List ℕ → Bool) → Seeks job finds keeps →
-      Prints (csearch_printed MOST_SEARCHED job.style finds keeps asks.parts asks.query tree))
-
-  -- Where each file reads as it was indexed, it is what cgrep prints of all names that `-f` keeps.
-  abbrev pub PrintsLikeCgrep : Type 0
-  PrintsLikeCgrep =
-      (parts : Parts) (snapshot : Snapshot) (finds keeps : List ℕ → Bool) →
-      OpensWith index parts → tree ≡ Some snapshot → ReadAsIndexed snapshot (files_read parts) → Seeks job finds keeps →
-      Prints (Some (searched_by_cgrep MOST_SEARCHED job.style finds snapshot (filter keeps parts.names)))
-
-  -- The last part of the main promise: where jobs left the index, and what they indexed still reads so.
-  abbrev pub PrintsAsPromised : Type 0
-  PrintsAsPromised =
-      (snapshot : Snapshot) (finds keeps : List ℕ → Bool) → tree ≡ Some snapshot → Seeks job finds keeps →
-      SearchesLikeGrep (searched_by_cgrep MOST_SEARCHED job.style finds) keeps (λ printed. Prints (Some printed)) tree index
+-- The lists that the query asks for are whole, and what is printed is what is found in the files that meet it. `Prints`
+-- says that something was printed and answered.
+abbrev pub PrintsAsked : SearchJob → Option (List ℕ) → Option Snapshot → (Option Printed → Type 0) → Type 0
+PrintsAsked job index tree Prints =
+    (asks : Asks job index)
+    × (is_answerable asks.parts asks.query ≡ true)
+    × ((finds keeps : List ℕ → Bool) → Seeks job finds keeps →
+    Prints (csearch_printed most_searched job.style finds keeps asks.parts asks.query tree))
 
 -- ---- refusals
 

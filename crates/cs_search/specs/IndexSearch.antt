@@ -1,9 +1,10 @@
 -- What functions inside a search of an index promise each other: which names are chosen, and by what.
-use Rattle.std.specs.Prelude.{ℕ, ◌≡◌, Bool, true, false, List, filter_map, Option, Some, None, slice_get, Err, IsSomeAnd}
+use Rattle.std.specs.Prelude.{ℕ, ◌≡◌, Bool, true, false, List, filter_map, Option, Some, None, option_map, slice_get, Err, IsSomeAnd}
 use Rattle.cs_syntax.specs.Matching.{Tree}
 use Rattle.cs_syntax.specs.declared.fault.PatternFault.{PatternFault}
 use Rattle.cs_syntax.specs.declared.fault.PatternFault.TheVariants as pattern
 use Rattle.cs_syntax.specs.declared.fault.PatternError.{PatternError}
+use Rattle.cs_match.specs.Automaton.{Automaton}
 use Rattle.cs_match.specs.Finding.{Decides}
 use Rattle.cs_index.specs.Opening.{opening}
 use Rattle.cs_words.specs.declared.fault.ToolFault.{ToolFault}
@@ -19,6 +20,10 @@ names_at names ids = filter_map (slice_get names) ids
 abbrev pub DecidesNames : (List ℕ → Bool) → Option Tree → Type 0
 DecidesNames keeps None = (name : List ℕ) → keeps name ≡ true
 DecidesNames keeps (Some program) = Decides keeps program
+
+-- the tree of a matcher, where there is one
+abbrev pub matcher_tree : Option Automaton → Option Tree
+matcher_tree matcher = option_map (λ m. m.tree) matcher
 
 -- There is a program where there is a text, and it finds what the pattern does that the text reads as.
 abbrev pub IsCompiled : Option (List ℕ) → Option Tree → Type 0

@@ -7,6 +7,10 @@ use Rattle.cs_search.specs.declared.grep_fault.ReadFault.{ReadFault}
 use Rattle.cs_search.specs.declared.grep_fault.ReadFault.TheVariants.{Read, TooLong}
 use Rattle.cs_search.specs.Report.{Report, report}
 
+-- how many bytes of an input are searched: 2^30
+abbrev pub most_searched : ℕ
+most_searched = 1073741824
+
 abbrev pub fault_of_ending : Ending → Option ReadFault
 fault_of_ending ends = None
 fault_of_ending fails = Some Read

@@ -3,7 +3,8 @@ pub use Rattle.cs_history.specs.History
 pub use Rattle.cs_history.specs.FileTrigrams
 pub use Rattle.cs_history.specs.Left
 pub use Rattle.cs_history.specs.Meeting
-pub use Rattle.cs_history.specs.SearchHeadline
+pub use Rattle.cs_history.specs.Premises
+pub use Rattle.cs_history.specs.WellFormed
 pub use Rattle.cs_index.specs.Image
 pub use Rattle.cs_index.specs.Opening
 pub use Rattle.cs_index.specs.OpenedParts
@@ -26,6 +27,7 @@ pub use Rattle.cs_match.specs.Finding
 pub use Rattle.cs_match.specs.Lines
 pub mod Report
 pub mod InputReport
+pub mod Buffer
 pub mod GrepReports
 pub mod GrepFaults
 pub mod Printed
@@ -33,11 +35,11 @@ pub mod Refusals
 pub mod Cgrep
 pub mod CgrepFaults
 pub mod Csearch
+pub mod SearchHeadline
 pub mod Searched
 pub mod StoredSearch
 pub mod SameSearch
 -- What functions inside promise each other.
-pub mod Buffer
 pub mod TestedLines
 pub mod Progress
 pub mod Searcher

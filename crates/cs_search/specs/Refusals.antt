@@ -8,7 +8,7 @@ use Rattle.cs_syntax.specs.Refusal.{IsRefused}
 use Rattle.cs_syntax.specs.declared.fault.PatternError.{PatternError}
 use Rattle.cs_syntax.specs.declared.fault.PatternFault.TheVariants as pattern
 use Rattle.cs_words.specs.declared.fault.ToolFault.{ToolFault}
-use Rattle.cs_words.specs.declared.fault.ToolFault.TheVariants.{Pattern, FilePattern, NoIndex, BadIndex, Write}
+use Rattle.cs_words.specs.declared.fault.ToolFault.TheVariants.{Pattern, FilePattern, NoIndex, BadIndex, Write, Memory}
 
 -- the text reads as a tree that is not too heavy
 abbrev pub IsAccepted : List ℕ → Bool → Type 0
@@ -31,3 +31,10 @@ abbrev pub has_write_failed : {A : Type 0} → Result A ToolFault → Bool
 has_write_failed (Ok answer) = false
 has_write_failed (Err Write) = true
 has_write_failed (Err fault) = false
+
+-- A search that was begun is refused for a write that has failed, or for want of memory.
+abbrev pub IsSearchFault : {A : Type 0} → Result A ToolFault → Type 0
+IsSearchFault (Ok answer) = Unit {0}
+IsSearchFault (Err Write) = Unit {0}
+IsSearchFault (Err Memory) = Unit {0}
+IsSearchFault (Err fault) = ⊥

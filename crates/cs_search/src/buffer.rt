@@ -22,7 +22,7 @@ pub struct LineBuffer {
 
 impl LineBuffer {
     ghost use Rattle.std.specs.Prelude.{◌^◌, [], OnOk, OnErr};
-    ghost use Rattle.cs_search.specs.Buffer.{pending_bytes, GrowsBy, Fills};
+    ghost use Rattle.cs_search.specs.Buffer.{pending_bytes, size_of, GrowsBy, Fills};
 
     /// A buffer with nothing in it.
     #[tactic(auto, unfolding(crate::specs::Buffer::pending_bytes))]
@@ -36,7 +36,8 @@ impl LineBuffer {
     #[tactic(auto, unfolding(crate::specs::Buffer::pending_bytes))]
     pub fn of_size(alloc: Global, size: usize) -> Result<LineBuffer, AllocError>
         requires { 0 < size }
-        ensures { IfOk result (λ buffer. pending_bytes buffer ≡ []) }
+        ensures empty { IfOk result (λ buffer. pending_bytes buffer ≡ []) }
+        ensures size { IfOk result (λ buffer. size_of buffer ≡ size) }
     {
         let bytes = vec![in alloc; 0u8; size]?;
         Ok(LineBuffer {

@@ -1,22 +1,23 @@
 // The tool that searches by an index.
-ghost use Rattle.std.specs.Prelude.{◌≡◌, ◌⊎◌, ℕ, Bool, List, Option, [], ◌∷◌, IfOk, IfErr, OnOk, OnErr, option_map, option_copied, filter};
+ghost use Rattle.std.specs.Prelude.{◌≡◌, ◌+◌, ℕ, Bool, List, Option, [], ◌∷◌, IfOk, IfErr, OnOk, OnErr, option_map, option_copied, filter};
 ghost use Rattle.cs_tree.specs.Failures.{CountsOne};
+ghost use Rattle.cs_tree.specs.ReadCounts.{ReadsWithin};
 ghost use Rattle.cs_tree.specs.Taken.{EndsAfter};
 ghost use Rattle.cs_tree.specs.Told.{HasFlushed};
 ghost use Rattle.cs_match.specs.Finding.{Decides};
 ghost use Rattle.cs_index.specs.OpenedParts.{Parts};
 ghost use Rattle.cs_words.specs.declared.jobs.Tool.TheVariants.{Csearch};
-ghost use Rattle.cs_search.specs.Searcher.{IsSearchFault, IsKept, Prints, PrintsFront, PrintsAllFaults};
-ghost use Rattle.cs_search.specs.Refusals.{has_write_failed, SilentAtRefusal};
-ghost use Rattle.cs_search.specs.Csearch.{OpensWith, PrintsAsked, PrintsLikeCgrep, PrintsAsPromised, AreAccepted, RefusedInOrder};
-ghost use Rattle.cs_search.specs.IndexSearch.{names_at, DecidesNames, OpenRefused};
+ghost use Rattle.cs_search.specs.InputReport.{most_searched};
+ghost use Rattle.cs_search.specs.Searcher.{IsKept, Prints, PrintsFront, PrintsAllFaults};
+ghost use Rattle.cs_search.specs.Refusals.{has_write_failed, IsSearchFault, SilentAtRefusal};
+ghost use Rattle.cs_search.specs.Csearch.{OpensWith};
+ghost use Rattle.cs_search.specs.IndexSearch.{names_at, DecidesNames, matcher_tree, OpenRefused};
 ghost use Rattle.cs_search.specs.Plans.{IsPlan, IsLent, RefusesPlan};
-ghost use Rattle.cs_search.specs.Printed.{PrintsStatus, PrintsNothing, PrintsSome, PrintsFaults, all_printed, file_printed};
-ghost use Rattle.cs_search.specs.Searched.{IsSearch};
+ghost use Rattle.cs_search.specs.Printed.{PrintsNothing, all_printed, file_printed};
+ghost use Rattle.cs_search.specs.Searched.{IsSearch, outputs};
 
 use crate::name_filter::NameFilter;
 use crate::plan::Plan;
-use crate::report::MOST_SEARCHED;
 use crate::searcher::Searcher;
 use crate::searching::finish;
 use crate::status::Status;
@@ -40,9 +41,14 @@ pub fn csearch<T: Tree, O: Sink, E: Sink>(
 ) -> Result<Status, ToolFault>
     ensures searches { IsSearch job.now (option_copied index.entry)
         (T.snapshot tree.old) (T.failed tree.old) (T.failed tree.new)
-        (O.taken out.old) (O.taken out.new) (E.taken err.old) (E.taken err.new) result }
+        (outputs O.taken E.taken out.old err.old)
+        (outputs O.taken E.taken out.new err.new) result }
     ensures silent { SilentAtRefusal result
-        (PrintsNothing (O.taken out.old) (O.taken out.new) (E.taken err.old) (E.taken err.new)) }
+        (PrintsNothing (O.taken out.old) (O.taken out.new) (E.taken err.old) (E.taken err.new)
+        × (T.failed tree.new ≡ T.failed tree.old)
+        × (T.longest_asked tree.new ≡ T.longest_asked tree.old)) }
+    ensures reads { ReadsWithin (most_searched + 1)
+        (T.read_counts tree.old) (T.read_counts tree.new) }
     ensures flushed { OnOk result (HasFlushed (O.taken out.new) × HasFlushed (E.taken err.new)) }
     ensures writes { CountsOne (has_write_failed result)
         (O.failed out.old) (O.failed out.new) (E.failed err.old) (E.failed err.new) }
@@ -92,9 +98,14 @@ pub(crate) fn search_by<T: Tree, O: Sink, E: Sink>(
     requires { IsPlan job.now plan.now }
     ensures searches { (bytes : Option (List ℕ)) → IsLent plan.now.query bytes index.now →
         IsSearch job.now bytes (T.snapshot tree.old) (T.failed tree.old) (T.failed tree.new)
-        (O.taken out.old) (O.taken out.new) (E.taken err.old) (E.taken err.new) result }
+        (outputs O.taken E.taken out.old err.old)
+        (outputs O.taken E.taken out.new err.new) result }
     ensures silent { SilentAtRefusal result
-        (PrintsNothing (O.taken out.old) (O.taken out.new) (E.taken err.old) (E.taken err.new)) }
+        (PrintsNothing (O.taken out.old) (O.taken out.new) (E.taken err.old) (E.taken err.new)
+        × (T.failed tree.new ≡ T.failed tree.old)
+        × (T.longest_asked tree.new ≡ T.longest_asked tree.old)) }
+    ensures reads { ReadsWithin (most_searched + 1)
+        (T.read_counts tree.old) (T.read_counts tree.new) }
     ensures flushed { OnOk result (HasFlushed (O.taken out.new) × HasFlushed (E.taken err.new)) }
     ensures writes { CountsOne (has_write_failed result)
         (O.failed out.old) (O.failed out.new) (E.failed err.old) (E.failed err.new) }
@@ -117,17 +128,21 @@ pub(crate) fn search_ids<T: Tree, O: Sink, E: Sink>(
     err: &mut E,
 ) -> Result<bool, ToolFault>
     ensures prints { IfOk result (λ matched. (finds keeps : List ℕ → Bool) →
-        Decides finds searcher.old.matcher → DecidesNames keeps kept.old.matcher →
+        Decides finds searcher.old.matcher.tree →
+        DecidesNames keeps (matcher_tree kept.old.matcher) →
         Prints (option_map (λ tree. all_printed
-        (file_printed MOST_SEARCHED searcher.old.tool searcher.old.style finds tree)
+        (file_printed most_searched searcher.old.tool searcher.old.style finds tree)
         (filter keeps (names_at index.now.names ids.now))) (T.snapshot tree.old))
         (O.taken out.old) (O.taken out.new) (E.taken err.old) (E.taken err.new) matched) }
     ensures front { OnErr result ((finds keeps : List ℕ → Bool) →
-        Decides finds searcher.old.matcher → DecidesNames keeps kept.old.matcher →
+        Decides finds searcher.old.matcher.tree →
+        DecidesNames keeps (matcher_tree kept.old.matcher) →
         PrintsFront (option_map (λ tree. all_printed
-        (file_printed MOST_SEARCHED searcher.old.tool searcher.old.style finds tree)
+        (file_printed most_searched searcher.old.tool searcher.old.style finds tree)
         (filter keeps (names_at index.now.names ids.now))) (T.snapshot tree.old))
         (O.taken out.old) (O.taken out.new) (E.taken err.old) (E.taken err.new)) }
+    ensures reads { ReadsWithin (most_searched + 1)
+        (T.read_counts tree.old) (T.read_counts tree.new) }
     ensures faults { PrintsAllFaults searcher.old.tool (names_at index.now.names ids.now)
         (T.failed tree.old) (T.failed tree.new) (E.taken err.old) (E.taken err.new) result }
     ensures writes { CountsOne (has_write_failed result)
@@ -153,24 +168,28 @@ fn search_id<T: Tree, O: Sink, E: Sink>(
     err: &mut E,
 ) -> Result<bool, ToolFault>
     ensures prints { IfOk result (λ matched. (finds keeps : List ℕ → Bool) →
-        Decides finds searcher.old.matcher → DecidesNames keeps kept.old.matcher →
+        Decides finds searcher.old.matcher.tree →
+        DecidesNames keeps (matcher_tree kept.old.matcher) →
         Prints (option_map (λ tree. all_printed
-        (file_printed MOST_SEARCHED searcher.old.tool searcher.old.style finds tree)
+        (file_printed most_searched searcher.old.tool searcher.old.style finds tree)
         (filter keeps (names_at index.now.names (id ∷ [])))) (T.snapshot tree.old))
         (O.taken out.old) (O.taken out.new) (E.taken err.old) (E.taken err.new) matched) }
     ensures front { OnErr result ((finds keeps : List ℕ → Bool) →
-        Decides finds searcher.old.matcher → DecidesNames keeps kept.old.matcher →
+        Decides finds searcher.old.matcher.tree →
+        DecidesNames keeps (matcher_tree kept.old.matcher) →
         PrintsFront (option_map (λ tree. all_printed
-        (file_printed MOST_SEARCHED searcher.old.tool searcher.old.style finds tree)
+        (file_printed most_searched searcher.old.tool searcher.old.style finds tree)
         (filter keeps (names_at index.now.names (id ∷ [])))) (T.snapshot tree.old))
         (O.taken out.old) (O.taken out.new) (E.taken err.old) (E.taken err.new)) }
+    ensures reads { ReadsWithin (most_searched + 1)
+        (T.read_counts tree.old) (T.read_counts tree.new) }
     ensures faults { PrintsAllFaults searcher.old.tool (names_at index.now.names (id ∷ []))
         (T.failed tree.old) (T.failed tree.new) (E.taken err.old) (E.taken err.new) result }
     ensures writes { CountsOne (has_write_failed result)
         (O.failed out.old) (O.failed out.new) (E.failed err.old) (E.failed err.new) }
     ensures only { IsSearchFault result }
     ensures kept { IsKept searcher.old searcher.new }
-    ensures names { kept.new.matcher ≡ kept.old.matcher }
+    ensures names { matcher_tree kept.new.matcher ≡ matcher_tree kept.old.matcher }
     ensures keeps { T.snapshot tree.new ≡ T.snapshot tree.old }
 {
     let Some(name) = index.name(id) else {

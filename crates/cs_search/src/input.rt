@@ -36,16 +36,16 @@ pub(crate) fn search_input<R: Source, O: Sink>(
         (tally.new.lines + length (pending_bytes buffer.new) ≤ most)) }
     ensures stops { IfOk result (λ stop. Stops most stop
         (R.told input.old) (pending_bytes buffer.new) tally.new.lines) }
-    ensures finds { IfOk result (λ stop. (finds : List ℕ → Bool) → Decides finds matcher.old →
+    ensures finds { IfOk result (λ stop. (finds : List ℕ → Bool) → Decides finds matcher.old.tree →
         FindsBy form.now.style form.now.name.now finds tally.old tally.new
         (O.taken out.old) (O.taken out.new) most stop (R.told input.old)) }
-    ensures front { OnErr result ((finds : List ℕ → Bool) → Decides finds matcher.old →
+    ensures front { OnErr result ((finds : List ℕ → Bool) → Decides finds matcher.old.tree →
         FindsFront form.now.style form.now.name.now finds (tally.old.lines + 1)
         (O.taken out.old) (O.taken out.new) most (R.told input.old)) }
     ensures unlisted { IfOk result (λ stop. UnlessListed stop
         (form.now.style.list ≡ true → tally.new.hits ≡ 0)) }
     ensures loses { LosesAtMost (most + 1) (R.told input.old) (R.told input.new) }
-    ensures same { matcher.new ≡ matcher.old }
+    ensures same { matcher.new.tree ≡ matcher.old.tree }
     ensures read_failed { R.failed input.new ≡
         count_if (has_stop_failed result) (R.failed input.old) }
     ensures write_failed { O.failed out.new ≡

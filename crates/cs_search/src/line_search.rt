@@ -26,13 +26,13 @@ pub(crate) fn search_line<O: Sink>(
 ) -> Result<(), GrepFault>
     requires { tally.old.lines + 1 < 2 ^ 64 }
     ensures lines { OnOk result (tally.new.lines ≡ tally.old.lines + 1) }
-    ensures tests { OnOk result ((finds : List ℕ → Bool) → Decides finds matcher.old →
+    ensures tests { OnOk result ((finds : List ℕ → Bool) → Decides finds matcher.old.tree →
         Tests form.now.style form.now.name.now finds (line.now ∷ []) tally.old tally.new
         (O.taken out.old) (O.taken out.new)) }
-    ensures front { OnErr result ((finds : List ℕ → Bool) → Decides finds matcher.old →
+    ensures front { OnErr result ((finds : List ℕ → Bool) → Decides finds matcher.old.tree →
         TestsFront form.now.style form.now.name.now finds (line.now ∷ []) (tally.old.lines + 1)
         (O.taken out.old) (O.taken out.new)) }
-    ensures same { matcher.new ≡ matcher.old }
+    ensures same { matcher.new.tree ≡ matcher.old.tree }
     ensures failed { O.failed out.new ≡ count_after is_grep_failure result (O.failed out.old) }
 {
     tally.lines += 1;
@@ -80,12 +80,12 @@ fn pass_lines(tally: &mut Tally, block: &[u8], from: usize, matcher: &mut Matche
     ensures low { from ≤ result }
     ensures high { result ≤ length block.now }
     ensures whole { AreWholeLines (take (result - from) (drop from block.now)) }
-    ensures none { (finds : List ℕ → Bool) → Decides finds matcher.old →
+    ensures none { (finds : List ℕ → Bool) → Decides finds matcher.old.tree →
         NoneFound finds (ended_lines (take (result - from) (drop from block.now))) }
     ensures lines { tally.new.lines ≡
         tally.old.lines + length (ended_lines (take (result - from) (drop from block.now))) }
     ensures hits { tally.new.hits ≡ tally.old.hits }
-    ensures same { matcher.new ≡ matcher.old }
+    ensures same { matcher.new.tree ≡ matcher.old.tree }
 {
     let next = matcher.skip(block, from);
     tally.lines += newlines(&block[from..next]);
@@ -97,9 +97,9 @@ fn count_lines(tally: &mut Tally, block: &[u8], matcher: &mut Matcher<'_>)
     requires whole { AreWholeLines block.now }
     requires room { tally.old.lines + length block.now < 2 ^ 64 }
     ensures lines { tally.new.lines ≡ tally.old.lines + length (ended_lines block.now) }
-    ensures hits { (finds : List ℕ → Bool) → Decides finds matcher.old →
+    ensures hits { (finds : List ℕ → Bool) → Decides finds matcher.old.tree →
         tally.new.hits ≡ tally.old.hits + count_by finds (ended_lines block.now) }
-    ensures same { matcher.new ≡ matcher.old }
+    ensures same { matcher.new.tree ≡ matcher.old.tree }
 {
     tally.lines += newlines(block);
     tally.hits += matcher.count(block);
@@ -118,18 +118,19 @@ fn search_lines<O: Sink>(
     requires unlisted { form.now.style.list ≡ true → tally.old.hits ≡ 0 }
     ensures lines { IfOk result (λ listed. listed ≡ false →
         tally.new.lines ≡ tally.old.lines + length (ended_lines block.now)) }
-    ensures tests { IfOk result (λ listed. (finds : List ℕ → Bool) → Decides finds matcher.old →
+    ensures tests { IfOk result (λ listed. (finds : List ℕ → Bool) →
+        Decides finds matcher.old.tree →
         MatchBool listed
         (IsListed form.now.style form.now.name.now finds (ended_lines block.now)
         (tally.old.lines + 1) tally.new (O.taken out.old) (O.taken out.new))
         (Tests form.now.style form.now.name.now finds (ended_lines block.now)
         tally.old tally.new (O.taken out.old) (O.taken out.new))) }
-    ensures front { OnErr result ((finds : List ℕ → Bool) → Decides finds matcher.old →
+    ensures front { OnErr result ((finds : List ℕ → Bool) → Decides finds matcher.old.tree →
         TestsFront form.now.style form.now.name.now finds (ended_lines block.now)
         (tally.old.lines + 1) (O.taken out.old) (O.taken out.new)) }
     ensures unlisted { IfOk result (λ listed. listed ≡ false →
         form.now.style.list ≡ true → tally.new.hits ≡ 0) }
-    ensures same { matcher.new ≡ matcher.old }
+    ensures same { matcher.new.tree ≡ matcher.old.tree }
     ensures failed { O.failed out.new ≡ count_after is_grep_failure result (O.failed out.old) }
 {
     // Under `-c` nothing is printed of a line, so that it does not matter which they are.
@@ -166,18 +167,19 @@ pub(crate) fn search_block<O: Sink>(
         (λ start. (start ≤ length block.now) × (drop start block.now ≡ last_part block.now))) }
     ensures lines { IfOk result (λ answer. IfSome answer
         (λ start. tally.new.lines ≡ tally.old.lines + length (ended_lines block.now))) }
-    ensures tests { IfOk result (λ answer. (finds : List ℕ → Bool) → Decides finds matcher.old →
+    ensures tests { IfOk result (λ answer. (finds : List ℕ → Bool) →
+        Decides finds matcher.old.tree →
         MatchOption answer
         (IsListed form.now.style form.now.name.now finds (ended_lines block.now)
         (tally.old.lines + 1) tally.new (O.taken out.old) (O.taken out.new))
         (λ start. Tests form.now.style form.now.name.now finds (ended_lines block.now)
         tally.old tally.new (O.taken out.old) (O.taken out.new))) }
-    ensures front { OnErr result ((finds : List ℕ → Bool) → Decides finds matcher.old →
+    ensures front { OnErr result ((finds : List ℕ → Bool) → Decides finds matcher.old.tree →
         TestsFront form.now.style form.now.name.now finds (ended_lines block.now)
         (tally.old.lines + 1) (O.taken out.old) (O.taken out.new)) }
     ensures unlisted { IfOk result (λ answer. IfSome answer
         (λ start. form.now.style.list ≡ true → tally.new.hits ≡ 0)) }
-    ensures same { matcher.new ≡ matcher.old }
+    ensures same { matcher.new.tree ≡ matcher.old.tree }
     ensures failed { O.failed out.new ≡ count_after is_grep_failure result (O.failed out.old) }
 {
     let stop = ended_len(block, clean);

@@ -1,7 +1,7 @@
 // Which names `-f` keeps.
 ghost use Rattle.std.specs.Prelude.{◌≡◌, ℕ, Bool, List, IfOk, IfErr, option_copied};
 ghost use Rattle.cs_search.specs.Csearch.{file_text};
-ghost use Rattle.cs_search.specs.IndexSearch.{DecidesNames, IsCompiled, FileRefused, file_pattern_fault};
+ghost use Rattle.cs_search.specs.IndexSearch.{DecidesNames, matcher_tree, IsCompiled, FileRefused, file_pattern_fault};
 
 use cs_match::{Matcher, Program};
 use cs_syntax::{PatternError, PatternFault, parse};
@@ -46,7 +46,8 @@ impl<'p> NameFilter<'p> {
         alloc: Global,
         program: Option<&'p Program>,
     ) -> Result<NameFilter<'p>, AllocError>
-        ensures { IfOk result (λ filter. filter.matcher ≡ option_copied program.entry) }
+        ensures { IfOk result (λ filter.
+            matcher_tree filter.matcher ≡ option_copied program.entry) }
     {
         let Some(program) = program else {
             return Ok(NameFilter { matcher: None });
@@ -58,9 +59,10 @@ impl<'p> NameFilter<'p> {
     }
 
     pub(crate) fn keeps(&mut self, name: &str) -> bool
-        ensures tested { (keeps : List ℕ → Bool) → DecidesNames keeps self.old.matcher →
+        ensures tested { (keeps : List ℕ → Bool) →
+            DecidesNames keeps (matcher_tree self.old.matcher) →
             result ≡ keeps name.now }
-        ensures same { self.new.matcher ≡ self.old.matcher }
+        ensures same { matcher_tree self.new.matcher ≡ matcher_tree self.old.matcher }
     {
         match &mut self.matcher {
             Some(matcher) => matcher.is_match(name.as_bytes()),

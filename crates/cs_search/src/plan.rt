@@ -1,18 +1,19 @@
 // What a job of csearch is to search for, before anything of an index or of a file is looked at.
-ghost use Rattle.std.specs.Prelude.{◌≡◌, ℕ, Bool, List, Option, IfOk, IfErr, OnErr, option_map, filter};
+ghost use Rattle.std.specs.Prelude.{◌≡◌, ◌+◌, ℕ, Bool, List, Option, IfOk, IfErr, OnErr, option_map, filter};
 ghost use Rattle.cs_tree.specs.Failures.{CountsOne};
+ghost use Rattle.cs_tree.specs.ReadCounts.{ReadsWithin};
 ghost use Rattle.cs_match.specs.Finding.{Decides};
 ghost use Rattle.cs_words.specs.declared.jobs.Tool.TheVariants.{Csearch};
+ghost use Rattle.cs_search.specs.InputReport.{most_searched};
 ghost use Rattle.cs_search.specs.Csearch.{IsQueryOf};
 ghost use Rattle.cs_search.specs.IndexSearch.{names_at, DecidesNames};
 ghost use Rattle.cs_search.specs.Plans.{IsPlan, RefusesPlan};
 ghost use Rattle.cs_search.specs.Printed.{all_printed, file_printed};
-ghost use Rattle.cs_search.specs.Refusals.{has_write_failed};
-ghost use Rattle.cs_search.specs.Searcher.{IsSearchFault, Prints, PrintsFront, PrintsAllFaults};
+ghost use Rattle.cs_search.specs.Refusals.{has_write_failed, IsSearchFault};
+ghost use Rattle.cs_search.specs.Searcher.{Prints, PrintsFront, PrintsAllFaults};
 
 use crate::csearching::search_ids;
 use crate::name_filter::{NameFilter, compile_file};
-use crate::report::MOST_SEARCHED;
 use crate::searcher::Searcher;
 use cs_index::Index;
 use cs_match::Program;
@@ -63,15 +64,17 @@ impl Plan {
         ensures prints { IfOk result (λ matched. (finds keeps : List ℕ → Bool) →
             Decides finds self.now.program → DecidesNames keeps self.now.file →
             Prints (option_map (λ tree. all_printed
-            (file_printed MOST_SEARCHED Csearch style finds tree)
+            (file_printed most_searched Csearch style finds tree)
             (filter keeps (names_at index.now.names ids.now))) (T.snapshot tree.old))
             (O.taken out.old) (O.taken out.new) (E.taken err.old) (E.taken err.new) matched) }
         ensures front { OnErr result ((finds keeps : List ℕ → Bool) →
             Decides finds self.now.program → DecidesNames keeps self.now.file →
             PrintsFront (option_map (λ tree. all_printed
-            (file_printed MOST_SEARCHED Csearch style finds tree)
+            (file_printed most_searched Csearch style finds tree)
             (filter keeps (names_at index.now.names ids.now))) (T.snapshot tree.old))
             (O.taken out.old) (O.taken out.new) (E.taken err.old) (E.taken err.new)) }
+        ensures reads { ReadsWithin (most_searched + 1)
+            (T.read_counts tree.old) (T.read_counts tree.new) }
         ensures faults { PrintsAllFaults Csearch (names_at index.now.names ids.now)
             (T.failed tree.old) (T.failed tree.new) (E.taken err.old) (E.taken err.new) result }
         ensures writes { CountsOne (has_write_failed result)

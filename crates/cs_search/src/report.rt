@@ -6,7 +6,7 @@ ghost use Rattle.cs_tree.specs.FailureCount.{count_after};
 ghost use Rattle.cs_match.specs.Finding.{Decides};
 ghost use Rattle.cs_match.specs.LastPart.{last_line};
 ghost use Rattle.cs_search.specs.GrepReports.{Reports, ReportsFront};
-ghost use Rattle.cs_search.specs.InputReport.{told_report};
+ghost use Rattle.cs_search.specs.InputReport.{most_searched, told_report};
 ghost use Rattle.cs_search.specs.GrepFaults.{is_grep_failure, has_read_failed};
 ghost use Rattle.cs_search.specs.TestedLines.{Tests, TestsFront};
 
@@ -37,18 +37,18 @@ pub fn grep<R: Source, O: Sink>(
     style: Style,
     out: &mut O,
 ) -> Result<Grepped, GrepFault>
-    ensures report { IfOk result (λ answer. (finds : List ℕ → Bool) → Decides finds matcher.old →
-        Reports (R.told input.old) (told_report MOST_SEARCHED style name.now finds)
+    ensures report { IfOk result (λ answer. (finds : List ℕ → Bool) → Decides finds matcher.old.tree →
+        Reports (R.told input.old) (told_report most_searched style name.now finds)
         (O.taken out.old) (O.taken out.new) answer) }
-    ensures front { OnErr result ((finds : List ℕ → Bool) → Decides finds matcher.old →
-        ReportsFront (R.told input.old) (told_report MOST_SEARCHED style name.now finds)
+    ensures front { OnErr result ((finds : List ℕ → Bool) → Decides finds matcher.old.tree →
+        ReportsFront (R.told input.old) (told_report most_searched style name.now finds)
         (O.taken out.old) (O.taken out.new)) }
     ensures read_failed { R.failed input.new ≡
         count_if (has_read_failed result) (R.failed input.old) }
     ensures write_failed { O.failed out.new ≡
         count_after is_grep_failure result (O.failed out.old) }
-    ensures loses { LosesAtMost (MOST_SEARCHED + 1) (R.told input.old) (R.told input.new) }
-    ensures same { matcher.new ≡ matcher.old }
+    ensures loses { LosesAtMost (most_searched + 1) (R.told input.old) (R.told input.new) }
+    ensures same { matcher.new.tree ≡ matcher.old.tree }
     ensures keeps { R.Keeps input.old input.new }
 {
     let mut buffer = LineBuffer::new(alloc)?;
@@ -73,10 +73,11 @@ pub fn grep_within<R: Source, O: Sink>(
     out: &mut O,
 ) -> Result<Grepped, GrepFault>
     requires { most < 2 ^ 32 }
-    ensures report { IfOk result (λ answer. (finds : List ℕ → Bool) → Decides finds matcher.old →
+    ensures report { IfOk result (λ answer. (finds : List ℕ → Bool) →
+        Decides finds matcher.old.tree →
         Reports (R.told input.old) (told_report most form.now.style form.now.name.now finds)
         (O.taken out.old) (O.taken out.new) answer) }
-    ensures front { OnErr result ((finds : List ℕ → Bool) → Decides finds matcher.old →
+    ensures front { OnErr result ((finds : List ℕ → Bool) → Decides finds matcher.old.tree →
         ReportsFront (R.told input.old) (told_report most form.now.style form.now.name.now finds)
         (O.taken out.old) (O.taken out.new)) }
     ensures read_failed { R.failed input.new ≡
@@ -84,7 +85,7 @@ pub fn grep_within<R: Source, O: Sink>(
     ensures write_failed { O.failed out.new ≡
         count_after is_grep_failure result (O.failed out.old) }
     ensures loses { LosesAtMost (most + 1) (R.told input.old) (R.told input.new) }
-    ensures same { matcher.new ≡ matcher.old }
+    ensures same { matcher.new.tree ≡ matcher.old.tree }
     ensures keeps { R.Keeps input.old input.new }
 {
     buffer.clear();
@@ -118,13 +119,13 @@ fn search_rest<O: Sink>(
     out: &mut O,
 ) -> Result<(), GrepFault>
     requires { tally.old.lines + 1 < 2 ^ 64 }
-    ensures tests { OnOk result ((finds : List ℕ → Bool) → Decides finds matcher.old →
+    ensures tests { OnOk result ((finds : List ℕ → Bool) → Decides finds matcher.old.tree →
         Tests form.now.style form.now.name.now finds (last_line rest.now) tally.old tally.new
         (O.taken out.old) (O.taken out.new)) }
-    ensures front { OnErr result ((finds : List ℕ → Bool) → Decides finds matcher.old →
+    ensures front { OnErr result ((finds : List ℕ → Bool) → Decides finds matcher.old.tree →
         TestsFront form.now.style form.now.name.now finds (last_line rest.now) (tally.old.lines + 1)
         (O.taken out.old) (O.taken out.new)) }
-    ensures same { matcher.new ≡ matcher.old }
+    ensures same { matcher.new.tree ≡ matcher.old.tree }
     ensures failed { O.failed out.new ≡ count_after is_grep_failure result (O.failed out.old) }
 {
     if rest.is_empty() {

@@ -3,10 +3,12 @@ ghost use Rattle.std.specs.Prelude.{◌≡◌, ◌+◌, ℕ, Bool, List, [], ◌
 ghost use Rattle.cs_words.specs.FileFaults.{fault_line_of};
 ghost use Rattle.cs_tree.specs.Failures.{count_if, CountsOne};
 ghost use Rattle.cs_tree.specs.Loss.{LosesAtMost};
+ghost use Rattle.cs_tree.specs.ReadCounts.{ReadsWithin};
 ghost use Rattle.cs_match.specs.Finding.{Decides};
 ghost use Rattle.cs_tree.specs.TakenAll.{TakesBytes};
-ghost use Rattle.cs_search.specs.Searcher.{IsSearchFault, Prints, FileLosesAtMost, PrintsFront, PrintsAllFaults};
-ghost use Rattle.cs_search.specs.Refusals.{has_write_failed};
+ghost use Rattle.cs_search.specs.InputReport.{most_searched};
+ghost use Rattle.cs_search.specs.Searcher.{Prints, PrintsFront, PrintsAllFaults};
+ghost use Rattle.cs_search.specs.Refusals.{has_write_failed, IsSearchFault};
 ghost use Rattle.cs_search.specs.Printed.{input_printed, file_printed, all_printed, left_fault};
 
 use crate::buffer::LineBuffer;
@@ -39,7 +41,7 @@ impl<'p> Searcher<'p> {
     ) -> Result<Searcher<'p>, AllocError>
         ensures tool { IfOk result (λ searcher. searcher.tool ≡ tool) }
         ensures style { IfOk result (λ searcher. searcher.style ≡ style) }
-        ensures matcher { IfOk result (λ searcher. searcher.matcher ≡ program.now) }
+        ensures matcher { IfOk result (λ searcher. searcher.matcher.tree ≡ program.now) }
     {
         let matcher = Matcher::new(alloc, program)?;
         let buffer = LineBuffer::new(alloc)?;
@@ -61,17 +63,18 @@ impl<'p> Searcher<'p> {
         err: &mut E,
     ) -> Result<bool, ToolFault>
         ensures prints { IfOk result (λ matched. (finds : List ℕ → Bool) →
-            Decides finds self.old.matcher →
+            Decides finds self.old.matcher.tree →
             Prints (option_map
-            (input_printed MOST_SEARCHED self.old.tool self.old.style finds name.now)
+            (input_printed most_searched self.old.tool self.old.style finds name.now)
             (R.told input.old))
             (O.taken out.old) (O.taken out.new) (E.taken err.old) (E.taken err.new) matched) }
-        ensures front { OnErr result ((finds : List ℕ → Bool) → Decides finds self.old.matcher →
+        ensures front { OnErr result ((finds : List ℕ → Bool) →
+            Decides finds self.old.matcher.tree →
             PrintsFront (option_map
-            (input_printed MOST_SEARCHED self.old.tool self.old.style finds name.now)
+            (input_printed most_searched self.old.tool self.old.style finds name.now)
             (R.told input.old))
             (O.taken out.old) (O.taken out.new) (E.taken err.old) (E.taken err.new)) }
-        ensures loses { LosesAtMost (MOST_SEARCHED + 1) (R.told input.old) (R.told input.new) }
+        ensures loses { LosesAtMost (most_searched + 1) (R.told input.old) (R.told input.new) }
         ensures faults { PrintsAllFaults self.old.tool (name.now ∷ [])
             (R.failed input.old) (R.failed input.new) (E.taken err.old) (E.taken err.new) result }
         ensures writes { CountsOne (has_write_failed result)
@@ -107,18 +110,19 @@ impl<'p> Searcher<'p> {
         err: &mut E,
     ) -> Result<bool, ToolFault>
         ensures prints { IfOk result (λ matched. (finds : List ℕ → Bool) →
-            Decides finds self.old.matcher →
+            Decides finds self.old.matcher.tree →
             Prints (option_map (λ tree.
-            file_printed MOST_SEARCHED self.old.tool self.old.style finds tree name.now)
+            file_printed most_searched self.old.tool self.old.style finds tree name.now)
             (T.snapshot tree.old))
             (O.taken out.old) (O.taken out.new) (E.taken err.old) (E.taken err.new) matched) }
-        ensures front { OnErr result ((finds : List ℕ → Bool) → Decides finds self.old.matcher →
+        ensures front { OnErr result ((finds : List ℕ → Bool) →
+            Decides finds self.old.matcher.tree →
             PrintsFront (option_map (λ tree.
-            file_printed MOST_SEARCHED self.old.tool self.old.style finds tree name.now)
+            file_printed most_searched self.old.tool self.old.style finds tree name.now)
             (T.snapshot tree.old))
             (O.taken out.old) (O.taken out.new) (E.taken err.old) (E.taken err.new)) }
-        ensures loses { FileLosesAtMost (MOST_SEARCHED + 1)
-            (T.snapshot tree.old) name.now (T.opened tree.new) }
+        ensures reads { ReadsWithin (most_searched + 1)
+            (T.read_counts tree.old) (T.read_counts tree.new) }
         ensures faults { PrintsAllFaults self.old.tool (name.now ∷ [])
             (T.failed tree.old) (T.failed tree.new) (E.taken err.old) (E.taken err.new) result }
         ensures writes { CountsOne (has_write_failed result)
@@ -146,18 +150,21 @@ impl<'p> Searcher<'p> {
         err: &mut E,
     ) -> Result<bool, ToolFault>
         ensures prints { IfOk result (λ matched. (finds : List ℕ → Bool) →
-            Decides finds self.old.matcher →
+            Decides finds self.old.matcher.tree →
             Prints (option_map (λ tree. all_printed
-            (file_printed MOST_SEARCHED self.old.tool self.old.style finds tree)
+            (file_printed most_searched self.old.tool self.old.style finds tree)
             (map string_bytes names.now))
             (T.snapshot tree.old))
             (O.taken out.old) (O.taken out.new) (E.taken err.old) (E.taken err.new) matched) }
-        ensures front { OnErr result ((finds : List ℕ → Bool) → Decides finds self.old.matcher →
+        ensures front { OnErr result ((finds : List ℕ → Bool) →
+            Decides finds self.old.matcher.tree →
             PrintsFront (option_map (λ tree. all_printed
-            (file_printed MOST_SEARCHED self.old.tool self.old.style finds tree)
+            (file_printed most_searched self.old.tool self.old.style finds tree)
             (map string_bytes names.now))
             (T.snapshot tree.old))
             (O.taken out.old) (O.taken out.new) (E.taken err.old) (E.taken err.new)) }
+        ensures reads { ReadsWithin (most_searched + 1)
+            (T.read_counts tree.old) (T.read_counts tree.new) }
         ensures faults { PrintsAllFaults self.old.tool (map string_bytes names.now)
             (T.failed tree.old) (T.failed tree.new) (E.taken err.old) (E.taken err.new) result }
         ensures writes { CountsOne (has_write_failed result)

@@ -2,20 +2,21 @@
 ghost use Rattle.std.specs.Prelude.{◌≡◌, ◌+◌, ◌⊎◌, ℕ, Bool, List, [], IfOk, IfErr, OnOk, OnErr, MatchResult, string_bytes};
 ghost use Rattle.cs_tree.specs.Failures.{CountsOne};
 ghost use Rattle.cs_tree.specs.Loss.{LosesAtMost};
+ghost use Rattle.cs_tree.specs.ReadCounts.{ReadsWithin};
 ghost use Rattle.cs_syntax.specs.Matching.{Tree as PatternTree};
 ghost use Rattle.cs_syntax.specs.Reading.{Reads};
 ghost use Rattle.cs_match.specs.Finding.{Decides};
 ghost use Rattle.cs_tree.specs.Taken.{EndsAfter, MayEnd};
 ghost use Rattle.cs_tree.specs.TakenAll.{TakesBytes};
 ghost use Rattle.cs_tree.specs.Told.{GrowsFlushed, HasFlushed};
+ghost use Rattle.cs_search.specs.InputReport.{most_searched};
 ghost use Rattle.cs_search.specs.Cgrep.{cgrep_printed};
 ghost use Rattle.cs_search.specs.CgrepFaults.{PatternFirst, PrintsFaultsOf};
-ghost use Rattle.cs_search.specs.Refusals.{IsAccepted, SilentAtRefusal, has_write_failed};
+ghost use Rattle.cs_search.specs.Refusals.{IsAccepted, IsSearchFault, SilentAtRefusal, has_write_failed};
 ghost use Rattle.cs_search.specs.Programs.{IsProgramOf, RefusesPattern};
-ghost use Rattle.cs_search.specs.Searcher.{IsSearchFault, Prints, PrintsFront};
+ghost use Rattle.cs_search.specs.Searcher.{Prints, PrintsFront};
 ghost use Rattle.cs_search.specs.Printed.{PrintsStatus, PrintsNothing, PrintsSome, status_of};
 
-use crate::report::MOST_SEARCHED;
 use crate::searcher::Searcher;
 use crate::status::Status;
 use cs_match::Program;
@@ -39,7 +40,7 @@ pub fn cgrep<T: Tree, R: Source, O: Sink, E: Sink>(
     ensures prints { IfOk result (λ status. (pattern : PatternTree) (finds : List ℕ → Bool) →
         Reads (string_bytes job.now.pattern) job.now.fold pattern → Decides finds pattern →
         PrintsStatus
-        (cgrep_printed MOST_SEARCHED job.now finds (T.snapshot tree.old) (R.told input.old))
+        (cgrep_printed most_searched job.now finds (T.snapshot tree.old) (R.told input.old))
         (O.taken out.old) (O.taken out.new) (E.taken err.old) (E.taken err.new) status) }
     ensures front { OnErr result
         (PrintsNothing (O.taken out.old) (O.taken out.new) (E.taken err.old) (E.taken err.new)
@@ -47,12 +48,18 @@ pub fn cgrep<T: Tree, R: Source, O: Sink, E: Sink>(
         × ((pattern : PatternTree) (finds : List ℕ → Bool) →
         Reads (string_bytes job.now.pattern) job.now.fold pattern → Decides finds pattern →
         PrintsSome
-        (cgrep_printed MOST_SEARCHED job.now finds (T.snapshot tree.old) (R.told input.old))
+        (cgrep_printed most_searched job.now finds (T.snapshot tree.old) (R.told input.old))
         (O.taken out.old) (O.taken out.new) (E.taken err.old) (E.taken err.new)))) }
     ensures pattern { PatternFirst (string_bytes job.now.pattern) job.now.fold result }
     ensures silent { SilentAtRefusal result
-        (PrintsNothing (O.taken out.old) (O.taken out.new) (E.taken err.old) (E.taken err.new)) }
-    ensures loses { LosesAtMost (MOST_SEARCHED + 1) (R.told input.old) (R.told input.new) }
+        (PrintsNothing (O.taken out.old) (O.taken out.new) (E.taken err.old) (E.taken err.new)
+        × (T.failed tree.new ≡ T.failed tree.old)
+        × (T.longest_asked tree.new ≡ T.longest_asked tree.old)
+        × (R.failed input.new ≡ R.failed input.old)
+        × (R.told input.new ≡ R.told input.old)) }
+    ensures loses { LosesAtMost (most_searched + 1) (R.told input.old) (R.told input.new) }
+    ensures reads { ReadsWithin (most_searched + 1)
+        (T.read_counts tree.old) (T.read_counts tree.new) }
     ensures faults { PrintsFaultsOf job.now
         (T.failed tree.old) (T.failed tree.new) (R.failed input.old) (R.failed input.new)
         (λ lines. EndsAfter lines (E.taken err.old) (E.taken err.new) result) }
@@ -111,14 +118,17 @@ fn search_job<T: Tree, R: Source, O: Sink, E: Sink>(
     requires tool { searcher.old.tool ≡ Tool.Cgrep }
     requires style { searcher.old.style ≡ job.now.style }
     ensures prints { IfOk result (λ matched. (finds : List ℕ → Bool) →
-        Decides finds searcher.old.matcher →
-        Prints (cgrep_printed MOST_SEARCHED job.now finds (T.snapshot tree.old) (R.told input.old))
+        Decides finds searcher.old.matcher.tree →
+        Prints (cgrep_printed most_searched job.now finds (T.snapshot tree.old) (R.told input.old))
         (O.taken out.old) (O.taken out.new) (E.taken err.old) (E.taken err.new) matched) }
-    ensures front { OnErr result ((finds : List ℕ → Bool) → Decides finds searcher.old.matcher →
+    ensures front { OnErr result ((finds : List ℕ → Bool) →
+        Decides finds searcher.old.matcher.tree →
         PrintsFront
-        (cgrep_printed MOST_SEARCHED job.now finds (T.snapshot tree.old) (R.told input.old))
+        (cgrep_printed most_searched job.now finds (T.snapshot tree.old) (R.told input.old))
         (O.taken out.old) (O.taken out.new) (E.taken err.old) (E.taken err.new)) }
-    ensures loses { LosesAtMost (MOST_SEARCHED + 1) (R.told input.old) (R.told input.new) }
+    ensures loses { LosesAtMost (most_searched + 1) (R.told input.old) (R.told input.new) }
+    ensures reads { ReadsWithin (most_searched + 1)
+        (T.read_counts tree.old) (T.read_counts tree.new) }
     ensures faults { PrintsFaultsOf job.now
         (T.failed tree.old) (T.failed tree.new) (R.failed input.old) (R.failed input.new)
         (λ lines. TakesBytes lines (E.taken err.old) (E.taken err.new) result) }

@@ -1,6 +1,7 @@
 // The tool that searches by an index that lies in a store.
-ghost use Rattle.std.specs.Prelude.{◌≡◌, IfOk, IfErr, OnOk, false};
+ghost use Rattle.std.specs.Prelude.{◌≡◌, ◌+◌, IfOk, IfErr, OnOk, false};
 ghost use Rattle.cs_tree.specs.Failures.{CountsOne};
+ghost use Rattle.cs_tree.specs.ReadCounts.{ReadsWithin};
 ghost use Rattle.cs_tree.specs.FailureCount.{count_after};
 ghost use Rattle.cs_tree.specs.Told.{HasFlushed};
 ghost use Rattle.cs_tree.specs.Transfers.{is_io_failure};
@@ -8,8 +9,9 @@ ghost use Rattle.cs_search.specs.Refusals.{has_write_failed, SilentAtRefusal};
 ghost use Rattle.cs_search.specs.Csearch.{AreAccepted};
 ghost use Rattle.cs_search.specs.Plans.{IsPlan, IsLent, RefusesPlan};
 ghost use Rattle.cs_search.specs.Printed.{PrintsNothing};
-ghost use Rattle.cs_search.specs.Searched.{IsSearch};
-ghost use Rattle.cs_search.specs.StoredSearch.{IsOpened, IfRead, has_output_failed};
+ghost use Rattle.cs_search.specs.Searched.{IsSearch, outputs};
+ghost use Rattle.cs_search.specs.InputReport.{most_searched};
+ghost use Rattle.cs_search.specs.StoredSearch.{IsOpened, IfRead, IsUnopened, has_output_failed};
 
 use crate::csearching::search_by;
 use crate::plan::Plan;
@@ -34,12 +36,19 @@ pub fn csearch_stored<S: Store, T: Tree, O: Sink, E: Sink>(
     requires { IsOpened (S.told store.old) opened }
     ensures searches { IfRead (S.told store.old) result (λ index answer.
         IsSearch job.now index (T.snapshot tree.old) (T.failed tree.old) (T.failed tree.new)
-        (O.taken out.old) (O.taken out.new) (E.taken err.old) (E.taken err.new) answer) }
+        (outputs O.taken E.taken out.old err.old)
+        (outputs O.taken E.taken out.new err.new) answer) }
+    ensures unopened { IfErr opened (λ fault. IsUnopened job.now fault result) }
     ensures silent { IfOk result (λ answer. SilentAtRefusal answer
-        (PrintsNothing (O.taken out.old) (O.taken out.new) (E.taken err.old) (E.taken err.new))) }
+        (PrintsNothing (O.taken out.old) (O.taken out.new) (E.taken err.old) (E.taken err.new)
+        × (T.failed tree.new ≡ T.failed tree.old)
+        × (T.longest_asked tree.new ≡ T.longest_asked tree.old))) }
     ensures unread { IfErr result (λ _. AreAccepted job.now
         × (T.failed tree.new ≡ T.failed tree.old)
+        × (T.longest_asked tree.new ≡ T.longest_asked tree.old)
         × PrintsNothing (O.taken out.old) (O.taken out.new) (E.taken err.old) (E.taken err.new)) }
+    ensures reads { ReadsWithin (most_searched + 1)
+        (T.read_counts tree.old) (T.read_counts tree.new) }
     ensures flushed { IfOk result (λ answer. OnOk answer
         (HasFlushed (O.taken out.new) × HasFlushed (E.taken err.new))) }
     ensures writes { CountsOne (has_output_failed result)
@@ -72,6 +81,7 @@ fn restrict<S: Store>(
         IfOk answer (λ ready. IsLent ready.0.query index ready.1)) }
     ensures refused { IfRead (S.told store.old) result (λ index answer.
         IfErr answer (RefusesPlan job.now index)) }
+    ensures unopened { IfErr opened (λ fault. IsUnopened job.now fault result) }
     ensures unwritten { IfOk result (λ answer. has_write_failed answer ≡ false) }
     ensures accepted { IfErr result (λ _. AreAccepted job.now) }
     ensures tells { S.told store.new ≡ S.told store.old }

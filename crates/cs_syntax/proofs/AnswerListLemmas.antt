@@ -1,10 +1,22 @@
 -- Lists of answers.
-use Rattle.std.proofs.Common.{◌≡◌, ℕ, zero, suc, ◌+◌, ◌<◌, Bool, true, false, true≢false, cond, List, [], ◌∷◌, length, get_or, refl, sym, ◌∙◌, ap, arith, zero-add}
+use Rattle.std.proofs.Common.{◌≡◌, ℕ, zero, suc, ◌+◌, ◌<◌, Bool, true, false, true≢false, cond, List, [], ◌∷◌, map, length, get_or, refl, sym, ◌∙◌, ap, arith, zero-add}
 use Rattle.std.proofs.lemmas.Bool.{false_from_ne_true}
 use Rattle.std.proofs.lemmas.List.Sums.{sum_by-cons}
+use Rattle.std.specs.List.{range_with_len}
 use Rattle.cs_syntax.specs.Members.{count, IsOnly}
 use Rattle.cs_syntax.specs.Matching.{member}
-use Rattle.cs_syntax.specs.ByteSet.{answers, set_of}
+use Rattle.cs_syntax.specs.ByteSet.{set_of}
+
+-- f at from, from + 1, .., n answers in all
+abbrev answers : (ℕ → Bool) → ℕ → ℕ → List Bool
+answers f from zero = []
+answers f from (suc n) = f from ∷ answers f (suc from) n
+
+ranged : (f : ℕ → Bool) (from n : ℕ) → map f (range_with_len from n) ≡ answers f from n
+ranged f from zero = refl
+ranged f from (suc n) =
+    let next : from + 1 ≡ suc from = omega arith in
+    ap (λ k. f from ∷ map f (range_with_len k n)) next ∙ ap (λ xs. f from ∷ xs) (ranged f (suc from) n)
 
 pub length-answers : (f : ℕ → Bool) (from n : ℕ) → length (answers f from n) ≡ n
 length-answers f from zero = refl
@@ -29,15 +41,18 @@ answers_from f from (suc n) (x ∷ xs) e h =
 
 pub set_from : (f : ℕ → Bool) (xs : List Bool) → length xs ≡ 256 → ((k : ℕ) → k < 256 → get_or xs k false ≡ f k) → xs ≡ set_of f
 unfolding set_of
-set_from f xs e h = answers_from f 0 256 xs e (λ k lt. let s : k ≡ 0 + k = omega arith in h k lt ∙ ap f s)
+set_from f xs e h =
+    answers_from f 0 256 xs e (λ k lt. let s : k ≡ 0 + k = omega arith in h k lt ∙ ap f s) ∙ sym (ranged f 0 256)
 
 pub set_of_at : (f : ℕ → Bool) (k : ℕ) → k < 256 → get_or (set_of f) k false ≡ f k
 unfolding set_of
-set_of_at f k lt = let s : 0 + k ≡ k = omega arith in answers_at f 0 256 k lt ∙ ap f s
+set_of_at f k lt =
+    let s : 0 + k ≡ k = omega arith in
+    ap (λ xs. get_or xs k false) (ranged f 0 256) ∙ answers_at f 0 256 k lt ∙ ap f s
 
 pub length-set_of : (f : ℕ → Bool) → length (set_of f) ≡ 256
 unfolding set_of
-length-set_of f = length-answers f 0 256
+length-set_of f = ap length (ranged f 0 256) ∙ length-answers f 0 256
 
 -- tests that agree at each byte have one set
 pub set_of-agree : (f g : ℕ → Bool) → ((b : ℕ) → b < 256 → f b ≡ g b) → set_of f ≡ set_of g
@@ -50,7 +65,7 @@ answers-same f g from (suc n) h = let e = h from in let r = answers-same f g (su
 -- tests that agree have one set
 pub set_of-same : (f g : ℕ → Bool) → ((k : ℕ) → f k ≡ g k) → set_of f ≡ set_of g
 unfolding set_of
-set_of-same f g h = answers-same f g 0 256 h
+set_of-same f g h = ranged f 0 256 ∙ answers-same f g 0 256 h ∙ sym (ranged g 0 256)
 
 -- ---- how many members, and the one
 

@@ -10,7 +10,7 @@ use Rattle.cs_syntax.specs.NumberList.{has}
 use Rattle.cs_syntax.specs.Fronts.{Front, PatternItem, unit, repeat, bar, group_start, group_end, flags_from_here, item, fault, sequence, is_front, is_continuation, bytes_tree, char_tree}
 use Rattle.cs_syntax.specs.ByteSet.{char_set}
 use Rattle.cs_syntax.specs.Numbers.{digit_value, is_digit, count_digits, number_of_digits}
-use Rattle.cs_syntax.specs.Classes.{ClassFront, piece, misread, ClassChar, one, wrong, class_escape, wide_class_char, class_char, range_to, range_from, span, name_length, posix_class, after_colon, after_backslash, class_front, ClassRest, closed, failed, with_class_item, items_from, class_of, class}
+use Rattle.cs_syntax.specs.Classes.{class_escape, class_char, range_to, range_from, span, name_length, posix_class, after_colon, after_backslash, class_front, with_class_item, items_from, class_of, class}
 use Rattle.cs_syntax.specs.declared.class_item.ClassItem.{ClassItem}
 use Rattle.cs_syntax.specs.declared.class_item.ClassItem.TheVariants.{Range}
 use Rattle.cs_syntax.specs.Repeats.{lazy, number, counts_to, counts_from, counts, is_bad, brace}
@@ -25,7 +25,7 @@ use Rattle.cs_syntax.proofs.TreeListLemmas.{takes_choice, takes_append}
 use Rattle.cs_syntax.specs.TreeList.{append}
 use Rattle.cs_syntax.specs.Reading.{Level, Rest, Group, tree, levels, broken, inside, with_close, with_open, with_unit, with_repeat, with_bar, whole_group, most_open, rest, at_end, answer, flags_at_start, Reads}
 use Rattle.cs_syntax.specs.Choices.{flags_behind, class_names_end, StandsApart, TakesEither}
-use Rattle.cs_syntax.specs.Groups.{name, is_flag, is_cleared_flag, with_set, with_cleared, after_flags, cleared_flags, set_flags, head, group}
+use Rattle.cs_syntax.specs.Groups.{name, with_set, with_cleared, after_flags, cleared_flags, set_flags, head, group}
 use Rattle.cs_syntax.specs.Written.{signs}
 use Rattle.cs_syntax.proofs.QuotedLemmas.{of_each, by_width}
 use Rattle.cs_syntax.proofs.LevelLemmas.{alone}
@@ -42,7 +42,7 @@ abbrev pub IsRead : Rest → Type 0
 IsRead (levels l ls) = Unit {0}
 IsRead (broken k at) = ⊥
 
-abbrev IsItem : Front → Type 0
+abbrev IsItem : Front PatternItem → Type 0
 IsItem (item x len) = Unit {0}
 IsItem (fault k behind) = ⊥
 
@@ -60,21 +60,21 @@ open_read (broken k at) h = h
 
 -- ---- classes that are closed
 
-abbrev IsClosed : ClassRest → Type 0
-IsClosed (closed items len) = Unit {0}
-IsClosed (failed k behind) = ⊥
+abbrev IsClosed : Front (List ClassItem) → Type 0
+IsClosed (item items len) = Unit {0}
+IsClosed (fault k behind) = ⊥
 
-abbrev ClosedBefore : ℕ → ClassRest → Type 0
-ClosedBefore n (closed items len) = len < n
-ClosedBefore n (failed k behind) = Unit {0}
+abbrev ClosedBefore : ℕ → Front (List ClassItem) → Type 0
+ClosedBefore n (item items len) = len < n
+ClosedBefore n (fault k behind) = Unit {0}
 
-item_before : (i : ClassItem) (n : ℕ) (r : ClassRest) → ClosedBefore n r → ClosedBefore n (with_class_item i r)
-item_before i n (closed items len) h = h
-item_before i n (failed k behind) h = tt
+item_before : (i : ClassItem) (n : ℕ) (r : Front (List ClassItem)) → ClosedBefore n r → ClosedBefore n (with_class_item i r)
+item_before i n (item items len) h = h
+item_before i n (fault k behind) h = tt
 
-item_closed : (i : ClassItem) (r : ClassRest) → IsClosed (with_class_item i r) → IsClosed r
-item_closed i (closed items len) h = tt
-item_closed i (failed k behind) h = h
+item_closed : (i : ClassItem) (r : Front (List ClassItem)) → IsClosed (with_class_item i r) → IsClosed r
+item_closed i (item items len) h = tt
+item_closed i (fault k behind) h = h
 
 closed_before : (skip behind : ℕ) (start : Bool) (text : List ℕ) → ClosedBefore (behind + length text) (items_from skip behind start text)
 closed_before skip behind start [] = tt
@@ -85,11 +85,11 @@ closed_before zero behind start (b ∷ text) = by (nat_eq b 93 && not start) (cl
     later : behind + 1 + length text ≡ behind + suc (length text)
     later = omega arith
 
-    by : (now : Bool) (f : ClassFront) → ((len : ℕ) → ClosedBefore (behind + 1 + length text) (items_from len (behind + 1) false text)) →
-        ClosedBefore (behind + suc (length text)) (cond now (closed [] behind) (elim f [ misread k by ↦ failed k (behind + by) | piece i len ↦ with_class_item i (items_from len (behind + 1) false text) ]))
+    by : (now : Bool) (f : Front ClassItem) → ((len : ℕ) → ClosedBefore (behind + 1 + length text) (items_from len (behind + 1) false text)) →
+        ClosedBefore (behind + suc (length text)) (cond now (item [] behind) (elim f [ fault k by ↦ fault k (behind + by) | item i len ↦ with_class_item i (items_from len (behind + 1) false text) ]))
     by true f goes = omega arith
-    by false (misread k at) goes = tt
-    by false (piece i len) goes = item_before i (behind + suc (length text)) (items_from len (behind + 1) false text) (subst (λ n. ClosedBefore n (items_from len (behind + 1) false text)) later (goes len))
+    by false (fault k at) goes = tt
+    by false (item i len) goes = item_before i (behind + suc (length text)) (items_from len (behind + 1) false text) (subst (λ n. ClosedBefore n (items_from len (behind + 1) false text)) later (goes len))
 
 -- behind an item the class goes on, and is closed
 closed_behind : (len behind : ℕ) (text : List ℕ) → IsClosed (items_from len behind false text) → (from : ℕ) × IsClosed (items_from 0 from false (drop len text))
@@ -352,7 +352,7 @@ module _ (t : List ℕ) where
         | Some k ↦ λ h. ap (counts_from k) (drop_after k.len text h) ∙ counts_from_after k (drop k.len text)
       ] (digits_within text)
 
-  abbrev brace_by : List ℕ → Option RepeatCounts → Front
+  abbrev brace_by : List ℕ → Option RepeatCounts → Front PatternItem
   brace_by text o = elim o [ None ↦ item (unit (one_of (char_set false 123))) 0 | Some c ↦ cond (is_bad c) (fault BadRepeat 0) (lazy c.least c.most c.len text) ]
 
   brace_after : (text : List ℕ) → brace (after text) ≡ brace text
@@ -369,23 +369,23 @@ module _ (t : List ℕ) where
   taken_after text =
       ap (λ k. take k (after text)) (prefix_after is_continuation text refl) ∙ take_after (prefix_len is_continuation text) text (prefix_len-le-length is_continuation text)
 
-  abbrev IsOne : ClassChar → Type 0
-  IsOne (one c len) = Unit {0}
-  IsOne (wrong k) = ⊥
+  abbrev IsOne : Front ℕ → Type 0
+  IsOne (item c len) = Unit {0}
+  IsOne (fault k by) = ⊥
 
-  abbrev CharWithin : ℕ → ClassChar → Type 0
-  CharWithin n (one c len) = len ≤ n
-  CharWithin n (wrong k) = Unit {0}
+  abbrev CharWithin : ℕ → Front ℕ → Type 0
+  CharWithin n (item c len) = len ≤ n
+  CharWithin n (fault k by) = Unit {0}
 
-  abbrev class_escape_by : ℕ → Option EscapedChar → ClassChar
+  abbrev class_escape_by : ℕ → Option EscapedChar → Front ℕ
   class_escape_by e o =
-      cond (is_unsupported_escape e) (wrong NotInProfile) (elim o [ None ↦ wrong BadEscape | Some c ↦ one c.char c.len ])
+      cond (is_unsupported_escape e) (fault NotInProfile 0) (elim o [ None ↦ fault BadEscape 0 | Some c ↦ item c.char c.len ])
 
   class_escape_within : (text : List ℕ) → CharWithin (length text) (class_escape text)
   class_escape_within [] = tt
   class_escape_within (e ∷ text) = by (is_unsupported_escape e) (escaped_char (e ∷ text)) (escaped_within e text)
     where
-      by : (b : Bool) (o : Option EscapedChar) → Within (suc (length text)) o → CharWithin (suc (length text)) (cond b (wrong NotInProfile) (elim o [ None ↦ wrong BadEscape | Some c ↦ one c.char c.len ]))
+      by : (b : Bool) (o : Option EscapedChar) → Within (suc (length text)) o → CharWithin (suc (length text)) (cond b (fault NotInProfile 0) (elim o [ None ↦ fault BadEscape 0 | Some c ↦ item c.char c.len ]))
       by true o h = tt
       by false None h = tt
       by false (Some c) h = h
@@ -394,20 +394,24 @@ module _ (t : List ℕ) where
   class_escape_after [] is = absurd is
   class_escape_after (e ∷ text) is = ap (class_escape_by e) (escaped_after e text)
 
+  -- a character past ASCII, by what its bytes spell
+  abbrev spelled : ℕ → List ℕ → Front ℕ
+  spelled b text = let n = prefix_len is_continuation text in item (slice_index (chars (b ∷ take n text)) 0) n
+
   -- a character as it is written
-  abbrev written_char : ℕ → List ℕ → ClassChar
-  written_char b text = cond (nat_lt b 128) (one b 0) (wide_class_char b text)
+  abbrev written_char : ℕ → List ℕ → Front ℕ
+  written_char b text = cond (nat_lt b 128) (item b 0) (spelled b text)
 
   written_after : (b : ℕ) (text : List ℕ) → written_char b (after text) ≡ written_char b text
   written_after b text =
       let n = prefix_after is_continuation text refl in
       let taken = taken_after text in
-      λ i. cond (nat_lt b 128) (one b 0) (one (slice_index (chars (b ∷ taken i)) 0) (n i))
+      λ i. cond (nat_lt b 128) (item b 0) (item (slice_index (chars (b ∷ taken i)) 0) (n i))
 
   written_within : (b : ℕ) (text : List ℕ) → CharWithin (length text) (written_char b text)
   written_within b text = by (nat_lt b 128)
     where
-      by : (low : Bool) → CharWithin (length text) (cond low (one b 0) (wide_class_char b text))
+      by : (low : Bool) → CharWithin (length text) (cond low (item b 0) (spelled b text))
       by true = omega arith
       by false = prefix_len-le-length is_continuation text
 
@@ -419,17 +423,17 @@ module _ (t : List ℕ) where
       by false is = written_after c text
 
   -- behind this item the class goes on, and is closed
-  abbrev GoesOn : ℕ → List ℕ → ClassFront → Type 0
-  GoesOn behind text (piece i len) = IsClosed (items_from len behind false text)
-  GoesOn behind text (misread k at) = ⊥
+  abbrev GoesOn : ℕ → List ℕ → Front ClassItem → Type 0
+  GoesOn behind text (item i len) = IsClosed (items_from len behind false text)
+  GoesOn behind text (fault k at) = ⊥
 
-  range_at_bar : (low len : ℕ) (behind_it : List ℕ) → range_from low len (124 ∷ behind_it) ≡ piece (Range low low) len
+  range_at_bar : (low len : ℕ) (behind_it : List ℕ) → range_from low len (124 ∷ behind_it) ≡ item (Range low low) len
   range_at_bar low len [] = refl
   range_at_bar low len (c ∷ behind_it) = refl
 
-  range_goes : (low n behind : ℕ) (text : List ℕ) (c : ClassChar) → GoesOn behind text (range_to low n c) → IsOne c
-  range_goes low n behind text (one c len) h = tt
-  range_goes low n behind text (wrong k) h = h
+  range_goes : (low n behind : ℕ) (text : List ℕ) (c : Front ℕ) → GoesOn behind text (range_to low n c) → IsOne c
+  range_goes low n behind text (item c len) h = tt
+  range_goes low n behind text (fault k by) h = h
 
   range_after : (low len behind : ℕ) (text rest : List ℕ) → drop len text ≡ rest → GoesOn behind text (range_from low len rest) → range_from low len (after rest) ≡ range_from low len rest
   range_after low len behind text [] e h = range_at_bar low len t
@@ -440,37 +444,37 @@ module _ (t : List ℕ) where
           let goes = closed_behind len behind text h in
           subst (λ c. IsClosed (items_from 0 goes.0 false (c ∷ []))) is (subst (λ x. IsClosed (items_from 0 goes.0 false x)) e goes.1)
 
-      by : (d : Bool) → nat_eq b 45 ≡ d → cond (d && not (nat_eq 124 93)) (range_to low (len + 2) (class_char 124 t)) (piece (Range low low) len) ≡ piece (Range low low) len
+      by : (d : Bool) → nat_eq b 45 ≡ d → cond (d && not (nat_eq 124 93)) (range_to low (len + 2) (class_char 124 t)) (item (Range low low) len) ≡ item (Range low low) len
       by true is = absurd (no_dash (eqb-true b 45 is))
       by false is = refl
   range_after low len behind text (b ∷ c ∷ rest) e h = by (nat_eq b 45 && not (nat_eq c 93)) h
     where
-      by : (d : Bool) → GoesOn behind text (cond d (range_to low (len + 2) (class_char c rest)) (piece (Range low low) len)) →
-          cond d (range_to low (len + 2) (class_char c (after rest))) (piece (Range low low) len) ≡ cond d (range_to low (len + 2) (class_char c rest)) (piece (Range low low) len)
+      by : (d : Bool) → GoesOn behind text (cond d (range_to low (len + 2) (class_char c rest)) (item (Range low low) len)) →
+          cond d (range_to low (len + 2) (class_char c (after rest))) (item (Range low low) len) ≡ cond d (range_to low (len + 2) (class_char c rest)) (item (Range low low) len)
       by true h = ap (range_to low (len + 2)) (class_char_after c rest (range_goes low (len + 2) behind text (class_char c rest) h))
       by false h = refl
 
-  span_after : (c : ClassChar) (behind : ℕ) (text : List ℕ) → CharWithin (length text) c → GoesOn behind text (span c text) → span c (after text) ≡ span c text
-  span_after (wrong k) behind text within h = refl
-  span_after (one low len) behind text within h = ap (range_from low len) (drop_after len text within) ∙ range_after low len behind text (drop len text) refl h
+  span_after : (c : Front ℕ) (behind : ℕ) (text : List ℕ) → CharWithin (length text) c → GoesOn behind text (span c text) → span c (after text) ≡ span c text
+  span_after (fault k by) behind text within h = refl
+  span_after (item low len) behind text within h = ap (range_from low len) (drop_after len text within) ∙ range_after low len behind text (drop len text) refl h
 
   backslash_after : (behind : ℕ) (text : List ℕ) → GoesOn behind text (after_backslash text) → after_backslash (after text) ≡ after_backslash text
   backslash_after behind [] h = absurd h
   backslash_after behind (e ∷ text) h = by (escaped_class e) h
     where
-      one_there : (c : ClassChar) → GoesOn behind (e ∷ text) (span c (e ∷ text)) → IsOne c
-      one_there (one c len) h = tt
-      one_there (wrong k) h = h
+      one_there : (c : Front ℕ) → GoesOn behind (e ∷ text) (span c (e ∷ text)) → IsOne c
+      one_there (item c len) h = tt
+      one_there (fault k by) h = h
 
-      by : (o : Option ClassItem) → GoesOn behind (e ∷ text) (elim o [ None ↦ span (class_escape (e ∷ text)) (e ∷ text) | Some i ↦ piece i 1 ]) →
-          ◌≡◌ {A = ClassFront} (elim o [ None ↦ span (class_escape (e ∷ after text)) (e ∷ after text) | Some i ↦ piece i 1 ]) (elim o [ None ↦ span (class_escape (e ∷ text)) (e ∷ text) | Some i ↦ piece i 1 ])
+      by : (o : Option ClassItem) → GoesOn behind (e ∷ text) (elim o [ None ↦ span (class_escape (e ∷ text)) (e ∷ text) | Some i ↦ item i 1 ]) →
+          ◌≡◌ {A = Front ClassItem} (elim o [ None ↦ span (class_escape (e ∷ after text)) (e ∷ after text) | Some i ↦ item i 1 ]) (elim o [ None ↦ span (class_escape (e ∷ text)) (e ∷ text) | Some i ↦ item i 1 ])
       by (Some i) h = refl
       by None h =
           ap (λ c. span c (e ∷ after text)) (class_escape_after (e ∷ text) (one_there (class_escape (e ∷ text)) h))
           ∙ span_after (class_escape (e ∷ text)) behind (e ∷ text) (class_escape_within (e ∷ text)) h
 
   -- an item that begins with no `[:`
-  abbrev class_front_by : Bool → ℕ → List ℕ → ClassFront
+  abbrev class_front_by : Bool → ℕ → List ℕ → Front ClassItem
   class_front_by d b text = cond d (after_backslash text) (span (cond d (class_escape text) (written_char b text)) text)
 
   front_by_after : (d : Bool) (b behind : ℕ) (text : List ℕ) → GoesOn behind text (class_front_by d b text) → class_front_by d b (after text) ≡ class_front_by d b text
@@ -514,9 +518,9 @@ module _ (t : List ℕ) where
 
   colon_after : (text : List ℕ) → is_some (name_length text) ≡ true → after_colon (after text) ≡ after_colon text
   colon_after text h =
-      ap (λ (o : Option ℕ). elim o [ None ↦ piece (Range 91 91) 0 | Some n ↦ posix_class (take n (after text)) ]) (name_after text h) ∙ by (name_length text) (name_within text)
+      ap (λ (o : Option ℕ). elim o [ None ↦ item (Range 91 91) 0 | Some n ↦ posix_class (take n (after text)) ]) (name_after text h) ∙ by (name_length text) (name_within text)
     where
-      by : (o : Option ℕ) → NameWithin (length text) o → ◌≡◌ {A = ClassFront} (elim o [ None ↦ piece (Range 91 91) 0 | Some n ↦ posix_class (take n (after text)) ]) (elim o [ None ↦ piece (Range 91 91) 0 | Some n ↦ posix_class (take n text) ])
+      by : (o : Option ℕ) → NameWithin (length text) o → ◌≡◌ {A = Front ClassItem} (elim o [ None ↦ item (Range 91 91) 0 | Some n ↦ posix_class (take n (after text)) ]) (elim o [ None ↦ item (Range 91 91) 0 | Some n ↦ posix_class (take n text) ])
       by None h = refl
       by (Some n) h = ap posix_class (take_after n text h)
 
@@ -541,18 +545,18 @@ module _ (t : List ℕ) where
         | inr apart ↦ plain_front b behind text apart h
       ]
 
-  abbrev items_by : ℕ → List ℕ → ClassFront → ClassRest
-  items_by behind text f = elim f [ misread k by ↦ failed k (behind + by) | piece i len ↦ with_class_item i (items_from len (behind + 1) false text) ]
+  abbrev items_by : ℕ → List ℕ → Front ClassItem → Front (List ClassItem)
+  items_by behind text f = elim f [ fault k by ↦ fault k (behind + by) | item i len ↦ with_class_item i (items_from len (behind + 1) false text) ]
 
   item_after : (behind : ℕ) (text : List ℕ) → ((len : ℕ) → IsClosed (items_from len (behind + 1) false text) → items_from len (behind + 1) false (after text) ≡ items_from len (behind + 1) false text) →
-      (f g : ClassFront) → (GoesOn (behind + 1) text f → g ≡ f) → IsClosed (items_by behind text f) → items_by behind (after text) g ≡ items_by behind text f
-  item_after behind text later (misread k at) g same h = absurd h
-  item_after behind text later (piece i len) g same h =
+      (f g : Front ClassItem) → (GoesOn (behind + 1) text f → g ≡ f) → IsClosed (items_by behind text f) → items_by behind (after text) g ≡ items_by behind text f
+  item_after behind text later (fault k at) g same h = absurd h
+  item_after behind text later (item i len) g same h =
       let goes = item_closed i (items_from len (behind + 1) false text) h in
       ap (items_by behind (after text)) (same goes) ∙ ap (with_class_item i) (later len goes)
 
-  now_after : (behind : ℕ) (text : List ℕ) (f g : ClassFront) → (IsClosed (items_by behind text f) → items_by behind (after text) g ≡ items_by behind text f) → (now : Bool) →
-      IsClosed (cond now (closed [] behind) (items_by behind text f)) → cond now (closed [] behind) (items_by behind (after text) g) ≡ cond now (closed [] behind) (items_by behind text f)
+  now_after : (behind : ℕ) (text : List ℕ) (f g : Front ClassItem) → (IsClosed (items_by behind text f) → items_by behind (after text) g ≡ items_by behind text f) → (now : Bool) →
+      IsClosed (cond now (item [] behind) (items_by behind text f)) → cond now (item [] behind) (items_by behind (after text) g) ≡ cond now (item [] behind) (items_by behind text f)
   now_after behind text f g same true h = refl
   now_after behind text f g same false h = same h
 
@@ -565,9 +569,9 @@ module _ (t : List ℕ) where
       (item_after behind text (λ len closed. items_after len (behind + 1) false text parts.1 closed) (class_front b text) (class_front b (after text)) (class_front_after b (behind + 1) text parts.0))
       (nat_eq b 93 && not start) h
 
-  of_closed : (fold negated : Bool) (r : ClassRest) → IsItem (class_of fold negated r) → IsClosed r
-  of_closed fold negated (closed items len) h = tt
-  of_closed fold negated (failed k behind) h = h
+  of_closed : (fold negated : Bool) (r : Front (List ClassItem)) → IsItem (class_of fold negated r) → IsClosed r
+  of_closed fold negated (item items len) h = tt
+  of_closed fold negated (fault k behind) h = h
 
   class_after : (fold : Bool) (text : List ℕ) → class_names_end text ≡ true → IsItem (class fold text) → class fold (after text) ≡ class fold text
   class_after fold [] apart is = absurd is
@@ -588,12 +592,10 @@ module _ (t : List ℕ) where
   no_word : is_word 124 ≡ false
   no_word = refl
 
-  no_flag : is_flag 124 ≡ false
-  unfolding is_flag
+  no_flag : has (codes "imsU") 124 ≡ false
   no_flag = refl
 
-  no_cleared : is_cleared_flag 124 ≡ false
-  unfolding is_cleared_flag
+  no_cleared : has (codes "isU") 124 ≡ false
   no_cleared = refl
 
   group_name_after : (flags : Flags) (len : ℕ) (text : List ℕ) → name flags len (after text) ≡ name flags len text
@@ -607,9 +609,9 @@ module _ (t : List ℕ) where
 
   cleared_after : (flags : Flags) (len : ℕ) (text : List ℕ) → cleared_flags flags len (after text) ≡ cleared_flags flags len text
   cleared_after flags len text =
-      ap (λ n. cleared n (after text)) (prefix_after is_cleared_flag text no_cleared) ∙ same (prefix_len is_cleared_flag text) (prefix_len-le-length is_cleared_flag text)
+      ap (λ n. cleared n (after text)) (prefix_after (has (codes "isU")) text no_cleared) ∙ same (prefix_len (has (codes "isU")) text) (prefix_len-le-length (has (codes "isU")) text)
     where
-      cleared : ℕ → List ℕ → Front
+      cleared : ℕ → List ℕ → Front PatternItem
       cleared n text =
           cond (is_front 109 (drop n text)) (fault NotInProfile 0) (cond (nat_eq n 0) (fault BadGroup 0) (after_flags (with_cleared (take n text) flags) (len + n) (drop n text)))
 
@@ -624,12 +626,12 @@ module _ (t : List ℕ) where
 
   set_after : (flags : Flags) (text : List ℕ) → set_flags flags (after text) ≡ set_flags flags text
   set_after flags text =
-      ap (λ n. set n (after text)) (prefix_after is_flag text no_flag) ∙ same (prefix_len is_flag text) (prefix_len-le-length is_flag text)
+      ap (λ n. set n (after text)) (prefix_after (has (codes "imsU")) text no_flag) ∙ same (prefix_len (has (codes "imsU")) text) (prefix_len-le-length (has (codes "imsU")) text)
     where
-      by_sign : ℕ → Bool → Flags → List ℕ → Front
+      by_sign : ℕ → Bool → Flags → List ℕ → Front PatternItem
       by_sign n dash flags text = cond dash (cleared_flags flags (n + 2) (drop (n + 1) text)) (after_flags flags (n + 1) (drop n text))
 
-      set : ℕ → List ℕ → Front
+      set : ℕ → List ℕ → Front PatternItem
       set n text = by_sign n (is_front 45 (drop n text)) (with_set (take n text) flags) text
 
       by : (n : ℕ) (new : Flags) → n ≤ length text → (dash : Bool) → is_front 45 (drop n text) ≡ dash → by_sign n dash new (after text) ≡ by_sign n dash new text
@@ -647,7 +649,7 @@ module _ (t : List ℕ) where
   head_after flags (c ∷ text) is =
       ap (λ b. by_sign (nat_eq c 60) (nat_eq c 80 && b) (after text)) (is_front_after 60 text refl) ∙ by (nat_eq c 60) (nat_eq c 80 && is_front 60 text) refl
     where
-      by_sign : Bool → Bool → List ℕ → Front
+      by_sign : Bool → Bool → List ℕ → Front PatternItem
       by_sign angle named text = cond angle (name flags 2 text) (cond named (name flags 3 (drop 1 text)) (set_flags flags (c ∷ text)))
 
       behind_angle : (text : List ℕ) → is_front 60 text ≡ true → name flags 3 (drop 1 (after text)) ≡ name flags 3 (drop 1 text)
@@ -670,12 +672,12 @@ module _ (t : List ℕ) where
   -- ---- items
 
   -- so many bytes are enough for it
-  abbrev FitsIn : ℕ → Front → Type 0
+  abbrev FitsIn : ℕ → Front PatternItem → Type 0
   FitsIn total (item x len) = len ≤ total
   FitsIn total (fault k behind) = Unit {0}
 
   -- its bytes are there
-  abbrev Fits : List ℕ → Front → Type 0
+  abbrev Fits : List ℕ → Front PatternItem → Type 0
   Fits text f = FitsIn (length text) f
 
   name_fits : (flags : Flags) (len total : ℕ) (text : List ℕ) → len + length text ≤ total → FitsIn total (name flags len text)
@@ -696,7 +698,7 @@ module _ (t : List ℕ) where
       by false false = tt
 
   cleared_fit : (flags : Flags) (len total : ℕ) (text : List ℕ) → len + length text ≤ total → FitsIn total (cleared_flags flags len text)
-  cleared_fit flags len total text le = by (prefix_len is_cleared_flag text) (prefix_len-le-length is_cleared_flag text)
+  cleared_fit flags len total text le = by (prefix_len (has (codes "isU")) text) (prefix_len-le-length (has (codes "isU")) text)
     where
       by_sign : (n : ℕ) → n ≤ length text → (x y : Bool) → FitsIn total (cond x (fault NotInProfile 0) (cond y (fault BadGroup 0) (after_flags (with_cleared (take n text) flags) (len + n) (drop n text))))
       by_sign n within true y = tt
@@ -707,7 +709,7 @@ module _ (t : List ℕ) where
       by n within = by_sign n within (is_front 109 (drop n text)) (nat_eq n 0)
 
   set_fit : (flags : Flags) (total : ℕ) (text : List ℕ) → suc (length text) ≤ total → FitsIn total (set_flags flags text)
-  set_fit flags total text le = by (prefix_len is_flag text) (prefix_len-le-length is_flag text) (is_front 45 (drop (prefix_len is_flag text) text)) refl
+  set_fit flags total text le = by (prefix_len (has (codes "imsU")) text) (prefix_len-le-length (has (codes "imsU")) text) (is_front 45 (drop (prefix_len (has (codes "imsU")) text) text)) refl
     where
       by : (n : ℕ) → n ≤ length text → (dash : Bool) → is_front 45 (drop n text) ≡ dash →
           FitsIn total (cond dash (cleared_flags (with_set (take n text) flags) (n + 2) (drop (n + 1) text)) (after_flags (with_set (take n text) flags) (n + 1) (drop n text)))
@@ -807,9 +809,9 @@ module _ (t : List ℕ) where
     unfolding front sign_of
     closed_group text ends = record { same = λ is. refl; fits = omega arith }
 
-    of_fits : (negated : Bool) (text : List ℕ) (r : ClassRest) → ClosedBefore (suc (length text)) r → Fits text (class_of flags.fold negated r)
-    of_fits negated text (closed items len) h = omega (arith, h)
-    of_fits negated text (failed k behind) h = tt
+    of_fits : (negated : Bool) (text : List ℕ) (r : Front (List ClassItem)) → ClosedBefore (suc (length text)) r → Fits text (class_of flags.fold negated r)
+    of_fits negated text (item items len) h = omega (arith, h)
+    of_fits negated text (fault k behind) h = tt
 
     class_fits : (text : List ℕ) → Fits text (class flags.fold text)
     class_fits [] = tt
@@ -1011,14 +1013,14 @@ module _ (t : List ℕ) (last : Flags) (other : Level) where
 
     joins_front : (at : ℕ) (before : Before) (groups : List Group) (flags : Flags) (text : List ℕ) →
         ((len : ℕ) → len ≤ length text → Joins last bs (λ b gs fs. rest len (at + 1) b gs fs text) (λ b gs fs. rest len (at + 1) b gs fs (text ++ 124 ∷ t)) (λ outer fs. flags_behind len outer fs text)) →
-        (f g : Front) → (IsItem f → g ≡ f) → Fits t text f →
+        (f g : Front PatternItem) → (IsItem f → g ≡ f) → Fits t text f →
         ◌≡◌ {A = Flags} (elim f [ fault k behind ↦ flags | item x len ↦ flags_step (outer_of groups) flags x (λ outer fs. flags_behind len outer fs text) ]) last →
         IsRead (elim f [ fault k behind ↦ broken k (at + behind) | item x len ↦ step at before groups flags x (λ b gs fs. rest len (at + 1) b gs fs text) ]) →
         ◌≡◌ {A = Rest} (elim g [ fault k behind ↦ broken k (at + behind) | item x len ↦ step at before groups flags x (λ b gs fs. rest len (at + 1) b gs fs (text ++ 124 ∷ t)) ])
         (joined bs (elim f [ fault k behind ↦ broken k (at + behind) | item x len ↦ step at before groups flags x (λ b gs fs. rest len (at + 1) b gs fs text) ]))
     joins_front at before groups flags text later (fault k behind) g same fits ends read = absurd read
     joins_front at before groups flags text later (item x len) g same fits ends read =
-        ap (λ (f : Front). elim f [ fault k behind ↦ broken k (at + behind) | item x len ↦ step at before groups flags x (λ b gs fs. rest len (at + 1) b gs fs (text ++ 124 ∷ t)) ]) (same tt)
+        ap (λ (f : Front PatternItem). elim f [ fault k behind ↦ broken k (at + behind) | item x len ↦ step at before groups flags x (λ b gs fs. rest len (at + 1) b gs fs (text ++ 124 ∷ t)) ]) (same tt)
         ∙ joins_step last bs at before groups flags x (λ b gs fs. rest len (at + 1) b gs fs text) (λ b gs fs. rest len (at + 1) b gs fs (text ++ 124 ∷ t)) (λ outer fs. flags_behind len outer fs text) ends (later len fits) read
 
     joins_rest : (skip at : ℕ) (before : Before) (groups : List Group) (flags : Flags) (text : List ℕ) → class_names_end text ≡ true → skip ≤ length text → flags_behind skip (outer_of groups) flags text ≡ last →
@@ -1086,7 +1088,7 @@ module _ (at by : ℕ) (before : Before) (flags : Flags) where
   agree_step gs hs group_end r s alike same is = agree_end gs hs r s alike same is
   agree_step gs hs (flags_from_here new) r s alike same is = same Start gs hs new alike is
 
-  agree_front : (gs hs : List Group) (f : Front) (r s : ℕ → Readings) → Alike gs hs → ((len : ℕ) → Agree (r len) (s len)) →
+  agree_front : (gs hs : List Group) (f : Front PatternItem) (r s : ℕ → Readings) → Alike gs hs → ((len : ℕ) → Agree (r len) (s len)) →
       IsRead (elim f [ fault k behind ↦ broken k (at + behind) | item x len ↦ step at before gs flags x (r len) ]) →
       ◌≡◌ {A = Rest} (elim f [ fault k behind ↦ broken k (by + behind) | item x len ↦ step by before hs flags x (s len) ])
       (elim f [ fault k behind ↦ broken k (at + behind) | item x len ↦ step at before gs flags x (r len) ])

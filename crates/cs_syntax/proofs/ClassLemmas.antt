@@ -9,10 +9,10 @@ use Rattle.std.specs.List.{starts_with}
 use Rattle.std.specs.Bool.{xor}
 use Rattle.cs_syntax.specs.Characters.{is_scalar, has_char, runs_of}
 use Rattle.cs_syntax.specs.CharTrees.{runs_tree, chars_tree}
-use Rattle.cs_syntax.specs.Fronts.{item, fault, unit, is_front}
-use Rattle.cs_syntax.specs.ClassSets.{is_in_item, is_in_items, class_tree}
-use Rattle.cs_syntax.specs.Classes.{name_length, ClassRest, closed, failed, with_class_item, items_from, class_front, piece, misread, class, class_of}
-use Rattle.cs_syntax.specs.ClassState.{HaveItems}
+use Rattle.cs_syntax.specs.Fronts.{Front, item, fault, unit, is_front}
+use Rattle.cs_syntax.specs.ClassSets.{is_in_item, class_tree}
+use Rattle.cs_syntax.specs.Classes.{name_length, with_class_item, items_from, class_front, class, class_of}
+use Rattle.cs_syntax.specs.ClassState.{is_in_items, HaveItems}
 use Rattle.cs_syntax.specs.declared.class_item.ClassItem.{ClassItem}
 use Rattle.cs_syntax.specs.declared.fault.PatternFault.{PatternFault}
 
@@ -24,19 +24,19 @@ further at None = refl
 further at (Some n) = let e : at + suc n ≡ (at + 1) + n = omega arith in ap Some e
 
 -- the items so far, before what the rest of the class reads as
-abbrev pub with_items : List ClassItem → ClassRest → ClassRest
+abbrev pub with_items : List ClassItem → Front (List ClassItem) → Front (List ClassItem)
 with_items [] rest = rest
 with_items (i ∷ is) rest = with_class_item i (with_items is rest)
 
-pub with_items-last : (is : List ClassItem) (i : ClassItem) (r : ClassRest) → with_items (is ++ i ∷ []) r ≡ with_items is (with_class_item i r)
+pub with_items-last : (is : List ClassItem) (i : ClassItem) (r : Front (List ClassItem)) → with_items (is ++ i ∷ []) r ≡ with_items is (with_class_item i r)
 with_items-last [] i r = refl
 with_items-last (j ∷ is) i r = ap (with_class_item j) (with_items-last is i r)
 
-pub with_items-closed : (is : List ClassItem) (len : ℕ) → with_items is (closed [] len) ≡ closed is len
+pub with_items-closed : (is : List ClassItem) (len : ℕ) → with_items is (item [] len) ≡ item is len
 with_items-closed [] len = refl
 with_items-closed (i ∷ is) len = ap (with_class_item i) (with_items-closed is len)
 
-pub with_items-failed : (is : List ClassItem) (k : PatternFault) (behind : ℕ) → with_items is (failed k behind) ≡ failed k behind
+pub with_items-failed : (is : List ClassItem) (k : PatternFault) (behind : ℕ) → with_items is (fault k behind) ≡ fault k behind
 with_items-failed [] k behind = refl
 with_items-failed (i ∷ is) k behind = ap (with_class_item i) (with_items-failed is k behind)
 
@@ -49,16 +49,16 @@ items_from-skip (suc skip) behind start (b ∷ text) =
     items_from-skip skip (behind + 1) start text ∙ ap (λ n. items_from 0 n start (drop skip text)) e
 
 -- one item is read
-pub items_from-item : (text rest : List ℕ) (b behind len : ℕ) (start : Bool) (i : ClassItem) → text ≡ b ∷ rest → (nat_eq b 93 && not start) ≡ false → class_front b rest ≡ piece i len →
+pub items_from-item : (text rest : List ℕ) (b behind len : ℕ) (start : Bool) (i : ClassItem) → text ≡ b ∷ rest → (nat_eq b 93 && not start) ≡ false → class_front b rest ≡ item i len →
     items_from 0 behind start text ≡ with_class_item i (items_from 0 (behind + 1 + len) false (drop len rest))
 items_from-item text rest b behind len start i here not_closed found =
     rw (here, items_from, not_closed, found) (ap (with_class_item i) (items_from-skip len (behind + 1) false rest))
 
-pub items_from-fault : (text rest : List ℕ) (b behind by : ℕ) (start : Bool) (k : PatternFault) → text ≡ b ∷ rest → (nat_eq b 93 && not start) ≡ false → class_front b rest ≡ misread k by →
-    items_from 0 behind start text ≡ failed k (behind + by)
+pub items_from-fault : (text rest : List ℕ) (b behind by : ℕ) (start : Bool) (k : PatternFault) → text ≡ b ∷ rest → (nat_eq b 93 && not start) ≡ false → class_front b rest ≡ fault k by →
+    items_from 0 behind start text ≡ fault k (behind + by)
 items_from-fault text rest b behind by start k here not_closed found = rw (here, items_from, not_closed, found) refl
 
-pub items_from-close : (text rest : List ℕ) (b behind : ℕ) (start : Bool) → text ≡ b ∷ rest → (nat_eq b 93 && not start) ≡ true → items_from 0 behind start text ≡ closed [] behind
+pub items_from-close : (text rest : List ℕ) (b behind : ℕ) (start : Bool) → text ≡ b ∷ rest → (nat_eq b 93 && not start) ≡ true → items_from 0 behind start text ≡ item [] behind
 items_from-close text rest b behind start here closes = rw (here, items_from, closes) refl
 
 any-last : (fold : Bool) (is : List ClassItem) (i : ClassItem) (b : ℕ) → (is_in_items fold is b || is_in_item fold i b) ≡ is_in_items fold (is ++ i ∷ []) b
@@ -92,13 +92,13 @@ class_is fold true rest f = rw f refl
 class_is fold false rest f = rw f refl
 
 pub class_read : (fold negated : Bool) (rest : List ℕ) (is : List ClassItem) (len : ℕ) (set : List (ℕ × ℕ)) → is_front 94 rest ≡ negated →
-    items_from 0 (opening negated) true (inside negated rest) ≡ closed is len → set ≡ runs_of (λ c. xor negated (is_in_items fold is c)) →
+    items_from 0 (opening negated) true (inside negated rest) ≡ item is len → set ≡ runs_of (λ c. xor negated (is_in_items fold is c)) →
     class fold rest ≡ item (unit (runs_tree set)) len
 class_read fold negated rest is len set f e s =
     class_is fold negated rest f ∙ ap (class_of fold negated) e ∙ ap (λ t. item (unit t) len) (class_runs fold negated is set s)
 
 pub class_failed : (fold negated : Bool) (rest : List ℕ) (k : PatternFault) (behind : ℕ) → is_front 94 rest ≡ negated →
-    items_from 0 (opening negated) true (inside negated rest) ≡ failed k behind → class fold rest ≡ fault k behind
+    items_from 0 (opening negated) true (inside negated rest) ≡ fault k behind → class fold rest ≡ fault k behind
 class_failed fold negated rest k behind f e = class_is fold negated rest f ∙ ap (class_of fold negated) e
 
 -- ---- characters past ASCII, from their bytes

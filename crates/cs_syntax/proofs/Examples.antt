@@ -1,6 +1,6 @@
 -- Worked rows, computed.
 use Rattle.std.proofs.Common.{◌≡◌, ℕ, zero, suc, ◌+◌, ◌^◌, ap, arith, true, false, refl, [], ◌∷◌, ◌++◌, replicate}
-use Rattle.std.specs.Prelude.{codes, Some, None}
+use Rattle.std.specs.Prelude.{codes, not, Some, None}
 use Rattle.std.specs.Str.{chars}
 use Rattle.std.proofs.lemmas.Bool.Decides.{nat_tests}
 use Rattle.std.specs.Char.{encode_utf8}
@@ -14,14 +14,14 @@ use Rattle.cs_syntax.specs.ByteSet.{set_of, char_set, all_bytes}
 use Rattle.cs_syntax.specs.Bits.{has_bit}
 use Rattle.cs_syntax.specs.SetWords.{set_of_bits, set_words}
 use Rattle.cs_syntax.specs.CharTrees.{ascii_set}
-use Rattle.cs_syntax.specs.ClassSets.{is_in_item, is_in_class, is_in_dot, item_tree, class_tree, dot_tree}
+use Rattle.cs_syntax.specs.ClassSets.{is_in_item, item_tree, class_tree, dot_tree}
+use Rattle.cs_syntax.specs.ClassState.{is_in_items}
 use Rattle.cs_syntax.specs.Classes.{class_by_name}
 use Rattle.cs_syntax.specs.Escapes.{char_front, escaped_class, escaped_tree}
-use Rattle.cs_syntax.specs.Groups.{is_flag, is_cleared_flag}
 use Rattle.cs_syntax.specs.Items.{front}
-use Rattle.cs_syntax.specs.Numbers.{digit_value}
 use Rattle.cs_syntax.specs.Choices.{flags_behind, class_names_end}
 use Rattle.cs_syntax.specs.Reading.{reading, tree, refused, flags_at_start}
+use Rattle.cs_syntax.specs.Numbers.{digit_value}
 use Rattle.cs_syntax.specs.Signs.{sign_of}
 use Rattle.cs_syntax.specs.Written.{counted_repeat, quotation}
 use Rattle.cs_syntax.proofs.CharSetLemmas.{scalar_tells}
@@ -119,7 +119,7 @@ faults :
     × (reading (replicate 201 40) false ≡ refused TooDeep 200)
     -- flags where 200 are open
     × (reading (replicate 200 40 ++ codes "(?i)") false ≡ refused OpenGroup 199)
-unfolding sign_of front char_front escaped_class escaped_tree is_flag is_cleared_flag digit_value class_by_name chars
+unfolding sign_of front char_front escaped_class escaped_tree digit_value class_by_name chars
 faults = (refl, refl, refl, refl, refl, refl, refl, refl, refl, refl, refl, refl, refl, refl, refl, refl, refl, refl, refl, refl, refl, refl, refl, refl, refl, refl, refl, refl, refl, refl, refl, refl, refl, refl, refl, refl, refl, refl, refl, refl, refl, refl, refl)
 
 -- texts that read as a tree
@@ -202,7 +202,7 @@ trees_of_texts :
     × (reading (codes "a") true ≡ tree (one_of (char_set true 97)))
     -- only ASCII letters are folded: in `éa` the `a` is, and the bytes of `é` are not
     × (reading (195 ∷ 169 ∷ 97 ∷ []) true ≡ tree (cat (more (cat (more (one_of (char_set false 195)) (more (one_of (char_set false 169)) none))) (more (one_of (char_set true 97)) none))))
-unfolding sign_of front char_front escaped_class escaped_tree is_flag is_cleared_flag digit_value class_by_name encode_utf8 chars
+unfolding sign_of front char_front escaped_class escaped_tree digit_value class_by_name encode_utf8 chars
 trees_of_texts = (refl, refl, refl, refl, refl, refl, refl, refl, refl, refl, refl, refl, refl, refl, refl, refl, refl, refl, refl, refl, refl, refl, refl, refl, refl, refl, refl, refl, refl, refl, refl, refl, refl, refl, refl, refl, refl, refl, refl, refl)
 
 -- `(a{1000}){20}` passes the weight
@@ -232,26 +232,22 @@ members :
     (member (char_set true 97) 65 ≡ true)
     -- folded has no other
     × (member (char_set true 97) 66 ≡ false)
-    -- dot has no newline
-    × (is_in_dot false 10 ≡ false)
-    -- dot all has newline
-    × (is_in_dot true 10 ≡ true)
     -- others have newline
-    × (is_in_class false true (Range 97 97 ∷ []) 10 ≡ true)
+    × (not (is_in_items false (Range 97 97 ∷ []) 10) ≡ true)
     -- others have past ascii
-    × (is_in_class false true (Range 97 97 ∷ []) 233 ≡ true)
+    × (not (is_in_items false (Range 97 97 ∷ []) 233) ≡ true)
     -- item is folded before it is negated
-    × (is_in_class true false (Named Lower true ∷ []) 65 ≡ false)
+    × (is_in_items true (Named Lower true ∷ []) 65 ≡ false)
     -- range is folded
-    × (is_in_class true false (Range 97 122 ∷ []) 90 ≡ true)
+    × (is_in_items true (Range 97 122 ∷ []) 90 ≡ true)
     -- only ASCII letters are: `(?i)[É]` has no `é`
-    × (is_in_class true false (Range 201 201 ∷ []) 233 ≡ false)
+    × (is_in_items true (Range 201 201 ∷ []) 233 ≡ false)
     -- item then class negated
-    × (is_in_class false true (Named Digit true ∷ []) 53 ≡ true)
+    × (not (is_in_items false (Named Digit true ∷ []) 53) ≡ true)
     -- word has underscore
-    × (is_in_class false false (Named Word false ∷ []) 95 ≡ true)
+    × (is_in_items false (Named Word false ∷ []) 95 ≡ true)
 unfolding set_of is_in_item char_set xor
-members = (refl, refl, refl, refl, refl, refl, refl, refl, refl, refl, refl)
+members = (refl, refl, refl, refl, refl, refl, refl, refl, refl)
 
 -- a set of bytes as bits: place 64 is in the second word, and so is `a`, whose number is 97
 bits :
@@ -288,7 +284,7 @@ bars :
     × (flags_behind 0 [] (flags_at_start false) (codes "(?i)a") ≡ flags_at_start true)
     × (class_names_end (codes "[[:alpha:]]") ≡ true)
     × (class_names_end (codes "[[:a]") ≡ false)
-unfolding sign_of front char_front escaped_class escaped_tree is_flag is_cleared_flag digit_value class_by_name
+unfolding sign_of front char_front escaped_class escaped_tree digit_value class_by_name
 bars = (refl, refl, refl, refl, refl, refl, refl, refl, refl, refl, refl, refl)
 
 -- members of sets of characters: `[à-ü]`, and all characters as one run

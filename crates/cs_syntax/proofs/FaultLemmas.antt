@@ -1,14 +1,15 @@
 -- The faults of a text: neither an item nor a place of the text gives one of the last two.
 use Rattle.std.proofs.Common.{ℕ, zero, suc, ◌+◌, ◌&&◌, Bool, true, false, not, List, [], ◌∷◌, length, take, drop, subst}
-use Rattle.std.specs.Prelude.{Option, Some, None, nat_eq, nat_lt, if◌then◌else◌}
+use Rattle.std.specs.Prelude.{Option, Some, None, codes, nat_eq, nat_lt, if◌then◌else◌}
 use Rattle.std.specs.List.{prefix_len}
+use Rattle.cs_syntax.specs.NumberList.{has}
 use Rattle.cs_syntax.specs.ByteSet.{char_set}
 use Rattle.cs_syntax.specs.Matching.{Tree, one_of, is_word}
 use Rattle.cs_syntax.specs.Fronts.{PatternItem, unit, repeat, bar, group_start, group_end, flags_from_here, Front, item, fault, is_front, char_tree}
 use Rattle.cs_syntax.specs.Repeats.{counts, is_bad, lazy}
-use Rattle.cs_syntax.specs.Groups.{name, is_flag, is_cleared_flag, with_set, with_cleared, after_flags, cleared_flags, set_flags, head, group}
+use Rattle.cs_syntax.specs.Groups.{name, with_set, with_cleared, after_flags, cleared_flags, set_flags, head, group}
 use Rattle.cs_syntax.specs.Escapes.{escaped_char, escaped_class, escaped_tree, is_unsupported_escape, char_front, escape}
-use Rattle.cs_syntax.specs.Classes.{ClassFront, piece, misread, ClassChar, one, wrong, class_escape, class_char, range_to, range_from, span, name_length, posix_class, after_backslash, class_front, ClassRest, closed, failed, with_class_item, items_from, class_of, class}
+use Rattle.cs_syntax.specs.Classes.{class_escape, class_char, range_to, range_from, span, name_length, posix_class, after_backslash, class_front, with_class_item, items_from, class_of, class}
 use Rattle.cs_syntax.specs.Items.{item_by, front}
 use Rattle.cs_syntax.specs.Signs.{sign_of}
 use Rattle.cs_syntax.specs.Reading.{IsTextFault, Level, Rest, levels, broken, inside, with_open, with_close, with_unit, with_repeat, with_bar, Group, at_end, most_open, rest, answer, Reading, tree, refused, Breaks, flags_at_start}
@@ -30,7 +31,7 @@ either : {A : Type 0} (P : A → Type 0) (b : Bool) (x y : A) → P x → P y �
 either P true x y p q = p
 either P false x y p q = q
 
-abbrev OfText : Front → Type 0
+abbrev OfText : Front PatternItem → Type 0
 OfText (item x len) = Unit {0}
 OfText (fault k behind) = IsTextFault k
 
@@ -44,7 +45,7 @@ after_flags-of flags len text = either OfText (is_front 58 text) _ _ tt (either 
 
 cleared_flags-of : (flags : Flags) (len : ℕ) (text : List ℕ) → OfText (cleared_flags flags len text)
 cleared_flags-of flags len text =
-    let n = prefix_len is_cleared_flag text in
+    let n = prefix_len (has (codes "isU")) text in
     let new = with_cleared (take n text) flags in
     let end = after_flags new (len + n) (drop n text) in
     either OfText (is_front 109 (drop n text)) (fault NotInProfile 0) (if nat_eq n 0 then fault BadGroup 0 else end) tt
@@ -52,7 +53,7 @@ cleared_flags-of flags len text =
 
 set_flags-of : (flags : Flags) (text : List ℕ) → OfText (set_flags flags text)
 set_flags-of flags text =
-    let n = prefix_len is_flag text in
+    let n = prefix_len (has (codes "imsU")) text in
     let new = with_set (take n text) flags in
     either OfText (is_front 45 (drop n text)) (cleared_flags new (n + 2) (drop (n + 1) text)) (after_flags new (n + 1) (drop n text))
     (cleared_flags-of new (n + 2) (drop (n + 1) text)) (after_flags-of new (n + 1) (drop n text))
@@ -87,15 +88,15 @@ escape-of : (fold : Bool) (text : List ℕ) → OfText (escape fold text)
 escape-of fold [] = tt
 escape-of fold (e ∷ text) = either OfText (is_unsupported_escape e) _ _ tt (escaped_item (escaped_tree e) fold (e ∷ text))
 
-abbrev OfClass : ClassFront → Type 0
-OfClass (piece i len) = Unit {0}
-OfClass (misread k behind) = IsTextFault k
+abbrev OfClass : Front ClassItem → Type 0
+OfClass (item i len) = Unit {0}
+OfClass (fault k behind) = IsTextFault k
 
-abbrev OfChar : ClassChar → Type 0
-OfChar (one c len) = Unit {0}
-OfChar (wrong k) = IsTextFault k
+abbrev OfChar : Front ℕ → Type 0
+OfChar (item c len) = Unit {0}
+OfChar (fault k by) = IsTextFault k
 
-escaped_in_class : (o : Option EscapedChar) → OfChar (elim o [ None ↦ wrong BadEscape | Some c ↦ one c.char c.len ])
+escaped_in_class : (o : Option EscapedChar) → OfChar (elim o [ None ↦ fault BadEscape 0 | Some c ↦ item c.char c.len ])
 escaped_in_class None = tt
 escaped_in_class (Some c) = tt
 
@@ -106,28 +107,28 @@ class_escape-of (e ∷ text) = either OfChar (is_unsupported_escape e) _ _ tt (e
 class_char-of : (b : ℕ) (text : List ℕ) → OfChar (class_char b text)
 class_char-of b text = either OfChar (nat_eq b 92) _ _ (class_escape-of text) (either OfChar (nat_lt b 128) _ _ tt tt)
 
-range_to-of : (low len : ℕ) (c : ClassChar) → OfChar c → OfClass (range_to low len c)
-range_to-of low len (wrong k) p = p
-range_to-of low len (one high more) p = either OfClass (nat_lt high low) _ _ tt tt
+range_to-of : (low len : ℕ) (c : Front ℕ) → OfChar c → OfClass (range_to low len c)
+range_to-of low len (fault k by) p = p
+range_to-of low len (item high more) p = either OfClass (nat_lt high low) _ _ tt tt
 
 range_from-of : (low len : ℕ) (text : List ℕ) → OfClass (range_from low len text)
 range_from-of low len [] = tt
 range_from-of low len (b ∷ []) = tt
 range_from-of low len (b ∷ c ∷ text) = either OfClass (nat_eq b 45 && not (nat_eq c 93)) _ _ (range_to-of low (len + 2) (class_char c text) (class_char-of c text)) tt
 
-span-of : (c : ClassChar) (text : List ℕ) → OfChar c → OfClass (span c text)
-span-of (wrong k) text p = p
-span-of (one low len) text p = range_from-of low len (drop len text)
+span-of : (c : Front ℕ) (text : List ℕ) → OfChar c → OfClass (span c text)
+span-of (fault k by) text p = p
+span-of (item low len) text p = range_from-of low len (drop len text)
 
-bracketed_class : (o : Option NamedClass) (negated : Bool) (len : ℕ) → OfClass (elim o [ None ↦ misread BadRange 0 | Some class ↦ piece (Named class negated) len ])
+bracketed_class : (o : Option NamedClass) (negated : Bool) (len : ℕ) → OfClass (elim o [ None ↦ fault BadRange 0 | Some class ↦ item (Named class negated) len ])
 bracketed_class None negated len = tt
 bracketed_class (Some class) negated len = tt
 
-colon_class : (o : Option ℕ) (text : List ℕ) → OfClass (elim o [ None ↦ piece (Range 91 91) 0 | Some n ↦ posix_class (take n text) ])
+colon_class : (o : Option ℕ) (text : List ℕ) → OfClass (elim o [ None ↦ item (Range 91 91) 0 | Some n ↦ posix_class (take n text) ])
 colon_class None text = tt
 colon_class (Some n) text = bracketed_class _ _ _
 
-backslash_class : (o : Option ClassItem) (text : List ℕ) → OfClass (elim o [ None ↦ span (class_escape text) text | Some i ↦ piece i 1 ])
+backslash_class : (o : Option ClassItem) (text : List ℕ) → OfClass (elim o [ None ↦ span (class_escape text) text | Some i ↦ item i 1 ])
 backslash_class None text = span-of (class_escape text) text (class_escape-of text)
 backslash_class (Some i) text = tt
 
@@ -140,29 +141,29 @@ class_front-of b text =
     either OfClass (nat_eq b 91 && is_front 58 text) _ _ (colon_class (name_length (drop 1 text)) (drop 1 text))
     (either OfClass (nat_eq b 92) _ _ (after_backslash-of text) (span-of (class_char b text) text (class_char-of b text)))
 
-abbrev OfRest : ClassRest → Type 0
-OfRest (closed items len) = Unit {0}
-OfRest (failed k behind) = IsTextFault k
+abbrev OfRest : Front (List ClassItem) → Type 0
+OfRest (item items len) = Unit {0}
+OfRest (fault k behind) = IsTextFault k
 
-with_class_item-of : (i : ClassItem) (r : ClassRest) → OfRest r → OfRest (with_class_item i r)
-with_class_item-of i (closed items len) p = tt
-with_class_item-of i (failed k behind) p = p
+with_class_item-of : (i : ClassItem) (r : Front (List ClassItem)) → OfRest r → OfRest (with_class_item i r)
+with_class_item-of i (item items len) p = tt
+with_class_item-of i (fault k behind) p = p
 
-next_item : (f : ClassFront) (behind : ℕ) (r : ℕ → ClassRest) → OfClass f → ((len : ℕ) → OfRest (r len)) →
-    OfRest (elim f [ misread k by ↦ failed k (behind + by) | piece i len ↦ with_class_item i (r len) ])
-next_item (misread k by) behind r p q = p
-next_item (piece i len) behind r p q = with_class_item-of i (r len) (q len)
+next_item : (f : Front ClassItem) (behind : ℕ) (r : ℕ → Front (List ClassItem)) → OfClass f → ((len : ℕ) → OfRest (r len)) →
+    OfRest (elim f [ fault k by ↦ fault k (behind + by) | item i len ↦ with_class_item i (r len) ])
+next_item (fault k by) behind r p q = p
+next_item (item i len) behind r p q = with_class_item-of i (r len) (q len)
 
 items_from-of : (skip behind : ℕ) (start : Bool) (text : List ℕ) → OfRest (items_from skip behind start text)
 items_from-of skip behind start [] = tt
 items_from-of (suc skip) behind start (b ∷ text) = items_from-of skip (behind + 1) start text
 items_from-of zero behind start (b ∷ text) =
-    either OfRest (nat_eq b 93 && not start) (closed [] behind) _ tt
+    either OfRest (nat_eq b 93 && not start) (item [] behind) _ tt
     (next_item (class_front b text) behind (λ len. items_from len (behind + 1) false text) (class_front-of b text) (λ len. items_from-of len (behind + 1) false text))
 
-class_of-of : (fold negated : Bool) (r : ClassRest) → OfRest r → OfText (class_of fold negated r)
-class_of-of fold negated (closed items len) p = tt
-class_of-of fold negated (failed k behind) p = p
+class_of-of : (fold negated : Bool) (r : Front (List ClassItem)) → OfRest r → OfText (class_of fold negated r)
+class_of-of fold negated (item items len) p = tt
+class_of-of fold negated (fault k behind) p = p
 
 class-of : (fold : Bool) (text : List ℕ) → OfText (class fold text)
 class-of fold text =
@@ -239,7 +240,7 @@ item_next (group_start inner) at before groups flags r p =
 item_next group_end at before groups flags r p = close_next groups at r p
 item_next (flags_from_here new) at before groups flags r p = p Start groups new
 
-front_next : (f : Front) (at : ℕ) (before : Before) (groups : List Group) (flags : Flags) (r : ℕ → Before → List Group → Flags → Rest) → OfText f → ((len : ℕ) (b : Before) (gs : List Group) (f : Flags) → OfReading (r len b gs f)) →
+front_next : (f : Front PatternItem) (at : ℕ) (before : Before) (groups : List Group) (flags : Flags) (r : ℕ → Before → List Group → Flags → Rest) → OfText f → ((len : ℕ) (b : Before) (gs : List Group) (f : Flags) → OfReading (r len b gs f)) →
     OfReading
     (elim f [
       | fault k behind ↦ broken k (at + behind)

@@ -1,20 +1,21 @@
 -- How the flags of a group are read.
 use Rattle.std.proofs.Common.{◌≡◌, ℕ, ◌+◌, ◌-◌, Bool, true, false, List, length, take, drop, sym, ap, ap₂, ◌∙◌}
-use Rattle.std.specs.Prelude.{if◌then◌else◌}
+use Rattle.std.specs.Prelude.{codes, if◌then◌else◌}
 use Rattle.std.specs.List.{prefix_len}
 use Rattle.std.proofs.lemmas.List.{take_rest}
-use Rattle.cs_syntax.specs.Fronts.{Front, is_front}
-use Rattle.cs_syntax.specs.Groups.{is_flag, with_set, after_flags, cleared_flags, set_flags}
+use Rattle.cs_syntax.specs.NumberList.{has}
+use Rattle.cs_syntax.specs.Fronts.{PatternItem, Front, is_front}
+use Rattle.cs_syntax.specs.Groups.{with_set, after_flags, cleared_flags, set_flags}
 use Rattle.cs_syntax.specs.declared.flags.Flags.{Flags}
 use Rattle.cs_syntax.proofs.CaseLemmas.{taken, passed}
 
 -- where n flags to set stand at the front
-abbrev flags_by : Flags → List ℕ → ℕ → Front
+abbrev flags_by : Flags → List ℕ → ℕ → Front PatternItem
 flags_by flags text n =
     let set = with_set (take n text) flags in
     if is_front 45 (drop n text) then cleared_flags set (n + 2) (drop (n + 1) text) else after_flags set (n + 1) (drop n text)
 
-module _ (flags set : Flags) (text : List ℕ) (n : ℕ) (dash : Bool) (front : Front) (count : n ≡ prefix_len is_flag text) (is_set : set ≡ with_set (take n text) flags)
+module _ (flags set : Flags) (text : List ℕ) (n : ℕ) (dash : Bool) (front : Front PatternItem) (count : n ≡ prefix_len (has (codes "imsU")) text) (is_set : set ≡ with_set (take n text) flags)
     (tested : dash ≡ is_front 45 (take (length text - n) (drop n text))) where
   at_dash : (b : Bool) → dash ≡ b → is_front 45 (drop n text) ≡ b
   at_dash b e = ap (is_front 45) (sym (take_rest text n)) ∙ sym tested ∙ e

@@ -186,6 +186,6 @@ stop_is_refusal x s at b len text tail e here f (inl m) = inl m
 stop_is_refusal x s at b len text tail e here f (inr k) = inr (ap (reading_on s 0 at) here ∙ stops-reads len at b tail x s e.fault f k.0 ∙ ap (refused e.fault) (sym k.1))
 
 -- what is found at the front, where no memory is grown
-pub front_is : (text : List ℕ) (r : Result (items.Item × ℕ) Misread) (f : Front) → front_view text r ≡ f → IsFrontOf text r f
+pub front_is : (text : List ℕ) (r : Result (items.Item × ℕ) Misread) (f : Front PatternItem) → front_view text r ≡ f → IsFrontOf text r f
 front_is text (Ok x) f is = sym is
 front_is text (Err m) f is = inr (sym is)

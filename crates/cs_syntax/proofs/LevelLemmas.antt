@@ -57,7 +57,7 @@ module _ (at : ℕ) (before : Before) (flags : Flags) where
   has_item group_end groups r each = has_end groups r each
   has_item (flags_from_here new) groups r each = each Start groups new
 
-  has_front : (f : Front) (groups : List Group) (r : ℕ → Before → List Group → Flags → Rest) → ((len : ℕ) (b : Before) (gs : List Group) (f : Flags) → HasLevels (r len b gs f) gs) →
+  has_front : (f : Front PatternItem) (groups : List Group) (r : ℕ → Before → List Group → Flags → Rest) → ((len : ℕ) (b : Before) (gs : List Group) (f : Flags) → HasLevels (r len b gs f) gs) →
       HasLevels
       (elim f [
         | fault k behind ↦ broken k (at + behind)

@@ -1,7 +1,12 @@
 -- Numbers that are too large for the code are as large as the largest.
 use Rattle.std.proofs.Common.{◌≡◌, ℕ, zero, suc, ◌+◌, ◌*◌, ◌≤◌, ◌⊎◌, inl, inr, min, List, [], ◌∷◌, ap, arith}
 use Rattle.std.proofs.lemmas.Bool.{cases_lt}
-use Rattle.cs_syntax.specs.Numbers.{digit_value, value_after}
+use Rattle.std.specs.List.{fold}
+use Rattle.cs_syntax.specs.Numbers.{digit_value}
+
+-- the number that the digits write after the digits of n
+abbrev pub value_after : ℕ → ℕ → List ℕ → ℕ
+value_after base n ds = fold (λ k d. base * k + digit_value d) n ds
 
 -- the two numbers are one, up to the largest
 same_or_large : (m n k : ℕ) → min n m ≡ min k m → (n ≡ k) ⊎ ((m ≤ n) × (m ≤ k))

@@ -1,6 +1,7 @@
 -- Quoted texts read as their characters.
 use Rattle.std.proofs.Common.{◌≡◌, ℕ, ◌+◌, ◌/◌, ◌%◌, ◌<◌, ◌≤◌, Bool, true, false, cond, ◌&&◌, List, [], ◌∷◌, ◌++◌, length, take, refl, sym, ap, subst, ◌∙◌, inl, inr, arith, IsUtf8}
-use Rattle.std.specs.Prelude.{nat_eq, nat_lt, nat_le, if◌then◌else◌}
+use Rattle.std.specs.Prelude.{nat_eq, nat_lt, nat_le, Some, None, if◌then◌else◌}
+use Rattle.std.specs.Option.{unwrap_or}
 use Rattle.std.specs.Char.{encode_utf8}
 use Rattle.std.specs.Str.{chars, encode_utf8_all}
 use Rattle.std.specs.List.{AllByRecursion, prefix_len}
@@ -51,10 +52,12 @@ module _ (b : ℕ) (apart : has signs b ≡ false) where
   pub by_width : (wide : Bool) → nat_le 128 b ≡ wide → sign_of b ≡ cond wide Wide Plain
   unfolding sign_of
   by_width wide h = λ i.
-      cond (no_sign 42 refl i) Star (cond (no_sign 43 refl i) Plus (cond (no_sign 63 refl i) Question (cond (no_sign 123 refl i) Brace
-      (cond (no_sign 46 refl i) Dot (cond (no_sign 94 refl i) Caret (cond (no_sign 36 refl i) Dollar (cond (no_sign 124 refl i) Bar
-      (cond (no_sign 40 refl i) Open (cond (no_sign 41 refl i) Close (cond (no_sign 91 refl i) Class (cond (no_sign 92 refl i) Backslash
-      (cond (h i) Wide Plain))))))))))))
+      unwrap_or
+      (cond (no_sign 42 refl i) (Some Star) (cond (no_sign 43 refl i) (Some Plus) (cond (no_sign 63 refl i) (Some Question) (cond (no_sign 123 refl i) (Some Brace)
+      (cond (no_sign 46 refl i) (Some Dot) (cond (no_sign 94 refl i) (Some Caret) (cond (no_sign 36 refl i) (Some Dollar) (cond (no_sign 124 refl i) (Some Bar)
+      (cond (no_sign 40 refl i) (Some Open) (cond (no_sign 41 refl i) (Some Close) (cond (no_sign 91 refl i) (Some Class) (cond (no_sign 92 refl i) (Some Backslash)
+      None))))))))))))
+      (cond (h i) Wide Plain)
 
 abbrev IsLow : ℕ → Type 0
 IsLow b = b < 128

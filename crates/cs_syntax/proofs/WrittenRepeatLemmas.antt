@@ -1,14 +1,16 @@
 -- Counted repeats read as they are written.
 use Rattle.std.proofs.Common.{◌≡◌, ℕ, zero, suc, ◌+◌, ◌-◌, ◌*◌, ◌<◌, ◌≤◌, ◌^◌, Bool, true, false, cond, ◌&&◌, ◌||◌, List, [], ◌∷◌, ◌++◌, length, take, drop, get_or, Option, Some, None, refl, ap, ◌∙◌, arith, length-append}
-use Rattle.std.specs.Prelude.{decimal, nat_eq, nat_lt, nat_le}
-use Rattle.std.proofs.lemmas.Bool.{and_from, le-leb, lt-ltb, le-ltb, ltb-false, ne_eqb, cond-true, cond-false}
+use Rattle.std.specs.Prelude.{decimal, nat_eq, nat_lt}
+use Rattle.std.proofs.lemmas.Bool.{lt-ltb, le-ltb, ltb-false, ne_eqb, cond-true, cond-false}
 use Rattle.std.proofs.lemmas.List.{take_at, drop_at, drop_all}
 use Rattle.std.specs.Str.Parse.{AllDigits}
 use Rattle.std.proofs.lemmas.Fmt.{decimal_nonempty, digits_decimal, decimal_digit, first_decimal, digits_value-decimal}
 use Rattle.std.proofs.lemmas.Str.Parse.{FoldsDigits, numerals_by_fold, tells_digits, IsNumeralModel, digit_from_value}
 use Rattle.cs_syntax.specs.Matching.{Tree, one_of, rep}
 use Rattle.cs_syntax.specs.ByteSet.{char_set}
-use Rattle.cs_syntax.specs.Numbers.{digit_value, is_digit, count_digits, number_of_digits, value_after}
+use Rattle.cs_syntax.specs.Numbers.{digit_value}
+use Rattle.cs_syntax.specs.Numbers.{is_digit, count_digits, number_of_digits}
+use Rattle.cs_syntax.proofs.NumberLemmas.{value_after}
 use Rattle.cs_syntax.specs.Fronts.{item, fault, unit, repeat, is_front}
 use Rattle.cs_syntax.specs.Repeats.{lazy, number, counts_to, counts_from, counts, is_bad, brace}
 use Rattle.cs_syntax.specs.Items.{front, item_by}
@@ -28,7 +30,8 @@ use Rattle.cs_syntax.specs.declared.fault.PatternFault.TheVariants.{BadRepeat}
 
 digit_is : (c : ℕ) → 48 ≤ c → c ≤ 57 → digit_value c ≡ c - 48
 unfolding digit_value
-digit_is c low high = cond-true (nat_le 48 c && nat_le c 57) (c - 48) _ (and_from (nat_le 48 c) (nat_le c 57) (le-leb 48 c low) (le-leb c 57 high))
+digit_is c low high =
+    cond-false (nat_lt c 48) 36 _ (le-ltb c 48 low) ∙ cond-true (nat_lt c 58) (c - 48) _ (lt-ltb c 58 (omega (arith, high)))
 
 is_one : (c : ℕ) → 48 ≤ c → c ≤ 57 → is_digit 10 c ≡ true
 is_one c low high = lt-ltb (digit_value c) 10 (let v = digit_is c low high in omega (arith, v, low, high))

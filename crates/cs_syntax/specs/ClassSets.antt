@@ -35,26 +35,14 @@ unfoldable pub is_in_item : Bool → ClassItem → ℕ → Bool
 is_in_item fold (Range low high) c = is_in_folded fold ((low, high) ∷ []) c
 is_in_item fold (Named class negated) c = xor negated (is_in_folded fold (ranges_of class) c)
 
--- the character is in one of the items
-abbrev pub is_in_items : Bool → List ClassItem → ℕ → Bool
-is_in_items fold items c = list_any (λ i. is_in_item fold i c) items
-
--- the items are united, and the whole is complemented where the class is negated
-abbrev pub is_in_class : Bool → Bool → List ClassItem → ℕ → Bool
-is_in_class fold negated items c = xor negated (is_in_items fold items c)
-
--- the class as a tree
+-- a class: the items are united, and the whole is complemented where the class is negated
 abbrev pub class_tree : Bool → Bool → List ClassItem → Tree
-class_tree fold negated items = chars_tree (is_in_class fold negated items)
+class_tree fold negated items = chars_tree (λ c. xor negated (list_any (λ i. is_in_item fold i c) items))
 
 -- one item by itself, as `\d`, with no letter folded
 abbrev pub item_tree : ClassItem → Tree
 item_tree i = chars_tree (is_in_item false i)
 
--- all characters but a newline, or all
-abbrev pub is_in_dot : Bool → ℕ → Bool
-is_in_dot dot_all c = dot_all || not (nat_eq c 10)
-
--- a dot as a tree
+-- a dot: all characters but a newline, or all
 abbrev pub dot_tree : Bool → Tree
-dot_tree dot_all = chars_tree (is_in_dot dot_all)
+dot_tree dot_all = chars_tree (λ c. dot_all || not (nat_eq c 10))

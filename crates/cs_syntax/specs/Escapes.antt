@@ -1,14 +1,17 @@
 -- Escapes: what a backslash makes of what follows it.
 -- docs/PATTERNS.md, "Escapes"; the RE2 syntax page, "Escape sequences".
-use Rattle.std.specs.Prelude.{ℕ, ◌+◌, Bool, true, false, ◌&&◌, ◌||◌, not, min, List, [], ◌∷◌, Option, Some, None, nat_lt, nat_eq, take, drop, if◌then◌else◌}
+use Rattle.std.specs.Prelude.{ℕ, ◌+◌, Bool, true, false, ◌&&◌, ◌||◌, not, min, List, [], ◌∷◌, ◌++◌, map, codes, Option, Some, None, nat_lt, nat_eq, take, drop, if◌then◌else◌}
 use Rattle.std.specs.Char.{is_ascii_alphabetic}
-use Rattle.std.specs.Option.{option_map}
+use Rattle.std.specs.List.{zip}
+use Rattle.std.specs.Map.{lookup}
+use Rattle.std.specs.Option.{option_map, option_or}
 use Rattle.cs_syntax.specs.Matching.{Tree, one_of, word_edge, not_word_edge}
+use Rattle.cs_syntax.specs.NumberList.{has}
 use Rattle.cs_syntax.specs.ByteSet.{all_bytes}
 use Rattle.cs_syntax.specs.ClassSets.{item_tree}
 use Rattle.cs_syntax.specs.Characters.{is_scalar}
 use Rattle.cs_syntax.specs.Numbers.{is_digit, count_digits, number_of_digits}
-use Rattle.cs_syntax.specs.Fronts.{Front, item, fault, unit, is_front, char_tree}
+use Rattle.cs_syntax.specs.Fronts.{PatternItem, Front, item, fault, unit, is_front, char_tree}
 use Rattle.cs_syntax.specs.declared.class_item.NamedClass.TheVariants.{Digit, White, Word}
 use Rattle.cs_syntax.specs.declared.class_item.ClassItem.{ClassItem}
 use Rattle.cs_syntax.specs.declared.class_item.ClassItem.TheVariants.{Named}
@@ -41,14 +44,7 @@ hex_char text =
 
 -- `\a`, `\f`, `\t`, `\n`, `\r` and `\v`
 abbrev pub control_char : ℕ → Option ℕ
-control_char e =
-    if nat_eq e 97 then Some 7
-    else if nat_eq e 102 then Some 12
-    else if nat_eq e 116 then Some 9
-    else if nat_eq e 110 then Some 10
-    else if nat_eq e 114 then Some 13
-    else if nat_eq e 118 then Some 11
-    else None
+control_char e = lookup (nat_eq e) (zip (codes "aftnrv") (7 ∷ 12 ∷ 9 ∷ 10 ∷ 13 ∷ 11 ∷ []))
 
 -- behind a backslash: an escape that gives a character, in a class and outside
 abbrev pub escaped_char : List ℕ → Option EscapedChar
@@ -66,33 +62,26 @@ escaped_char (e ∷ rest) =
 -- `\d`, `\s`, `\w` and their complements, in a class and outside
 unfoldable pub escaped_class : ℕ → Option ClassItem
 escaped_class e =
-    if nat_eq e 100 then Some (Named Digit false)
-    else if nat_eq e 68 then Some (Named Digit true)
-    else if nat_eq e 115 then Some (Named White false)
-    else if nat_eq e 83 then Some (Named White true)
-    else if nat_eq e 119 then Some (Named Word false)
-    else if nat_eq e 87 then Some (Named Word true)
-    else None
+    let sets = Digit ∷ White ∷ Word ∷ [] in
+    lookup (nat_eq e) (zip (codes "dswDSW") (map (λ s. Named s false) sets ++ map (λ s. Named s true) sets))
 
 -- `\A`, `\z`, `\Q`, `\p` and `\P`, which are left out
 abbrev pub is_unsupported_escape : ℕ → Bool
-is_unsupported_escape e = nat_eq e 65 || nat_eq e 122 || nat_eq e 81 || nat_eq e 112 || nat_eq e 80
+is_unsupported_escape e = has (codes "AzQpP") e
 
 -- behind a backslash outside a class, where it gives a character or nothing
-unfoldable pub char_front : Bool → List ℕ → Front
+unfoldable pub char_front : Bool → List ℕ → Front PatternItem
 char_front fold text =
     elim (escaped_char text) [ None ↦ fault BadEscape 0 | Some c ↦ item (unit (char_tree fold c.char)) c.len ]
 
 -- `\b`, `\B`, `\C` and the classes
 unfoldable pub escaped_tree : ℕ → Option Tree
 escaped_tree e =
-    if nat_eq e 98 then Some word_edge
-    else if nat_eq e 66 then Some not_word_edge
-    else if nat_eq e 67 then Some (one_of all_bytes)
-    else option_map item_tree (escaped_class e)
+    let others = word_edge ∷ not_word_edge ∷ one_of all_bytes ∷ [] in
+    option_or (lookup (nat_eq e) (zip (codes "bBC") others)) (option_map item_tree (escaped_class e))
 
 -- behind a backslash outside a class
-abbrev pub escape : Bool → List ℕ → Front
+abbrev pub escape : Bool → List ℕ → Front PatternItem
 escape fold [] = fault LoneBackslash 0
 escape fold (e ∷ rest) =
     if is_unsupported_escape e then fault NotInProfile 0

@@ -18,11 +18,11 @@ pub data PatternItem : Type 0 where
   -- these flags hold from here on, to the end of the group
   flags_from_here : Flags → PatternItem
 
--- An item and the number of its bytes after the first; or a fault, and how many bytes behind the
--- front it lies.
-pub data Front : Type 0 where
-  item : PatternItem → ℕ → Front
-  fault : PatternFault → ℕ → Front
+-- What stands at the front of a text: an item and the number of its bytes after the first; or a fault,
+-- and how many bytes behind the front it lies.
+pub data Front (A : Type 0) : Type 0 where
+  item : A → ℕ → Front A
+  fault : PatternFault → ℕ → Front A
 
 -- the byte stands at the front
 abbrev pub is_front : ℕ → List ℕ → Bool

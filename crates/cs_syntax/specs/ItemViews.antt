@@ -12,7 +12,6 @@ use Rattle.cs_syntax.specs.declared.item.Misread.{Misread}
 use Rattle.cs_syntax.specs.declared.fault.PatternFault.{PatternFault}
 use Rattle.cs_syntax.specs.declared.fault.PatternFault.TheVariants.{Memory}
 use Rattle.cs_syntax.specs.declared.class_item.ClassItem.{ClassItem}
-use Rattle.cs_syntax.specs.Classes.{ClassFront, piece, misread, ClassChar, one, wrong}
 
 -- the tree of a unit, from its own text
 abbrev pub unit_tree : List ℕ → units.Unit → Tree
@@ -38,26 +37,26 @@ item_view text (item_of.FlagsFromHere flags) = flags_from_here flags
 
 -- what a reader of items has found at the front of the text; an item's own text is its first byte
 -- and those behind it
-abbrev pub front_view : List ℕ → Result (items.Item × ℕ) Misread → Front
+abbrev pub front_view : List ℕ → Result (items.Item × ℕ) Misread → Front PatternItem
 front_view text (Ok r) = item (item_view (take (suc r.1) text) r.0) r.1
 front_view text (Err m) = fault m.fault m.behind
 
 -- a reader of items that grows memory has found what stands at the front, or a growth was refused
-abbrev pub IsFrontOf : List ℕ → Result (items.Item × ℕ) Misread → Front → Type 0
+abbrev pub IsFrontOf : List ℕ → Result (items.Item × ℕ) Misread → Front PatternItem → Type 0
 IsFrontOf text r front =
     MatchResult r
     (λ x. front ≡ item (item_view (take (suc x.1) text) x.0) x.1)
     (λ m. (m.fault ≡ Memory) ⊎ (front ≡ fault m.fault m.behind))
 
 -- what a reader of a class has found at the front of the class's text
-abbrev pub class_front_view : Result (ClassItem × ℕ) Misread → ClassFront
-class_front_view (Ok r) = piece r.0 r.1
-class_front_view (Err m) = misread m.fault m.behind
+abbrev pub class_front_view : Result (ClassItem × ℕ) Misread → Front ClassItem
+class_front_view (Ok r) = item r.0 r.1
+class_front_view (Err m) = fault m.fault m.behind
 
 -- what a reader of a class has found as a character of it
-abbrev pub class_char_view : Result (ℕ × ℕ) PatternFault → ClassChar
-class_char_view (Ok r) = one r.0 r.1
-class_char_view (Err k) = wrong k
+abbrev pub class_char_view : Result (ℕ × ℕ) PatternFault → Front ℕ
+class_char_view (Ok r) = item r.0 r.1
+class_char_view (Err k) = fault k 0
 
 -- what a reader has found has at most `most` bytes behind its first, and a fault lies at most `far` bytes behind
 -- the front

@@ -6,7 +6,7 @@ use Rattle.cs_syntax.specs.Matching.{one_of, line_start, line_end}
 use Rattle.cs_syntax.specs.ByteSet.{char_set}
 use Rattle.cs_syntax.specs.ClassSets.{dot_tree}
 use Rattle.cs_syntax.specs.Signs.{sign_of}
-use Rattle.cs_syntax.specs.Fronts.{Front, item, unit, bar, group_end, bytes_tree, is_continuation}
+use Rattle.cs_syntax.specs.Fronts.{PatternItem, Front, item, unit, bar, group_end, bytes_tree, is_continuation}
 use Rattle.cs_syntax.specs.Repeats.{lazy, brace}
 use Rattle.cs_syntax.specs.Groups.{group}
 use Rattle.cs_syntax.specs.Escapes.{escape}
@@ -15,14 +15,9 @@ use Rattle.cs_syntax.specs.declared.flags.Flags.{Flags}
 use Rattle.cs_syntax.specs.declared.sign.Sign.{Sign}
 use Rattle.cs_syntax.specs.declared.sign.Sign.TheVariants.{Star, Plus, Question, Brace, Dot, Caret, Dollar, Bar, Open, Close, Class, Backslash, Wide, Plain}
 
--- a character past ASCII, as it is written, is one unit, the bytes of its UTF-8 form in order
-abbrev pub wide_char : ℕ → List ℕ → Front
-wide_char b rest =
-    let n = prefix_len is_continuation rest in
-    item (unit (bytes_tree (b ∷ take n rest))) n
-
--- what stands at the front, by what its first byte means
-abbrev pub item_by : Sign → Flags → ℕ → List ℕ → Front
+-- what stands at the front, by what its first byte means; a character past ASCII, as it is written, is one
+-- unit, the bytes of its UTF-8 form in order
+abbrev pub item_by : Sign → Flags → ℕ → List ℕ → Front PatternItem
 item_by Star flags b rest = lazy 0 None 0 rest
 item_by Plus flags b rest = lazy 1 None 0 rest
 item_by Question flags b rest = lazy 0 (Some 1) 0 rest
@@ -35,9 +30,11 @@ item_by Open flags b rest = group flags rest
 item_by Close flags b rest = item group_end 0
 item_by Class flags b rest = class flags.fold rest
 item_by Backslash flags b rest = escape flags.fold rest
-item_by Wide flags b rest = wide_char b rest
+item_by Wide flags b rest =
+    let n = prefix_len is_continuation rest in
+    item (unit (bytes_tree (b ∷ take n rest))) n
 item_by Plain flags b rest = item (unit (one_of (char_set flags.fold b))) 0
 
 -- what stands at the front of a text whose first byte is b, under these flags
-unfoldable pub front : Flags → ℕ → List ℕ → Front
+unfoldable pub front : Flags → ℕ → List ℕ → Front PatternItem
 front flags b rest = item_by (sign_of b) flags b rest

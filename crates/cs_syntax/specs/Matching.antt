@@ -1,6 +1,6 @@
 -- The tree of a pattern, and what part of a line it takes.
 -- docs/PATTERNS.md, "Lines and matching"; the RE2 syntax page.
-use Rattle.std.specs.Prelude.{ℕ, zero, suc, ◌≡◌, ◌-◌, ◌<◌, ◌≤◌, ◌⊎◌, ◌&&◌, Bool, true, false, List, length, slice_index, slice_index_or, nat_le, nat_lt, Option, Some, None}
+use Rattle.std.specs.Prelude.{ℕ, zero, suc, ◌≡◌, ◌-◌, ◌<◌, ◌≤◌, ◌⊎◌, ◌&&◌, Bool, true, false, List, length, slice_index, slice_index_or, nat_le, nat_lt, Option, IfSome}
 use Rattle.std.specs.Bool.{xor}
 use Rattle.cs_syntax.specs.Ranges.{is_in_ranges, word_ranges}
 use Rattle.cs_syntax.specs.Characters.{TakesChar}
@@ -49,11 +49,6 @@ abbrev pub Chain : (ℕ → ℕ → Type 0) → ℕ → ℕ → ℕ → Type 0
 Chain R zero i j = i ≡ j
 Chain R (suc k) i j = (l : ℕ) × R i l × Chain R k l j
 
--- k rounds are not too many
-abbrev pub IsAtMost : ℕ → Option ℕ → Type 0
-IsAtMost k None = Unit {0}
-IsAtMost k (Some m) = k ≤ m
-
 -- the tree takes the part of s from i to j
 abbrev mutual
   pub Takes : List ℕ → Tree → ℕ → ℕ → Type 0
@@ -62,7 +57,7 @@ abbrev mutual
   Takes s (one_char runs) i j = TakesChar s runs i j
   Takes s (cat ts) i j = TakesAll s ts i j
   Takes s (alt ts) i j = TakesSome s ts i j
-  Takes s (rep x n m) i j = (k : ℕ) × (n ≤ k) × IsAtMost k m × Chain (Takes s x) k i j
+  Takes s (rep x n m) i j = (k : ℕ) × (n ≤ k) × IfSome m (λ most. k ≤ most) × Chain (Takes s x) k i j
   Takes s line_start i j = (i ≡ 0) × (j ≡ 0)
   Takes s line_end i j = (i ≡ length s) × (j ≡ length s)
   Takes s word_edge i j = (i ≡ j) × (at_word_edge s i ≡ true)

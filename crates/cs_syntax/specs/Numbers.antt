@@ -1,14 +1,11 @@
 -- Digits in a pattern, and the numbers that they write. docs/PATTERNS.md, "Repeats" and "Escapes".
-use Rattle.std.specs.Prelude.{ℕ, ◌+◌, ◌-◌, ◌*◌, Bool, ◌&&◌, List, [], ◌∷◌, nat_le, nat_lt, if◌then◌else◌}
-use Rattle.std.specs.List.{prefix_len}
+use Rattle.std.specs.Prelude.{ℕ, ◌+◌, ◌*◌, Bool, List, nat_lt}
+use Rattle.std.specs.Char as char
+use Rattle.std.specs.List.{fold, prefix_len}
 
--- the value of a digit, upper or lower case; 16 for what is no digit
+-- the value of a digit, upper or lower case; the letters past `f` have values from 16 on, and all else 36
 unfoldable pub digit_value : ℕ → ℕ
-digit_value b =
-    if nat_le 48 b && nat_le b 57 then b - 48
-    else if nat_le 97 b && nat_le b 102 then b - 87
-    else if nat_le 65 b && nat_le b 70 then b - 55
-    else 16
+digit_value b = char.digit_value b
 
 abbrev pub is_digit : ℕ → ℕ → Bool
 is_digit base b = nat_lt (digit_value b) base
@@ -17,11 +14,6 @@ is_digit base b = nat_lt (digit_value b) base
 abbrev pub count_digits : ℕ → List ℕ → ℕ
 count_digits base text = prefix_len (is_digit base) text
 
--- the number that the digits write after the digits of n
-abbrev pub value_after : ℕ → ℕ → List ℕ → ℕ
-value_after base n [] = n
-value_after base n (d ∷ ds) = value_after base (base * n + digit_value d) ds
-
 -- the number that the digits write
 abbrev pub number_of_digits : ℕ → List ℕ → ℕ
-number_of_digits base ds = value_after base 0 ds
+number_of_digits base ds = fold (λ n d. base * n + digit_value d) 0 ds

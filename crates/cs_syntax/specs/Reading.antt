@@ -1,6 +1,7 @@
 -- What a pattern's text reads as: one tree, or the first fault.
 -- docs/PATTERNS.md, "Patterns" and "Faults".
 use Rattle.std.specs.Prelude.{ℕ, zero, suc, ◌+◌, ◌≡◌, Bool, false, List, [], ◌∷◌, length, Option, nat_eq, if◌then◌else◌}
+use Rattle.std.specs.List.{fold}
 use Rattle.cs_syntax.specs.Matching.{Tree, Trees, rep, none, more}
 use Rattle.cs_syntax.specs.Branches.{choice}
 use Rattle.cs_syntax.specs.Fronts.{sequence, unit, repeat, bar, group_start, group_end, flags_from_here, item, fault}
@@ -29,8 +30,7 @@ whole_group l = choice (sequence l.units) l.branches
 
 -- a unit under its repeats, the first of them innermost
 abbrev pub with_repeats : Tree → List (ℕ × Option ℕ) → Tree
-with_repeats t [] = t
-with_repeats t (r ∷ rs) = with_repeats (rep t r.0 r.1) rs
+with_repeats t repeats = fold (λ u r. rep u r.0 r.1) t repeats
 
 -- one unit before what is read
 abbrev pub with_unit : Tree → Level → Level

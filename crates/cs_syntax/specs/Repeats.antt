@@ -4,13 +4,13 @@ use Rattle.std.specs.Prelude.{ℕ, ◌+◌, Bool, false, ◌||◌, ◌&&◌, Lis
 use Rattle.cs_syntax.specs.ByteSet.{char_set}
 use Rattle.cs_syntax.specs.Matching.{one_of}
 use Rattle.cs_syntax.specs.Numbers.{count_digits, number_of_digits}
-use Rattle.cs_syntax.specs.Fronts.{Front, item, fault, unit, repeat, is_front}
+use Rattle.cs_syntax.specs.Fronts.{PatternItem, Front, item, fault, unit, repeat, is_front}
 use Rattle.cs_syntax.specs.declared.repeats.Number.{Number}
 use Rattle.cs_syntax.specs.declared.repeats.RepeatCounts.{RepeatCounts}
 use Rattle.cs_syntax.specs.declared.fault.PatternFault.TheVariants.{BadRepeat}
 
 -- A repeat of so many bytes after the first. A `?` behind it belongs to it, and changes nothing.
-abbrev pub lazy : ℕ → Option ℕ → ℕ → List ℕ → Front
+abbrev pub lazy : ℕ → Option ℕ → ℕ → List ℕ → Front PatternItem
 lazy n m len rest = item (repeat n m) (len + (if is_front 63 (drop len rest) then 1 else 0))
 
 -- a decimal number at the front; a leading zero makes it none, zero itself is one
@@ -51,7 +51,7 @@ is_bad c =
     nat_lt most_times c.least || elim c.most [ None ↦ false | Some m ↦ nat_lt most_times m || nat_lt m c.least ]
 
 -- behind `{`, which is a literal where no counts follow
-abbrev pub brace : List ℕ → Front
+abbrev pub brace : List ℕ → Front PatternItem
 brace rest =
     elim (counts rest) [
       | None ↦ item (unit (one_of (char_set false 123))) 0

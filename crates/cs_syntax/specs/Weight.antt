@@ -1,6 +1,7 @@
 -- The weight of a tree, which has a limit in a pattern.
 -- docs/PATTERNS.md, "Weight".
-use Rattle.std.specs.Prelude.{ℕ, ◌+◌, ◌*◌, max, length, Option, Some, None}
+use Rattle.std.specs.Prelude.{ℕ, ◌+◌, ◌*◌, max, length, Option}
+use Rattle.std.specs.Option.{unwrap_or}
 use Rattle.cs_syntax.specs.Matching.{Tree, Trees, one_char, cat, alt, rep, none, more}
 
 -- the largest weight of a pattern
@@ -9,8 +10,7 @@ most_weight = 10000
 
 -- how often the weight of what is repeated counts
 abbrev pub times : ℕ → Option ℕ → ℕ
-times n None = max n 1
-times n (Some m) = max m 1
+times n m = max (unwrap_or m n) 1
 
 -- a repeat weighs as often as it may come; a set of characters as much as it has runs, and 1 without any
 abbrev mutual

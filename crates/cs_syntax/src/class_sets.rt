@@ -1,9 +1,9 @@
 // The sets of characters that a dot and classes stand for.
-ghost use Rattle.std.specs.Prelude.{◌≡◌, ◌≤◌, ◌&&◌, ◌||◌, ◌∷◌, [], ℕ, not, false, OnOk, IfOk};
+ghost use Rattle.std.specs.Prelude.{◌≡◌, ◌≤◌, ◌&&◌, ◌||◌, ◌∷◌, [], ℕ, not, nat_eq, false, OnOk, IfOk};
 ghost use Rattle.cs_syntax.specs.Ranges.{is_in_ranges};
 ghost use Rattle.cs_syntax.specs.ByteSet.{is_in_folded};
 ghost use Rattle.cs_syntax.specs.Characters.{is_scalar, has_char, runs_of};
-ghost use Rattle.cs_syntax.specs.ClassSets.{ranges_of, is_in_item, is_in_dot};
+ghost use Rattle.cs_syntax.specs.ClassSets.{ranges_of, is_in_item};
 ghost use Rattle.cs_syntax.specs.ClassState.{is_other_case};
 
 use crate::char_set::CharSet;
@@ -16,7 +16,7 @@ const SMALL: u32 = 'a' as u32;
 
 /// All characters, or all but a newline.
 pub(crate) fn dot(alloc: Global, dot_all: bool) -> Result<CharSet, AllocError>
-    ensures { IfOk result (λ set. set ≡ runs_of (is_in_dot dot_all)) }
+    ensures { IfOk result (λ set. set ≡ runs_of (λ c. dot_all || not (nat_eq c 10))) }
 {
     if dot_all {
         CharSet::of_ranges(alloc, true, &[])

@@ -2,16 +2,16 @@
 ghost use Rattle.std.specs.Prelude.{◌≡◌, ◌+◌, ◌*◌, ◌<◌, ◌≤◌, length, min};
 ghost use Rattle.cs_syntax.specs.Numbers.{digit_value, is_digit, count_digits, number_of_digits};
 
-/// The value of a digit, or 16.
+/// The value of a digit or a letter, or 36.
 #[tactic(auto, unfolding(crate::specs::Numbers::digit_value))]
 fn digit_value(byte: u8) -> u32
     ensures { result ≡ digit_value byte }
 {
     match byte {
         b'0'..=b'9' => (byte - b'0') as u32,
-        b'a'..=b'f' => (byte - b'a' + 10) as u32,
-        b'A'..=b'F' => (byte - b'A' + 10) as u32,
-        _ => 16,
+        b'a'..=b'z' => (byte - b'a' + 10) as u32,
+        b'A'..=b'Z' => (byte - b'A' + 10) as u32,
+        _ => 36,
     }
 }
 

@@ -1,10 +1,10 @@
 // Heads of groups, and flags.
-ghost use Rattle.std.specs.Prelude.{◌≡◌, ◌+◌, ◌≤◌, ◌<◌, ◌^◌, ℕ, Bool, List, length, take, drop};
+ghost use Rattle.std.specs.Prelude.{◌≡◌, ◌+◌, ◌≤◌, ◌<◌, ◌^◌, ℕ, Bool, List, codes, length, take, drop};
 ghost use Rattle.std.specs.List.{prefix_len, list_any};
 ghost use Rattle.cs_syntax.specs.Matching.{is_word};
 ghost use Rattle.cs_syntax.specs.ItemViews.{StaysWithin, front_view};
 ghost use Rattle.cs_syntax.specs.NumberList.{has};
-ghost use Rattle.cs_syntax.specs.Groups.{name, is_flag, is_cleared_flag, with_set, with_cleared, after_flags, cleared_flags, set_flags, head, group};
+ghost use Rattle.cs_syntax.specs.Groups.{name, with_set, with_cleared, after_flags, cleared_flags, set_flags, head, group};
 
 use crate::fault::PatternFault;
 use crate::flags::Flags;
@@ -23,16 +23,14 @@ fn is_word(byte: u8) -> bool
     matches!(byte, b'0'..=b'9' | b'A'..=b'Z' | b'a'..=b'z' | b'_')
 }
 
-#[tactic(auto, unfolding(crate::specs::Groups::is_flag))]
 fn is_flag(byte: u8) -> bool
-    ensures { result ≡ is_flag byte }
+    ensures { result ≡ has (codes "imsU") byte }
 {
     matches!(byte, b'i' | b'm' | b's' | b'U')
 }
 
-#[tactic(auto, unfolding(crate::specs::Groups::is_cleared_flag))]
 fn is_cleared_flag(byte: u8) -> bool
-    ensures { result ≡ is_cleared_flag byte }
+    ensures { result ≡ has (codes "isU") byte }
 {
     matches!(byte, b'i' | b's' | b'U')
 }
@@ -71,7 +69,7 @@ fn name_len(text: &[u8]) -> usize
 
 /// How many flags to set stand at the front.
 fn set_len(text: &[u8]) -> usize
-    ensures count { result ≡ prefix_len is_flag text.now }
+    ensures count { result ≡ prefix_len (has (codes "imsU")) text.now }
     ensures within { result ≤ length text.now }
 {
     text.iter().take_while(|b| is_flag(**b)).count()
@@ -79,7 +77,7 @@ fn set_len(text: &[u8]) -> usize
 
 /// How many flags to clear stand at the front.
 fn cleared_len(text: &[u8]) -> usize
-    ensures count { result ≡ prefix_len is_cleared_flag text.now }
+    ensures count { result ≡ prefix_len (has (codes "isU")) text.now }
     ensures within { result ≤ length text.now }
 {
     text.iter().take_while(|b| is_cleared_flag(**b)).count()

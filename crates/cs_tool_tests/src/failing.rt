@@ -1,46 +1,15 @@
-// A tree of which one call fails, reads that fail, and inputs that have no end.
-use crate::fixtures::{PLAIN, Placed, tree_of};
+// Reads that fail, and inputs that have no end.
+use crate::fixtures::PLAIN;
 use crate::indexing::job_of;
 use crate::searching::reports::{answer_within, program_of};
 use cs_cindex::cindex;
 use cs_match::Program;
 use cs_search::{GrepFault, ReadFault};
-use cs_tree::{FuseTree, IoFault, Item, MemSink, MemTree, PutFault, Source, Tree};
+use cs_tree::{IoFault, Item, MemSink, MemTree, PutFault, Source};
 use cs_trigram::{BoundedScanner, Limits, Reason, Scan, ScanFault};
 use cs_words::{Reply, Style, ToolFault};
 use std::alloc::Global;
 use std::test::Fail;
-
-/// Two files, of which one lies in a folder of its own.
-const TWO_FILES: &[Placed<'static>] = &[
-    ("/a", None),
-    ("/a/b", None),
-    ("/a/b/f", Some("one\n")),
-    ("/a/g", Some("two\n")),
-];
-
-/// The tree, of which the call of this number fails.
-fn fused(alloc: Global, k: u64) -> Result<FuseTree<MemTree>, PutFault> {
-    Ok(FuseTree::new(tree_of(alloc, TWO_FILES)?, k))
-}
-
-/// Whether the third call of a tree fails, and no other.
-fn third_fails(alloc: Global) -> Result<bool, PutFault> {
-    let mut tree = fused(alloc, 3)?;
-    let mut buf = [0u8; 8];
-    Ok(
-        tree.kind("/a/g").is_ok()
-            && tree.open("/a/g").is_ok()
-            && tree.read(&mut buf).is_err()
-            && tree.read(&mut buf).is_ok()
-            && tree.failures() == 1,
-    )
-}
-
-#[test]
-fn one_call_fails(rt: HostRuntime) {
-    assert!(rt; third_fails(rt.alloc()) == Ok(true));
-}
 
 /// A folder with a file whose reads give a letter and a NUL, and then fail.
 fn cut_after_a_nul(alloc: Global) -> Result<MemTree, PutFault> {

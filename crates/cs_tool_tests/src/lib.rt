@@ -4,15 +4,21 @@
 #![tactic(auto)]
 
 #[cfg(test)]
+mod allocations;
+#[cfg(test)]
 mod desk;
 #[cfg(test)]
 mod failing;
 #[cfg(test)]
 mod fixtures;
 #[cfg(test)]
+mod fuses;
+#[cfg(test)]
 mod indexing;
 #[cfg(test)]
 mod refusals;
+#[cfg(test)]
+mod rooms;
 #[cfg(test)]
 mod searching;
 #[cfg(test)]

@@ -1,4 +1,4 @@
-// Calls that take memory, each made more than once. `tests/refusals.py` runs each test with its Nth allocation refused,
+// Calls that take memory, each made more than once. `tests/runs/refusals.py` runs each test with its Nth allocation refused,
 // N = 1, 2, .. until none is: one call is then refused, by name, and the others answer as ever.
 use std::alloc::AllocError;
 use std::process::Abort;

@@ -22,7 +22,7 @@ use Rattle.std.proofs.lemmas.List.Folds.{list_any_none, list_any_at}
 use Rattle.std.proofs.lemmas.List.Sorted.{searchable_from_sorted}
 use Rattle.std.proofs.lemmas.Map.Keys.{Less-from_sorted}
 use Rattle.cs_tree.specs.Cover.{begins, covers, is_alone, is_among, is_covered}
-use Rattle.cs_tree.specs.Cover.{lies_below}
+use Rattle.cs_tree.specs.Cover.{is_ancestor}
 use Rattle.cs_tree.specs.PathSet as set
 use Rattle.std.proofs.lemmas.Str.Pattern.{NoCharPasses-char}
 use Rattle.cs_tree.proofs.Covering.{begins_rest, begins_at, covers_says}
@@ -87,15 +87,15 @@ some_slash_in [] rest h = true≢false h
 some_slash_in (b ∷ front) rest h = some_slash_in front rest (no_slash_parts b (front ++ slash ∷ rest) h).1
 
 -- a path that goes on by a slash after another one
-below_parts : (path other : List ℕ) → lies_below path other ≡ true → (rest : List ℕ) × (path ≡ other ++ slash ∷ rest)
+below_parts : (path other : List ℕ) → is_ancestor other path ≡ true → (rest : List ℕ) × (path ≡ other ++ slash ∷ rest)
 below_parts path other h =
     let found = begins_rest (other ++ slash ∷ []) path h in
     (found.0, found.1 ∙ append_assoc other (slash ∷ []) found.0)
 
-below_from : (path other rest : List ℕ) → path ≡ other ++ slash ∷ rest → lies_below path other ≡ true
+below_from : (path other rest : List ℕ) → path ≡ other ++ slash ∷ rest → is_ancestor other path ≡ true
 below_from path other rest e = subst (λ p. begins (other ++ slash ∷ []) p ≡ true) (append_assoc other (slash ∷ []) rest ∙ sym e) (begins_at (other ++ slash ∷ []) rest)
 
-below_longer : (path other : List ℕ) → lies_below path other ≡ true → length other < length path
+below_longer : (path other : List ℕ) → is_ancestor other path ≡ true → length other < length path
 below_longer path other h =
     let found = below_parts path other h in
     let long : length path ≡ length (other ++ slash ∷ found.0) = ap length found.1 in
@@ -112,7 +112,7 @@ either_front (b ∷ other) (c ∷ front) rest name e h =
       | inr later ↦ inr (later.0, let after : front ≡ other ++ slash ∷ later.0 = later.1 in cc)
     ]
 
-below_last : (path front name : List ℕ) → LastSlash path front name → (other : List ℕ) → lies_below path other ≡ (bytes_eq other front || lies_below front other)
+below_last : (path front name : List ℕ) → LastSlash path front name → (other : List ℕ) → is_ancestor other path ≡ (bytes_eq other front || is_ancestor other front)
 below_last path front name h other = same_tests _ _
     (λ lower.
     let found = below_parts path other lower in
@@ -120,7 +120,7 @@ below_last path front name h other = same_tests _ _
       | inl is ↦ or_left (bytes_eq other front) _ ((bytes_decides other front).1 is)
       | inr later ↦ or_right (bytes_eq other front) _ (below_from front other later.0 later.1)
     ])
-    (λ either. elim (or_cases (bytes_eq other front) (lies_below front other) either) [
+    (λ either. elim (or_cases (bytes_eq other front) (is_ancestor other front) either) [
       | inl is ↦ below_from path other name (h.whole ∙ ap (λ f. f ++ slash ∷ name) (sym ((bytes_decides other front).0 is)))
       | inr later ↦
           let found = below_parts front other later in
@@ -128,17 +128,17 @@ below_last path front name h other = same_tests _ _
     ])
 
 -- some path is what stands before the last slash, or that lies below some
-pub any_below_last : (path front name : List ℕ) (paths : List (List ℕ)) → LastSlash path front name → list_any (lies_below path) paths ≡ (list_any (λ other. bytes_eq other front) paths || list_any (lies_below front) paths)
-any_below_last path front name paths h = (λ i. list_any (λ other. below_last path front name h other i) paths) ∙ list_any_or (λ other. bytes_eq other front) (lies_below front) paths
+pub any_below_last : (path front name : List ℕ) (paths : List (List ℕ)) → LastSlash path front name → list_any (λ above. is_ancestor above path) paths ≡ (list_any (λ other. bytes_eq other front) paths || list_any (λ above. is_ancestor above front) paths)
+any_below_last path front name paths h = (λ i. list_any (λ other. below_last path front name h other i) paths) ∙ list_any_or (λ other. bytes_eq other front) (λ above. is_ancestor above front) paths
 
-any_below_none : (path : List ℕ) (paths : List (List ℕ)) → NoSlash path → list_any (lies_below path) paths ≡ false
-any_below_none path paths h = list_any_false (lies_below path) (λ other. false_from_ne_true _ (λ lower.
+any_below_none : (path : List ℕ) (paths : List (List ℕ)) → NoSlash path → list_any (λ above. is_ancestor above path) paths ≡ false
+any_below_none path paths h = list_any_false (λ above. is_ancestor above path) (λ other. false_from_ne_true _ (λ lower.
     let found = below_parts path other lower in some_slash_in other found.0 (subst NoSlash found.1 h))) paths
 
 -- what the cut at the last slash says
 abbrev pub FrontSays : List ℕ → List (List ℕ) → Option (Bor (List ℕ) × Bor (List ℕ)) → Type 0
-FrontSays path paths cut = MatchOption cut (list_any (lies_below path) paths ≡ false)
-    (λ parts. (list_any (lies_below path) paths ≡ (list_any (λ other. bytes_eq other parts.0.now) paths || list_any (lies_below parts.0.now) paths)) × (length parts.0.now < length path))
+FrontSays path paths cut = MatchOption cut (list_any (λ above. is_ancestor above path) paths ≡ false)
+    (λ parts. (list_any (λ above. is_ancestor above path) paths ≡ (list_any (λ other. bytes_eq other parts.0.now) paths || list_any (λ above. is_ancestor above parts.0.now) paths)) × (length parts.0.now < length path))
 
 pub front_says : (path : List ℕ) (paths : List (List ℕ)) (cut : Option (Bor (List ℕ) × Bor (List ℕ))) → MatchOption cut (RFindsChar slash path None) (λ x. SplitsAroundMatch (RFindsChar slash) path x.0.now x.1.now) → FrontSays path paths cut
 front_says path paths None h = any_below_none path paths (no_slash path (λ i l. NoCharPasses-char slash path i h (omega arith) l))
@@ -148,32 +148,32 @@ front_says path paths (Some x) h =
 
 -- ---- a path that another one covers
 
-covers_apart_from : (path other : List ℕ) → (covers other path && not (bytes_eq other path)) ≡ (lies_below path other || (bytes_eq other (slash ∷ []) && (begins (slash ∷ []) path && not (bytes_eq path (slash ∷ [])))))
+covers_apart_from : (path other : List ℕ) → (covers other path && not (bytes_eq other path)) ≡ (is_ancestor other path || (bytes_eq other (slash ∷ []) && (begins (slash ∷ []) path && not (bytes_eq path (slash ∷ [])))))
 covers_apart_from path other = same_tests _ _
     (λ h. let parts = and_parts (covers other path) (not (bytes_eq other path)) h in says (not-true _ parts.1) (covers_says other path parts.0))
-    (λ h. elim (or_cases (lies_below path other) _ h) [
-      | inl lower ↦ and_from (covers other path) _ (or_right (bytes_eq other path) _ (or_left (lies_below path other) _ lower)) (not_from_false _ (false_from_ne_true _ (λ is.
+    (λ h. elim (or_cases (is_ancestor other path) _ h) [
+      | inl lower ↦ and_from (covers other path) _ (or_right (bytes_eq other path) _ (or_left (is_ancestor other path) _ lower)) (not_from_false _ (false_from_ne_true _ (λ is.
           let long = below_longer path other lower in let e : length other ≡ length path = ap length ((bytes_decides other path).0 is) in absurd (omega arith))))
       | inr top ↦
           let parts = and_parts (bytes_eq other (slash ∷ [])) _ top in
           let rest = and_parts (begins (slash ∷ []) path) (not (bytes_eq path (slash ∷ []))) parts.1 in
-          and_from (covers other path) _ (or_right (bytes_eq other path) _ (or_right (lies_below path other) _ (and_from (bytes_eq other (slash ∷ [])) _ parts.0 rest.0))) (not_from_false _ (false_from_ne_true _ (λ is.
+          and_from (covers other path) _ (or_right (bytes_eq other path) _ (or_right (is_ancestor other path) _ (and_from (bytes_eq other (slash ∷ [])) _ parts.0 rest.0))) (not_from_false _ (false_from_ne_true _ (λ is.
           both_ways (bytes_eq path (slash ∷ [])) (not-true _ rest.1) ((bytes_decides path (slash ∷ [])).1 (sym ((bytes_decides other path).0 is) ∙ (bytes_decides other (slash ∷ [])).0 parts.0)))))
     ])
   where
-    says : bytes_eq other path ≡ false → Covers other path → (lies_below path other || (bytes_eq other (slash ∷ []) && (begins (slash ∷ []) path && not (bytes_eq path (slash ∷ []))))) ≡ true
+    says : bytes_eq other path ≡ false → Covers other path → (is_ancestor other path || (bytes_eq other (slash ∷ []) && (begins (slash ∷ []) path && not (bytes_eq path (slash ∷ []))))) ≡ true
     says apart (itself e) = absurd (both_ways (bytes_eq other path) apart ((bytes_decides other path).1 e))
-    says apart (below rest e) = or_left (lies_below path other) _ (below_from path other rest e)
-    says apart (root rest e f) = or_right (lies_below path other) _ (and_from (bytes_eq other (slash ∷ [])) _ ((bytes_decides other (slash ∷ [])).1 e)
+    says apart (below rest e) = or_left (is_ancestor other path) _ (below_from path other rest e)
+    says apart (root rest e f) = or_right (is_ancestor other path) _ (and_from (bytes_eq other (slash ∷ [])) _ ((bytes_decides other (slash ∷ [])).1 e)
         (and_from (begins (slash ∷ []) path) _ (subst (λ t. begins (slash ∷ []) t ≡ true) (sym f) refl)
         (not_from_false _ (false_from_ne_true _ (λ is. both_ways (bytes_eq other path) apart ((bytes_decides other path).1 (e ∙ sym ((bytes_decides path (slash ∷ [])).0 is))))))))
 
 -- what covers it lies above it, or is the root
-pub alone_is : (path : List ℕ) (paths : List (List ℕ)) → is_alone paths path ≡ not (list_any (lies_below path) paths || ((begins (slash ∷ []) path && not (bytes_eq path (slash ∷ []))) && is_among paths (slash ∷ [])))
+pub alone_is : (path : List ℕ) (paths : List (List ℕ)) → is_alone paths path ≡ not (list_any (λ above. is_ancestor above path) paths || ((begins (slash ∷ []) path && not (bytes_eq path (slash ∷ []))) && is_among paths (slash ∷ [])))
 alone_is path paths = ap not
     ((λ i. list_any (λ other. covers_apart_from path other i) paths)
-    ∙ list_any_or (lies_below path) (λ other. bytes_eq other (slash ∷ []) && (begins (slash ∷ []) path && not (bytes_eq path (slash ∷ [])))) paths
-    ∙ ap (λ b. list_any (lies_below path) paths || b) (list_any_and (λ other. bytes_eq other (slash ∷ [])) (begins (slash ∷ []) path && not (bytes_eq path (slash ∷ []))) paths))
+    ∙ list_any_or (λ above. is_ancestor above path) (λ other. bytes_eq other (slash ∷ []) && (begins (slash ∷ []) path && not (bytes_eq path (slash ∷ [])))) paths
+    ∙ ap (λ b. list_any (λ above. is_ancestor above path) paths || b) (list_any_and (λ other. bytes_eq other (slash ∷ [])) (begins (slash ∷ []) path && not (bytes_eq path (slash ∷ []))) paths))
 
 -- ---- a name that one of the paths covers
 
@@ -190,12 +190,12 @@ regroup false false true false false false z = refl
 regroup false false false g x y z = refl
 
 -- a path that covers the name is the name, a front of it, or the root
-fronts_cover : (name : List ℕ) (ps : List (List ℕ)) → list_any (λ path. covers path name) ps ≡ (is_among ps name || (list_any (lies_below name) ps || (begins (slash ∷ []) name && is_among ps (slash ∷ []))))
+fronts_cover : (name : List ℕ) (ps : List (List ℕ)) → list_any (λ path. covers path name) ps ≡ (is_among ps name || (list_any (λ above. is_ancestor above name) ps || (begins (slash ∷ []) name && is_among ps (slash ∷ []))))
 fronts_cover name [] = elim (begins (slash ∷ []) name) as (λ b. false ≡ (b && false)) [ true ↦ refl | false ↦ refl ]
 fronts_cover name (path ∷ ps) =
     ap (λ b. covers path name || b) (fronts_cover name ps)
-    ∙ regroup (bytes_eq path name) (lies_below name path) (bytes_eq path (slash ∷ [])) (begins (slash ∷ []) name) (is_among ps name) (list_any (lies_below name) ps) (is_among ps (slash ∷ []))
+    ∙ regroup (bytes_eq path name) (is_ancestor path name) (bytes_eq path (slash ∷ [])) (begins (slash ∷ []) name) (is_among ps name) (list_any (λ above. is_ancestor above name) ps) (is_among ps (slash ∷ []))
 
 -- it is one of the paths, or lies below one, or below the root
-pub covered_is : (name : List ℕ) (ps : List (List ℕ)) → is_covered (set.from_list ps) name ≡ (is_among ps name || (list_any (lies_below name) ps || (begins (slash ∷ []) name && is_among ps (slash ∷ []))))
+pub covered_is : (name : List ℕ) (ps : List (List ℕ)) → is_covered (set.from_list ps) name ≡ (is_among ps name || (list_any (λ above. is_ancestor above name) ps || (begins (slash ∷ []) name && is_among ps (slash ∷ []))))
 covered_is name ps = sym (any-from_list (λ path. covers path name) ps) ∙ fronts_cover name ps

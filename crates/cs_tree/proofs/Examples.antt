@@ -1,9 +1,11 @@
 -- Worked rows, by computation.
-use Rattle.std.proofs.Common.{◌≡◌, ℕ, List, true, false, [], ◌∷◌, Some, refl}
+use Rattle.std.proofs.Common.{◌≡◌, ℕ, List, true, false, [], ◌∷◌, Some, Ok, Err, refl}
 use Rattle.std.specs.Prelude.{codes}
 use Rattle.cs_tree.specs.Told.{Taken, with_bytes, after_flush}
 use Rattle.cs_tree.specs.Taken.{TakesFront}
 use Rattle.cs_tree.specs.Memory.{nothing_taken}
+use Rattle.cs_tree.specs.ReadCounts.{no_reads, after_open, after_read}
+use Rattle.cs_tree.specs.declared.fault.TreeFault.TheVariants.{Failed}
 use Rattle.cs_tree.specs.Clean.{clean_path, is_clean}
 use Rattle.cs_tree.specs.Cleaning.{is_settled}
 use Rattle.cs_tree.specs.Proper.{is_proper_path}
@@ -77,3 +79,12 @@ a_line_and_a_flush = refl
 
 a_second_flush_is_counted : after_flush (flushed_once (codes "t") 0) ≡ record { bytes = codes "t"; flushed = 1; flushes = 2 }
 a_second_flush_is_counted = refl
+
+two_reads_of_a_file_count_together : after_read (Ok 2) (after_read (Ok 3) no_reads) ≡ record { of_open = 5; most = 5 }
+two_reads_of_a_file_count_together = refl
+
+the_next_file_counts_from_none : after_read (Ok 1) (after_open (after_read (Ok 3) no_reads)) ≡ record { of_open = 1; most = 3 }
+the_next_file_counts_from_none = refl
+
+a_failed_read_counts_nothing : after_read (Err Failed) (after_read (Ok 3) no_reads) ≡ record { of_open = 3; most = 3 }
+a_failed_read_counts_nothing = refl

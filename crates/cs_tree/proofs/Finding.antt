@@ -1,19 +1,22 @@
 -- What a walk has gathered from all of its paths, put in order, is what it finds.
-use Rattle.std.proofs.Common.{◌≡◌, ℕ, Bool, true, false, ◌&&◌, ◌||◌, cond, List, [], ◌∷◌, refl, sym, ap, subst, ◌∙◌, inl, inr, arith, Option, Some, None}
+use Rattle.std.proofs.Common.{◌≡◌, ℕ, ◌+◌, ◌≤◌, Bool, true, false, ◌&&◌, ◌||◌, cond, List, [], ◌∷◌, refl, sym, ap, subst, ◌∙◌, inl, inr, arith, Option, Some, None}
 use Rattle.cs_tree.specs.NamesAscending.{are_ascending}
-use Rattle.std.proofs.lemmas.Bool.{true≢false, cases_Bool, or_left, or_right}
-use Rattle.std.specs.Prelude.{is_some, Contains, bytes_eq}
+use Rattle.std.proofs.lemmas.Bool.{true≢false, cases_Bool, ltb-false, or_left, or_right}
+use Rattle.std.specs.Prelude.{is_some, Contains, IsPermutation, bytes_eq, nat_lt}
 use Rattle.std.specs.Cmp.Lexicographic.{bytes_decides}
 use Rattle.std.specs.List.{AllByRecursion}
+use Rattle.cs_tree.specs.Failures.{count_if, most_failures}
 use Rattle.cs_tree.specs.PathSet as set
 use Rattle.cs_tree.specs.Cover.{is_covered}
 use Rattle.cs_tree.specs.Snapshot.{Snapshot, item_at}
 use Rattle.cs_tree.specs.Reached.{is_reached}
-use Rattle.cs_tree.specs.Walks.{LeftPath, trouble_at, is_taken, is_among, fault_among, left_paths, names_walked, faults_walked, Finds, FindsIn, CountsFaults}
-use Rattle.cs_tree.specs.Visits.{KeepsTo, is_left, AreTroublesOf, Gathers, GathersIn, KeepsCounts}
+use Rattle.cs_tree.specs.Walks.{LeftPath, trouble_at, is_taken, is_among, fault_among, left_paths, names_walked, faults_walked, Finds, FindsIn, CountsFault, CountsFaults, are_alone, failures_walked, is_failed_call, AreAskable}
+use Rattle.cs_tree.specs.Visits.{KeepsTo, is_left, AreTroublesOf, Gathers, GathersIn, IsLeftOnce, KeepsCount, LeavesOnce, times_left, KeepsAskable}
 use Rattle.cs_tree.specs.declared.walking.Walked.{Walked}
 use Rattle.cs_tree.specs.declared.walking.WalkFault.{WalkFault}
+use Rattle.cs_tree.specs.declared.walking.WalkFault.TheVariants as fault
 use Rattle.cs_tree.proofs.InOrder.{all_kept}
+use Rattle.cs_tree.proofs.LeftOnce.{alone_once, failures_moved}
 
 -- ---- all in order
 
@@ -63,29 +66,79 @@ pub finds_in : (told : Option Snapshot) (ps : List (List ℕ)) (old gathered : W
 finds_in None ps old gathered names faults no_names no_faults h order = tt
 finds_in (Some tree) ps old gathered names faults no_names no_faults h order = λ good. finds tree ps old gathered names faults no_names no_faults (h good) order
 
-pub counts_in_order : (count later : ℕ) (old gathered : Walked) (names : List (List ℕ)) (faults : List LeftPath) → faults_walked old ≡ [] → KeepsCounts count later old gathered → InOrder gathered names faults → CountsFaults faults count later
+-- ---- what was counted
+
+next_rises : (b : Bool) (n : ℕ) → n ≤ count_if b n
+next_rises true n = elim (nat_lt n most_failures) as (λ b. n ≤ cond b (n + 1) n) [ true ↦ omega arith | false ↦ omega arith ]
+next_rises false n = omega arith
+
+failures_rise : (faults : List LeftPath) (n : ℕ) → n ≤ failures_walked faults n
+failures_rise [] n = omega arith
+failures_rise (left ∷ faults) n = omega (arith, next_rises (is_failed_call left.1) n, failures_rise faults (count_if (is_failed_call left.1) n))
+
+fault_counted : (fault : WalkFault) (start now later : ℕ) → start ≤ now → count_if (is_failed_call fault) now ≤ later → CountsFault fault start later
+fault_counted (fault.Tree f) start now later up after =
+    elim (cases_Bool (nat_lt now most_failures)) [
+      | inl less ↦ inl (omega (arith, up, subst (λ b. cond b (now + 1) now ≤ later) less after))
+      | inr end ↦ inr (omega (arith, ltb-false now most_failures end, subst (λ b. cond b (now + 1) now ≤ later) end after))
+    ]
+fault_counted fault.Unnamed start now later up after = tt
+fault_counted fault.TooLong start now later up after = tt
+
+faults_counted : (faults : List LeftPath) (start now later : ℕ) → start ≤ now → failures_walked faults now ≤ later → CountsFaults faults start later
+faults_counted [] start now later up after = tt
+faults_counted (left ∷ faults) start now later up after =
+    let next = count_if (is_failed_call left.1) now in
+    (fault_counted left.1 start now later up (omega (arith, failures_rise faults next, after)), faults_counted faults start next later (omega (arith, up, next_rises (is_failed_call left.1) now)) after)
+
+-- the count after all that was gathered
+counted_from : (count later : ℕ) (old gathered : Walked) → faults_walked old ≡ [] → KeepsCount count later old gathered → later ≡ failures_walked (faults_walked gathered) count
+counted_from count later old gathered no_faults h = h count (ap (λ fs. failures_walked fs count) (sym no_faults))
+
+pub counts_in_order : (count later : ℕ) (old gathered : Walked) (names : List (List ℕ)) (faults : List LeftPath) → faults_walked old ≡ [] → KeepsCount count later old gathered → InOrder gathered names faults → CountsFaults faults count later
 counts_in_order count later old gathered names faults no_faults h order =
-    all_kept _ (faults_walked gathered) faults order.kept (h count (omega arith) (subst (λ fs. CountsFaults fs count count) (sym no_faults) tt))
+    let after = counted_from count later old gathered no_faults h in
+    all_kept _ (faults_walked gathered) faults order.kept (faults_counted (faults_walked gathered) count count later (omega arith) (omega (arith, after)))
+
+pub quiet_in_order : (count later : ℕ) (old gathered : Walked) (names : List (List ℕ)) (faults : List LeftPath) → faults_walked old ≡ [] → KeepsCount count later old gathered → InOrder gathered names faults → faults ≡ [] → later ≡ count
+quiet_in_order count later old gathered names faults no_faults h order none =
+    counted_from count later old gathered no_faults h
+    ∙ ap (λ fs. failures_walked fs count) (by_faults (faults_walked gathered) (λ path. sym (order.faults_same path) ∙ ap (λ fs. is_among (left_paths fs) path) none))
+  where
+    among_first : (name : List ℕ) (names : List (List ℕ)) → is_among (name ∷ names) name ≡ true
+    among_first name names = ap (λ b. b || is_among names name) ((bytes_decides name name).1 refl)
+
+    by_faults : (fs : List LeftPath) → ((path : List ℕ) → is_among (left_paths fs) path ≡ false) → fs ≡ []
+    by_faults [] h = refl
+    by_faults (left ∷ fs) h = absurd (true≢false (sym (among_first left.0 (left_paths fs)) ∙ h left.0))
+
+-- where none of the paths covers another one, each failure is told
+pub told_in_order : (ps : List (List ℕ)) (count later : ℕ) (old gathered : Walked) (faults : List LeftPath) → faults_walked old ≡ [] → KeepsCount count later old gathered → LeavesOnce ps old gathered → (IsLeftOnce (faults_walked gathered) → IsPermutation (faults_walked gathered) faults) → are_alone ps ≡ true → later ≡ failures_walked faults count
+told_in_order ps count later old gathered faults no_faults h leaves whole alone =
+    counted_from count later old gathered no_faults h
+    ∙ sym (failures_moved (faults_walked gathered) faults count (whole (λ path. omega (arith, leaves path, ap (λ fs. times_left fs path) no_faults, alone_once ps path alone))))
 
 -- ---- under the paths
 
-pub names_under : (ps : List (List ℕ)) (old gathered : Walked) (names : List (List ℕ)) → names_walked old ≡ [] → KeepsTo (is_covered (set.from_list ps)) old gathered → ((q : List ℕ) → is_among names q ≡ is_among (names_walked gathered) q) → AllByRecursion (λ name. is_covered (set.from_list ps) name ≡ true) names
-names_under ps old gathered names no_names keeps alike = each names (λ name member. at name (names_walked gathered) all (sym (alike name) ∙ member))
+-- what holds of all names that were gathered holds of them in order
+all_alike : (P : List ℕ → Type 0) (names gathered : List (List ℕ)) → AllByRecursion P gathered → ((q : List ℕ) → is_among names q ≡ is_among gathered q) → AllByRecursion P names
+all_alike P names gathered all alike = each names (λ name member. at name gathered all (sym (alike name) ∙ member))
   where
-    test : List ℕ → Bool
-    test name = is_covered (set.from_list ps) name
-
-    all : AllByRecursion (λ name. test name ≡ true) (names_walked gathered)
-    all = keeps test (λ name is. is) (subst (AllByRecursion (λ name. test name ≡ true)) (sym no_names) tt)
-
-    at : (name : List ℕ) (xs : List (List ℕ)) → AllByRecursion (λ x. test x ≡ true) xs → is_among xs name ≡ true → test name ≡ true
+    at : (name : List ℕ) (xs : List (List ℕ)) → AllByRecursion P xs → is_among xs name ≡ true → P name
     at name [] all h = absurd (true≢false (sym h))
     at name (x ∷ xs) all h =
         elim (cases_Bool (bytes_eq x name)) [
-          | inl here ↦ subst (λ m. test m ≡ true) ((bytes_decides x name).0 here) all.0
+          | inl here ↦ subst P ((bytes_decides x name).0 here) all.0
           | inr apart ↦ at name xs all.1 (sym (ap (λ b. b || is_among xs name) apart) ∙ h)
         ]
 
-    each : (ns : List (List ℕ)) → ((name : List ℕ) → is_among ns name ≡ true → test name ≡ true) → AllByRecursion (λ name. test name ≡ true) ns
+    each : (ns : List (List ℕ)) → ((name : List ℕ) → is_among ns name ≡ true → P name) → AllByRecursion P ns
     each [] g = tt
     each (n ∷ ns) g = (g n (or_left (bytes_eq n n) _ ((bytes_decides n n).1 refl)), each ns (λ m member. g m (or_right (bytes_eq n m) _ member)))
+
+pub names_under : (ps : List (List ℕ)) (old gathered : Walked) (names : List (List ℕ)) → names_walked old ≡ [] → KeepsTo (is_covered (set.from_list ps)) old gathered → ((q : List ℕ) → is_among names q ≡ is_among (names_walked gathered) q) → AllByRecursion (λ name. is_covered (set.from_list ps) name ≡ true) names
+names_under ps old gathered names no_names keeps alike =
+    all_alike _ names (names_walked gathered) (keeps (λ name. is_covered (set.from_list ps) name) (λ name is. is) (subst (AllByRecursion (λ name. is_covered (set.from_list ps) name ≡ true)) (sym no_names) tt)) alike
+
+pub names_askable : (old gathered : Walked) (names : List (List ℕ)) → names_walked old ≡ [] → KeepsAskable old gathered → ((q : List ℕ) → is_among names q ≡ is_among (names_walked gathered) q) → AreAskable names
+names_askable old gathered names no_names keeps alike = all_alike _ names (names_walked gathered) (keeps (subst AreAskable (sym no_names) tt)) alike

@@ -1,5 +1,6 @@
 -- What a walk gathers from path to path.
-use Rattle.std.proofs.Common.{◌≡◌, ℕ, ◌<◌, ◌≤◌, Bool, true, false, not, ◌&&◌, ◌||◌, cond, List, [], ◌∷◌, ◌++◌, length, map, refl, sym, ap, subst, ◌∙◌, inl, inr, arith, Option, Some, None}
+use Rattle.std.proofs.Common.{◌≡◌, ℕ, ◌<◌, ◌≤◌, Bool, true, false, not, ◌&&◌, ◌||◌, cond, List, [], ◌∷◌, ◌++◌, length, map, refl, sym, ap, subst, ◌∙◌, arith, Option, Some, None}
+use Rattle.cs_tree.specs.Failures.{count_if}
 use Rattle.cs_tree.specs.Folders.{child, last_element}
 use Rattle.std.proofs.lemmas.Bool.{true≢false}
 use Rattle.std.proofs.lemmas.List.{map-append}
@@ -11,8 +12,8 @@ use Rattle.cs_tree.specs.Cover.{covers}
 use Rattle.cs_tree.specs.Clean.{longest_path}
 use Rattle.cs_tree.specs.Snapshot.{Snapshot, item_at}
 use Rattle.cs_tree.specs.Reached.{is_left_out, reaches, leads, elements_under}
-use Rattle.cs_tree.specs.Walks.{LeftPath, trouble_at, is_taken, is_among, left_paths, names_walked, faults_walked, CountsFault, CountsFaults}
-use Rattle.cs_tree.specs.Visits.{comes, is_left, Gains, AreTroublesOf, Gathers, GathersIn, KeepsCounts, is_file_seen, fault_seen, names_seen, IsSightOf, IsSightIn, IsEntered, CountsSight, children, is_walked, named_if, left_if}
+use Rattle.cs_tree.specs.Walks.{LeftPath, trouble_at, is_taken, is_among, left_paths, names_walked, faults_walked, failures_walked, is_failed_call, AreAskable}
+use Rattle.cs_tree.specs.Visits.{comes, is_left, Gains, AreTroublesOf, Gathers, GathersIn, KeepsCount, is_file_seen, fault_seen, names_seen, IsSightOf, IsSightIn, IsEntered, CountsSight, children, is_walked, named_if, left_if}
 use Rattle.cs_tree.specs.declared.walking.Walked.{Walked}
 use Rattle.cs_tree.specs.declared.walking.WalkFault.{WalkFault}
 use Rattle.cs_tree.specs.declared.walking.WalkFault.TheVariants as fault
@@ -182,39 +183,23 @@ kept_in told path old new kept h = same_in told (λ tree. comes tree path) (λ t
 
 -- ---- counts
 
-counts_later : (fault : WalkFault) (start count later : ℕ) → count ≤ later → CountsFault fault start count → CountsFault fault start later
-counts_later (fault.Tree f) start count later up (inl l) = inl (omega (arith, up, l))
-counts_later (fault.Tree f) start count later up (inr l) = inr (omega (arith, up, l))
-counts_later fault.Unnamed start count later up h = tt
-counts_later fault.TooLong start count later up h = tt
+failures-append : (xs ys : List LeftPath) (n : ℕ) → failures_walked (xs ++ ys) n ≡ failures_walked ys (failures_walked xs n)
+failures-append [] ys n = refl
+failures-append (left ∷ xs) ys n = failures-append xs ys (count_if (is_failed_call left.1) n)
 
-counts_sooner : (fault : WalkFault) (start count later : ℕ) → start ≤ count → CountsFault fault count later → CountsFault fault start later
-counts_sooner (fault.Tree f) start count later up (inl l) = inl (omega (arith, up, l))
-counts_sooner (fault.Tree f) start count later up (inr l) = inr l
-counts_sooner fault.Unnamed start count later up h = tt
-counts_sooner fault.TooLong start count later up h = tt
+counts_seen : (seen : Sight) (path : List ℕ) (count later : ℕ) → CountsSight seen count later → later ≡ failures_walked (left_if (fault_seen seen) path) count
+counts_seen sight.File path count later h = h
+counts_seen (sight.Folder listing) path count later h =
+    h ∙ elim listing.unnamed as (λ b. count ≡ failures_walked (left_if (cond b (Some fault.Unnamed) None) path) count) [ true ↦ refl | false ↦ refl ]
+counts_seen sight.Other path count later h = h
+counts_seen (sight.Left f) path count later h = h
 
-all_later : (faults : List LeftPath) (start count later : ℕ) → count ≤ later → CountsFaults faults start count → CountsFaults faults start later
-all_later [] start count later up h = tt
-all_later (left ∷ faults) start count later up h = (counts_later left.1 start count later up h.0, all_later faults start count later up h.1)
-
-counts_seen : (seen : Sight) (path : List ℕ) (start count later : ℕ) → start ≤ count → CountsSight seen count later → CountsFaults (left_if (fault_seen seen) path) start later
-counts_seen sight.File path start count later up h = tt
-counts_seen (sight.Folder listing) path start count later up h =
-    elim listing.unnamed as (λ b. CountsFaults (left_if (cond b (Some fault.Unnamed) None) path) start later) [ true ↦ (tt, tt) | false ↦ tt ]
-counts_seen sight.Other path start count later up h = tt
-counts_seen (sight.Left f) path start count later up h = (counts_sooner f start count later up h, tt)
-
-pub counts_one : (count later : ℕ) (path : List ℕ) (seen : Sight) (old new : Walked) → count ≤ later → CountsSight seen count later → faults_walked new ≡ faults_walked old ++ left_if (fault_seen seen) path → KeepsCounts count later old new
-counts_one count later path seen old new up h faults = λ start below all.
-    subst (λ fs. CountsFaults fs start later) (sym faults)
-    (all-append _ (faults_walked old) (left_if (fault_seen seen) path) (all_later (faults_walked old) start count later up all) (counts_seen seen path start count later below h))
-
-pub counts_chain : (count mid later : ℕ) (old between new : Walked) → count ≤ mid → KeepsCounts count mid old between → KeepsCounts mid later between new → KeepsCounts count later old new
-counts_chain count mid later old between new up first second = λ start below all. second start (omega (arith, below, up)) (first start below all)
-
-pub counts_none : (count later : ℕ) (walked : Walked) → count ≤ later → KeepsCounts count later walked walked
-counts_none count later walked up = λ start below all. all_later (faults_walked walked) start count later up all
+pub counts_one : (count later : ℕ) (path : List ℕ) (seen : Sight) (old new : Walked) → CountsSight seen count later → faults_walked new ≡ faults_walked old ++ left_if (fault_seen seen) path → KeepsCount count later old new
+counts_one count later path seen old new h faults = λ start so_far.
+    counts_seen seen path count later h
+    ∙ ap (failures_walked (left_if (fault_seen seen) path)) so_far
+    ∙ sym (failures-append (faults_walked old) (left_if (fault_seen seen) path) start)
+    ∙ ap (λ fs. failures_walked fs start) (sym faults)
 
 -- ---- the paths that a walk goes on by
 
@@ -233,6 +218,16 @@ children_deeper path (name ∷ names) short = by_walked (is_walked name) refl (c
     by_walked : (b : Bool) → is_walked name ≡ b → AreDeeper path (children path names) → AreDeeper path (map (child path) (cond b (name ∷ filter is_walked names) (filter is_walked names)))
     by_walked true good rest = ((short, child_longer path name (some name good)), rest)
     by_walked false good rest = rest
+
+-- the name of a file that was seen is short enough
+pub askable_one : (path : List ℕ) (seen : Sight) (old new : Walked) → IsEntered path seen → names_walked new ≡ names_walked old ++ named_if (is_file_seen seen) path → AreAskable (names_walked old) → AreAskable (names_walked new)
+askable_one path seen old new entered names all = subst AreAskable (sym names) (all-append _ (names_walked old) (named_if (is_file_seen seen) path) all (here seen entered))
+  where
+    here : (seen : Sight) → IsEntered path seen → AreAskable (named_if (is_file_seen seen) path)
+    here sight.File entered = (entered, tt)
+    here (sight.Folder listing) entered = tt
+    here sight.Other entered = tt
+    here (sight.Left fault) entered = tt
 
 pub entered_deeper : (path : List ℕ) (seen : Sight) → IsEntered path seen → AreDeeper path (children path (names_seen seen))
 entered_deeper path sight.File h = tt

@@ -64,7 +64,7 @@ module _ {X Y : Type 0} (view : X → Y) (tied : Y → Y → Bool) where
         | false ↦ ap (λ ys. view k ∷ ys) (once_seen_from x xs)
       ]
 
-  once_seen : (xs : List X) → map view (dedup (λ x y. tied (view x) (view y)) xs) ≡ dedup tied (map view xs)
+  pub once_seen : (xs : List X) → map view (dedup (λ x y. tied (view x) (view y)) xs) ≡ dedup tied (map view xs)
   once_seen [] = refl
   once_seen (x ∷ xs) = once_seen_from x xs
 

@@ -14,12 +14,12 @@ use Rattle.std.specs.Cmp.Lexicographic.{bytes_decides, nat_list_cmp_total}
 use Rattle.std.specs.List.{position_or_len, list_any, AllByRecursion}
 use Rattle.std.specs.Ordering.{eq_by_cmp}
 use Rattle.std.specs.FinMap.{find, get, insert, from_entries, get-from_entries, get-insert, get-empty, empty, from_entries_push, same_map}
-use Rattle.cs_tree.specs.Snapshot.{Item, item_at, folder, bad, missing}
+use Rattle.cs_tree.specs.Snapshot.{Snapshot, Item, item_at, folder, bad, missing}
 use Rattle.cs_tree.specs.Changes.{is_folder, without_listed_names, left_without, goes_with}
 use Rattle.cs_tree.specs.MemoryItems.{snapshot_of, pair_of, item_of, left_of, left_at}
 use Rattle.cs_tree.specs.StoredItems.{place_at, unlisted_pair}
 use Rattle.cs_tree.specs.Told.{Told, ends, fails}
-use Rattle.cs_tree.specs.Trees.{OpenReadGives}
+use Rattle.cs_tree.specs.Trees.{TreeReadGives}
 use Rattle.cs_tree.specs.declared.in_memory.Names.{Names}
 use Rattle.cs_tree.specs.declared.in_memory.Stored.{Stored}
 use Rattle.cs_tree.specs.declared.in_memory.StoredItem.{StoredItem}
@@ -281,10 +281,10 @@ left_on items (Some i) front told rest taken n e bytes ending l = by_item (slice
     by_item (Some s) f = item_on s.item front told rest taken n f bytes ending l
 
 -- a read of what is left of the open file
-pub reads_on : (items : List Stored) (opened : Option ℕ) (told rest : Told) (taken n : ℕ) (buf : List ℕ) → left_at items taken opened ≡ Some told → n ≤ length buf → ReadGives (Some told) (Some rest) (Ok n) buf → OpenReadGives (left_at items taken opened) (left_at items (taken + n) opened) (Ok n) buf
-reads_on items opened told rest taken n buf e bound h =
+pub reads_on : (tree : Snapshot) (items : List Stored) (opened : Option ℕ) (told rest : Told) (taken n : ℕ) (buf : List ℕ) → left_at items taken opened ≡ Some told → n ≤ length buf → ReadGives (Some told) (Some rest) (Ok n) buf → TreeReadGives (Some tree) (left_at items taken opened) (left_at items (taken + n) opened) (Ok n) buf
+reads_on tree items opened told rest taken n buf e bound h =
     let later = left_on items opened (take n buf) told rest taken n e h.0.0 h.0.1 (omega (arith, length-take n buf)) in
-    subst (λ o. OpenReadGives o (left_at items (taken + n) opened) (Ok n) buf) (sym e) (subst (λ o. OpenReadGives (Some told) o (Ok n) buf) (sym later) h)
+    subst (λ o. TreeReadGives (Some tree) o (left_at items (taken + n) opened) (Ok n) buf) (sym e) (subst (λ o. TreeReadGives (Some tree) (Some told) o (Ok n) buf) (sym later) h)
 
 -- ---- what goes with a path
 

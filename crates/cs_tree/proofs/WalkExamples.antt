@@ -4,8 +4,9 @@ use Rattle.cs_tree.specs.NamesAscending.{are_ascending}
 use Rattle.std.specs.Prelude.{codes}
 use Rattle.cs_tree.specs.Reached.{is_left_out}
 use Rattle.cs_tree.specs.Snapshot.{folder, cut, other, bad, missing}
-use Rattle.cs_tree.specs.Walks.{trouble_at, is_file, is_among, fault_among}
-use Rattle.cs_tree.specs.declared.fault.TreeFault.TheVariants.{Missing}
+use Rattle.cs_tree.specs.Walks.{trouble_at, is_file, is_among, fault_among, are_alone, failures_walked}
+use Rattle.cs_tree.specs.Visits.{times_covered, times_left}
+use Rattle.cs_tree.specs.declared.fault.TreeFault.TheVariants.{Missing, Denied}
 use Rattle.cs_tree.specs.declared.walking.WalkFault.TheVariants.{Tree, Unnamed, TooLong}
 
 a_dot_in_front_is_left_out : is_left_out (codes ".a") ≡ true
@@ -46,3 +47,24 @@ a_path_without_an_entry_has_no_fault = refl
 
 a_name_is_among_names : is_among (codes "/a" ∷ codes "/b" ∷ []) (codes "/b") ≡ true
 a_name_is_among_names = refl
+
+failed_calls_are_failures_and_other_faults_are_none : failures_walked ((codes "/a", Tree Missing) ∷ (codes "/b", Unnamed) ∷ (codes "/c", Tree Denied) ∷ (codes "/d", TooLong) ∷ []) 3 ≡ 5
+failed_calls_are_failures_and_other_faults_are_none = refl
+
+the_count_of_failures_stays_at_its_end : failures_walked ((codes "/a", Tree Missing) ∷ []) 18446744073709551615 ≡ 18446744073709551615
+the_count_of_failures_stays_at_its_end = refl
+
+paths_beside_each_other_are_alone : are_alone (codes "/a/bc" ∷ codes "/a/b" ∷ []) ≡ true
+paths_beside_each_other_are_alone = refl
+
+a_path_below_another_one_is_not_alone : are_alone (codes "/a/b" ∷ codes "/a" ∷ []) ≡ false
+a_path_below_another_one_is_not_alone = refl
+
+a_path_that_stands_twice_is_not_alone : are_alone (codes "/a" ∷ codes "/a" ∷ []) ≡ false
+a_path_that_stands_twice_is_not_alone = refl
+
+a_name_is_covered_twice : times_covered (codes "/" ∷ codes "/b" ∷ codes "/a" ∷ []) (codes "/a/c") ≡ 2
+a_name_is_covered_twice = refl
+
+a_path_is_left_twice : times_left ((codes "/a", TooLong) ∷ (codes "/b", Unnamed) ∷ (codes "/a", Unnamed) ∷ []) (codes "/a") ≡ 2
+a_path_is_left_twice = refl

@@ -3,12 +3,9 @@
 use Rattle.std.specs.Prelude.{ℕ, Bool, not, ◌&&◌, ◌||◌, nat_eq, List, [], ◌∷◌, ◌++◌, bytes_eq}
 use Rattle.std.specs.Path.{slash}
 use Rattle.cs_tree.specs.PathSet.{Paths}
+pub use Rattle.cs_tree.specs.Elements.{is_among}
 use Rattle.std.specs.List.{list_any, starts_with}
 use Rattle.cs_tree.specs.PathSet as set
-
--- whether the name is one of the names
-abbrev pub is_among : List (List ℕ) → List ℕ → Bool
-is_among names name = list_any (λ one. bytes_eq one name) names
 
 -- whether the text begins with the first one
 abbrev pub begins : List ℕ → List ℕ → Bool
@@ -18,13 +15,13 @@ begins front text = starts_with nat_eq text front
 abbrev pub is_absolute : List ℕ → Bool
 is_absolute path = begins (slash ∷ []) path
 
--- whether the name lies below the path: it goes on by a slash after it
-abbrev pub lies_below : List ℕ → List ℕ → Bool
-lies_below name path = begins (path ++ slash ∷ []) name
+-- whether the path is an ancestor of the name, which goes on by a slash after it
+abbrev pub is_ancestor : List ℕ → List ℕ → Bool
+is_ancestor path name = begins (path ++ slash ∷ []) name
 
 -- whether the path covers the name
 abbrev pub covers : List ℕ → List ℕ → Bool
-covers path name = bytes_eq path name || (lies_below name path || (bytes_eq path (slash ∷ []) && is_absolute name))
+covers path name = bytes_eq path name || (is_ancestor path name || (bytes_eq path (slash ∷ []) && is_absolute name))
 
 -- whether some path covers the name
 abbrev pub is_covered : Paths → List ℕ → Bool

@@ -3,8 +3,8 @@
 use Rattle.std.specs.Prelude.{◌≡◌, ℕ, Bool, true, not, ◌&&◌, nat_eq, if◌then◌else◌, List, [], ◌∷◌, ◌++◌, Option, Some, None, IsUtf8, bytes_eq}
 use Rattle.std.specs.Path.{slash}
 use Rattle.std.specs.List.{list_any, list_all, AllByRecursion, after_last}
-use Rattle.cs_tree.specs.Cover.{is_among}
-use Rattle.cs_tree.specs.Clean.{has_nul}
+pub use Rattle.cs_tree.specs.Elements.{is_element, are_distinct, are_elements}
+use Rattle.cs_tree.specs.Elements.{is_among}
 use Rattle.cs_tree.specs.Snapshot.{Item, Snapshot, item_at, folder}
 
 -- a folder's path as its children's begin: the root adds nothing to the slash
@@ -23,18 +23,6 @@ names_listed _ = []
 -- whether an item is a folder that lists the name
 abbrev pub lists : Item → List ℕ → Bool
 lists item name = is_among (names_listed item) name
-
--- whether a name is not empty, and has no `/` and no NUL
-abbrev pub is_element : List ℕ → Bool
-is_element name = not (bytes_eq name []) && (not (list_any (λ b. nat_eq b slash) name) && not (has_nul name))
-
-abbrev pub are_distinct : List (List ℕ) → Bool
-are_distinct [] = true
-are_distinct (name ∷ names) = not (is_among names name) && are_distinct names
-
--- whether a folder may list these
-abbrev pub are_elements : List (List ℕ) → Bool
-are_elements names = list_all is_element names && are_distinct names
 
 abbrev pub ListsElements : Item → Type 0
 ListsElements (folder names unnamed) = (are_elements names ≡ true) × AllByRecursion IsUtf8 names

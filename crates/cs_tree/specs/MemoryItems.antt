@@ -3,6 +3,7 @@ use Rattle.std.specs.Prelude.{ℕ, List, [], Option, Some, None, map, string_byt
 use Rattle.std.specs.FinMap as map'
 use Rattle.cs_tree.specs.Snapshot.{Snapshot, Item, folder, file, cut, other, bad, denied}
 use Rattle.cs_tree.specs.Told.{Told, told_of}
+use Rattle.cs_tree.specs.ReadCounts.{ReadCounts}
 use Rattle.cs_tree.specs.declared.mem_tree.Item.{Item as Put}
 use Rattle.cs_tree.specs.declared.mem_tree.Item.TheVariants as put
 use Rattle.cs_tree.specs.declared.in_memory.MemTree.{MemTree}
@@ -54,6 +55,10 @@ mem_snapshot tree = snapshot_of tree.items.items
 -- what is left of the file that is open
 abbrev pub left_open : MemTree → Option Told
 left_open tree = left_at tree.items.items tree.taken tree.opened
+
+-- how many bytes of its files were read
+abbrev pub mem_read_counts : MemTree → ReadCounts
+mem_read_counts tree = record { of_open = tree.taken; most = tree.most_read }
 
 -- the most that one read gives
 abbrev pub mem_tree_step : MemTree → ℕ

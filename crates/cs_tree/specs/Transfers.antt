@@ -1,12 +1,9 @@
 -- How reads and writes change what is told of a source and of a sink. Where nothing is told nothing is asked.
 -- docs/PROMISES.md, "Sources and sinks".
-use Rattle.std.specs.Prelude.{◌≡◌, ℕ, ◌+◌, ◌<◌, ◌≤◌, List, [], ◌++◌, length, take, Option, Some, None, Result, MatchResult, Vec, Bool, true, false}
-use Rattle.std.specs.Result.{result_map_both}
-use Rattle.std.specs.declared.alloc.Global.{Global}
+use Rattle.std.specs.Prelude.{◌≡◌, ℕ, ◌+◌, ◌<◌, List, [], ◌++◌, length, take, Option, Some, None, Result, MatchResult, Bool, true, false}
 use Rattle.cs_tree.specs.declared.fault.IoFault.{IoFault}
 use Rattle.cs_tree.specs.declared.fault.IoFault.TheVariants.{Failed, Memory}
 use Rattle.cs_tree.specs.Told.{Ending, Told, Taken, Grows, GrowsFlushed, ends, fails}
-use Rattle.cs_tree.specs.Loss.{LosesAtMost}
 
 -- what is told loses these bytes at its front, and its ending stays
 abbrev pub Loses : Option Told → Option Told → List ℕ → Type 0
@@ -29,22 +26,6 @@ abbrev pub ReadGives : Option Told → Option Told → Result ℕ IoFault → Li
 ReadGives told later answer buf =
     MatchResult answer (λ n. Loses told later (take n buf) × (n ≡ 0 → 0 < length buf → IsAt ends later))
     (λ fault. Loses told later [] × RefusedBy fault later)
-
--- a reading up to a limit has failed only where the bytes are within the limit, and failure follows them
-abbrev pub FailsWithin : ℕ → IoFault → Option Told → Type 0
-FailsWithin limit fault None = Unit {0}
-FailsWithin limit Memory (Some told) = Unit {0}
-FailsWithin limit Failed (Some told) = (length told.bytes ≤ limit) × (told.ending ≡ fails)
-
--- All bytes up to the limit are read, and one more where there are more.
-abbrev pub ReadGivesAll : Option Told → Option Told → ℕ → Result (List ℕ) IoFault → Type 0
-ReadGivesAll told later limit answer =
-    MatchResult answer (λ bytes. Loses told later bytes × (length bytes ≤ limit → IsAt ends later))
-    (λ fault. LosesAtMost (limit + 1) told later × FailsWithin limit fault told)
-
--- the answer, with a vector as the list of its items
-abbrev pub items_of : Result (Vec ℕ Global) IoFault → Result (List ℕ) IoFault
-items_of answer = result_map_both (λ v. v.items) (λ fault. fault) answer
 
 -- A write takes a front of its bytes. A refused one takes none.
 abbrev pub Writes : Option Taken → Option Taken → Result ℕ IoFault → List ℕ → Type 0

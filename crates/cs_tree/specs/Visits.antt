@@ -1,5 +1,6 @@
 -- What a walk gathers on its way: from the paths that it has come to so far, on top of what it had.
-use Rattle.std.specs.Prelude.{◌≡◌, ◌≤◌, ℕ, Bool, true, false, not, ◌&&◌, ◌||◌, nat_le, if◌then◌else◌, List, [], ◌∷◌, map, filter, length, is_some, Option, Some, None, bytes_eq}
+use Rattle.std.specs.Prelude.{◌≡◌, ◌≤◌, ◌+◌, ℕ, Bool, true, false, not, ◌&&◌, ◌||◌, nat_le, if◌then◌else◌, List, [], ◌∷◌, map, filter, length, is_some, Option, Some, None, bytes_eq}
+use Rattle.cs_tree.specs.Failures.{count_if}
 use Rattle.cs_tree.specs.Folders.{child, names_listed, IsTree}
 use Rattle.std.specs.List.{AllByRecursion}
 use Rattle.cs_tree.specs.Cover.{covers}
@@ -7,7 +8,7 @@ use Rattle.cs_tree.specs.Clean.{longest_path}
 use Rattle.cs_tree.specs.Snapshot.{Snapshot, item_at}
 use Rattle.cs_tree.specs.Trees.{listing_names}
 use Rattle.cs_tree.specs.Reached.{elements_under, is_left_out, leads}
-use Rattle.cs_tree.specs.Walks.{LeftPath, trouble_at, is_taken, is_among, left_paths, names_walked, faults_walked, CountsFault, CountsFaults}
+use Rattle.cs_tree.specs.Walks.{LeftPath, trouble_at, is_taken, is_among, left_paths, names_walked, faults_walked, failures_walked, is_failed_call, AreAskable}
 use Rattle.cs_tree.specs.declared.walking.Walked.{Walked}
 use Rattle.cs_tree.specs.declared.walking.WalkFault.{WalkFault}
 use Rattle.cs_tree.specs.declared.walking.WalkFault.TheVariants.{Unnamed}
@@ -51,11 +52,33 @@ KeepsTo passes old new =
     → AllByRecursion (λ name. test name ≡ true) (names_walked old)
     → AllByRecursion (λ name. test name ≡ true) (names_walked new)
 
--- where each fault was counted from a start on, each is still
-abbrev pub KeepsCounts : ℕ → ℕ → Walked → Walked → Type 0
-KeepsCounts count later old new =
-    (start : ℕ) → start ≤ count → CountsFaults (faults_walked old) start count
-    → CountsFaults (faults_walked new) start later
+-- where each of the old names is short enough, each of the new ones is
+abbrev pub KeepsAskable : Walked → Walked → Type 0
+KeepsAskable old new = AreAskable (names_walked old) → AreAskable (names_walked new)
+
+-- where the failures that were counted are those among the faults, they still are
+abbrev pub KeepsCount : ℕ → ℕ → Walked → Walked → Type 0
+KeepsCount count later old new =
+    (start : ℕ) → count ≡ failures_walked (faults_walked old) start
+    → later ≡ failures_walked (faults_walked new) start
+
+-- how often the path is left
+abbrev pub times_left : List LeftPath → List ℕ → ℕ
+times_left faults path = length (filter (λ (left : LeftPath). bytes_eq left.0 path) faults)
+
+-- no path is left twice
+abbrev pub IsLeftOnce : List LeftPath → Type 0
+IsLeftOnce faults = (path : List ℕ) → times_left faults path ≤ 1
+
+-- how many of the paths cover the name
+abbrev pub times_covered : List (List ℕ) → List ℕ → ℕ
+times_covered paths name = length (filter (λ path. covers path name) paths)
+
+-- a path is left once more for each path that covers it, or less often
+abbrev pub LeavesOnce : List (List ℕ) → Walked → Walked → Type 0
+LeavesOnce paths old new =
+    (path : List ℕ) → times_left (faults_walked new) path
+    ≤ times_left (faults_walked old) path + times_covered paths path
 
 -- ---- what is seen at one path
 
@@ -89,18 +112,19 @@ abbrev pub IsSightIn : Option Snapshot → List ℕ → Sight → Type 0
 IsSightIn None path sight = Unit {0}
 IsSightIn (Some tree) path sight = IsSightOf tree path sight
 
--- only a path that is short enough is entered
+-- only a file or a folder whose path is short enough is seen
 abbrev pub IsEntered : List ℕ → Sight → Type 0
-IsEntered path sight.File = Unit {0}
+IsEntered path sight.File = length path ≤ longest_path
 IsEntered path (sight.Folder listing) = length path ≤ longest_path
 IsEntered path sight.Other = Unit {0}
 IsEntered path (sight.Left fault) = Unit {0}
 
+-- a failed call is counted once
 abbrev pub CountsSight : Sight → ℕ → ℕ → Type 0
-CountsSight sight.File old new = Unit {0}
-CountsSight (sight.Folder listing) old new = Unit {0}
-CountsSight sight.Other old new = Unit {0}
-CountsSight (sight.Left fault) old new = CountsFault fault old new
+CountsSight sight.File old new = new ≡ old
+CountsSight (sight.Folder listing) old new = new ≡ old
+CountsSight sight.Other old new = new ≡ old
+CountsSight (sight.Left fault) old new = new ≡ count_if (is_failed_call fault) old
 
 -- ---- where it goes on
 

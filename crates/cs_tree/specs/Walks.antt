@@ -2,14 +2,16 @@
 -- docs/FORMAT.md, "Paths and names".
 use Rattle.std.specs.Prelude.{◌≡◌, ◌≤◌, ℕ, Bool, true, false, ◌&&◌, nat_le, if◌then◌else◌, List, [], ◌∷◌, map, length, Option, Some, None, String, string_bytes, bytes_eq}
 use Rattle.cs_tree.specs.FailureCount.{HasFailed}
+use Rattle.cs_tree.specs.Failures.{count_if}
 use Rattle.cs_tree.specs.TreeAnswers.{fault_of}
-use Rattle.cs_tree.specs.Folders.{child, lists, IsTree, last_element}
+use Rattle.cs_tree.specs.Folders.{child, lists, IsTree, are_distinct, last_element}
 use Rattle.cs_tree.specs.PathSet.{Paths}
 use Rattle.cs_tree.specs.NamesAscending.{are_ascending}
-use Rattle.std.specs.List.{AllByRecursion}
+use Rattle.std.specs.List.{AllByRecursion, list_all}
 use Rattle.std.specs.declared.alloc.Global.{Global}
 use Rattle.cs_tree.specs.PathSet as set
 pub use Rattle.cs_tree.specs.Cover.{is_among}
+use Rattle.cs_tree.specs.Cover.{is_alone}
 use Rattle.cs_tree.specs.Clean.{longest_path}
 use Rattle.cs_tree.specs.Snapshot.{Snapshot, Item, item_at, folder, file, cut, other, bad}
 use Rattle.cs_tree.specs.Reached.{is_left_out, is_reached}
@@ -88,6 +90,10 @@ abbrev pub FindsIn : Option Snapshot → Paths → List (List ℕ) → List Left
 FindsIn None paths names faults = Unit {0}
 FindsIn (Some tree) paths names faults = IsTree tree → Finds tree paths names faults
 
+-- each of the paths is short enough to be asked for
+abbrev pub AreAskable : List (List ℕ) → Type 0
+AreAskable paths = AllByRecursion (λ path. length path ≤ longest_path) paths
+
 -- ---- what is counted
 
 -- a fault of the tree was counted
@@ -98,6 +104,21 @@ CountsFault TooLong old new = Unit {0}
 
 abbrev pub CountsFaults : List LeftPath → ℕ → ℕ → Type 0
 CountsFaults faults old new = AllByRecursion (λ (left : LeftPath). CountsFault left.1 old new) faults
+
+-- whether the path is left for a call of the tree that has failed
+abbrev pub is_failed_call : WalkFault → Bool
+is_failed_call (Tree fault) = true
+is_failed_call Unnamed = false
+is_failed_call TooLong = false
+
+-- the count after the faults of a walk
+abbrev pub failures_walked : List LeftPath → ℕ → ℕ
+failures_walked [] n = n
+failures_walked (left ∷ faults) n = failures_walked faults (count_if (is_failed_call left.1) n)
+
+-- whether no path covers another one, and none stands twice
+abbrev pub are_alone : List (List ℕ) → Bool
+are_alone paths = list_all (is_alone paths) paths && are_distinct paths
 
 -- ---- what the code has found
 

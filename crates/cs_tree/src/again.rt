@@ -1,6 +1,7 @@
 // Calls of the system that are made again where a signal has interrupted them.
 ghost use Rattle.std.specs.Prelude.{◌≡◌, ◌≢◌, ◌≤◌, ◌<◌, ◌↔◌, ℕ, IfOk, IfErr, IsTrue, length};
 ghost use Rattle.std.specs.IoError.{error_kind};
+ghost use Rattle.std.specs.Io.KnownBytes.{Keeps, ReadConsumes, WriteAppends};
 
 use std::io::{self, ErrorKind, Read, Write};
 use std::os::unix::fs::FileExt;
@@ -9,6 +10,7 @@ use std::os::unix::fs::FileExt;
 pub(crate) fn read_again<R: Read>(reader: &mut R, buf: &mut [u8]) -> io::Result<usize>
     ensures within { IfOk result (λ n. n ≤ length buf.new) }
     ensures again { IfErr result (λ error. error_kind error ≢ ErrorKind.Interrupted) }
+    ensures bytes { ReadConsumes (R.remaining reader.old) (R.remaining reader.new) result buf.new }
 {
     'tries: for _ in 0..u64::MAX {
         match reader.read(buf) {
@@ -37,6 +39,7 @@ pub(crate) fn read_at_again<F: FileExt>(file: &F, buf: &mut [u8], at: u64) -> io
 pub(crate) fn write_again<W: Write>(writer: &mut W, buf: &[u8]) -> io::Result<usize>
     ensures within { IfOk result (λ n. n ≤ length buf.now) }
     ensures again { IfErr result (λ error. error_kind error ≢ ErrorKind.Interrupted) }
+    ensures bytes { WriteAppends (W.contents writer.old) (W.contents writer.new) result buf.now }
 {
     'tries: for _ in 0..u64::MAX {
         match writer.write(buf) {
@@ -50,6 +53,7 @@ pub(crate) fn write_again<W: Write>(writer: &mut W, buf: &[u8]) -> io::Result<us
 /// One flush.
 pub(crate) fn flush_again<W: Write>(writer: &mut W) -> io::Result<()>
     ensures again { IfErr result (λ error. error_kind error ≢ ErrorKind.Interrupted) }
+    ensures bytes { Keeps (W.contents writer.old) (W.contents writer.new) }
 {
     'tries: for _ in 0..u64::MAX {
         match writer.flush() {

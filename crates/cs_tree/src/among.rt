@@ -4,7 +4,7 @@ ghost use Rattle.std.specs.Path.{slash};
 ghost use Rattle.std.specs.List.{list_any};
 ghost use Rattle.cs_tree.specs.NamesAscending.{are_ascending};
 ghost use Rattle.cs_tree.specs.PathSet as set;
-ghost use Rattle.cs_tree.specs.Cover.{lies_below, is_alone as is_alone', is_among, is_covered as is_covered', is_absolute as is_absolute'};
+ghost use Rattle.cs_tree.specs.Cover.{is_ancestor, is_alone as is_alone', is_among, is_covered as is_covered', is_absolute as is_absolute'};
 
 use crate::paths::is_absolute;
 use std::convert::AsStr;
@@ -47,7 +47,7 @@ fn is_below_root(path: &str) -> bool
 /// Whether the path goes on by a slash after one of the paths.
 fn is_below_one<P: AsStr>(paths: &[P], path: &str) -> bool
     requires { are_ascending (map P.text paths.now) ≡ true }
-    ensures { result ≡ list_any (lies_below path.now) (map P.text paths.now) }
+    ensures { result ≡ list_any (λ above. is_ancestor above path.now) (map P.text paths.now) }
 {
     // Paths between a path and the one that covers it may be others: `/a`, `/a-b`, `/a/b`.
     let mut rest = path;

@@ -1,5 +1,6 @@
 // A file of the real disk, read by position.
-ghost use Rattle.std.specs.Prelude.{◌≡◌, ◌≢◌, ◌≤◌, IfOk, Err, length};
+ghost use Rattle.std.specs.Prelude.{◌≡◌, ◌≢◌, ◌≤◌, ◌↔◌, IfOk, IsOk, Err, length};
+ghost use Rattle.std.specs.Fs.{metadata_len, file_type, IsFile};
 ghost use Rattle.cs_tree.specs.Transfers.{is_io_failure};
 ghost use Rattle.cs_tree.specs.FailureCount.{count_after};
 
@@ -8,7 +9,7 @@ use crate::disk_tree::fault_of;
 use crate::fault::{IoFault, TreeFault};
 use crate::std_io::counted_read;
 use crate::store::Store;
-use std::fs::OpenFile;
+use std::fs::{Metadata, OpenFile};
 use std::os::unix::fs::FileExt;
 
 /// A file of the disk that was opened once: what takes its name later changes nothing of what is read.
@@ -27,10 +28,17 @@ impl<F: OpenFile + FileExt + Drop> DiskStore<F> {
     pub fn new(file: F) -> Result<DiskStore<F>, TreeFault>
         ensures { IfOk result (λ store. ⟦<DiskStore<F> as Store>⟧.failed store ≡ 0) }
     {
-        let metadata = match file.metadata() {
-            Ok(metadata) => metadata,
-            Err(error) => return Err(fault_of(error.kind())),
-        };
+        match file.metadata() {
+            Ok(metadata) => DiskStore::of_metadata(file, &metadata),
+            Err(error) => Err(fault_of(error.kind())),
+        }
+    }
+
+    fn of_metadata(file: F, metadata: &Metadata) -> Result<DiskStore<F>, TreeFault>
+        ensures size { IfOk result (λ store. store.len ≡ metadata_len metadata.now) }
+        ensures regular { IsOk result ↔ IsFile (file_type metadata.now) }
+        ensures failed { IfOk result (λ store. ⟦<DiskStore<F> as Store>⟧.failed store ≡ 0) }
+    {
         if !metadata.is_file() {
             return Err(TreeFault::Failed);
         }

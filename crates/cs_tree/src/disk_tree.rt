@@ -1,9 +1,11 @@
 // The real disk as a tree.
-ghost use Rattle.std.specs.Prelude.{◌≡◌, ◌≤◌, ◌≢◌, ℕ, [], IfOk, IfErr, OnOk, length, map, string_bytes, true, None};
+ghost use Rattle.std.specs.Prelude.{◌≡◌, ◌≤◌, ◌≢◌, ℕ, [], IfOk, IfErr, OnOk, Err, MatchOption, IsSomeAnd, length, map, string_bytes, true, None};
 ghost use Rattle.std.specs.IoError.{error_kind};
 ghost use Rattle.std.specs.List.{list_all};
+ghost use Rattle.std.specs.Io.KnownBytes.{ReadConsumes};
 ghost use Rattle.cs_tree.specs.Folders.{is_element as is_element', are_elements};
-ghost use Rattle.cs_tree.specs.Trees.{listing_names, IsReadFault};
+ghost use Rattle.cs_tree.specs.Trees.{listing_names, IsReadFault, is_tree_failure};
+ghost use Rattle.cs_tree.specs.FailureCount.{count_after};
 
 use crate::again::{gave_up, is_interrupted, read_again};
 use crate::fault::{TreeFault, counted_answer};
@@ -78,7 +80,8 @@ impl<R: Files + AllocGlobal + Clone + Drop> DiskTree<R> {
     }
 
     /// From now on `open` refuses the file that standard output goes to, as `Output`, by whichever name. An output
-    /// that is no regular file, as a terminal, is opened; and so is all where the system shows no output.
+    /// that is no regular file, as a terminal, is opened; and so is all where the system shows no output. No clause says
+    /// what the system shows, so tests show that the output is left out, and no other file.
     pub fn leave_output(&mut self)
         ensures { ⟦<DiskTree<R> as Tree>⟧.failed self.new
             ≡ ⟦<DiskTree<R> as Tree>⟧.failed self.old }
@@ -92,6 +95,8 @@ impl<R: Files + AllocGlobal + Clone + Drop> DiskTree<R> {
 
 impl<R: Files + AllocGlobal + Clone + Drop> Tree for DiskTree<R> {
     ghost failed = { λ t. t.failed };
+
+    ghost counts_told = { λ _ told. told };
 
     /// Follows no link.
     fn kind(&mut self, path: &str) -> Result<Kind, TreeFault> {
@@ -122,7 +127,15 @@ impl<R: Files + AllocGlobal + Clone + Drop> Tree for DiskTree<R> {
         }
     }
 
-    fn read(&mut self, buf: &mut [u8]) -> Result<usize, TreeFault> {
+    fn read(&mut self, buf: &mut [u8]) -> Result<usize, TreeFault>
+        ensures within { IfOk result (λ n. n ≤ length buf.new) }
+        ensures fault { IfErr result IsReadFault }
+        ensures bytes { MatchOption self.old.opened (result ≡ Err TreeFault.Failed)
+            (λ file. IsSomeAnd self.new.opened (λ later.
+            ReadConsumes (R.File.remaining file) (R.File.remaining later) result buf.new)) }
+        ensures failed { ⟦<DiskTree<R> as Tree>⟧.failed self.new
+            ≡ count_after is_tree_failure result (⟦<DiskTree<R> as Tree>⟧.failed self.old) }
+    {
         let answer = match &mut self.opened {
             Some(file) => read_some(file, buf),
             None => Err(TreeFault::Failed),
@@ -263,6 +276,7 @@ fn is_opened(
 fn read_some<F: Read>(file: &mut F, buf: &mut [u8]) -> Result<usize, TreeFault>
     ensures within { IfOk result (λ n. n ≤ length buf.new) }
     ensures fault { IfErr result IsReadFault }
+    ensures bytes { ReadConsumes (F.remaining file.old) (F.remaining file.new) result buf.new }
 {
     match read_again(file, buf) {
         Ok(n) => Ok(n),

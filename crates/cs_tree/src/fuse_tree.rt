@@ -1,15 +1,17 @@
 // A tree of which one call fails.
-ghost use Rattle.std.specs.Prelude.{◌≡◌, ◌≢◌, ◌≤◌, ◌-◌, ℕ, Option, None, IfOk, IfErr, Ok, Err, length, true, nat_eq};
+ghost use Rattle.std.specs.Prelude.{◌≡◌, ◌≢◌, ◌≤◌, ◌-◌, ℕ, Option, None, IfOk, IfErr, Ok, Err, length, true, nat_eq, option_map};
 ghost use Rattle.cs_tree.specs.FailureCount.{count_after};
 ghost use Rattle.cs_tree.specs.Folders.{are_elements};
-ghost use Rattle.cs_tree.specs.Fuses.{Blows, calls_left, inner_tree};
-ghost use Rattle.cs_tree.specs.Trees.{Answers, OpensFile, TreeReadGives, IsReadFault, is_tree_failure, kind_of, listing_of, listing_value, listing_names};
+ghost use Rattle.cs_tree.specs.Fuses.{Blows, KeepsInner, KeepsInnerOpen, calls_left, inner_tree};
+ghost use Rattle.cs_tree.specs.ReadCounts.{after_open, after_read};
+ghost use Rattle.cs_tree.specs.Trees.{Answers, AsksPath, OpensFile, TreeReadGives, IsReadFault, is_tree_failure, kind_of, listing_of, listing_value, listing_names};
 
 use crate::fault::{TreeFault, counted_answer};
 use crate::tree::{Kind, Listing, Tree};
 use std::alloc::Global;
 
-/// A tree that passes its calls on to another one, but for one that fails. It tells nothing.
+/// A tree that passes its calls on to another one, but for one that fails. It tells nothing, and each call
+/// leaves of the other one what that one's own call leaves.
 #[derive(Drop)]
 pub struct FuseTree<T: Drop> {
     inner: T,
@@ -48,9 +50,18 @@ impl<T: Tree + Drop> FuseTree<T> {
 impl<T: Tree + Drop> Tree for FuseTree<T> {
     ghost failed = { λ t. t.failed };
 
+    ghost counts_told = { λ _ told. told };
+
     fn kind(&mut self, path: &str) -> Result<Kind, TreeFault>
         ensures blows { Blows self.old self.new result
             (Answers (λ kind. kind) (T.snapshot (inner_tree self.old)) kind_of path.now result) }
+        ensures keeps { KeepsInner T.snapshot self.old self.new }
+        ensures open { KeepsInnerOpen T.snapshot T.opened self.old self.new }
+        ensures asked { calls_left self.old ≢ 1 → AsksPath (T.longest_asked (inner_tree self.old))
+            (T.longest_asked (inner_tree self.new)) path.now }
+        ensures counts { KeepsInner T.read_counts self.old self.new }
+        ensures counted { calls_left self.old ≢ 1 → T.failed (inner_tree self.new)
+            ≡ count_after is_tree_failure result (T.failed (inner_tree self.old)) }
         ensures left { calls_left self.new ≡ calls_left self.old - 1 }
         ensures failed { ⟦<FuseTree<T> as Tree>⟧.failed self.new
             ≡ count_after is_tree_failure result (⟦<FuseTree<T> as Tree>⟧.failed self.old) }
@@ -67,6 +78,13 @@ impl<T: Tree + Drop> Tree for FuseTree<T> {
         ensures blows { Blows self.old self.new result
             (Answers listing_value (T.snapshot (inner_tree self.old)) listing_of path.now result) }
         ensures names { IfOk result (λ listing. are_elements (listing_names listing) ≡ true) }
+        ensures keeps { KeepsInner T.snapshot self.old self.new }
+        ensures open { KeepsInnerOpen T.snapshot T.opened self.old self.new }
+        ensures asked { calls_left self.old ≢ 1 → AsksPath (T.longest_asked (inner_tree self.old))
+            (T.longest_asked (inner_tree self.new)) path.now }
+        ensures counts { KeepsInner T.read_counts self.old self.new }
+        ensures counted { calls_left self.old ≢ 1 → T.failed (inner_tree self.new)
+            ≡ count_after is_tree_failure result (T.failed (inner_tree self.old)) }
         ensures left { calls_left self.new ≡ calls_left self.old - 1 }
         ensures failed { ⟦<FuseTree<T> as Tree>⟧.failed self.new
             ≡ count_after is_tree_failure result (⟦<FuseTree<T> as Tree>⟧.failed self.old) }
@@ -83,6 +101,13 @@ impl<T: Tree + Drop> Tree for FuseTree<T> {
         ensures blows { Blows self.old self.new result
             (OpensFile (T.snapshot (inner_tree self.old)) path.now result
             (T.opened (inner_tree self.new))) }
+        ensures keeps { KeepsInner T.snapshot self.old self.new }
+        ensures asked { calls_left self.old ≢ 1 → AsksPath (T.longest_asked (inner_tree self.old))
+            (T.longest_asked (inner_tree self.new)) path.now }
+        ensures counts { calls_left self.old ≢ 1 → T.read_counts (inner_tree self.new)
+            ≡ option_map after_open (T.read_counts (inner_tree self.old)) }
+        ensures counted { calls_left self.old ≢ 1 → T.failed (inner_tree self.new)
+            ≡ count_after is_tree_failure result (T.failed (inner_tree self.old)) }
         ensures left { calls_left self.new ≡ calls_left self.old - 1 }
         ensures failed { ⟦<FuseTree<T> as Tree>⟧.failed self.new
             ≡ count_after is_tree_failure result (⟦<FuseTree<T> as Tree>⟧.failed self.old) }
@@ -101,6 +126,12 @@ impl<T: Tree + Drop> Tree for FuseTree<T> {
         ensures blows { Blows self.old self.new result
             (TreeReadGives (T.snapshot (inner_tree self.old))
             (T.opened (inner_tree self.old)) (T.opened (inner_tree self.new)) result buf.new) }
+        ensures keeps { KeepsInner T.snapshot self.old self.new }
+        ensures asked { KeepsInner T.longest_asked self.old self.new }
+        ensures counts { calls_left self.old ≢ 1 → T.read_counts (inner_tree self.new)
+            ≡ option_map (after_read result) (T.read_counts (inner_tree self.old)) }
+        ensures counted { calls_left self.old ≢ 1 → T.failed (inner_tree self.new)
+            ≡ count_after is_tree_failure result (T.failed (inner_tree self.old)) }
         ensures left { calls_left self.new ≡ calls_left self.old - 1 }
         ensures failed { ⟦<FuseTree<T> as Tree>⟧.failed self.new
             ≡ count_after is_tree_failure result (⟦<FuseTree<T> as Tree>⟧.failed self.old) }

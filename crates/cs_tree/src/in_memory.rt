@@ -13,6 +13,7 @@ pub struct MemTree {
     pub(crate) opened: Option<usize>,
     pub(crate) taken: usize,
     pub(crate) longest_asked: usize,
+    pub(crate) most_read: usize,
     pub(crate) step: usize,
     pub(crate) failed: u64,
     pub(crate) alloc: Global,

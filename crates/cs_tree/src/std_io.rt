@@ -1,7 +1,9 @@
 // The system's readers and writers, by std's `Read` and `Write`.
-ghost use Rattle.std.specs.Prelude.{◌≡◌, ◌≢◌, ◌≤◌, ◌<◌, ℕ, List, [], Option, None, Ok, Err, IfOk, MatchResult, length};
+ghost use Rattle.std.specs.Prelude.{◌≡◌, ◌≢◌, ◌≤◌, ◌<◌, ℕ, List, [], Option, None, Ok, Err, IfOk, MatchResult, length, take};
 ghost use Rattle.cs_tree.specs.Transfers.{ReadGives, Writes, is_io_failure};
 ghost use Rattle.cs_tree.specs.FailureCount.{count_after};
+ghost use Rattle.std.specs.Io.KnownBytes.{Keeps, ReadConsumes, WriteAppends};
+ghost use Rattle.cs_tree.specs.Writers.{reader_of, writer_of};
 ghost use Rattle.cs_tree.specs.Told.{Told, Grows};
 
 use crate::again::{flush_again, read_again, write_again};
@@ -50,6 +52,8 @@ impl<R: Read + Drop> Source for StdSource<R> {
 
     fn read(&mut self, buf: &mut [u8]) -> Result<usize, IoFault>
         ensures within { IfOk result (λ n. n ≤ length buf.new) }
+        ensures bytes { ReadConsumes (R.remaining (reader_of self.old))
+            (R.remaining (reader_of self.new)) result buf.new }
         ensures failed { ⟦<StdSource<R> as Source>⟧.failed self.new
             ≡ count_after is_io_failure result (⟦<StdSource<R> as Source>⟧.failed self.old) }
         ensures no_memory { result ≢ Err IoFault.Memory }
@@ -86,6 +90,8 @@ impl<W: Write + Drop> Sink for StdSink<W> {
     fn write(&mut self, buf: &[u8]) -> Result<usize, IoFault>
         ensures within { IfOk result (λ n. n ≤ length buf.now) }
         ensures some { IfOk result (λ n. 0 < length buf.now → 0 < n) }
+        ensures bytes { WriteAppends (W.contents (writer_of self.old))
+            (W.contents (writer_of self.new)) result buf.now }
         ensures failed { ⟦<StdSink<W> as Sink>⟧.failed self.new
             ≡ count_after is_io_failure result (⟦<StdSink<W> as Sink>⟧.failed self.old) }
         ensures no_memory { result ≢ Err IoFault.Memory }
@@ -97,6 +103,7 @@ impl<W: Write + Drop> Sink for StdSink<W> {
     }
 
     fn flush(&mut self) -> Result<(), IoFault>
+        ensures bytes { Keeps (W.contents (writer_of self.old)) (W.contents (writer_of self.new)) }
         ensures failed { ⟦<StdSink<W> as Sink>⟧.failed self.new
             ≡ count_after is_io_failure result (⟦<StdSink<W> as Sink>⟧.failed self.old) }
         ensures no_memory { result ≢ Err IoFault.Memory }

@@ -1,6 +1,7 @@
 // Where bytes lie.
 ghost use Rattle.std.specs.Prelude.{◌≡◌, ◌≤◌, ◌<◌, ◌+◌, ◌^◌, vec_len, ℕ, List, Option, None, IfOk, length};
-ghost use Rattle.cs_tree.specs.Transfers.{items_of, is_io_failure};
+ghost use Rattle.cs_tree.specs.Transfers.{is_io_failure};
+ghost use Rattle.cs_tree.specs.WholeReads.{items_of};
 ghost use Rattle.cs_tree.specs.FailureCount.{count_after};
 ghost use Rattle.cs_tree.specs.Store.{HasLength, ReadShows, FillShows, PartShows};
 

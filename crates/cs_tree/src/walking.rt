@@ -1,15 +1,15 @@
 // What stands below paths.
-ghost use Rattle.std.specs.Prelude.{◌≡◌, ◌≢◌, ◌≤◌, ◌++◌, ℕ, List, true, map, string_bytes, OnOk, IfOk, MatchResult, Contains, ◌<◌, ◌^◌, length, nat_eq, codes};
-ghost use Rattle.cs_tree.specs.Folders.{child, last_element as last_element'};
+ghost use Rattle.std.specs.Prelude.{◌≡◌, ◌≢◌, ◌≤◌, ◌++◌, ℕ, List, [], ◌∷◌, true, map, string_bytes, OnOk, IfOk, MatchResult, Contains, IsPermutation, ◌<◌, ◌^◌, length, nat_eq, codes};
+ghost use Rattle.cs_tree.specs.Folders.{child, are_elements, last_element as last_element'};
 ghost use Rattle.cs_tree.specs.Clean.{longest_path};
 ghost use Rattle.cs_tree.specs.NamesAscending.{are_ascending};
 ghost use Rattle.cs_tree.specs.Trees.{AsksWithin};
 ghost use Rattle.cs_tree.specs.PathSet as set;
 ghost use Rattle.cs_tree.specs.Reached.{reaches, is_reached, is_left_out as is_left_out'};
-ghost use Rattle.cs_tree.specs.Walks.{FindsIn, LeftPath, CountsFaults, is_among, left_entry, left_paths, names_walked, faults_walked};
+ghost use Rattle.cs_tree.specs.Walks.{FindsIn, LeftPath, CountsFaults, are_alone, failures_walked, is_among, left_entry, left_paths, names_walked, faults_walked, AreAskable};
 ghost use Rattle.std.specs.List.{AllByRecursion, ends_with};
 ghost use Rattle.cs_tree.specs.Cover.{covers, is_covered};
-ghost use Rattle.cs_tree.specs.Visits.{GathersIn, KeepsCounts, KeepsTo, IsSightIn, CountsSight, IsEntered, comes, is_file_seen, fault_seen, names_seen, children, named_if, left_if, is_walked as is_walked'};
+ghost use Rattle.cs_tree.specs.Visits.{GathersIn, IsLeftOnce, KeepsCount, KeepsTo, LeavesOnce, IsSightIn, CountsSight, IsEntered, comes, is_file_seen, fault_seen, names_seen, children, named_if, left_if, is_walked as is_walked', KeepsAskable};
 
 use crate::cleaning::LONGEST_PATH;
 use crate::fault::TreeFault;
@@ -52,20 +52,27 @@ enum Sight {
 /// names that folders list and that are not left out. A name is left out where it begins with `.`,
 /// `#` or `~`, or ends with `~`. The paths may be in any order, and may cover each other. `kind` is
 /// asked once at each path that is come to, and each folder is listed once, for each path that covers
-/// it. No path of more than 4095 bytes is asked for. Refused for want of memory alone, the tree's too.
+/// it. Where no path covers another one, or stands twice, each call that fails is told of. No path of
+/// more than 4095 bytes is asked for. Refused for want of memory alone, the tree's too.
 pub fn walk<T: Tree>(alloc: Global, tree: &mut T, paths: &[String]) -> Result<Walked, AllocError>
     ensures finds { IfOk result (λ walked. FindsIn (T.snapshot tree.old)
         (set.from_list (map string_bytes paths.now)) (names_walked walked) (faults_walked walked)) }
     ensures under { IfOk result (λ walked. AllByRecursion
         (λ name. is_covered (set.from_list (map string_bytes paths.now)) name ≡ true)
         (names_walked walked)) }
+    ensures askable { IfOk result (λ walked. AreAskable (names_walked walked)) }
     ensures names_ascend { IfOk result (λ walked. are_ascending (names_walked walked) ≡ true) }
     ensures faults_ascend { IfOk result
         (λ walked. are_ascending (left_paths (faults_walked walked)) ≡ true) }
     ensures counted { IfOk result
         (λ walked. CountsFaults (faults_walked walked) (T.failed tree.old) (T.failed tree.new)) }
+    ensures quiet { IfOk result
+        (λ walked. faults_walked walked ≡ [] → T.failed tree.new ≡ T.failed tree.old) }
+    ensures told { IfOk result (λ walked. are_alone (map string_bytes paths.now) ≡ true →
+        T.failed tree.new ≡ failures_walked (faults_walked walked) (T.failed tree.old)) }
     ensures rises { T.failed tree.old ≤ T.failed tree.new }
     ensures asked { AsksWithin longest_path (T.longest_asked tree.old) (T.longest_asked tree.new) }
+    ensures counts { T.read_counts tree.new ≡ T.read_counts tree.old }
     ensures keeps { T.snapshot tree.new ≡ T.snapshot tree.old }
 {
     let mut walked = Walked {
@@ -90,10 +97,13 @@ fn visit_all<T: Tree>(
         walked.old walked.new) }
     ensures under { OnOk result
         (KeepsTo (is_covered (set.from_list (map string_bytes paths.now))) walked.old walked.new) }
+    ensures askable { OnOk result (KeepsAskable walked.old walked.new) }
     ensures counted { OnOk result
-        (KeepsCounts (T.failed tree.old) (T.failed tree.new) walked.old walked.new) }
+        (KeepsCount (T.failed tree.old) (T.failed tree.new) walked.old walked.new) }
+    ensures once { OnOk result (LeavesOnce (map string_bytes paths.now) walked.old walked.new) }
     ensures rises { T.failed tree.old ≤ T.failed tree.new }
     ensures asked { AsksWithin longest_path (T.longest_asked tree.old) (T.longest_asked tree.new) }
+    ensures counts { T.read_counts tree.new ≡ T.read_counts tree.old }
     ensures keeps { T.snapshot tree.new ≡ T.snapshot tree.old }
 {
     'paths: for path in paths {
@@ -112,10 +122,13 @@ fn visit_named<T: Tree>(
     ensures gathers { OnOk result (GathersIn (T.snapshot tree.old)
         (λ told. reaches told path.now) walked.old walked.new) }
     ensures under { OnOk result (KeepsTo (covers path.now) walked.old walked.new) }
+    ensures askable { OnOk result (KeepsAskable walked.old walked.new) }
     ensures counted { OnOk result
-        (KeepsCounts (T.failed tree.old) (T.failed tree.new) walked.old walked.new) }
+        (KeepsCount (T.failed tree.old) (T.failed tree.new) walked.old walked.new) }
+    ensures once { OnOk result (LeavesOnce (path.now ∷ []) walked.old walked.new) }
     ensures rises { T.failed tree.old ≤ T.failed tree.new }
     ensures asked { AsksWithin longest_path (T.longest_asked tree.old) (T.longest_asked tree.new) }
+    ensures counts { T.read_counts tree.new ≡ T.read_counts tree.old }
     ensures keeps { T.snapshot tree.new ≡ T.snapshot tree.old }
 {
     if is_left_out(last_element(path)) {
@@ -135,10 +148,13 @@ fn visit<T: Tree>(
     ensures gathers { OnOk result (GathersIn (T.snapshot tree.old)
         (λ told. comes told (string_bytes start)) walked.old walked.new) }
     ensures under { OnOk result (KeepsTo (covers (string_bytes start)) walked.old walked.new) }
+    ensures askable { OnOk result (KeepsAskable walked.old walked.new) }
     ensures counted { OnOk result
-        (KeepsCounts (T.failed tree.old) (T.failed tree.new) walked.old walked.new) }
+        (KeepsCount (T.failed tree.old) (T.failed tree.new) walked.old walked.new) }
+    ensures once { OnOk result (LeavesOnce (string_bytes start ∷ []) walked.old walked.new) }
     ensures rises { T.failed tree.old ≤ T.failed tree.new }
     ensures asked { AsksWithin longest_path (T.longest_asked tree.old) (T.longest_asked tree.new) }
+    ensures counts { T.read_counts tree.new ≡ T.read_counts tree.old }
     ensures keeps { T.snapshot tree.new ≡ T.snapshot tree.old }
 {
     let mut waiting = Vec::new(alloc);
@@ -153,11 +169,13 @@ fn visit<T: Tree>(
 /// Looks at what stands at a path, once. A folder's names are listed, once.
 fn look<T: Tree>(alloc: Global, tree: &mut T, path: &str) -> Result<Sight, AllocError>
     ensures shows { IfOk result (λ sight. IsSightIn (T.snapshot tree.old) path.now sight) }
+    ensures names { IfOk result (λ sight. are_elements (names_seen sight) ≡ true) }
     ensures entered { IfOk result (λ sight. IsEntered path.now sight) }
     ensures counted { IfOk result
         (λ sight. CountsSight sight (T.failed tree.old) (T.failed tree.new)) }
     ensures rises { T.failed tree.old ≤ T.failed tree.new }
     ensures asked { AsksWithin longest_path (T.longest_asked tree.old) (T.longest_asked tree.new) }
+    ensures counts { T.read_counts tree.new ≡ T.read_counts tree.old }
     ensures keeps { T.snapshot tree.new ≡ T.snapshot tree.old }
 {
     if path.len() > LONGEST_PATH {
@@ -298,6 +316,8 @@ fn order_faults(faults: &mut Vec<(String, WalkFault)>)
         ≡ is_among (left_paths (map left_entry faults.old.items)) path }
     ensures kept { (left : LeftPath) → Contains (map left_entry faults.new.items) left
         → Contains (map left_entry faults.old.items) left }
+    ensures whole { IsLeftOnce (map left_entry faults.old.items)
+        → IsPermutation (map left_entry faults.old.items) (map left_entry faults.new.items) }
 {
     faults.sort_unstable_by(|a, b| a.0.cmp(&b.0));
     faults.dedup_by(|a, b| a.0 == b.0);

@@ -7,13 +7,12 @@ use Rattle.std.proofs.lemmas.Bool.{and_parts, and_from, or_cases, or_left, or_ri
 use Rattle.cs_syntax.specs.Matching.{Tree, Trees, cat, none, more, Takes, TakesAll}
 use Rattle.std.specs.Prelude.{slice_range}
 use Rattle.cs_trigram.specs.Query.{has_trigrams, HasTrigrams}
-use Rattle.cs_trigram.specs.PlainRuns.{IsPlainRun, Shows, ShowsRuns, ShowsPlainRuns}
+use Rattle.cs_trigram.specs.PlainRuns.{Shows, ShowsRuns, ShowsWithin, ShowsPlainRuns}
 use Rattle.cs_trigram.specs.FiniteWords.{is_finite, are_finite, HasWord, ConcatenatesWords, HaveFewWords}
 use Rattle.cs_trigram.specs.Sample.{with_words, concatenations, IsSample, AreWords, IsBlocked, IsFront, TreeWords, has_any, IsAsked}
 use Rattle.cs_trigram.proofs.FewLemmas.{empty_words, few_front, few_back, front_begins, whole_words, words_sample, before_sample, concatenates_one, spells_one}
-use Rattle.cs_trigram.proofs.PlainTreeLemmas.{run_has_few, words_concatenate}
 use Rattle.cs_trigram.proofs.PartTrigramLemmas.{has_part, has_front, has_back}
-use Rattle.cs_trigram.proofs.TreeWordLemmas.{spelled_all, taken_front, spelled_plain_runs}
+use Rattle.cs_trigram.proofs.TreeWordLemmas.{spelled_all, taken_front, spelled_within}
 
 module _ (set : ℕ → Bool) where
   pub any_shown : (ws : List (List ℕ)) → has_any set ws ≡ true → (w : List ℕ) × (is_among ws w ≡ true) × HasTrigrams set w
@@ -39,22 +38,16 @@ module _ (set : ℕ → Bool) where
       let word = spelled_all s f.run i r.0 f.finite r.1 in
       shown_any ws (slice_range s i r.0) ((f.each.each (slice_range s i r.0)).0 word.1) (has_part set (r.0 - i) i s has)
 
-  runs_more : (t : Tree) (ts : Trees) → ShowsRuns set ts → ((run after : Trees) → more t ts ≡ append run after → IsPlainRun run → Shows set run) → ShowsRuns set (more t ts)
+  runs_more : (t : Tree) (ts : Trees) → ShowsRuns set ts → ((run after : Trees) → more t ts ≡ append run after → HaveFewWords run → Shows set run) → ShowsRuns set (more t ts)
   runs_more t ts old new none run after e few = new run after e few
   runs_more t ts old new (more b before) run after e few = let tail : ts ≡ append before (append run after) = (cc) in old before run after tail few
 
   -- where the set has a word of the run at the front, it shows each run at the front that has few
-  fronts_words : (ts : Trees) (ws : List (List ℕ)) → IsFront ts ws → has_any set ws ≡ true → (run after : Trees) → ts ≡ append run after → HaveFewWords run →
-      (word : List ℕ) × ConcatenatesWords run word × HasTrigrams set word
-  fronts_words ts ws f h run after e few =
+  fronts_shown : (ts : Trees) (ws : List (List ℕ)) → IsFront ts ws → has_any set ws ≡ true → (run after : Trees) → ts ≡ append run after → HaveFewWords run → Shows set run
+  fronts_shown ts ws f h run after e few =
       let w = any_shown ws h in
       let r = front_begins ts ws f w.0 w.1 run after e few in
       (r.0, r.2, has_front set r.0 r.1 (subst (HasTrigrams set) r.3 w.2))
-
-  fronts_shown : (ts : Trees) (ws : List (List ℕ)) → IsFront ts ws → has_any set ws ≡ true → (run after : Trees) → ts ≡ append run after → IsPlainRun run → Shows set run
-  fronts_shown ts ws f h run after e few =
-      let r = fronts_words ts ws f h run after e (run_has_few run few) in
-      (r.0, words_concatenate run few.0 r.0 r.1, r.2)
 
 pub empty_front : (t : Tree) (ts : Trees) → (HaveFewWords (more t none) → ⊥) → IsFront (more t ts) ([] ∷ [])
 empty_front t ts no_few = record { run = none; after = more t ts; is = refl; finite = refl; each = empty_words; blocked = no_few }
@@ -86,14 +79,14 @@ module _ (front : List (List ℕ)) (needs later : (ℕ → Bool) → Bool) (t : 
         let both = and_parts (needs set && has_any set front) (own set) (sym (is set) ∙ n) in
         let old = and_parts (needs set) (has_any set front) both.0 in
         let runs = asked.sharp set old.0 old.1 in
-        (runs_more set t ts runs.0 (short set), (sharp set both.1, runs.1));
+        (runs_more set t ts runs.0 (short set), ((sharp set both.1).1, runs.1));
   }
     where
-      short : (set : ℕ → Bool) (run after : Trees) → more t ts ≡ append run after → IsPlainRun run → Shows set run
+      short : (set : ℕ → Bool) (run after : Trees) → more t ts ≡ append run after → HaveFewWords run → Shows set run
       short set none after e few = ([], refl, refl)
       short set (more u run) after e few =
           let same : u ≡ t = (cc) in
-          absurd (no_few (subst (λ (x : Tree). HaveFewWords (more x none)) same (few_front (more u none) run (run_has_few (more u run) few))))
+          absurd (no_few (subst (λ (x : Tree). HaveFewWords (more x none)) same (few_front (more u none) run few)))
 
   -- a part that goes before the run
   pub asked_few : (us : List (List ℕ)) → TreeWords us t → length (with_words [] (concatenations us front)) ≤ 20 →
@@ -119,7 +112,7 @@ module _ (front : List (List ℕ)) (needs later : (ℕ → Bool) → Bool) (t : 
             let has = subst (HasTrigrams set) parts.4 w.2 in
             let front_word = shown_any set front parts.1 ((asked.run.each.each parts.1).0 parts.3) (has_back set parts.0 parts.1 has) in
             let runs = asked.sharp set n front_word in
-            (runs_more set t ts runs.0 (fronts_shown set (more t ts) ws f h), (spelled_plain_runs set t parts.0 parts.2 (has_front set parts.0 parts.1 has), runs.1));
+            (runs_more set t ts runs.0 (fronts_shown set (more t ts) ws f h), (spelled_within set t parts.0 parts.2 (has_front set parts.0 parts.1 has), runs.1));
       }
     where
       blocked_before : (run after : Trees) → IsBlocked run after → IsBlocked (more t run) after
@@ -157,15 +150,15 @@ module _ (front : List (List ℕ)) (needs later : (ℕ → Bool) → Bool) (t : 
     sharp = λ set n h.
         let old = and_parts (needs set) (has_any set front) (sym (is set) ∙ n) in
         let runs = asked.sharp set old.0 old.1 in
-        let one = fronts_words set (more t ts) ws f h (more t none) ts refl few in
-        (runs_more set t ts runs.0 (fronts_shown set (more t ts) ws f h), (spelled_plain_runs set t one.0 (spells_one t one.0 one.1) one.2, runs.1));
+        let one = fronts_shown set (more t ts) ws f h (more t none) ts refl few in
+        (runs_more set t ts runs.0 (fronts_shown set (more t ts) ws f h), (spelled_within set t one.0 (spells_one t one.0 one.1) one.2, runs.1));
   }
 
 -- the whole sequence
 pub asked_whole : (front : List (List ℕ)) (needs whole : (ℕ → Bool) → Bool) (ts : Trees) → IsAsked front needs ts →
     ((set : ℕ → Bool) → whole set ≡ (needs set && has_any set front)) →
     ((s : List ℕ) (set : ℕ → Bool) (i j : ℕ) → TakesAll s ts i j → HasTrigrams set s → whole set ≡ true)
-    × ((set : ℕ → Bool) → whole set ≡ true → ShowsPlainRuns set (cat ts))
+    × ((set : ℕ → Bool) → whole set ≡ true → ShowsWithin set (cat ts))
 asked_whole front needs whole ts asked is = (
   λ s set i j h has. is set ∙ and_from (needs set) (has_any set front) (asked.holding s set i j h has) (front_held set ts front asked.run s i j h has),
   λ set w. let p = and_parts (needs set) (has_any set front) (sym (is set) ∙ w) in asked.sharp set p.0 p.1,

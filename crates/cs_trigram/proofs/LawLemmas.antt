@@ -1,12 +1,13 @@
 -- What follows from the definitions alone.
 use Rattle.std.proofs.Common.{◌≡◌, ℕ, true, eqb, List, [], ◌∷◌, ◌++◌, length, Option, Some, None, refl, sym, ap, ◌∙◌, inl, inr}
+use Rattle.std.specs.Prelude.{is_none, if◌then◌else◌}
 use Rattle.cs_trigram.specs.Scans.{found_or, finding_at, text, left_out}
-use Rattle.std.proofs.lemmas.Bool.{false≢true, or_cases, or_left, or_right, eq-eqb}
+use Rattle.std.proofs.lemmas.Bool.{false≢true, or_cases, or_left, or_right, eq-eqb, eqb-true}
 use Rattle.cs_tree.specs.Told.{ends}
 use Rattle.cs_trigram.specs.declared.limits.Limits.{Limits}
 use Rattle.cs_trigram.specs.declared.scan.Reason.{Reason}
 use Rattle.cs_trigram.specs.Trigram.{trigram, trigram_sequence, tri, has}
-use Rattle.cs_trigram.specs.Text.{skip, text_trigrams, none_skipped}
+use Rattle.cs_trigram.specs.Text.{skip, text_trigrams}
 use Rattle.cs_trigram.proofs.SetLemmas.{has-set_of_numbers}
 
 has-behind : (a n : ℕ) (bytes : List ℕ) → has (trigram_sequence bytes) n ≡ true → has (trigram_sequence (a ∷ bytes)) n ≡ true
@@ -38,6 +39,28 @@ has-each before after a b c =
     has-set_of_numbers (trigram a b c) (trigram_sequence (before ++ (a ∷ b ∷ c ∷ after)))
     ∙ has-before before (a ∷ b ∷ c ∷ after) (trigram a b c)
     (or_left (eqb (trigram a b c) (trigram a b c)) (has (trigram_sequence (b ∷ c ∷ after)) (trigram a b c)) (eq-eqb (trigram a b c) (trigram a b c) refl))
+
+-- a number that the trigrams have is that of a part
+abbrev IsPartOf : ℕ → List ℕ → Type 0
+IsPartOf n bytes =
+    (before after : List ℕ) × (a b c : ℕ) × (bytes ≡ before ++ (a ∷ b ∷ c ∷ after)) × (n ≡ trigram a b c)
+
+has-sequence : (bytes : List ℕ) (n : ℕ) → has (trigram_sequence bytes) n ≡ true → IsPartOf n bytes
+has-sequence [] n h = absurd (false≢true h)
+has-sequence (a ∷ []) n h = absurd (false≢true h)
+has-sequence (a ∷ b ∷ []) n h = absurd (false≢true h)
+has-sequence (a ∷ b ∷ c ∷ rest) n h =
+    elim (or_cases (eqb (trigram a b c) n) (has (trigram_sequence (b ∷ c ∷ rest)) n) h) [
+      | inl here ↦ ([], rest, a, b, c, refl, sym (eqb-true (trigram a b c) n here))
+      | inr later ↦ let r = has-sequence (b ∷ c ∷ rest) n later in (a ∷ r.0, r.1, r.2, r.3, r.4, ap (λ x. a ∷ x) r.5, r.6)
+    ]
+
+pub has-only : (bytes : List ℕ) (n : ℕ) → has (tri bytes) n ≡ true → IsPartOf n bytes
+has-only bytes n h = has-sequence bytes n (sym (has-set_of_numbers n (trigram_sequence bytes)) ∙ h)
+
+-- the trigrams of what no rule leaves out
+abbrev pub none_skipped : Option Reason → List ℕ → Option (List ℕ)
+none_skipped why trigrams = if is_none why then Some trigrams else None
 
 found_text : (o : Option Reason) (set trigrams : List ℕ) (long count : ℕ) → text trigrams count ≡ found_or o (text set long) → (none_skipped o set ≡ Some trigrams) × (count ≡ long)
 found_text None set trigrams long count h =

@@ -18,7 +18,6 @@ mod NodeListLemmas
 mod PartTrigramLemmas
 mod PlaceLemmas
 mod PlainRunLemmas
-mod PlainTreeLemmas
 mod QueryExamples
 mod QuickTestLemmas
 mod RightLemmas

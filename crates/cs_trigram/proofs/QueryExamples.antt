@@ -1,16 +1,19 @@
 -- Worked rows: what queries lose, and how sharp they are.
-use Rattle.std.proofs.Common.{◌≡◌, ℕ, zero, suc, inl, inr, Bool, true, false, List, [], ◌∷◌, ◌++◌, refl, sym, ap, subst, ◌∙◌, arith, codes, Some, replicate}
-use Rattle.std.specs.Prelude.{◌↔◌}
+use Rattle.std.proofs.Common.{◌≡◌, ℕ, zero, suc, inl, inr, Bool, true, false, List, [], ◌∷◌, ◌++◌, refl, sym, ap, subst, ◌∙◌, arith, codes, Some, None, replicate}
+use Rattle.std.specs.Prelude.{◌↔◌, ◌&&◌, encode_utf8, nat_le}
 use Rattle.std.specs.List.{list_all}
-use Rattle.std.proofs.lemmas.Bool.{true≢false}
-use Rattle.cs_syntax.specs.Matching.{Tree, Trees, one_of, cat, alt, rep, none, more, member, HasMatch, TakesAll}
+use Rattle.std.proofs.lemmas.Bool.{true≢false, and_parts, or_cases, leb-true}
+use Rattle.cs_syntax.specs.Matching.{Tree, Trees, empty, one_of, one_char, cat, alt, rep, word_edge, none, more, member, HasMatch, TakesAll}
+use Rattle.cs_syntax.specs.Characters.{is_scalar, has_char}
 use Rattle.cs_tree.specs.Cover.{is_among}
 use Rattle.cs_trigram.proofs.MemberLemmas.{first_member, later_member, member_cases, only_member}
 use Rattle.cs_trigram.specs.Trigram.{tri}
 use Rattle.cs_trigram.specs.Query.{HasTrigrams, LosesNoLine}
-use Rattle.cs_trigram.specs.PlainRuns.{Concatenates, IsPlainRun, ShowsPlainRuns, IsSharp}
+use Rattle.cs_trigram.specs.FiniteWords.{is_finite, HasWord, ConcatenatesWords, HaveFewWords, HasFewWords}
+use Rattle.cs_trigram.specs.PlainRuns.{ShowsPlainRuns, IsSharp, RequiresWord}
 use Rattle.cs_trigram.specs.declared.queries.Query.TheVariants.{All, Tri}
 use Rattle.cs_trigram.proofs.QueryLemmas.{holds-All, holds-Tri}
+use Rattle.cs_trigram.proofs.FewLemmas.{concatenates_one, spells_one}
 use Rattle.cs_trigram.proofs.PlainRunLemmas.{taken_plain_runs}
 
 -- the set of one byte
@@ -32,11 +35,11 @@ abbrev letters : List ℕ → Trees
 letters [] = none
 letters (b ∷ text) = more (one_of (only b)) (letters text)
 
-concatenates : (text : List ℕ) → Concatenates (letters text) text
+concatenates : (text : List ℕ) → ConcatenatesWords (letters text) text
 concatenates [] = refl
 concatenates (b ∷ text) = (b ∷ [], text, (b, has_it b, refl), concatenates text, refl)
 
-concatenates_no_other : (text word : List ℕ) → Concatenates (letters text) word → word ≡ text
+concatenates_no_other : (text word : List ℕ) → ConcatenatesWords (letters text) word → word ≡ text
 concatenates_no_other [] word j = j
 concatenates_no_other (b ∷ text) word j =
     let letter = j.2 in
@@ -49,7 +52,7 @@ concatenates_no_other (b ∷ text) word j =
 abbrev hello : List ℕ
 hello = codes "hello"
 
-hello_is_a_run : IsPlainRun (letters hello)
+hello_is_a_run : HaveFewWords (letters hello)
 hello_is_a_run = (
   refl,
   (
@@ -82,7 +85,7 @@ trigrams_of_hello = refl
 
 plain_runs_of_hello : (set : ℕ → Bool) → ShowsPlainRuns set (cat (letters hello)) ↔ (list_all set (6646892 ∷ 6841708 ∷ 7105647 ∷ []) ≡ true)
 plain_runs_of_hello set = (
-  λ shows. let shown = shows.0 none (letters hello) none refl hello_is_a_run in subst (HasTrigrams set) (concatenates_no_other hello shown.0 shown.1) shown.2,
+  λ shows. let shown = shows.1.0 none (letters hello) none refl hello_is_a_run in subst (HasTrigrams set) (concatenates_no_other hello shown.0 shown.1) shown.2,
   λ known. taken_plain_runs hello set known (cat (letters hello)) 0 5 hello_takes_hello,
 )
 
@@ -91,7 +94,7 @@ plain_runs_of_hello set = (
 abbrev choice : Trees
 choice = more (alt (more (cat (letters (codes "ab"))) (more (cat (letters (codes "cd"))) none))) (letters (codes "ef"))
 
-choice_concatenates : (word : List ℕ) → Concatenates choice word → is_among (codes "abef" ∷ codes "cdef" ∷ []) word ≡ true
+choice_concatenates : (word : List ℕ) → ConcatenatesWords choice word → is_among (codes "abef" ∷ codes "cdef" ∷ []) word ≡ true
 choice_concatenates word j =
     let back = concatenates_no_other (codes "ef") j.1 j.3 in
     elim j.2 [
@@ -102,7 +105,7 @@ choice_concatenates word j =
       ]
     ]
 
-choice_is_a_run : IsPlainRun choice
+choice_is_a_run : HaveFewWords choice
 choice_is_a_run = (
   refl,
   (
@@ -113,7 +116,7 @@ choice_is_a_run = (
 
 asking_nothing_is_not_sharp : IsSharp All (cat choice) → ⊥
 asking_nothing_is_not_sharp sharp =
-    let shown = (sharp (λ n. false) (holds-All (λ n. false))).0 none choice none refl choice_is_a_run in
+    let shown = (sharp (λ n. false) (holds-All (λ n. false))).1.0 none choice none refl choice_is_a_run in
     elim (member_cases shown.0 (codes "abef") (codes "cdef" ∷ []) (choice_concatenates shown.0 shown.1)) [
       | inl first ↦ true≢false (sym (subst (HasTrigrams (λ n. false)) first shown.2))
       | inr rest ↦ true≢false (sym (subst (HasTrigrams (λ n. false)) (only_member shown.0 (codes "cdef") rest) shown.2))
@@ -144,3 +147,67 @@ ab_is_found = (
 asking_for_an_optional_letter_loses_a_line : LosesNoLine (Tri 6382179) optional → ⊥
 asking_for_an_optional_letter_loses_a_line loses =
     true≢false (sym (loses (codes "ab") (λ n. false) ab_is_found refl) ∙ holds-Tri (λ n. false) 6382179)
+
+-- ---- which trees are finite
+
+a_repeat_with_a_most_is_finite : is_finite (rep (one_of []) 2 (Some 3)) ≡ true
+a_repeat_with_a_most_is_finite = refl
+
+a_repeat_without_a_most_is_not : is_finite (cat (more empty (more (rep (one_of []) 2 None) none))) ≡ false
+a_repeat_without_a_most_is_not = refl
+
+a_repeat_with_too_small_a_most_is_not : is_finite (rep (one_of []) 2 (Some 1)) ≡ false
+a_repeat_with_too_small_a_most_is_not = refl
+
+an_edge_is_finite : is_finite word_edge ≡ true
+an_edge_is_finite = refl
+
+-- ---- `[€]`, a character past ASCII: to ask for nothing is not sharp, and does not require its word
+
+abbrev euro : Tree
+euro = one_char ((8364, 8364) ∷ [])
+
+abbrev euro_bytes : List ℕ
+euro_bytes = 0xe2 ∷ 0x82 ∷ 0xac ∷ []
+
+euro_in_utf8 : encode_utf8 8364 ≡ euro_bytes
+unfolding lib.Utf8.encode
+euro_in_utf8 = refl
+
+euro_is_a_word : HasWord euro euro_bytes
+euro_is_a_word = (8364, refl, sym euro_in_utf8)
+
+euro_is_the_only_word : (word : List ℕ) → HasWord euro word → word ≡ euro_bytes
+euro_is_the_only_word word w = w.2 ∙ ap encode_utf8 (same w.0 w.1) ∙ euro_in_utf8
+  where
+    same : (c : ℕ) → has_char ((8364, 8364) ∷ []) c ≡ true → c ≡ 8364
+    same c h = elim (or_cases (nat_le 8364 c && nat_le c 8364) false (and_parts (is_scalar c) _ h).1) [
+      | inl both ↦
+          let ends = and_parts (nat_le 8364 c) (nat_le c 8364) both in
+          let low = leb-true 8364 c ends.0 in
+          let high = leb-true c 8364 ends.1 in
+          omega (arith, low, high)
+      | inr never ↦ absurd (true≢false (sym never))
+    ]
+
+euro_has_few_words : HasFewWords euro
+euro_has_few_words = (
+  refl,
+  (
+    (euro_bytes, concatenates_one euro euro_bytes euro_is_a_word),
+    (euro_bytes ∷ [], omega arith, λ word j. first_member word euro_bytes [] (euro_is_the_only_word word (spells_one euro word j))),
+  ),
+)
+
+trigrams_of_euro : tri euro_bytes ≡ 14844588 ∷ []
+trigrams_of_euro = refl
+
+asking_nothing_of_a_character_is_not_sharp : IsSharp All euro → ⊥
+asking_nothing_of_a_character_is_not_sharp sharp =
+    let shown = (sharp (λ n. false) (holds-All (λ n. false))).0 euro_has_few_words in
+    true≢false (sym (subst (HasTrigrams (λ n. false)) (euro_is_the_only_word shown.0 (spells_one euro shown.0 shown.1)) shown.2))
+
+asking_nothing_of_a_character_requires_no_word : RequiresWord All euro → ⊥
+asking_nothing_of_a_character_requires_no_word requires =
+    let shown = (requires (λ n. false)).0 (holds-All (λ n. false)) in
+    true≢false (sym (subst (HasTrigrams (λ n. false)) (euro_is_the_only_word shown.0 (spells_one euro shown.0 shown.1)) shown.2))

@@ -1,6 +1,10 @@
 -- The words of some rounds.
 use Rattle.std.proofs.Common.{◌≡◌, ℕ, zero, suc, ◌+◌, ◌≤◌, List, ◌++◌, arith}
-use Rattle.cs_trigram.specs.FiniteWords.{Rounds, SomeRounds}
+use Rattle.cs_trigram.specs.FiniteWords.{Rounds}
+
+-- at least `least` rounds, and at most `most`
+abbrev pub SomeRounds : (List ℕ → Type 0) → ℕ → ℕ → List ℕ → Type 0
+SomeRounds P least most word = (k : ℕ) × (least ≤ k) × (k ≤ most) × Rounds P k word
 
 module _ (P : List ℕ → Type 0) where
   module _ (least most : ℕ) where

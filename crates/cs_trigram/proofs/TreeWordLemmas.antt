@@ -7,10 +7,9 @@ use Rattle.std.proofs.lemmas.Bool.{and_parts}
 use Rattle.std.proofs.lemmas.List.{drop-drop}
 use Rattle.cs_syntax.specs.Matching.{Tree, Trees, empty, one_of, one_char, cat, alt, rep, line_start, line_end, word_edge, not_word_edge, none, more, Chain, Takes, TakesAll, TakesSome}
 use Rattle.cs_trigram.specs.Query.{HasTrigrams}
-use Rattle.cs_trigram.specs.PlainRuns.{ShowsRuns, ShowsPlainRuns, AllShowPlainRuns, SomeShowsPlainRuns}
+use Rattle.cs_trigram.specs.PlainRuns.{ShowsRuns, ShowsAlone, ShowsWithin, AllShowWithin, ShowsPlainRuns, SomeShowsPlainRuns}
 use Rattle.cs_trigram.specs.FiniteWords.{Rounds, is_finite, are_finite, HasWord, ConcatenatesWords, SomeHasWord}
-use Rattle.cs_trigram.proofs.FewLemmas.{concatenates_split}
-use Rattle.cs_trigram.proofs.PlainTreeLemmas.{words_concatenate}
+use Rattle.cs_trigram.proofs.FewLemmas.{concatenates_one, concatenates_split}
 use Rattle.cs_trigram.proofs.PartTrigramLemmas.{has_front, has_back}
 
 pub part_empty : (s : List ℕ) (i : ℕ) → slice_range s i i ≡ []
@@ -96,32 +95,39 @@ module _ (set : ℕ → Bool) where
       let first = concatenates_split before (append run after) w (subst (λ (x : Trees). ConcatenatesWords x w) e j) in
       let second = concatenates_split run after first.1 first.3 in
       let rest = has_back set first.0 first.1 (subst (HasTrigrams set) first.4 h) in
-      (second.0, words_concatenate run few.0 second.0 second.2, has_front set second.0 second.1 (subst (HasTrigrams set) second.4 rest))
+      (second.0, second.2, has_front set second.0 second.1 (subst (HasTrigrams set) second.4 rest))
+
+  word_alone : (t : Tree) (w : List ℕ) → HasWord t w → HasTrigrams set w → ShowsAlone set t
+  word_alone t w s h few = (w, concatenates_one t w s, h)
 
   mutual
-    pub spelled_plain_runs : (t : Tree) (w : List ℕ) → HasWord t w → HasTrigrams set w → ShowsPlainRuns set t
-    spelled_plain_runs empty w s h = tt
-    spelled_plain_runs (one_of bytes) w s h = tt
-    spelled_plain_runs (one_char runs) w s h = tt
-    spelled_plain_runs (cat ts) w s h = (runs_shown ts w s h, concatenated_plain_runs ts w s h)
-    spelled_plain_runs (alt ts) w s h = some_plain_runs ts w s h
-    spelled_plain_runs (rep x n None) w s h = absurd s
-    spelled_plain_runs (rep x zero (Some m)) w s h = tt
-    spelled_plain_runs (rep x (suc n) (Some m)) w s h =
+    pub spelled_within : (t : Tree) (w : List ℕ) → HasWord t w → HasTrigrams set w → ShowsWithin set t
+    spelled_within empty w s h = tt
+    spelled_within (one_of bytes) w s h = tt
+    spelled_within (one_char runs) w s h = tt
+    spelled_within (cat ts) w s h = (runs_shown ts w s h, concatenated_within ts w s h)
+    spelled_within (alt ts) w s h = some_plain_runs ts w s h
+    spelled_within (rep x n None) w s h = absurd s
+    spelled_within (rep x zero (Some m)) w s h = tt
+    spelled_within (rep x (suc n) (Some m)) w s h =
         let r = first_round (HasWord x) n s.0 w s.1 s.3 in
-        spelled_plain_runs x r.0 r.2 (has_front set r.0 r.1 (subst (HasTrigrams set) r.3 h))
-    spelled_plain_runs line_start w s h = tt
-    spelled_plain_runs line_end w s h = tt
-    spelled_plain_runs word_edge w s h = tt
-    spelled_plain_runs not_word_edge w s h = tt
+        let has = has_front set r.0 r.1 (subst (HasTrigrams set) r.3 h) in
+        (word_alone x r.0 r.2 has, spelled_within x r.0 r.2 has)
+    spelled_within line_start w s h = tt
+    spelled_within line_end w s h = tt
+    spelled_within word_edge w s h = tt
+    spelled_within not_word_edge w s h = tt
 
-    pub concatenated_plain_runs : (ts : Trees) (w : List ℕ) → ConcatenatesWords ts w → HasTrigrams set w → AllShowPlainRuns set ts
-    concatenated_plain_runs none w s h = tt
-    concatenated_plain_runs (more t ts) w s h =
+    concatenated_within : (ts : Trees) (w : List ℕ) → ConcatenatesWords ts w → HasTrigrams set w → AllShowWithin set ts
+    concatenated_within none w s h = tt
+    concatenated_within (more t ts) w s h =
         let parts = subst (HasTrigrams set) s.4 h in
-        (spelled_plain_runs t s.0 s.2 (has_front set s.0 s.1 parts), concatenated_plain_runs ts s.1 s.3 (has_back set s.0 s.1 parts))
+        (spelled_within t s.0 s.2 (has_front set s.0 s.1 parts), concatenated_within ts s.1 s.3 (has_back set s.0 s.1 parts))
 
-    pub some_plain_runs : (ts : Trees) (w : List ℕ) → SomeHasWord ts w → HasTrigrams set w → SomeShowsPlainRuns set ts
+    some_plain_runs : (ts : Trees) (w : List ℕ) → SomeHasWord ts w → HasTrigrams set w → SomeShowsPlainRuns set ts
     some_plain_runs none w s h = absurd s
     some_plain_runs (more t ts) w s h =
-        elim s [ inl a ↦ inl (spelled_plain_runs t w a h) | inr b ↦ inr (some_plain_runs ts w b h) ]
+        elim s [ inl a ↦ inl (word_alone t w a h, spelled_within t w a h) | inr b ↦ inr (some_plain_runs ts w b h) ]
+
+  pub spelled_plain_runs : (t : Tree) (w : List ℕ) → HasWord t w → HasTrigrams set w → ShowsPlainRuns set t
+  spelled_plain_runs t w s h = (word_alone t w s h, spelled_within t w s h)

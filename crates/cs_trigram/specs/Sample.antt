@@ -8,7 +8,7 @@ use Rattle.cs_tree.specs.Cover.{is_among}
 use Rattle.cs_tree.specs.Folders.{are_distinct}
 use Rattle.cs_syntax.specs.Matching.{Tree, Trees, none, more, cat, alt, rep, member, Takes, TakesAll, TakesSome}
 use Rattle.cs_trigram.specs.Query.{holds, has_trigrams, HasTrigrams}
-use Rattle.cs_trigram.specs.PlainRuns.{ShowsPlainRuns, SomeShowsPlainRuns, IsSharp}
+use Rattle.cs_trigram.specs.PlainRuns.{ShowsWithin, SomeShowsPlainRuns, IsSharp}
 use Rattle.cs_trigram.specs.FiniteWords.{HasWord, ConcatenatesWords, SomeHasWord, HaveFewWords, HasFewWords, is_finite, are_finite}
 use Rattle.cs_trigram.specs.declared.queries.Query.{Query}
 
@@ -100,9 +100,9 @@ IsOwn query t = (HasFewWords t → ⊥) → IsRight query t
 abbrev pub AreOwn : List Query → Trees → Type 0
 AreOwn queries ts = (HasFewWords (alt ts) → ⊥) → AreRight queries ts
 
--- the query is right for at least so many rounds of the tree
-abbrev pub IsRightForRounds : Query → Tree → ℕ → Type 0
-IsRightForRounds query t least = (most : Option ℕ) → IsRight query (rep t least most)
+-- the query is that of at least so many rounds of the tree
+abbrev pub IsOwnForRounds : Query → Tree → ℕ → Type 0
+IsOwnForRounds query t least = (most : Option ℕ) → IsOwn query (rep t least most)
 
 -- a sample of the words of a finite tree, a run and a choice
 abbrev pub SamplesTree : List (List ℕ) → Tree → Type 0
@@ -143,4 +143,4 @@ pub record IsAsked (front : List (List ℕ)) (needs : (ℕ → Bool) → Bool) (
   pub run : IsFront ts front
   pub holding : (s : List ℕ) (set : ℕ → Bool) (i j : ℕ) → TakesAll s ts i j → HasTrigrams set s →
       needs set ≡ true
-  pub sharp : (set : ℕ → Bool) → needs set ≡ true → has_any set front ≡ true → ShowsPlainRuns set (cat ts)
+  pub sharp : (set : ℕ → Bool) → needs set ≡ true → has_any set front ≡ true → ShowsWithin set (cat ts)

@@ -9,18 +9,15 @@ trigram a b c = 65536 * a + 256 * b + c
 
 -- the trigrams of a text from left to right: the numbers of all its parts of three bytes
 abbrev pub trigram_sequence : List ℕ → List ℕ
-trigram_sequence [] = []
-trigram_sequence (a ∷ []) = []
-trigram_sequence (a ∷ b ∷ []) = []
 trigram_sequence (a ∷ b ∷ c ∷ rest) = trigram a b c ∷ trigram_sequence (b ∷ c ∷ rest)
+trigram_sequence few = []
 
 -- A set of numbers is its ascending list.
 
 -- a list in which each number is above the one before it
 abbrev pub Ascends : List ℕ → Type 0
-Ascends [] = Unit {0}
-Ascends (n ∷ []) = Unit {0}
 Ascends (n ∷ m ∷ ms) = (n < m) × Ascends (m ∷ ms)
+Ascends few = Unit {0}
 
 -- a number put into a set
 abbrev pub with_number : ℕ → List ℕ → List ℕ

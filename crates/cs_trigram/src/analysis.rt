@@ -5,7 +5,8 @@ ghost use Rattle.cs_syntax.specs.Matching.{cat, alt};
 ghost use Rattle.cs_syntax.specs.Node.{tree_of};
 ghost use Rattle.cs_syntax.specs.NodeList.{trees_of};
 ghost use Rattle.cs_trigram.specs.Query.{LosesNoLine};
-ghost use Rattle.cs_trigram.specs.PlainRuns.{IsSharp};
+ghost use Rattle.cs_trigram.specs.FiniteWords.{HasFewWords};
+ghost use Rattle.cs_trigram.specs.PlainRuns.{IsSharp, RequiresWord};
 ghost use Rattle.cs_trigram.specs.Known.{IsKnown};
 
 use crate::branches::AskedChoice;
@@ -19,10 +20,12 @@ use std::alloc::{AllocError, Global};
 
 /// What a pattern asks of the trigrams of a text. It holds of each text with a line in which the
 /// pattern finds something. It asks at least for the trigrams of a word of each run of neighbours
-/// with at most eight words, as for `abe` and `bef`, or `cde` and `def`, of `(ab|cd)ef`.
+/// with at most twenty words, as for `abe` and `bef`, or `cde` and `def`, of `(ab|cd)ef`; of a
+/// pattern that itself has at most twenty words for those of one of these, and for nothing else.
 pub fn query(alloc: Global, pattern: &Pattern) -> Result<Query, AllocError>
     ensures sound { IfOk result (λ query. LosesNoLine query pattern.now) }
     ensures sharp { IfOk result (λ query. IsSharp query pattern.now) }
+    ensures words { IfOk result (λ query. HasFewWords pattern.now → RequiresWord query pattern.now) }
     ensures numbers { IfOk result (λ query. IsTrue (are_trigrams query)) }
 {
     let Known {

@@ -172,7 +172,7 @@ impl Asked {
 
     /// The query of the whole sequence.
     pub(crate) fn finish(self, alloc: Global) -> Result<Query, AllocError>
-        ensures { IfOk result (λ query. (ts : Trees) → IsAskedOf self ts → IsRight query (cat ts)) }
+        ensures { IfOk result (λ query. (ts : Trees) → IsAskedOf self ts → IsOwn query (cat ts)) }
     {
         let Asked {
             front,

@@ -2,8 +2,10 @@
 ghost use Rattle.std.specs.Prelude.{IfOk, ℕ, Option};
 ghost use Rattle.cs_syntax.specs.Matching.{Tree, rep};
 ghost use Rattle.cs_trigram.specs.Counted.{Counts};
+ghost use Rattle.cs_trigram.specs.FiniteWords.{HasFewWords};
+ghost use Rattle.cs_trigram.specs.PlainRuns.{RequiresWord};
 ghost use Rattle.cs_trigram.specs.Known.{IsKnown};
-ghost use Rattle.cs_trigram.specs.Sample.{IsRight, IsOwn, IsRightForRounds};
+ghost use Rattle.cs_trigram.specs.Sample.{IsRight, IsOwn, IsOwnForRounds};
 ghost use Rattle.cs_trigram.specs.declared.queries.Query.TheVariants.{All};
 
 use crate::asking::any_word;
@@ -28,8 +30,10 @@ pub(crate) fn query_of_words(
     words: &Counted,
     own: Query,
 ) -> Result<Query, AllocError>
-    ensures { IfOk result (λ query. (t : Tree) → Counts words.now t → IsOwn own t →
+    ensures right { IfOk result (λ query. (t : Tree) → Counts words.now t → IsOwn own t →
         IsRight query t) }
+    ensures words { IfOk result (λ query. (t : Tree) → Counts words.now t → HasFewWords t →
+        RequiresWord query t) }
 {
     match words.few() {
         Some(few) => any_word(alloc, few),
@@ -57,7 +61,7 @@ fn query_of_rounds(
     least: u32,
 ) -> Result<Query, AllocError>
     ensures { IfOk result (λ query. (t : Tree) → Counts words.now t → IsOwn own t →
-        IsRightForRounds query t least) }
+        IsOwnForRounds query t least) }
 {
     if least == 0 {
         return Ok(Query::All);

@@ -11,11 +11,13 @@ ghost use Rattle.cs_trigram.specs.Query.{HasTrigrams};
 ghost use Rattle.cs_trigram.specs.PlainRuns.{ShowsPlainRuns};
 ghost use Rattle.cs_trigram.specs.Text.{first_broken, skip, text_trigrams};
 
-/// The trigrams of some bytes ascend, and among them is the number of each part of three bytes.
+/// The trigrams of some bytes ascend. Among them is the number of each part of three bytes, and no other number.
 pub fn each_part_has_its_trigram()
     ensures ascend { (bytes : List ℕ) → Ascends (tri bytes) }
     ensures parts { (before after : List ℕ) (a b c : ℕ) →
         has (tri (before ++ (a ∷ b ∷ c ∷ after))) (trigram a b c) ≡ true }
+    ensures only { (bytes : List ℕ) (n : ℕ) → has (tri bytes) n ≡ true → (before after : List ℕ)
+        × (a b c : ℕ) × (bytes ≡ before ++ (a ∷ b ∷ c ∷ after)) × (n ≡ trigram a b c) }
 {}
 
 /// The trigrams of a part are trigrams of the whole.

@@ -25,17 +25,21 @@ file_fault_words InputTooLong = codes "input too long"
 
 -- whether a call has failed: not where a name is no text, nor where a path or an input is too long
 abbrev pub is_file_failure : FileFault → Bool
+is_file_failure Missing = true
+is_file_failure Denied = true
+is_file_failure Output = true
+is_file_failure Failed = true
 is_file_failure Unnamed = false
 is_file_failure PathTooLong = false
 is_file_failure InputTooLong = false
-is_file_failure fault = true
 
 abbrev pub fault_line_of : Tool → List ℕ → FileFault → List ℕ
 fault_line_of tool name fault = tool_name tool ++ codes ": " ++ name ++ codes ": " ++ file_fault_words fault ++ codes "\n"
 
--- the fault of a file that can't be looked at, opened or read
+-- the fault of a file that can't be looked at, opened or read; no file is left for want of memory
 abbrev pub file_fault_of : TreeFault → FileFault
 file_fault_of tree.Missing = Missing
 file_fault_of tree.Denied = Denied
 file_fault_of tree.Output = Output
-file_fault_of fault = Failed  -- never of want of memory, which is none of the file's
+file_fault_of tree.Failed = Failed
+file_fault_of tree.Memory = Failed

@@ -118,6 +118,10 @@ const CHANGES: &[(&[(usize, u8)], Option<IndexFault>)] = &[
     (&[(0, 0x00)], Some(IndexFault::BadMagic)),
     (&[(121, 0x00)], Some(IndexFault::BadTrailer)),
     (&[(89, 0x11)], Some(IndexFault::BadOffsets)),
+    (
+        &[(102, 0xff), (103, 0xff), (104, 0xff), (105, 0xff)],
+        Some(IndexFault::BadOffsets),
+    ),
     (&[(16, 0x00)], Some(IndexFault::BadPaths)),
     (&[(20, 0xff)], Some(IndexFault::BadNames)),
     (&[(48, 0x01)], Some(IndexFault::BadNameIndex)),
@@ -207,12 +211,21 @@ fn damage_is_told(rt: HostRuntime) {
     assert!(rt; damaged(59, 0x02) == Some([Some(Ok(0)), bad, None]));
 }
 
+/// Why so many bytes of an index are refused.
+fn fault_of_front(end: usize) -> IndexFault {
+    if end < 16 {
+        IndexFault::BadMagic
+    } else {
+        IndexFault::BadTrailer
+    }
+}
+
 #[test]
 fn prefixes_are_refused(rt: HostRuntime) {
     for bytes in [ROW.as_slice(), UNSORTED, EMPTY] {
         for end in 0..bytes.len() {
             assert!(rt;
-                Index::open(&bytes[..end]).is_err(),
+                Index::open(&bytes[..end]).err() == Some(fault_of_front(end)),
                 "at {end} of {}",
                 bytes.len()
             );

@@ -92,6 +92,8 @@ struct Endless {
 impl Tree for Endless {
     ghost failed = { λ _. 0 };
 
+    ghost counts_told = { λ _ told. told };
+
     fn kind(&mut self, _path: &str) -> Result<Kind, TreeFault> {
         Ok(Kind::Folder)
     }

@@ -10,10 +10,15 @@ use cs_words::{CindexFault, IndexJob, Reply};
 use std::alloc::{AllocError, Global};
 use std::test::Fail;
 
-/// The index of paths, over a tree.
+/// The index of paths, over a tree with these things in it.
 pub fn index_of(alloc: Global, paths: &[&str], placed: &[Placed<'_>]) -> Result<Vec<u8>, Fail> {
+    index_over(alloc, paths, tree_of(alloc, placed)?)
+}
+
+/// The index of paths, over a tree.
+pub fn index_over(alloc: Global, paths: &[&str], tree: MemTree) -> Result<Vec<u8>, Fail> {
     let jobs = [job_of(alloc, paths)?];
-    let mut trees = [tree_of(alloc, placed)?];
+    let mut trees = [tree];
     let mut replies = [Reply::Done];
     let mut out = MemSink::new(alloc, 1000);
     let mut err = MemSink::new(alloc, 1000);

@@ -3,7 +3,7 @@ use crate::desk::have;
 use crate::fixtures::{Placed, tree_of, words_of};
 use crate::indexing::jobs::index_of;
 use cs_search::{Status, csearch};
-use cs_tree::{MemSink, MemTree};
+use cs_tree::{MemSink, Tree};
 use cs_words::{Job, SearchJob, Tool, ToolFault, read_words};
 use std::alloc::Global;
 use std::test::Fail;
@@ -51,11 +51,11 @@ fn job_of(alloc: Global, text: &str) -> Result<SearchJob, Fail> {
 }
 
 /// A search of the index, where there is one, over the tree.
-pub fn search(
+pub fn search<T: Tree>(
     alloc: Global,
     words: &str,
     index: Option<&[u8]>,
-    tree: &mut MemTree,
+    tree: &mut T,
     out: &mut MemSink,
     err: &mut MemSink,
 ) -> Result<Result<Status, ToolFault>, Fail> {

@@ -8,7 +8,7 @@ use std::alloc::Global;
 use std::test::Fail;
 
 /// The job of the words of cgrep, between spaces.
-fn job_of(alloc: Global, text: &str) -> Result<GrepJob, Fail> {
+pub fn job_of(alloc: Global, text: &str) -> Result<GrepJob, Fail> {
     match read_words(alloc, Tool::Cgrep, "/w", &words_of(alloc, text, ' ')?)? {
         Job::Grep(job) => Ok(job),
         _ => Err(Fail::from("words")),
@@ -66,25 +66,6 @@ fn prints(alloc: Global, words: &str, lines: &str, faults: &str) -> Result<bool,
 fn what_fails_leaves_the_others(rt: HostRuntime) -> Result<(), Fail> {
     for (words, lines, faults) in ROWS {
         assert!(rt; prints(rt.alloc(), *words, *lines, *faults)?, "{words}");
-    }
-    Ok(())
-}
-
-/// What a search prints that has the room.
-const WHOLE: &[u8] = b"/t/c:one\n/t/p:one\n/t/p:one\n";
-
-/// Whether a search with this much room is refused, and has filled it.
-fn fills(alloc: Global, room: usize) -> Result<bool, Fail> {
-    let mut out = MemSink::new(alloc, room);
-    let mut err = MemSink::new(alloc, 1000);
-    let status = run(alloc, "one /t/c /t/p", &mut out, &mut err)?;
-    Ok(status == Err(ToolFault::Write) && WHOLE.get(..room) == Some(out.bytes()))
-}
-
-#[test]
-fn cgrep_into_little_room(rt: HostRuntime) -> Result<(), Fail> {
-    for room in 0..WHOLE.len() {
-        assert!(rt; fills(rt.alloc(), room)?, "with room for {room} bytes");
     }
     Ok(())
 }

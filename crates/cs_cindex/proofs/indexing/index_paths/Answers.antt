@@ -1,6 +1,8 @@
 use Rattle.std.proofs.Common.{◌≡◌, ◌∙◌, ℕ, Result, Err, sym, ap, subst, map, string_bytes, inl, inr}
 use Rattle.std.proofs.lemmas.Result.{err_from_is_err_and}
+use Rattle.cs_tree.specs.Clean.{longest_path}
 use Rattle.cs_tree.specs.PathSet as set
+use Rattle.cs_tree.proofs.Asking.{asks_on}
 use Rattle.cs_tree.specs.Failures.{count_if}
 use Rattle.cs_tree.specs.FailureCount.{count_after}
 use Rattle.cs_tree.specs.Told.{Grows}
@@ -31,7 +33,7 @@ returns-in_err-walked-clause-front g c =
 pub returns-in_err-print_left-clause-front : goal.returns-in_err-print_left-clause-front
 returns-in_err-print_left-clause-front g c =
     let front = subst (λ fs. TakesFront (text_of (map left_line (map left_entry fs))) (g.E.Sink.taken c.args.err.now) (g.E.Sink.taken c.print_left.new.err)) c.deref.ensures.value c.in_err-print_left.ensures.prints in
-    any_err c.from_residual-in_err-print_left.result (front_left _ _ _ (names_walked c.in_ok-walked.walked) _ c.requires c.in_ok-walked.ensures.finds _ _ _ _ c.in_ok-walked.ensures.counted front)
+    any_err c.from_residual-in_err-print_left.result (front_left _ _ _ (names_walked c.in_ok-walked.walked) _ c.requires c.in_ok-walked.ensures.finds _ _ _ _ c.in_ok-walked.ensures.told front)
 
 pub returns-in_err-index_files-clause-too_large : goal.returns-in_err-index_files-clause-too_large
 returns-in_err-index_files-clause-too_large g c = λ is.
@@ -43,7 +45,7 @@ pub returns-in_err-index_files-clause-front : goal.returns-in_err-index_files-cl
 returns-in_err-index_files-clause-front g c =
     let printed = subst (λ fs. Grows (g.E.Sink.taken c.args.err.now) (g.E.Sink.taken c.print_left.new.err) (text_of (map left_line (map left_entry fs)))) c.deref.ensures.value c.in_ok-print_left.ensures.prints in
     let files = files_front _ _ _ _ _ _ _ _ _ _ c.in_ok-indexer.ensures.log_skip c.walk.ensures.keeps (ap (map string_bytes) c.deref-2.ensures.value) c.in_err-index_files.ensures.front in
-    any_err c.from_residual-in_err-index_files.result (front_files _ _ _ _ _ c.requires c.in_ok-walked.ensures.finds _ _ _ _ c.in_ok-walked.ensures.counted _ _ c.in_ok-walked.ensures.rises c.index_files.ensures.rises printed files)
+    any_err c.from_residual-in_err-index_files.result (front_files _ _ _ _ _ c.requires c.in_ok-walked.ensures.finds _ _ _ _ c.in_ok-walked.ensures.told _ _ printed files)
 
 pub returns-in_err-index-clause-too_large : goal.returns-in_err-index-clause-too_large
 returns-in_err-index-clause-too_large g c = λ is.
@@ -53,7 +55,7 @@ returns-in_err-index-clause-too_large g c = λ is.
 
 pub returns-in_err-index-clause-front : goal.returns-in_err-index-clause-front
 returns-in_err-index-clause-front g c =
-    any_err c.from_residual-in_err-index.result (front_whole _ _ _ _ _ _ _ (walk_printed _ _ _ _ _ _ _ _ _ _ _ _ _ _ _ c.requires c.in_ok-walked.ensures.finds c.in_ok-walked.ensures.counted c.in_ok-walked.ensures.rises c.index_files.ensures.rises c.deref.ensures.value c.in_ok-print_left.ensures.prints c.in_ok-indexer.ensures.log_skip c.walk.ensures.keeps (ap (map string_bytes) c.deref-2.ensures.value) c.in_ok-index_files.ensures.prints))
+    any_err c.from_residual-in_err-index.result (front_whole _ _ _ _ _ _ _ (walk_printed _ _ _ _ _ _ _ _ _ _ _ _ _ _ _ c.requires c.in_ok-walked.ensures.finds c.in_ok-walked.ensures.told c.deref.ensures.value c.in_ok-print_left.ensures.prints c.in_ok-indexer.ensures.log_skip c.walk.ensures.keeps (ap (map string_bytes) c.deref-2.ensures.value) c.in_ok-index_files.ensures.prints))
 
 pub returns-clause-image : goal.returns-clause-image
 returns-clause-image g c =
@@ -69,7 +71,7 @@ returns-clause-well_formed g c =
 
 pub returns-clause-prints : goal.returns-clause-prints
 returns-clause-prints g c =
-    walk_printed _ _ _ _ _ _ _ _ _ _ _ _ _ _ _ c.requires c.in_ok-walked.ensures.finds c.in_ok-walked.ensures.counted c.in_ok-walked.ensures.rises c.index_files.ensures.rises c.deref.ensures.value c.in_ok-print_left.ensures.prints c.in_ok-indexer.ensures.log_skip c.walk.ensures.keeps (ap (map string_bytes) c.deref-2.ensures.value) c.in_ok-index_files.ensures.prints
+    walk_printed _ _ _ _ _ _ _ _ _ _ _ _ _ _ _ c.requires c.in_ok-walked.ensures.finds c.in_ok-walked.ensures.told c.deref.ensures.value c.in_ok-print_left.ensures.prints c.in_ok-indexer.ensures.log_skip c.walk.ensures.keeps (ap (map string_bytes) c.deref-2.ensures.value) c.in_ok-index_files.ensures.prints
 
 pub returns-in_err-index_files-clause-whole : goal.returns-in_err-index_files-clause-whole
 returns-in_err-index_files-clause-whole g c = λ is.
@@ -79,7 +81,7 @@ returns-in_err-index_files-clause-whole g c = λ is.
 
 pub returns-in_err-index-clause-whole : goal.returns-in_err-index-clause-whole
 returns-in_err-index-clause-whole g c = λ is.
-    inr (walk_printed _ _ _ _ _ _ _ _ _ _ _ _ _ _ _ c.requires c.in_ok-walked.ensures.finds c.in_ok-walked.ensures.counted c.in_ok-walked.ensures.rises c.index_files.ensures.rises c.deref.ensures.value c.in_ok-print_left.ensures.prints c.in_ok-indexer.ensures.log_skip c.walk.ensures.keeps (ap (map string_bytes) c.deref-2.ensures.value) c.in_ok-index_files.ensures.prints)
+    inr (walk_printed _ _ _ _ _ _ _ _ _ _ _ _ _ _ _ c.requires c.in_ok-walked.ensures.finds c.in_ok-walked.ensures.told c.deref.ensures.value c.in_ok-print_left.ensures.prints c.in_ok-indexer.ensures.log_skip c.walk.ensures.keeps (ap (map string_bytes) c.deref-2.ensures.value) c.in_ok-index_files.ensures.prints)
 
 -- a refusal that is passed on is counted as it was
 counted_on : {A : Type 0} (r : Result A CindexFault) (fault was : CindexFault) (before now later : ℕ) → r ≡ Err fault → fault ≡ was → later ≡ count_if (is_failed_write was) now → now ≡ before → later ≡ count_after is_failed_write r before
@@ -90,3 +92,11 @@ pub returns-in_err-index_files-clause-writes : goal.returns-in_err-index_files-c
 returns-in_err-index_files-clause-writes g c =
     let p = err_from_is_err_and c.from_residual-in_err-index_files.result c.from_residual-in_err-index_files.ensures.1 in
     counted_on c.from_residual-in_err-index_files.result p.0 _ _ _ _ p.1 p.2 c.in_err-index_files.ensures.writes c.in_ok-print_left.ensures.writes
+
+-- ---- what was asked for
+
+pub returns-in_err-index-clause-asked : goal.returns-in_err-index-clause-asked
+returns-in_err-index-clause-asked g c = asks_on longest_path (g.T.Tree.longest_asked c.args.tree.now) (g.T.Tree.longest_asked c.walk.new.tree) (g.T.Tree.longest_asked c.index_files.new.tree) c.walk.ensures.asked c.index_files.ensures.asked
+
+pub returns-clause-asked : goal.returns-clause-asked
+returns-clause-asked g c = asks_on longest_path (g.T.Tree.longest_asked c.args.tree.now) (g.T.Tree.longest_asked c.walk.new.tree) (g.T.Tree.longest_asked c.index_files.new.tree) c.walk.ensures.asked c.index_files.ensures.asked

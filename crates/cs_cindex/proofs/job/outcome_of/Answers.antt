@@ -12,12 +12,12 @@ pub returns-in_err-list_paths-clause-step : goal.returns-in_err-list_paths-claus
 returns-in_err-list_paths-clause-step g c =
     let p = err_from_is_err_and c.from_residual.result c.from_residual.ensures.1 in
     let told = c.in_err-list_paths.ensures in
-    rw (p.1, p.2) (list_refused c.args.job.now _ _ _ c.in_err-list_paths.field-0.0 c.if-job.true told.refusal told.out (Grows-same _) told.writes refl)
+    rw (p.1, p.2) (list_refused c.args.job.now _ _ _ c.in_err-list_paths.field-0.0 c.if-job.true told.refusal told.out (Grows-same _, refl) told.writes refl)
 
 pub returns-then-job-clause-step : goal.returns-then-job-clause-step
 returns-then-job-clause-step g c =
     let told = c.in_ok-list_paths.ensures in
-    list_done c.args.job.now _ _ _ c.if-job.true told.refusal told.out (Grows-same _) told.writes refl
+    list_done c.args.job.now _ _ _ c.if-job.true told.refusal told.out (Grows-same _, refl) told.writes refl
 
 pub returns-in_err-index-clause-step : goal.returns-in_err-index-clause-step
 returns-in_err-index-clause-step g c =
@@ -39,7 +39,7 @@ returns-then-not-job-clause-step g c =
 pub returns-then-is_empty-clause-step : goal.returns-then-is_empty-clause-step
 returns-then-is_empty-clause-step g c =
     let r : c.args.job.now.reset ≡ true = search (rules, not-false) in
-    clear_done c.args.job.now _ _ _ c.if-job.false r (ap (λ n. nat_eq n 0) (sym c.args.job.now.paths.ok.0) ∙ sym c.if-is_empty.ensures) (Grows-same _) (Grows-same _) refl refl
+    clear_done c.args.job.now _ _ _ c.if-job.false r (ap (λ n. nat_eq n 0) (sym c.args.job.now.paths.ok.0) ∙ sym c.if-is_empty.ensures) (Grows-same _) (Grows-same _, refl) refl refl
 
 pub returns-in_err-index-2-clause-step : goal.returns-in_err-index-2-clause-step
 returns-in_err-index-2-clause-step g c =

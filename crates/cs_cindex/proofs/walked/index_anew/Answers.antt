@@ -1,12 +1,13 @@
-use Rattle.std.proofs.Common.{◌≡◌, ◌≢◌, ◌∙◌, cond, length, map, ap, sym, subst, Some, None, Err}
+use Rattle.std.proofs.Common.{◌≡◌, ◌≢◌, ◌∙◌, cond, length, map, ap, sym, subst, refl, Some, None, Err}
 use Rattle.std.specs.Prelude.{string_bytes}
 use Rattle.std.proofs.lemmas.Result.{err_from_is_err_and}
 use Rattle.std.proofs.lemmas.Bool.{eqb-false, ne_eqb}
 use Rattle.cs_tree.specs.PathSet as set
 use Rattle.cs_words.specs.declared.jobs.IndexJob.{IndexJob}
-use Rattle.cs_words.specs.declared.fault.CindexFault.TheVariants.{NoIndex}
-use Rattle.cs_cindex.specs.Refusals.{EarlyOr, IsWalkFault, base_fault}
-use Rattle.cs_cindex.proofs.JobOutputLemmas.{own_walked, front_over, prints_over}
+use Rattle.cs_words.specs.declared.fault.CindexFault.TheVariants.{NoIndex, Memory}
+use Rattle.cs_cindex.specs.Output.{job_tree, output}
+use Rattle.cs_cindex.specs.Refusals.{EarlyOr, IsOutputFault, IsWalkFault, base_fault}
+use Rattle.cs_cindex.proofs.JobOutputLemmas.{nothing_printed, own_walked, front_over, prints_over}
 use Rattle.cs_cindex.proofs.GoingLemmas.{own_paths, some_path}
 use Rattle.cs_cindex.proofs.NextLemmas.{own_index, next_anew, index_refusal}
 use Rattle.cs_cindex.proofs.walked.index_anew.Goals as goal
@@ -42,9 +43,17 @@ returns-in_err-index-clause-prints g c =
     let told = c.in_err-index.ensures in
     let some = some_path c.args.job.now c.args.given.now c.requires (eqb-false (length c.args.given.now) 0 (sym c.if-is_empty.ensures)) in
     let walked = own_walked c.args.job.now (map string_bytes c.args.given.now) (map string_bytes c.deref.result.now) None c.requires some (ap (λ ps. map string_bytes ps) c.deref.ensures.value ∙ c.in_ok-paths.ensures) in
-    rw (p.1, p.2) (front_over c.args.job.now (g.T.Tree.snapshot c.args.tree.now) (set.from_list (map string_bytes c.deref.result.now)) None (base_fault c.args.job.now None) _ _ _ _ c.in_err-index.field-0.0 walked (none_early c.args.job.now some)
-    told.only (λ e. told.whole (ap Err e)) told.front)
+    rw (p.1, p.2) (front_over c.args.job.now (job_tree g.T.Tree.snapshot g.T.Tree.failed c.args.tree.now c.index_paths.new.tree) (set.from_list (map string_bytes c.deref.result.now)) None (output g.E.Sink.taken g.E.Sink.failed c.args.err.now) (output g.E.Sink.taken g.E.Sink.failed c.index_paths.new.err) walked (base_fault c.args.job.now None) c.in_err-index.field-0.0 (none_early c.args.job.now some)
+    told.only told.writes (λ e. told.whole (ap Err e)) told.front)
 
 pub returns-clause-prints : goal.returns-clause-prints
 returns-clause-prints g c =
-    prints_over c.args.job.now (g.T.Tree.snapshot c.args.tree.now) (set.from_list (map string_bytes c.deref.result.now)) None _ _ _ _ (own_walked c.args.job.now (map string_bytes c.args.given.now) (map string_bytes c.deref.result.now) None c.requires (some_path c.args.job.now c.args.given.now c.requires (eqb-false (length c.args.given.now) 0 (sym c.if-is_empty.ensures))) (ap (λ ps. map string_bytes ps) c.deref.ensures.value ∙ c.in_ok-paths.ensures)) c.in_ok-index.ensures.prints
+    prints_over c.args.job.now (job_tree g.T.Tree.snapshot g.T.Tree.failed c.args.tree.now c.index_paths.new.tree) (set.from_list (map string_bytes c.deref.result.now)) None (output g.E.Sink.taken g.E.Sink.failed c.args.err.now) (output g.E.Sink.taken g.E.Sink.failed c.index_paths.new.err)
+    (own_walked c.args.job.now (map string_bytes c.args.given.now) (map string_bytes c.deref.result.now) None c.requires (some_path c.args.job.now c.args.given.now c.requires (eqb-false (length c.args.given.now) 0 (sym c.if-is_empty.ensures))) (ap (λ ps. map string_bytes ps) c.deref.ensures.value ∙ c.in_ok-paths.ensures)) c.in_ok-index.ensures.prints
+
+pub returns-in_err-paths-clause-prints : goal.returns-in_err-paths-clause-prints
+returns-in_err-paths-clause-prints g c =
+    let p = err_from_is_err_and c.from_residual.result c.from_residual.ensures.1 in
+    let some = some_path c.args.job.now c.args.given.now c.requires (eqb-false (length c.args.given.now) 0 (sym c.if-is_empty.ensures)) in
+    rw (p.1, p.2) (nothing_printed (base_fault c.args.job.now None) Memory c.args.job.now (g.T.Tree.snapshot c.args.tree.now) None (g.T.Tree.failed c.args.tree.now) (output g.E.Sink.taken g.E.Sink.failed c.args.err.now) refl
+    (subst (λ o. EarlyOr o (IsOutputFault Memory) Memory) (sym (none_early c.args.job.now some)) tt))

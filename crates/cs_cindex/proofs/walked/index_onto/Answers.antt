@@ -4,6 +4,7 @@ use Rattle.std.proofs.lemmas.Result.{err_from_is_err_and}
 use Rattle.cs_tree.specs.Failures.{count_if}
 use Rattle.cs_tree.specs.PathSet as set
 use Rattle.cs_index.specs.Opening.{opening}
+use Rattle.cs_cindex.specs.Output.{job_tree, output}
 use Rattle.cs_cindex.specs.Refusals.{IsWalkFault, EarlyOr, base_fault, opening_fault, unfit_parts_fault}
 use Rattle.cs_cindex.specs.Joins.{IsJoinRefusal, JoinsTo}
 use Rattle.cs_cindex.proofs.JobOutputLemmas.{start_walk, front_over, whole_over, prints_over}
@@ -60,16 +61,17 @@ returns-in_err-newer-clause-prints g c =
     let told = c.in_err-newer.ensures in
     let walked = start_walk c.args.job.now c.args.old.now c.in_ok-index.index (map string_bytes c.args.given.now) (map string_bytes c.deref.result.now) c.requires c.in_ok-index.ensures.opened.0 (ap (λ ps. map string_bytes ps) c.deref.ensures.value ∙ c.in_ok-paths.ensures) in
     let good : base_fault c.args.job.now (Some c.args.old.now) ≡ None = ap (opening_fault unfit_parts_fault) c.in_ok-index.ensures.opened.0 ∙ c.in_ok-index.ensures.opened.1 in
-    rw (p.1, p.2) (front_over c.args.job.now (g.T.Tree.snapshot c.args.tree.now) (set.from_list (map string_bytes c.deref.result.now)) (Some c.args.old.now) (base_fault c.args.job.now (Some c.args.old.now)) _ _ _ _ c.in_err-newer.field-0.0 walked good
-    told.only (λ e. told.whole (ap Err e)) told.front)
+    rw (p.1, p.2) (front_over c.args.job.now (job_tree g.T.Tree.snapshot g.T.Tree.failed c.args.tree.now c.index_paths.new.tree) (set.from_list (map string_bytes c.deref.result.now)) (Some c.args.old.now) (output g.E.Sink.taken g.E.Sink.failed c.args.err.now) (output g.E.Sink.taken g.E.Sink.failed c.index_paths.new.err) walked (base_fault c.args.job.now (Some c.args.old.now)) c.in_err-newer.field-0.0 good
+    told.only told.writes (λ e. told.whole (ap Err e)) told.front)
 
 pub returns-in_err-joined-clause-prints : goal.returns-in_err-joined-clause-prints
 returns-in_err-joined-clause-prints g c =
     let p = err_from_is_err_and c.from_residual-in_err-joined.result c.from_residual-in_err-joined.ensures.1 in
     let walked = start_walk c.args.job.now c.args.old.now c.in_ok-index.index (map string_bytes c.args.given.now) (map string_bytes c.deref.result.now) c.requires c.in_ok-index.ensures.opened.0 (ap (λ ps. map string_bytes ps) c.deref.ensures.value ∙ c.in_ok-paths.ensures) in
     let good : base_fault c.args.job.now (Some c.args.old.now) ≡ None = ap (opening_fault unfit_parts_fault) c.in_ok-index.ensures.opened.0 ∙ c.in_ok-index.ensures.opened.1 in
-    rw (p.1, p.2) (whole_over c.args.job.now (g.T.Tree.snapshot c.args.tree.now) (set.from_list (map string_bytes c.deref.result.now)) (Some c.args.old.now) (base_fault c.args.job.now (Some c.args.old.now)) _ _ _ _ c.in_err-joined.field-0.0 walked good c.in_ok-newer.ensures.prints)
+    rw (p.1, p.2) (whole_over c.args.job.now (job_tree g.T.Tree.snapshot g.T.Tree.failed c.args.tree.now c.index_paths.new.tree) (set.from_list (map string_bytes c.deref.result.now)) (Some c.args.old.now) (output g.E.Sink.taken g.E.Sink.failed c.args.err.now) (output g.E.Sink.taken g.E.Sink.failed c.index_paths.new.err) walked (base_fault c.args.job.now (Some c.args.old.now)) c.in_err-joined.field-0.0 good c.in_ok-newer.ensures.prints)
 
 pub returns-clause-prints : goal.returns-clause-prints
 returns-clause-prints g c =
-    prints_over c.args.job.now (g.T.Tree.snapshot c.args.tree.now) (set.from_list (map string_bytes c.deref.result.now)) (Some c.args.old.now) _ _ _ _ (start_walk c.args.job.now c.args.old.now c.in_ok-index.index (map string_bytes c.args.given.now) (map string_bytes c.deref.result.now) c.requires c.in_ok-index.ensures.opened.0 (ap (λ ps. map string_bytes ps) c.deref.ensures.value ∙ c.in_ok-paths.ensures)) c.in_ok-newer.ensures.prints
+    prints_over c.args.job.now (job_tree g.T.Tree.snapshot g.T.Tree.failed c.args.tree.now c.index_paths.new.tree) (set.from_list (map string_bytes c.deref.result.now)) (Some c.args.old.now) (output g.E.Sink.taken g.E.Sink.failed c.args.err.now) (output g.E.Sink.taken g.E.Sink.failed c.index_paths.new.err)
+    (start_walk c.args.job.now c.args.old.now c.in_ok-index.index (map string_bytes c.args.given.now) (map string_bytes c.deref.result.now) c.requires c.in_ok-index.ensures.opened.0 (ap (λ ps. map string_bytes ps) c.deref.ensures.value ∙ c.in_ok-paths.ensures)) c.in_ok-newer.ensures.prints

@@ -1,9 +1,9 @@
 use Rattle.std.proofs.Common.{◌≡◌, ◌≤◌, ◌^◌, true, false, Ok, length, refl, sym, subst, ◌∙◌, arith}
 use Rattle.std.proofs.lemmas.Bool.{true≢false, and_from, false_from_ne_true}
 use Rattle.cs_tree.specs.Folders.{are_distinct}
-use Rattle.cs_index.specs.OpenedParts.{Parts, are_whole}
+use Rattle.cs_index.specs.OpenedParts.{Parts, are_whole, are_covered}
 use Rattle.cs_merge.specs.declared.fault.MergeFault.{MergeFault}
-use Rattle.cs_merge.specs.Joinable.{are_covered, both_distinct, both_whole, joined_index}
+use Rattle.cs_merge.specs.Joinable.{both_distinct, both_whole, joined_index}
 use Rattle.cs_merge.specs.Joining.{most_bytes, IsJoinFault, unsorted, uncovered, damaged, long, refused}
 use Rattle.cs_history.specs.WellFormed.{IsJoinable}
 use Rattle.cs_cindex.specs.Joins.{refusal_of, IsJoinRefusal}

@@ -1,8 +1,7 @@
 use Rattle.std.proofs.Common.{◌≡◌, true, ◌&&◌, ap, sym, ◌∙◌}
 use Rattle.std.specs.List.{list_all}
 use Rattle.cs_tree.specs.Cover.{is_covered}
-use Rattle.cs_index.specs.OpenedParts.{paths_in}
-use Rattle.cs_merge.specs.Joinable.{are_covered}
+use Rattle.cs_index.specs.OpenedParts.{paths_in, are_covered}
 use Rattle.cs_merge.proofs.CoverLemmas.{covered_in, all_first}
 use Rattle.cs_merge.proofs.covering.is_under.Goals as goal
 

@@ -4,8 +4,8 @@ use Rattle.std.proofs.lemmas.Result.{err_from_is_err_and}
 use Rattle.std.specs.Prelude.{MatchOption}
 use Rattle.cs_tree.specs.Folders.{are_distinct}
 use Rattle.cs_tree.specs.NamesAscending.{are_ascending}
-use Rattle.cs_index.specs.OpenedParts.{Parts}
-use Rattle.cs_merge.specs.Joinable.{are_covered, both_distinct}
+use Rattle.cs_index.specs.OpenedParts.{Parts, are_covered}
+use Rattle.cs_merge.specs.Joinable.{both_distinct}
 use Rattle.cs_merge.specs.Joining.{refused, uncovered}
 use Rattle.cs_merge.specs.Ranked.{Ranked, IsRanked}
 use Rattle.cs_merge.proofs.RankedLemmas.{ranked_distinct}

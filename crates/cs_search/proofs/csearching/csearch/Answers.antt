@@ -12,7 +12,7 @@ use Rattle.cs_search.proofs.csearching.csearch.Goals as goal
 pub returns-in_err-plan-clause-searches : goal.returns-in_err-plan-clause-searches
 returns-in_err-plan-clause-searches g c =
     let p = err_from_is_err_and c.from_residual.result c.from_residual.ensures.1 in
-    rw (p.1, p.2) (refused_first c.args.job.now (option_copied c.args.index) (g.T.Tree.snapshot c.args.tree.now) (g.T.Tree.failed c.args.tree.now) (g.O.Sink.taken c.args.out.now) (g.E.Sink.taken c.args.err.now) _ c.in_err-plan.ensures.refused)
+    rw (p.1, p.2) (refused_first c.args.job.now (option_copied c.args.index) (g.T.Tree.snapshot c.args.tree.now) (g.T.Tree.failed c.args.tree.now) (record { out = g.O.Sink.taken c.args.out.now; err = g.E.Sink.taken c.args.err.now }) _ c.in_err-plan.ensures.refused)
 
 pub returns-in_err-plan-clause-writes : goal.returns-in_err-plan-clause-writes
 returns-in_err-plan-clause-writes g c =
@@ -22,7 +22,7 @@ returns-in_err-plan-clause-writes g c =
     rw (p.1, p.2) (subst (λ fails. CountsOne fails out out err err) (sym c.in_err-plan.ensures.refused.1) (refl, refl))
 
 pub returns-in_err-plan-clause-silent : goal.returns-in_err-plan-clause-silent
-returns-in_err-plan-clause-silent g c = all_silent _ c.from_residual.result (Grows-same _, Grows-same _)
+returns-in_err-plan-clause-silent g c = all_silent _ c.from_residual.result ((Grows-same _, Grows-same _), refl, refl)
 
 -- ---- a search by what is lent
 

@@ -21,7 +21,7 @@ pub returns-in_err-ids-clause-searches : goal.returns-in_err-ids-clause-searches
 returns-in_err-ids-clause-searches g c = λ bytes lent.
     let p = err_from_is_err_and c.from_residual.result c.from_residual.ensures.1 in
     rw (p.1, p.2)
-    (refused_first c.args.job.now bytes (g.T.Tree.snapshot c.args.tree.now) (g.T.Tree.failed c.args.tree.now) (g.O.Sink.taken c.args.out.now) (g.E.Sink.taken c.args.err.now) (index_fault c.in_err-ids.field-0.0)
+    (refused_first c.args.job.now bytes (g.T.Tree.snapshot c.args.tree.now) (g.T.Tree.failed c.args.tree.now) (record { out = g.O.Sink.taken c.args.out.now; err = g.E.Sink.taken c.args.err.now }) (index_fault c.in_err-ids.field-0.0)
     (lists_refused c.args.job.now bytes c.args.plan.now c.requires c.args.index.now lent c.in_err-ids.field-0.0 c.in_err-ids.ensures.fault))
 
 pub returns-in_err-ids-clause-writes : goal.returns-in_err-ids-clause-writes
@@ -32,7 +32,7 @@ returns-in_err-ids-clause-writes g c =
     rw (p.1, p.2) (subst (λ fails. CountsOne fails out out err err) (sym (list_unwritten c.in_err-ids.field-0.0)) (refl, refl))
 
 pub returns-in_err-ids-clause-silent : goal.returns-in_err-ids-clause-silent
-returns-in_err-ids-clause-silent g c = all_silent _ c.from_residual.result (Grows-same _, Grows-same _)
+returns-in_err-ids-clause-silent g c = all_silent _ c.from_residual.result ((Grows-same _, Grows-same _), refl, refl)
 
 -- ---- a search that is refused
 
@@ -54,7 +54,7 @@ returns-in_err-matched-clause-searches g c = λ bytes lent.
     let found = c.deref.ensures.value ∙ c.in_ok-ids.ensures.ids in
     let Holds = λ (printed : Option Printed). PrintsSome printed out out-now err err-now in
     rw (p.1, p.2)
-    (refused_late job bytes tree before after out out-now err err-now (ready job bytes plan c.requires parts lent whole) c.in_err-matched.field-0.0 c.in_err-matched.ensures.only
+    (refused_late job bytes tree before after (record { out = out; err = err }) (record { out = out-now; err = err-now }) (ready job bytes plan c.requires parts lent whole) c.in_err-matched.field-0.0 c.in_err-matched.ensures.only
     (searched job bytes plan c.requires parts lent whole ids found tree Holds
     (λ finds keeps decides names. PrintsSome-front _ out out-now err err-now (c.in_err-matched.ensures.front finds keeps decides names)))
     (λ opened opens. PrintsFaults-cut Csearch {A = Status} (Err c.in_err-matched.field-0.0) _ opened.names before after err err-now refl (faults_chosen job bytes plan c.requires parts lent whole ids found undone opened before after err err-now opens c.in_err-matched.ensures.faults)))
@@ -90,7 +90,7 @@ returns-in_err-status-clause-searches g c = λ bytes lent.
     let found = c.deref.ensures.value ∙ c.in_ok-ids.ensures.ids in
     let Holds = λ (printed : Option Printed). PrintsSome printed out out-later err err-later in
     rw (p.1, p.2)
-    (refused_late job bytes tree before after out out-later err err-later (ready job bytes plan c.requires parts lent whole) c.in_err-status.field-0.0 c.in_err-status.ensures.only
+    (refused_late job bytes tree before after (record { out = out; err = err }) (record { out = out-later; err = err-later }) (ready job bytes plan c.requires parts lent whole) c.in_err-status.field-0.0 c.in_err-status.ensures.only
     (searched job bytes plan c.requires parts lent whole ids found tree Holds
     (λ finds keeps decides names. PrintsSome-all _ _ (g.O.Sink.taken c.search.new.out) _ _ err-now _ c.in_ok-matched.matched (c.in_ok-matched.ensures.prints finds keeps decides names) c.in_err-status.ensures.out c.in_err-status.ensures.err))
     (λ opened opens. PrintsFaults-flushed Csearch {A = Status} (Err c.in_err-status.field-0.0) opened.names before after err err-now err-later
@@ -132,7 +132,7 @@ returns-clause-searches g c = λ bytes lent.
     let ids = c.deref.result.now in
     let found = c.deref.ensures.value ∙ c.in_ok-ids.ensures.ids in
     let Holds = λ (printed : Option Printed). PrintsStatus printed out out-later err err-later c.in_ok-status.status in
-    searched_to_the_end job bytes tree before after out out-later err err-later (ready job bytes plan c.requires parts lent whole) c.in_ok-status.status
+    searched_to_the_end job bytes tree before after (record { out = out; err = err }) (record { out = out-later; err = err-later }) (ready job bytes plan c.requires parts lent whole) c.in_ok-status.status
     (searched job bytes plan c.requires parts lent whole ids found tree Holds
     (λ finds keeps decides names. PrintsStatus-flushed _ _ (g.O.Sink.taken c.search.new.out) _ _ err-now _ c.in_ok-matched.matched c.in_ok-status.status (c.in_ok-matched.ensures.prints finds keeps decides names) c.in_ok-status.ensures.out c.in_ok-status.ensures.err c.in_ok-status.ensures.status))
     (λ opened opens. PrintsFaults-flushed Csearch {E = ToolFault} (Ok c.in_ok-status.status) opened.names before after err err-now err-later

@@ -3,7 +3,7 @@ use Rattle.std.proofs.lemmas.Result.{err_from_is_err_and}
 use Rattle.std.specs.Prelude.{filter}
 use Rattle.cs_tree.specs.Snapshot.{Snapshot}
 use Rattle.cs_search.specs.Searcher.{PrintsAllFaults}
-use Rattle.cs_search.specs.declared.report.TheConstants.{MOST_SEARCHED}
+use Rattle.cs_search.specs.InputReport.{most_searched}
 use Rattle.cs_search.specs.IndexSearch.{names_at}
 use Rattle.cs_search.specs.Printed.{all_printed, file_printed}
 use Rattle.cs_index.proofs.ResultLemmas.{any_err}
@@ -14,14 +14,14 @@ use Rattle.cs_search.proofs.csearching.search_id.Goals as goal
 pub returns-in_default-clause-prints : goal.returns-in_default-clause-prints
 returns-in_default-clause-prints g c = λ finds keeps decides names.
     let searcher = c.args.searcher.now in
-    let file = λ (s : Snapshot). file_printed MOST_SEARCHED searcher.tool searcher.style finds s in
+    let file = λ (s : Snapshot). file_printed most_searched searcher.tool searcher.style finds s in
     Prints-nothing (g.T.Tree.snapshot c.args.tree.now) (λ s. all_printed (file s) (filter keeps (names_at c.args.index.now.names (c.args.id ∷ [])))) _ _
     (λ s. none_at (file s) keeps c.args.index.now.names c.args.id (sym c.in_default.ensures))
 
 pub returns-then-not-keeps-clause-prints : goal.returns-then-not-keeps-clause-prints
 returns-then-not-keeps-clause-prints g c = λ finds keeps decides names.
     let searcher = c.args.searcher.now in
-    let file = λ (s : Snapshot). file_printed MOST_SEARCHED searcher.tool searcher.style finds s in
+    let file = λ (s : Snapshot). file_printed most_searched searcher.tool searcher.style finds s in
     let tested : c.keeps.result ≡ keeps c.in-Some.name.now = c.keeps.ensures.tested keeps names in
     let out : keeps c.in-Some.name.now ≡ false = sym tested ∙ c.if-not-keeps.true in
     Prints-nothing (g.T.Tree.snapshot c.args.tree.now) (λ s. all_printed (file s) (filter keeps (names_at c.args.index.now.names (c.args.id ∷ [])))) _ _
@@ -30,7 +30,7 @@ returns-then-not-keeps-clause-prints g c = λ finds keeps decides names.
 pub returns-clause-prints : goal.returns-clause-prints
 returns-clause-prints g c = λ finds keeps decides names.
     let searcher = c.args.searcher.now in
-    let file = λ (s : Snapshot). file_printed MOST_SEARCHED searcher.tool searcher.style finds s in
+    let file = λ (s : Snapshot). file_printed most_searched searcher.tool searcher.style finds s in
     let tested : c.keeps.result ≡ keeps c.in-Some.name.now = c.keeps.ensures.tested keeps names in
     let in_it : keeps c.in-Some.name.now ≡ true = sym tested ∙ c.if-not-keeps.false in
     Prints-as (g.T.Tree.snapshot c.args.tree.now) (λ s. file s c.in-Some.name.now) (λ s. all_printed (file s) (filter keeps (names_at c.args.index.now.names (c.args.id ∷ [])))) _ _ _ _ c.in_ok-matched.matched
@@ -41,7 +41,7 @@ pub returns-in_err-matched-clause-front : goal.returns-in_err-matched-clause-fro
 returns-in_err-matched-clause-front g c =
     any_err c.from_residual.result (λ finds keeps decides names.
     let searcher = c.args.searcher.now in
-    let file = λ (s : Snapshot). file_printed MOST_SEARCHED searcher.tool searcher.style finds s in
+    let file = λ (s : Snapshot). file_printed most_searched searcher.tool searcher.style finds s in
     let tested : c.keeps.result ≡ keeps c.in-Some.name.now = c.keeps.ensures.tested keeps names in
     let in_it : keeps c.in-Some.name.now ≡ true = sym tested ∙ c.if-not-keeps.false in
     PrintsFront-as (g.T.Tree.snapshot c.args.tree.now) (λ s. file s c.in-Some.name.now) (λ s. all_printed (file s) (filter keeps (names_at c.args.index.now.names (c.args.id ∷ [])))) _ _ _ _

@@ -10,9 +10,9 @@ invariant-lines g l = record {
   within : l.at ≤ length l.block;
   whole : AreWholeLines (take l.at l.block);
   counted : l.tally.lines ≡ l.fn.tally.lines + length (ended_lines (take l.at l.block));
-  tests : (finds : List ℕ → Bool) → Decides finds l.fn.matcher → Tests l.form.style l.form.name.now finds (ended_lines (take l.at l.block)) l.fn.tally l.tally (g.O.Sink.taken l.fn.out) (g.O.Sink.taken l.out);
+  tests : (finds : List ℕ → Bool) → Decides finds l.fn.matcher.tree → Tests l.form.style l.form.name.now finds (ended_lines (take l.at l.block)) l.fn.tally l.tally (g.O.Sink.taken l.fn.out) (g.O.Sink.taken l.out);
   unlisted : l.form.style.list ≡ true → l.tally.hits ≡ 0;
-  same : l.matcher ≡ l.fn.matcher;
+  same : l.matcher.tree ≡ l.fn.matcher.tree;
   failed : g.O.Sink.failed l.out ≡ g.O.Sink.failed l.fn.out;
 }
 

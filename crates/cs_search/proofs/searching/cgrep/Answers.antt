@@ -27,7 +27,7 @@ returns-in_err-program-clause-writes g c =
     rw (p.1, p.2) (subst (λ fails. CountsOne fails out out err err) (sym c.in_err-program.ensures.refused.1) (refl, refl))
 
 pub returns-in_err-program-clause-silent : goal.returns-in_err-program-clause-silent
-returns-in_err-program-clause-silent g c = all_silent _ c.from_residual.result (Grows-same _, Grows-same _)
+returns-in_err-program-clause-silent g c = all_silent _ c.from_residual.result ((Grows-same _, Grows-same _), refl, refl, refl, refl)
 
 pub returns-in_err-program-clause-faults : goal.returns-in_err-program-clause-faults
 returns-in_err-program-clause-faults g c =

@@ -18,5 +18,5 @@ returns-clause-compiled c = (
   c.in_ok-pattern.pattern,
   subst (λ text. Reads text c.args.job.now.fold c.in_ok-pattern.pattern) c.as_str.ensures.value c.in_ok-pattern.ensures.reads,
   c.in_ok-pattern.ensures.light,
-  c.in_ok-program.ensures,
+  c.in_ok-program.ensures.alike,
 )

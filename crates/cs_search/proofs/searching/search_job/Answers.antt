@@ -3,7 +3,7 @@ use Rattle.std.proofs.lemmas.Result.{err_from_is_err_and}
 use Rattle.std.specs.Prelude.{option_map, map, string_bytes}
 use Rattle.cs_tree.specs.Snapshot.{Snapshot}
 use Rattle.cs_tree.specs.TakenAll.{TakesBytes}
-use Rattle.cs_search.specs.declared.report.TheConstants.{MOST_SEARCHED}
+use Rattle.cs_search.specs.InputReport.{most_searched}
 use Rattle.cs_words.specs.declared.jobs.Tool.{Tool}
 use Rattle.cs_words.specs.declared.jobs.Tool.TheVariants.{Cgrep}
 use Rattle.cs_search.specs.Cgrep.{standard_name}
@@ -20,9 +20,9 @@ returns-then-job-clause-prints g c = λ finds decides.
     let told = g.R.Source.told c.args.input.now in
     let Holds = λ (printed : Option Printed). Prints printed (g.O.Sink.taken c.args.out.now) (g.O.Sink.taken c.search.new.out) (g.E.Sink.taken c.args.err.now) (g.E.Sink.taken c.search.new.err) c.in_ok-matched.matched in
     let p = c.in_ok-matched.ensures.prints finds decides in
-    let q = subst (λ tool. Holds (option_map (input_printed MOST_SEARCHED tool c.args.searcher.now.style finds standard_name) told)) c.requires.tool p in
-    subst Holds (sym (cgrep_standard MOST_SEARCHED job finds (g.T.Tree.snapshot c.args.tree.now) told c.if-job.true))
-    (subst (λ style. Holds (option_map (input_printed MOST_SEARCHED Cgrep style finds standard_name) told)) c.requires.style q)
+    let q = subst (λ tool. Holds (option_map (input_printed most_searched tool c.args.searcher.now.style finds standard_name) told)) c.requires.tool p in
+    subst Holds (sym (cgrep_standard most_searched job finds (g.T.Tree.snapshot c.args.tree.now) told c.if-job.true))
+    (subst (λ style. Holds (option_map (input_printed most_searched Cgrep style finds standard_name) told)) c.requires.style q)
 
 pub returns-clause-prints : goal.returns-clause-prints
 returns-clause-prints g c = λ finds decides.
@@ -30,10 +30,10 @@ returns-clause-prints g c = λ finds decides.
     let snapshot = g.T.Tree.snapshot c.args.tree.now in
     let Holds = λ (printed : Option Printed). Prints printed (g.O.Sink.taken c.args.out.now) (g.O.Sink.taken c.search_files.new.out) (g.E.Sink.taken c.args.err.now) (g.E.Sink.taken c.search_files.new.err) c.in_ok-matched-2.matched in
     let p = c.in_ok-matched-2.ensures.prints finds decides in
-    let q = subst (λ tool. Holds (option_map (λ (s : Snapshot). all_printed (file_printed MOST_SEARCHED tool c.args.searcher.now.style finds s) (map string_bytes c.deref.result.now)) snapshot)) c.requires.tool p in
-    let r = subst (λ style. Holds (option_map (λ (s : Snapshot). all_printed (file_printed MOST_SEARCHED Cgrep style finds s) (map string_bytes c.deref.result.now)) snapshot)) c.requires.style q in
-    subst Holds (sym (cgrep_files MOST_SEARCHED job finds snapshot (g.R.Source.told c.args.input.now) c.if-job.false))
-    (subst (λ names. Holds (option_map (λ (s : Snapshot). all_printed (file_printed MOST_SEARCHED Cgrep job.style finds s) (map string_bytes names)) snapshot)) c.deref.ensures.value r)
+    let q = subst (λ tool. Holds (option_map (λ (s : Snapshot). all_printed (file_printed most_searched tool c.args.searcher.now.style finds s) (map string_bytes c.deref.result.now)) snapshot)) c.requires.tool p in
+    let r = subst (λ style. Holds (option_map (λ (s : Snapshot). all_printed (file_printed most_searched Cgrep style finds s) (map string_bytes c.deref.result.now)) snapshot)) c.requires.style q in
+    subst Holds (sym (cgrep_files most_searched job finds snapshot (g.R.Source.told c.args.input.now) c.if-job.false))
+    (subst (λ names. Holds (option_map (λ (s : Snapshot). all_printed (file_printed most_searched Cgrep job.style finds s) (map string_bytes names)) snapshot)) c.deref.ensures.value r)
 
 pub returns-in_err-matched-clause-front : goal.returns-in_err-matched-clause-front
 returns-in_err-matched-clause-front g c =
@@ -42,9 +42,9 @@ returns-in_err-matched-clause-front g c =
     let told = g.R.Source.told c.args.input.now in
     let Holds = λ (printed : Option Printed). PrintsFront printed (g.O.Sink.taken c.args.out.now) (g.O.Sink.taken c.search.new.out) (g.E.Sink.taken c.args.err.now) (g.E.Sink.taken c.search.new.err) in
     let p = c.in_err-matched.ensures.front finds decides in
-    let q = subst (λ tool. Holds (option_map (input_printed MOST_SEARCHED tool c.args.searcher.now.style finds standard_name) told)) c.requires.tool p in
-    subst Holds (sym (cgrep_standard MOST_SEARCHED job finds (g.T.Tree.snapshot c.args.tree.now) told c.if-job.true))
-    (subst (λ style. Holds (option_map (input_printed MOST_SEARCHED Cgrep style finds standard_name) told)) c.requires.style q))
+    let q = subst (λ tool. Holds (option_map (input_printed most_searched tool c.args.searcher.now.style finds standard_name) told)) c.requires.tool p in
+    subst Holds (sym (cgrep_standard most_searched job finds (g.T.Tree.snapshot c.args.tree.now) told c.if-job.true))
+    (subst (λ style. Holds (option_map (input_printed most_searched Cgrep style finds standard_name) told)) c.requires.style q))
 
 pub returns-in_err-matched-2-clause-front : goal.returns-in_err-matched-2-clause-front
 returns-in_err-matched-2-clause-front g c =
@@ -53,10 +53,10 @@ returns-in_err-matched-2-clause-front g c =
     let snapshot = g.T.Tree.snapshot c.args.tree.now in
     let Holds = λ (printed : Option Printed). PrintsFront printed (g.O.Sink.taken c.args.out.now) (g.O.Sink.taken c.search_files.new.out) (g.E.Sink.taken c.args.err.now) (g.E.Sink.taken c.search_files.new.err) in
     let p = c.in_err-matched-2.ensures.front finds decides in
-    let q = subst (λ tool. Holds (option_map (λ (s : Snapshot). all_printed (file_printed MOST_SEARCHED tool c.args.searcher.now.style finds s) (map string_bytes c.deref.result.now)) snapshot)) c.requires.tool p in
-    let r = subst (λ style. Holds (option_map (λ (s : Snapshot). all_printed (file_printed MOST_SEARCHED Cgrep style finds s) (map string_bytes c.deref.result.now)) snapshot)) c.requires.style q in
-    subst Holds (sym (cgrep_files MOST_SEARCHED job finds snapshot (g.R.Source.told c.args.input.now) c.if-job.false))
-    (subst (λ names. Holds (option_map (λ (s : Snapshot). all_printed (file_printed MOST_SEARCHED Cgrep job.style finds s) (map string_bytes names)) snapshot)) c.deref.ensures.value r))
+    let q = subst (λ tool. Holds (option_map (λ (s : Snapshot). all_printed (file_printed most_searched tool c.args.searcher.now.style finds s) (map string_bytes c.deref.result.now)) snapshot)) c.requires.tool p in
+    let r = subst (λ style. Holds (option_map (λ (s : Snapshot). all_printed (file_printed most_searched Cgrep style finds s) (map string_bytes c.deref.result.now)) snapshot)) c.requires.style q in
+    subst Holds (sym (cgrep_files most_searched job finds snapshot (g.R.Source.told c.args.input.now) c.if-job.false))
+    (subst (λ names. Holds (option_map (λ (s : Snapshot). all_printed (file_printed most_searched Cgrep job.style finds s) (map string_bytes names)) snapshot)) c.deref.ensures.value r))
 
 pub returns-then-job-clause-faults : goal.returns-then-job-clause-faults
 returns-then-job-clause-faults g c =

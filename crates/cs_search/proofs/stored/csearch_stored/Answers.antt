@@ -1,7 +1,8 @@
 use Rattle.std.proofs.Common.{Some, sym, subst}
 use Rattle.cs_index.proofs.StoredLemmas.{told_so}
 use Rattle.cs_search.specs.Plans.{IsLent}
-use Rattle.cs_search.proofs.SearchLemmas.{refused_first}
+use Rattle.cs_search.specs.declared.status.Status.{Status}
+use Rattle.cs_search.proofs.SearchLemmas.{refused_first, unopened_unready, unopened_as}
 use Rattle.cs_search.proofs.stored.csearch_stored.Goals as goal
 
 -- a search by the part that was read
@@ -15,5 +16,13 @@ returns-in-Ok-clause-searches g c =
 pub returns-in-Err-clause-searches : goal.returns-in-Err-clause-searches
 returns-in-Err-clause-searches g c =
     told_so _ _ (g.S.Store.told c.args.store.now)
-    (λ bytes refused. refused_first c.args.job.now (Some bytes) (g.T.Tree.snapshot c.args.tree.now) (g.T.Tree.failed c.args.tree.now) (g.O.Sink.taken c.args.out.now) (g.E.Sink.taken c.args.err.now) c.in-Err.fault refused)
+    (λ bytes refused. refused_first c.args.job.now (Some bytes) (g.T.Tree.snapshot c.args.tree.now) (g.T.Tree.failed c.args.tree.now) (record { out = g.O.Sink.taken c.args.out.now; err = g.E.Sink.taken c.args.err.now }) c.in-Err.fault refused)
     (rw c.in-Err.is at c.in_ok-ready.ensures.refused)
+
+-- ---- an index that does not open
+
+pub returns-in-Ok-clause-unopened : goal.returns-in-Ok-clause-unopened
+returns-in-Ok-clause-unopened g c = unopened_unready _ Status c.args.job.now c.args.opened _ c.search_by-answer.result (rw c.in-Ok.is at c.in_ok-ready.ensures.unopened)
+
+pub returns-in-Err-clause-unopened : goal.returns-in-Err-clause-unopened
+returns-in-Err-clause-unopened g c = unopened_as _ Status c.args.job.now c.args.opened c.in-Err.fault (rw c.in-Err.is at c.in_ok-ready.ensures.unopened)

@@ -1,8 +1,10 @@
-use Rattle.std.proofs.Common.{Some, None, refl, subst}
+use Rattle.std.proofs.Common.{Some, None, inr, refl, subst}
 use Rattle.cs_index.specs.Stored.{whole_of}
 use Rattle.cs_index.proofs.StoredLemmas.{told_any, told_so, told_twice}
 use Rattle.cs_search.specs.StoredSearch.{IsOpened}
+use Rattle.cs_search.specs.declared.status.Status.{Status}
 use Rattle.cs_search.proofs.CsearchLemmas.{accepted_plan, bad_index, list_unwritten}
+use Rattle.cs_search.proofs.SearchLemmas.{unopened_first}
 use Rattle.cs_search.proofs.stored.restrict.Goals as goal
 
 -- ---- a pattern that is refused
@@ -17,7 +19,14 @@ returns-in-Err-clause-refused g c =
 pub returns-in-Err-clause-unwritten : goal.returns-in-Err-clause-unwritten
 returns-in-Err-clause-unwritten g c = (c.in-Err.ensures.refused None).1
 
+pub returns-in-Err-clause-unopened : goal.returns-in-Err-clause-unopened
+returns-in-Err-clause-unopened g c = unopened_first Status _ c.args.job.now c.args.opened c.in-Err.fault (λ index. (c.in-Err.ensures.refused index).0)
+
 -- ---- a bad index
+
+pub returns-in-Err-opened-clause-unopened : goal.returns-in-Err-opened-clause-unopened
+returns-in-Err-opened-clause-unopened g c =
+    rw c.in-Err-opened.is (inr (accepted_plan c.args.job.now c.in-Ok.plan c.in-Ok.ensures.plan, rw c.from.ensures refl))
 
 pub returns-in-Err-opened-clause-lent : goal.returns-in-Err-opened-clause-lent
 returns-in-Err-opened-clause-lent g c = told_any (g.S.Store.told c.args.store.now)

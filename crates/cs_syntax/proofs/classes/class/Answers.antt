@@ -1,5 +1,5 @@
 use Rattle.std.proofs.Common.{true, false, sym, ◌∙◌, ap}
-use Rattle.cs_syntax.specs.ClassSets.{is_in_items}
+use Rattle.cs_syntax.specs.ClassState.{is_in_items}
 use Rattle.cs_syntax.specs.Classes.{items_from}
 use Rattle.cs_syntax.proofs.ListLemmas.{tail_is}
 use Rattle.cs_syntax.proofs.ClassLemmas.{class_read, have-read}

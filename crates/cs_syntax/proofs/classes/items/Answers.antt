@@ -2,7 +2,8 @@ use Rattle.std.proofs.Common.{◌≡◌, ◌+◌, ◌&&◌, ◌∷◌, ◌++◌,
 use Rattle.std.specs.Prelude.{nat_eq}
 use Rattle.std.proofs.lemmas.Bool.{ne_eqb}
 use Rattle.std.proofs.lemmas.List.{drop-drop}
-use Rattle.cs_syntax.specs.Classes.{items_from, class_front, piece, misread}
+use Rattle.cs_syntax.specs.Fronts.{item, fault}
+use Rattle.cs_syntax.specs.Classes.{items_from, class_front}
 use Rattle.cs_syntax.specs.declared.fault.PatternFault.TheVariants.{OpenClass}
 use Rattle.cs_syntax.proofs.ListLemmas.{here_is, tail_is, length-tail}
 use Rattle.cs_syntax.proofs.ClassLemmas.{with_items, with_items-last, with_items-closed, with_items-failed, items_from-item, items_from-fault, items_from-close, have-last}
@@ -23,21 +24,21 @@ items-preserved c =
     let len = c.in-Ok.len in
     let text = c.args.text.now in
     let i = c.items.invariant.so_far in
-    let item = c.in-Ok.item in
+    let got = c.in-Ok.item in
     let b = get_or text at 0 in
     let rest = drop (at + 1) text in
     let open_still : (nat_eq b 93 && not (nat_eq at 0)) ≡ false = sym c.closes.ensures ∙ c.if-closes.false in
-    let found : class_front b rest ≡ piece item len = ap (class_front b) (sym (tail_is text (at + 1))) ∙ sym c.in-Ok.ensures.value in
-    let now = items_from-item (drop at text) rest b (c.args.behind + at) len (nat_eq at 0) item (here_is text at c.items-test.true) open_still found in
+    let found : class_front b rest ≡ item got len = ap (class_front b) (sym (tail_is text (at + 1))) ∙ sym c.in-Ok.ensures.value in
+    let now = items_from-item (drop at text) rest b (c.args.behind + at) len (nat_eq at 0) got (here_is text at c.items-test.true) open_still found in
     let place : c.args.behind + at + 1 + len ≡ c.args.behind + (at + (1 + len)) = omega arith in
     let later : nat_eq (at + (1 + len)) 0 ≡ false = ne_eqb (at + (1 + len)) 0 (λ e. omega arith) in
     let tail : drop len rest ≡ drop (at + (1 + len)) text =
     let e : at + 1 + len ≡ at + (1 + len) = omega arith in drop-drop len (at + 1) text ∙ ap (λ n. drop n text) e in
     record {
       so_far = (
-        i.0 ++ item ∷ [],
-        have-last c.args.fold i.0 item _ _ i.1 c.in_ok-add_item-in-Ok.ensures,
-        with_items-last i.0 item _
+        i.0 ++ got ∷ [],
+        have-last c.args.fold i.0 got _ _ i.1 c.in_ok-add_item-in-Ok.ensures,
+        with_items-last i.0 got _
             ∙ ap (λ r. with_items i.0 r) (rw (← place, later, ← tail) (sym now))
             ∙ i.2,
       );
@@ -52,7 +53,7 @@ returns-in-Err-clause-value c =
     let b = get_or text at 0 in
     let rest = drop (at + 1) text in
     let open_still : (nat_eq b 93 && not (nat_eq at 0)) ≡ false = sym c.closes.ensures ∙ c.if-closes.false in
-    let found : class_front b rest ≡ misread c.in-Err.m.fault c.in-Err.m.behind = ap (class_front b) (sym (tail_is text (at + 1))) ∙ sym c.in-Err.ensures.value in
+    let found : class_front b rest ≡ fault c.in-Err.m.fault c.in-Err.m.behind = ap (class_front b) (sym (tail_is text (at + 1))) ∙ sym c.in-Err.ensures.value in
     let now = items_from-fault (drop at text) rest b (c.args.behind + at) c.in-Err.m.behind (nat_eq at 0) c.in-Err.m.fault (here_is text at c.items-test.true) open_still found in
     inr (sym i.2 ∙ ap (with_items i.0) now ∙ with_items-failed i.0 c.in-Err.m.fault (c.args.behind + at + c.in-Err.m.behind))
 

@@ -1,8 +1,8 @@
 use Rattle.std.proofs.Common.{◌≡◌, ◌+◌, ◌*◌, min, drop, get_or, sym, ◌∙◌, ap, arith, drop_of_length-le}
 use Rattle.cs_syntax.specs.U32Numbers.{most_u32}
-use Rattle.cs_syntax.specs.Numbers.{digit_value, value_after}
+use Rattle.cs_syntax.specs.Numbers.{digit_value}
 use Rattle.cs_syntax.proofs.ListLemmas.{here_is}
-use Rattle.cs_syntax.proofs.NumberLemmas.{grown_once, value_after-capped}
+use Rattle.cs_syntax.proofs.NumberLemmas.{grown_once, value_after, value_after-capped}
 use Rattle.cs_syntax.proofs.digits.value_in.Goals as goal
 
 pub loop-digit-preserved : goal.loop-digit-preserved

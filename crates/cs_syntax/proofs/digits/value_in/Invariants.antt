@@ -1,6 +1,7 @@
 use Rattle.std.proofs.Common.{◌≡◌, ◌≤◌, min, drop}
 use Rattle.cs_syntax.specs.U32Numbers.{most_u32}
-use Rattle.cs_syntax.specs.Numbers.{value_after, number_of_digits}
+use Rattle.cs_syntax.specs.Numbers.{number_of_digits}
+use Rattle.cs_syntax.proofs.NumberLemmas.{value_after}
 use Rattle.cs_syntax.proofs.digits.value_in.Given as goal
 
 abbrev pub invariant-loop-digit : goal.invariant-loop-digit

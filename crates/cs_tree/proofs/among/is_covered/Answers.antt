@@ -1,7 +1,7 @@
 use Rattle.std.proofs.Common.{◌||◌, ◌&&◌, ◌∷◌, [], map, sym, ◌∙◌}
 use Rattle.std.specs.List.{list_any}
 use Rattle.std.specs.Path.{slash}
-use Rattle.cs_tree.specs.Cover.{begins, is_among, lies_below}
+use Rattle.cs_tree.specs.Cover.{begins, is_among, is_ancestor}
 use Rattle.cs_tree.proofs.AmongLemmas.{covered_is}
 use Rattle.cs_tree.proofs.among.is_covered.Goals as goal
 
@@ -10,7 +10,7 @@ returns-then-is_listed g c =
     let paths = map g.P.AsStr.text c.args.paths.now in
     let name = c.args.name.now in
     let listed = sym c.is_listed.ensures ∙ c.if-is_listed.true in
-    sym (covered_is name paths ∙ (λ i. listed i || (list_any (lies_below name) paths || (begins (slash ∷ []) name && is_among paths (slash ∷ [])))))
+    sym (covered_is name paths ∙ (λ i. listed i || (list_any (λ above. is_ancestor above name) paths || (begins (slash ∷ []) name && is_among paths (slash ∷ [])))))
 
 pub returns-then-is_below_one : goal.returns-then-is_below_one
 returns-then-is_below_one g c =

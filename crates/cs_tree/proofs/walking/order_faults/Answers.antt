@@ -3,7 +3,7 @@ use Rattle.cs_tree.specs.NamesAscending.{are_ascending}
 use Rattle.std.proofs.lemmas.Fn.{dedup_same}
 use Rattle.std.proofs.lemmas.List.MinMax.{ranks_by}
 use Rattle.std.proofs.lemmas.List.Sorted.{list_any-IsPermutation, answers_always}
-use Rattle.std.specs.Prelude.{string_bytes, String, Contains, bytes_eq}
+use Rattle.std.specs.Prelude.{string_bytes, String, Contains, IsPermutation, bytes_eq}
 use Rattle.std.specs.Cmp.Lexicographic.{nat_list_cmp_total}
 use Rattle.std.specs.List.{list_any, dedup}
 use Rattle.std.specs.Ordering.{is_lt}
@@ -11,6 +11,7 @@ use Rattle.std.specs.declared.alloc.Global.{Global}
 use Rattle.cs_tree.specs.Walks.{LeftPath, is_among, left_paths, left_entry}
 use Rattle.cs_tree.specs.declared.walking.WalkFault.{WalkFault}
 use Rattle.cs_tree.proofs.InOrder.{sorted_once, once_same, same_key, by_key, kept_once}
+use Rattle.cs_tree.proofs.LeftOnce.{whole_once}
 use Rattle.cs_tree.proofs.NameLemmas.{list_any-map}
 use Rattle.cs_tree.proofs.walking.order_faults.Goals as goal
 
@@ -51,3 +52,11 @@ returns-clause-kept c =
     λ left h.
     kept_once left_entry (λ (x y : LeftPath). bytes_eq x.0 y.0) c.args.faults.now.items sorted left c.sort_unstable_by.ensures.permutation
     (subst (λ entries. Contains (map left_entry entries) left) once h)
+
+pub returns-clause-whole : goal.returns-clause-whole
+returns-clause-whole c =
+    let sorted = c.sort_unstable_by.new.self.items in
+    let once : c.dedup_by.new.self.items ≡ dedup (same_key path_of) sorted = dedup_same _ (same_key path_of) _ (λ x y b f' x' y' h. search rules) sorted _ c.dedup_by.ensures.filtered in
+    λ left_once.
+    subst (λ entries. IsPermutation (map left_entry c.args.faults.now.items) (map left_entry entries)) (sym once)
+    (whole_once left_entry c.args.faults.now.items sorted c.sort_unstable_by.ensures.permutation left_once)

@@ -5,7 +5,8 @@ use Rattle.cs_tree.specs.Clean.{longest_path}
 use Rattle.cs_tree.specs.Visits.{IsEntered, IsSightIn, is_file_seen, names_seen}
 use Rattle.cs_tree.proofs.Asking.{asks_nothing, asks_on}
 use Rattle.cs_tree.proofs.Covering.{covers_itself}
-use Rattle.cs_tree.proofs.Gathering.{counts_chain, counts_one, entered_deeper}
+use Rattle.cs_tree.proofs.Gathering.{counts_one, entered_deeper, askable_one}
+use Rattle.cs_tree.proofs.LeftOnce.{LeavesSoFar, leaves_on}
 use Rattle.cs_tree.proofs.Waiting.{UnderwayIn, starts_in, goes_on_in, last_below, waiting_below, keeps_on, lighter, weight}
 use Rattle.cs_tree.proofs.Under.{AreBelow}
 use Rattle.cs_tree.proofs.walking.visit.Goals as goal
@@ -18,9 +19,12 @@ waiting-init g c =
       gathers = subst (λ paths. UnderwayIn (g.T.Tree.snapshot c.args.tree.now) (string_bytes c.args.start) paths c.args.walked.now c.args.walked.now) (sym waits) (starts_in (g.T.Tree.snapshot c.args.tree.now) (string_bytes c.args.start) c.args.walked.now);
       under = λ test h all. all;
       below = subst (AreBelow (string_bytes c.args.start)) (sym waits) (covers_itself (string_bytes c.args.start), tt);
-      counted = λ start below all. all;
+      askable = λ all. all;
+      counted = λ start so_far. so_far;
+      once = subst (λ paths. LeavesSoFar (string_bytes c.args.start) paths c.args.walked.now c.args.walked.now) (sym waits) (λ path. omega arith);
       rises = omega arith;
       asked = asks_nothing longest_path (g.T.Tree.longest_asked c.args.tree.now);
+      counts = refl;
       keeps = refl;
     }
 
@@ -47,10 +51,18 @@ waiting-preserved g c =
           (subst (λ paths. UnderwayIn (g.T.Tree.snapshot c.args.tree.now) (string_bytes c.args.start) paths c.args.walked.now c.waiting.walked) before c.waiting.invariant.gathers);
       under = keeps_on (string_bytes c.args.start) (string_bytes c.in-Some.path) (is_file_seen c.in_ok-sight.sight) c.args.walked.now c.waiting.walked c.note.new.self (last_below (string_bytes c.args.start) (string_bytes c.in-Some.path) (map string_bytes c.pop.new.self.items) below) c.in_ok-note.ensures.names c.waiting.invariant.under;
       below = subst (AreBelow (string_bytes c.args.start)) (sym c.in_ok-note.ensures.waiting) (waiting_below (string_bytes c.args.start) (string_bytes c.in-Some.path) (names_seen c.in_ok-sight.sight) (map string_bytes c.pop.new.self.items) below);
-      counted =
-          counts_chain (g.T.Tree.failed c.args.tree.now) (g.T.Tree.failed c.waiting.tree) (g.T.Tree.failed c.look.new.tree) c.args.walked.now c.waiting.walked c.note.new.self c.waiting.invariant.rises c.waiting.invariant.counted
-          (counts_one (g.T.Tree.failed c.waiting.tree) (g.T.Tree.failed c.look.new.tree) (string_bytes c.in-Some.path) c.in_ok-sight.sight c.waiting.walked c.note.new.self c.look.ensures.rises c.in_ok-sight.ensures.counted c.in_ok-note.ensures.faults);
+      askable = λ all.
+          askable_one (string_bytes c.in-Some.path) c.in_ok-sight.sight c.waiting.walked c.note.new.self
+          (subst (λ path. IsEntered path c.in_ok-sight.sight) c.as_str.ensures.value c.in_ok-sight.ensures.entered) c.in_ok-note.ensures.names (c.waiting.invariant.askable all);
+      counted = λ start so_far.
+          counts_one (g.T.Tree.failed c.waiting.tree) (g.T.Tree.failed c.look.new.tree) (string_bytes c.in-Some.path) c.in_ok-sight.sight c.waiting.walked c.note.new.self c.in_ok-sight.ensures.counted c.in_ok-note.ensures.faults
+          start (c.waiting.invariant.counted start so_far);
+      once =
+          leaves_on (string_bytes c.args.start) (string_bytes c.in-Some.path) c.in_ok-sight.sight (map string_bytes c.pop.new.self.items) (map string_bytes c.note.new.waiting.items) c.args.walked.now c.waiting.walked c.note.new.self
+          c.in_ok-sight.ensures.names c.in_ok-note.ensures.faults c.in_ok-note.ensures.waiting
+          (subst (λ paths. LeavesSoFar (string_bytes c.args.start) paths c.args.walked.now c.waiting.walked) before c.waiting.invariant.once);
       rises = omega (arith, c.waiting.invariant.rises, c.look.ensures.rises);
       asked = asks_on longest_path (g.T.Tree.longest_asked c.args.tree.now) (g.T.Tree.longest_asked c.waiting.tree) (g.T.Tree.longest_asked c.look.new.tree) c.waiting.invariant.asked c.look.ensures.asked;
+      counts = c.look.ensures.counts ∙ c.waiting.invariant.counts;
       keeps = c.look.ensures.keeps ∙ c.waiting.invariant.keeps;
     }

@@ -3,7 +3,8 @@ use Rattle.std.specs.Prelude.{string_bytes}
 use Rattle.cs_tree.specs.Clean.{longest_path}
 use Rattle.cs_tree.specs.Trees.{AsksWithin}
 use Rattle.cs_tree.specs.Cover.{covers}
-use Rattle.cs_tree.specs.Visits.{KeepsCounts, KeepsTo}
+use Rattle.cs_tree.specs.Visits.{KeepsCount, KeepsTo, KeepsAskable}
+use Rattle.cs_tree.proofs.LeftOnce.{LeavesSoFar}
 use Rattle.cs_tree.proofs.Waiting.{UnderwayIn, weight}
 use Rattle.cs_tree.proofs.Under.{AreBelow}
 use Rattle.cs_tree.proofs.walking.visit.Given as goal
@@ -14,9 +15,12 @@ invariant-waiting g l = record {
   gathers : UnderwayIn (g.T.Tree.snapshot l.initial.tree) (string_bytes l.fn.start) (map string_bytes l.waiting.items) l.initial.walked l.walked;
   under : KeepsTo (covers (string_bytes l.fn.start)) l.initial.walked l.walked;
   below : AreBelow (string_bytes l.fn.start) (map string_bytes l.waiting.items);
-  counted : KeepsCounts (g.T.Tree.failed l.initial.tree) (g.T.Tree.failed l.tree) l.initial.walked l.walked;
+  askable : KeepsAskable l.initial.walked l.walked;
+  counted : KeepsCount (g.T.Tree.failed l.initial.tree) (g.T.Tree.failed l.tree) l.initial.walked l.walked;
+  once : LeavesSoFar (string_bytes l.fn.start) (map string_bytes l.waiting.items) l.initial.walked l.walked;
   rises : g.T.Tree.failed l.initial.tree ≤ g.T.Tree.failed l.tree;
   asked : AsksWithin longest_path (g.T.Tree.longest_asked l.initial.tree) (g.T.Tree.longest_asked l.tree);
+  counts : g.T.Tree.read_counts l.tree ≡ g.T.Tree.read_counts l.initial.tree;
   keeps : g.T.Tree.snapshot l.tree ≡ g.T.Tree.snapshot l.initial.tree;
 }
 

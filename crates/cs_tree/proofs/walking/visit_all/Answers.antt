@@ -1,15 +1,16 @@
-use Rattle.std.proofs.Common.{map, take, refl, arith, sym, subst, ◌∙◌}
+use Rattle.std.proofs.Common.{[], ◌∷◌, map, take, refl, arith, sym, subst, ◌∙◌}
 use Rattle.std.specs.Prelude.{string_bytes}
 use Rattle.std.proofs.lemmas.List.{take_all}
 use Rattle.cs_tree.specs.Clean.{longest_path}
 use Rattle.cs_tree.proofs.Asking.{asks_nothing, asks_on}
 use Rattle.cs_tree.specs.Reached.{reaches, is_reached}
-use Rattle.cs_tree.specs.Visits.{GathersIn, KeepsTo}
+use Rattle.cs_tree.specs.Visits.{GathersIn, KeepsTo, LeavesOnce}
 use Rattle.cs_tree.specs.Cover.{covers, is_covered}
 use Rattle.cs_tree.specs.PathSet as set
 use Rattle.cs_tree.proofs.ReduceLemmas.{any-from_list}
+use Rattle.cs_tree.proofs.LeftOnce.{leaves_more}
 use Rattle.cs_tree.proofs.Under.{keeps_more}
-use Rattle.cs_tree.proofs.Gathering.{come_by, more_in, none_in, same_in, counts_chain}
+use Rattle.cs_tree.proofs.Gathering.{come_by, more_in, none_in, same_in}
 use Rattle.cs_tree.proofs.NameLemmas.{mapped_more}
 use Rattle.cs_tree.proofs.walking.visit_all.Goals as goal
 
@@ -17,9 +18,12 @@ pub paths-init : goal.paths-init
 paths-init g c = record {
   gathers = none_in (g.T.Tree.snapshot c.args.tree.now) c.args.walked.now;
   under = λ test h all. all;
-  counted = λ start below all. all;
+  askable = λ all. all;
+  counted = λ start so_far. so_far;
+  once = λ path. omega arith;
   rises = omega arith;
   asked = asks_nothing longest_path (g.T.Tree.longest_asked c.args.tree.now);
+  counts = refl;
   keeps = refl;
 }
 
@@ -35,9 +39,16 @@ paths-preserved g c = record {
       (sym (mapped_more string_bytes c.args.paths.now c.paths.path-index c.path-item.result c.paths-test.true c.path-item.is))
       (keeps_more (map string_bytes (take c.paths.path-index c.args.paths.now)) (string_bytes c.path-item.result) c.args.walked.now c.paths.walked c.visit_named.new.walked c.paths.invariant.under
       (subst (λ path. KeepsTo (covers path) c.paths.walked c.visit_named.new.walked) c.as_str.ensures.value c.in_ok-visit_named.ensures.under));
-  counted = counts_chain (g.T.Tree.failed c.args.tree.now) (g.T.Tree.failed c.paths.tree) (g.T.Tree.failed c.visit_named.new.tree) c.args.walked.now c.paths.walked c.visit_named.new.walked c.paths.invariant.rises c.paths.invariant.counted c.in_ok-visit_named.ensures.counted;
+  askable = λ all. c.in_ok-visit_named.ensures.askable (c.paths.invariant.askable all);
+  counted = λ start so_far. c.in_ok-visit_named.ensures.counted start (c.paths.invariant.counted start so_far);
+  once =
+      subst (λ paths. LeavesOnce paths c.args.walked.now c.visit_named.new.walked)
+      (sym (mapped_more string_bytes c.args.paths.now c.paths.path-index c.path-item.result c.paths-test.true c.path-item.is))
+      (leaves_more (map string_bytes (take c.paths.path-index c.args.paths.now)) (string_bytes c.path-item.result) c.args.walked.now c.paths.walked c.visit_named.new.walked c.paths.invariant.once
+      (subst (λ path. LeavesOnce (path ∷ []) c.paths.walked c.visit_named.new.walked) c.as_str.ensures.value c.in_ok-visit_named.ensures.once));
   rises = omega (arith, c.paths.invariant.rises, c.visit_named.ensures.rises);
   asked = asks_on longest_path (g.T.Tree.longest_asked c.args.tree.now) (g.T.Tree.longest_asked c.paths.tree) (g.T.Tree.longest_asked c.visit_named.new.tree) c.paths.invariant.asked c.visit_named.ensures.asked;
+  counts = c.visit_named.ensures.counts ∙ c.paths.invariant.counts;
   keeps = c.visit_named.ensures.keeps ∙ c.paths.invariant.keeps;
 }
 
@@ -52,3 +63,7 @@ returns-clause-gathers g c =
 pub returns-clause-under : goal.returns-clause-under
 returns-clause-under g c =
     subst (λ paths. KeepsTo (is_covered (set.from_list (map string_bytes paths))) c.args.walked.now c.paths.walked) (take_all c.paths.path-index c.args.paths.now c.paths-test.false) c.paths.invariant.under
+
+pub returns-clause-once : goal.returns-clause-once
+returns-clause-once g c =
+    subst (λ paths. LeavesOnce (map string_bytes paths) c.args.walked.now c.paths.walked) (take_all c.paths.path-index c.args.paths.now c.paths-test.false) c.paths.invariant.once

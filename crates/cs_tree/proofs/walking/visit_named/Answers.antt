@@ -1,6 +1,6 @@
-use Rattle.std.proofs.Common.{sym, ap, subst, ◌∙◌}
+use Rattle.std.proofs.Common.{[], ◌∷◌, sym, ap, subst, ◌∙◌, arith}
 use Rattle.cs_tree.specs.Reached.{is_left_out}
-use Rattle.cs_tree.specs.Visits.{GathersIn, KeepsTo, comes}
+use Rattle.cs_tree.specs.Visits.{GathersIn, KeepsTo, LeavesOnce, comes}
 use Rattle.cs_tree.specs.Cover.{covers}
 use Rattle.cs_tree.proofs.CleanLemmas.{on_ok}
 use Rattle.cs_tree.proofs.Gathering.{skipped_in, kept_in}
@@ -27,3 +27,12 @@ returns-clause-under g c =
     on_ok c.visit.result
     (λ h. subst (λ path. KeepsTo (covers path) c.args.walked.now c.visit.new.walked) c.in_ok-from_str.ensures.ok h)
     c.visit.ensures.under
+
+pub returns-then-is_left_out-clause-once : goal.returns-then-is_left_out-clause-once
+returns-then-is_left_out-clause-once g c = λ path. omega arith
+
+pub returns-clause-once : goal.returns-clause-once
+returns-clause-once g c =
+    on_ok c.visit.result
+    (λ h. subst (λ path. LeavesOnce (path ∷ []) c.args.walked.now c.visit.new.walked) c.in_ok-from_str.ensures.ok h)
+    c.visit.ensures.once

@@ -16,5 +16,5 @@ returns c = λ t once.
     record {
       words = c.in_ok-words.ensures t once.words;
       ends = c.in_ok-ends.ensures t c.args.most once.ends;
-      query = λ many. c.in_ok-query.ensures t once.words once.query c.args.most;
+      query = c.in_ok-query.ensures t once.words once.query c.args.most;
     }

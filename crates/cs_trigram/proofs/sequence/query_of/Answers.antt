@@ -8,4 +8,4 @@ returns-in-Some c = λ ts counts asked many.
     absurd (many (few_tree _ (cat ts) (some_of c.few.result _ _ _ c.few.ensures c.in-Some.is (cat ts) counts)))
 
 pub returns : goal.returns
-returns c = if_ok c.finish.result _ _ c.finish.ensures (λ q right. λ ts counts asked many. right ts asked)
+returns c = if_ok c.finish.result _ _ c.finish.ensures (λ q own. λ ts counts asked. own ts asked)

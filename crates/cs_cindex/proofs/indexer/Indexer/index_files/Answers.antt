@@ -1,13 +1,17 @@
-use Rattle.std.proofs.Common.{◌≡◌, ◌∙◌, ◌+◌, ◌++◌, refl, sym, ap, subst, arith, map, string_bytes, take, drop, true, List}
+use Rattle.std.proofs.Common.{◌≡◌, ◌∙◌, ◌+◌, ◌++◌, refl, sym, ap, subst, map, string_bytes, take, drop, true, List}
 use Rattle.std.proofs.lemmas.List.{take_all}
 use Rattle.std.proofs.lemmas.Result.{err_from_is_err_and}
 use Rattle.cs_tree.specs.Told.{Grows}
+use Rattle.cs_tree.specs.Clean.{longest_path}
+use Rattle.cs_tree.specs.Trees.{AsksPath}
+use Rattle.cs_tree.specs.Walks.{AreAskable}
+use Rattle.cs_tree.proofs.Asking.{asks_nothing, asks_one, asks_on}
 use Rattle.cs_index.specs.Image.{names_of}
 use Rattle.cs_index.specs.Built.{is_above}
 use Rattle.cs_tree.specs.Taken.{TakesFront}
-use Rattle.cs_cindex.specs.Notices.{Line, PrintsLines, text_of}
+use Rattle.cs_cindex.specs.Notices.{Line, text_of}
 use Rattle.cs_cindex.specs.Verdicts.{noted_entries}
-use Rattle.cs_cindex.specs.Files.{AreTextsIn, AreFileLinesIn, AreAbove, HaveNamesOf}
+use Rattle.cs_cindex.specs.Files.{AreTextsIn, AreAbove, HaveNamesOf, PrintsFiles}
 use Rattle.cs_tree.proofs.NameLemmas.{mapped_more}
 use Rattle.cs_index.proofs.ResultLemmas.{any_err}
 use Rattle.cs_cindex.proofs.FileLemmas.{names_at, names_rest, told_at, noted_at, texts_none, prints_none, above_none, texts_next, names_next, prints_step, above_next, above_first, ascend_next, front_read, front_noted, too_many}
@@ -23,7 +27,8 @@ loop-name-init g c = record {
   paths = refl;
   log_skip = refl;
   writes = refl;
-  rises = omega arith;
+  askable = c.requires.askable;
+  asked = asks_nothing longest_path (g.T.Tree.longest_asked c.args.tree.now);
   keeps = refl;
 }
 
@@ -33,8 +38,8 @@ returns-in_err-verdict-clause-front g c =
     let at = c.loop-name.name-index in
     let names = c.args.names.now in
     any_err c.from_residual.result
-    (front_read c.args.self.now.log_skip (g.T.Tree.snapshot c.args.tree.now) (map string_bytes (take at names)) (g.T.Tree.failed c.args.tree.now) (g.T.Tree.failed c.loop-name.tree) (g.T.Tree.failed c.read_file.new.tree) i.rises c.read_file.ensures.rises
-    (g.E.Sink.taken c.args.err.now) (g.E.Sink.taken c.loop-name.err) i.prints (map string_bytes names) (map string_bytes (drop at names)) (names_at string_bytes names at))
+    (front_read c.args.self.now.log_skip (g.T.Tree.snapshot c.args.tree.now) (map string_bytes (take at names)) (g.T.Tree.failed c.args.tree.now) (g.T.Tree.failed c.loop-name.tree) (g.T.Tree.failed c.read_file.new.tree)
+    (g.E.Sink.taken c.args.err.now) (g.E.Sink.taken c.loop-name.err) i.prints (map string_bytes names) (map string_bytes (drop at names)) (names_at string_bytes names at) c.in_err-verdict.ensures.counted)
 
 pub note-requires-clause-above : goal.note-requires-clause-above
 note-requires-clause-above g c =
@@ -57,7 +62,7 @@ returns-in_err-note-clause-front g c =
     let now = g.E.Sink.taken c.loop-name.err in
     let later = g.E.Sink.taken c.note.new.err in
     any_err c.from_residual-in_err-note.result
-    (front_noted c.args.self.now.log_skip told (map string_bytes (take at names)) (g.T.Tree.failed c.args.tree.now) (g.T.Tree.failed c.loop-name.tree) (g.T.Tree.failed c.read_file.new.tree) i.rises c.read_file.ensures.rises
+    (front_noted c.args.self.now.log_skip told (map string_bytes (take at names)) (g.T.Tree.failed c.args.tree.now) (g.T.Tree.failed c.loop-name.tree) (g.T.Tree.failed c.read_file.new.tree)
     (g.E.Sink.taken c.args.err.now) now i.prints later (map string_bytes names) rest (string_bytes item) verdict
     (names_at string_bytes names at ∙ ap (λ l. map string_bytes (take at names) ++ l) (names_rest string_bytes names at item c.loop-name-test.true c.name-item.is))
     (told_at (g.T.Tree.snapshot c.loop-name.tree) told c.as_str.result.now (string_bytes item) verdict i.keeps c.as_str.ensures.value c.in_ok-verdict.ensures.told)
@@ -89,15 +94,18 @@ loop-name-preserved g c =
     record {
       texts = texts_next told (map string_bytes (take at names)) (map string_bytes (take (at + 1) names)) entries c.note.new.self.builder.entries name verdict more added i.texts is;
       names = names_next (map string_bytes (take at names)) (map string_bytes (take (at + 1) names)) entries c.note.new.self.builder.entries name verdict more added i.names;
-      prints = subst (λ ns. PrintsLines (AreFileLinesIn c.args.self.now.log_skip told ns) (g.T.Tree.failed c.args.tree.now) (g.T.Tree.failed c.read_file.new.tree) (g.E.Sink.taken c.args.err.now) (g.E.Sink.taken c.note.new.err)) (sym more)
-          (prints_step c.args.self.now.log_skip told (map string_bytes (take at names)) (g.T.Tree.failed c.args.tree.now) (g.T.Tree.failed c.loop-name.tree) (g.T.Tree.failed c.read_file.new.tree) i.rises c.read_file.ensures.rises
+      prints = subst (λ ns. PrintsFiles c.args.self.now.log_skip told ns (g.T.Tree.failed c.args.tree.now) (g.T.Tree.failed c.read_file.new.tree) (g.E.Sink.taken c.args.err.now) (g.E.Sink.taken c.note.new.err)) (sym more)
+          (prints_step c.args.self.now.log_skip told (map string_bytes (take at names)) (g.T.Tree.failed c.args.tree.now) (g.T.Tree.failed c.loop-name.tree) (g.T.Tree.failed c.read_file.new.tree)
           (g.E.Sink.taken c.args.err.now) (g.E.Sink.taken c.loop-name.err) i.prints (g.E.Sink.taken c.note.new.err) name verdict is c.in_ok-verdict.ensures.counted printed);
       ascend = ascend_next (map string_bytes (drop at names)) (map string_bytes (drop (at + 1) names)) name rest i.ascend;
       above = above_next entries c.note.new.self.builder.entries (map string_bytes (drop at names)) (map string_bytes (drop (at + 1) names)) name verdict rest added i.ascend i.above;
       paths = c.note.ensures.paths ∙ i.paths;
       log_skip = c.note.ensures.log_skip ∙ i.log_skip;
       writes = c.in_ok-note.ensures.writes ∙ i.writes;
-      rises = omega (arith, i.rises, c.read_file.ensures.rises);
+      askable = (subst AreAskable rest i.askable).1;
+      asked = asks_on longest_path (g.T.Tree.longest_asked c.args.tree.now) (g.T.Tree.longest_asked c.loop-name.tree) (g.T.Tree.longest_asked c.read_file.new.tree) i.asked
+          (asks_one longest_path (g.T.Tree.longest_asked c.loop-name.tree) (g.T.Tree.longest_asked c.read_file.new.tree) name (subst AreAskable rest i.askable).0
+          (subst (AsksPath (g.T.Tree.longest_asked c.loop-name.tree) (g.T.Tree.longest_asked c.read_file.new.tree)) c.as_str.ensures.value c.read_file.ensures.asked));
       keeps = c.read_file.ensures.keeps ∙ i.keeps;
     }
 
@@ -107,7 +115,7 @@ returns-clause-texts g c =
 
 pub returns-clause-prints : goal.returns-clause-prints
 returns-clause-prints g c =
-    subst (λ names. PrintsLines (AreFileLinesIn c.args.self.now.log_skip (g.T.Tree.snapshot c.args.tree.now) (map string_bytes names)) (g.T.Tree.failed c.args.tree.now) (g.T.Tree.failed c.loop-name.tree) (g.E.Sink.taken c.args.err.now) (g.E.Sink.taken c.loop-name.err)) (take_all c.loop-name.name-index c.args.names.now c.loop-name-test.false) c.loop-name.invariant.prints
+    subst (λ names. PrintsFiles c.args.self.now.log_skip (g.T.Tree.snapshot c.args.tree.now) (map string_bytes names) (g.T.Tree.failed c.args.tree.now) (g.T.Tree.failed c.loop-name.tree) (g.E.Sink.taken c.args.err.now) (g.E.Sink.taken c.loop-name.err)) (take_all c.loop-name.name-index c.args.names.now c.loop-name-test.false) c.loop-name.invariant.prints
 
 pub returns-clause-names : goal.returns-clause-names
 returns-clause-names g c =

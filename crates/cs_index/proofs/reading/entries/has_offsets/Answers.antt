@@ -1,14 +1,25 @@
-use Rattle.std.proofs.Common.{◌≡◌, ◌+◌, ◌∙◌, ◌++◌, ap, refl, sym, ℕ, List, length, arith, length-append}
+use Rattle.std.specs.Prelude.{bytes_eq}
+use Rattle.std.proofs.Common.{◌≡◌, ◌+◌, ◌*◌, ◌&&◌, eqb, ◌∙◌, ◌++◌, ap, sym, ℕ, List, length, map, arith, length-append}
 use Rattle.std.proofs.lemmas.List.{length_push}
-use Rattle.cs_index.specs.Image.{with_nul}
-use Rattle.cs_index.specs.Opening.{has_starts, is_name_index, texts_of}
+use Rattle.cs_index.specs.Image.{with_nul, starts_from}
+use Rattle.cs_index.specs.Opening.{is_name_index, numbers_from, texts_of}
+use Rattle.cs_index.specs.SectionsRead.{has_starts}
 use Rattle.cs_index.proofs.SectionReadLemmas.{texts_after, formed_after, none_formed}
 use Rattle.cs_index.proofs.EntryLemmas.{offsets_short, offsets_wrong, offsets_step, offsets_end}
 use Rattle.cs_index.proofs.reading.entries.has_offsets.Goals as goal
 
 pub names-init : goal.names-init
 unfolding is_name_index
-names-init c = record { formed = c.requires; within = omega arith; offset = omega arith; left = refl }
+names-init c =
+    let name_index : List ℕ = c.args.name_index.now in
+    let texts : List (List ℕ) = texts_of c.args.names.now in
+    record {
+      formed = c.requires;
+      within = omega arith;
+      offset = omega arith;
+      left = ap (λ long. eqb (length name_index) long && bytes_eq (numbers_from name_index 0 (length texts)) (starts_from 0 (map with_nul texts)))
+          (let z : 4 * (length texts + 1) ≡ 0 + 4 * (length texts + 1) = omega arith in z);
+    }
 
 pub returns-then-name_index-at-lt8 : goal.returns-then-name_index-at-lt8
 returns-then-name_index-at-lt8 c =

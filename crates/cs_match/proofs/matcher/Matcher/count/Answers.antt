@@ -13,7 +13,7 @@ use Rattle.cs_match.proofs.matcher.Matcher.count.Goals as goal
 
 pub lines-init : goal.lines-init
 lines-init c =
-    let kind = λ (finds : List ℕ → Bool). Decides finds c.args.self.now in
+    let kind = λ (finds : List ℕ → Bool). Decides finds c.args.self.now.tree in
     record { counted = counted_passed kind c.args.block.now 0 0 (passed_none kind c.args.block.now 0 (omega arith)); same = refl }
 
 pub count_some-counted-requires-clause-whole : goal.count_some-counted-requires-clause-whole
@@ -26,7 +26,7 @@ lines-preserved c =
     let next = c.count_some-counted.result in
     let e = c.count_some-counted.ensures in
     record {
-      counted = counted_append (λ finds. Decides finds c.args.self.now) block 0 at next.to c.lines.hits next.hits c.lines.invariant.counted
+      counted = counted_append (λ finds. Decides finds c.args.self.now.tree) block 0 at next.to c.lines.hits next.hits c.lines.invariant.counted
           (subst (λ (tree : Tree). CountsHits (λ finds. Decides finds tree) block at next.to next.hits) c.lines.invariant.same e.counted);
       same = e.same ∙ c.lines.invariant.same;
     }
@@ -35,6 +35,6 @@ pub returns-clause-bound : goal.returns-clause-bound
 returns-clause-bound c =
     let block = c.args.block.now in
     let i = c.lines.invariant.counted in
-    let decided = finding_is_decided c.args.self.now in
+    let decided = finding_is_decided c.args.self.now.tree in
     let all : take (c.lines.at - 0) block ≡ block = take_all (c.lines.at - 0) block (omega (arith, c.lines-test.false)) in
     omega (arith, i.count decided.0 decided.1, ap (λ text. count_by decided.0 (ended_lines text)) all, count_by-le-length decided.0 (ended_lines block))

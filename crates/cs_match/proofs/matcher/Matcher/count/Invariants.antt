@@ -5,8 +5,8 @@ use Rattle.cs_match.proofs.matcher.Matcher.count.Given as goal
 
 abbrev pub invariant-lines : goal.invariant-lines
 invariant-lines l = record {
-  counted : CountsHits (λ finds. Decides finds l.fn.self) l.block 0 l.at l.hits;
-  same : l.self ≡ l.fn.self;
+  counted : CountsHits (λ finds. Decides finds l.fn.self.tree) l.block 0 l.at l.hits;
+  same : l.self.tree ≡ l.fn.self.tree;
 }
 
 abbrev pub decreases-lines : goal.decreases-lines

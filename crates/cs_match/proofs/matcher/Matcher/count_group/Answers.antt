@@ -2,6 +2,7 @@ use Rattle.std.proofs.Common.{Option, ℕ, subst, sym}
 use Rattle.std.specs.Prelude.{IfSome}
 use Rattle.cs_match.specs.Counting.{CountsLines, CountsHits}
 use Rattle.cs_match.specs.Remembering.{tree_in}
+use Rattle.cs_match.specs.Automaton.{Automaton}
 use Rattle.cs_match.specs.Finding.{Decides}
 use Rattle.cs_match.proofs.QuietLemmas.{table_counts}
 use Rattle.cs_match.proofs.matcher.Matcher.count_group.Goals as goal
@@ -18,5 +19,5 @@ returns-in-Some-clause-counted c =
       count = λ finds decides.
           h.count finds (subst (CountsLines finds) (sym c.deref.ensures.value)
           (table_counts (tree_in table) table.rows.items table.used table.cells.items right.rows.bound right.cells right.rows right.looped finds
-          (subst (Decides finds) (sym c.self.view_is) decides)));
+          (subst (λ (a : Automaton). Decides finds a.tree) (sym c.self.view_is) decides)));
     }

@@ -9,7 +9,7 @@ use Rattle.cs_match.proofs.matcher.Matcher.count_lines.Goals as goal
 
 pub lines-init : goal.lines-init
 lines-init c =
-    let kind = λ (finds : List ℕ → Bool). Decides finds c.args.self.now in
+    let kind = λ (finds : List ℕ → Bool). Decides finds c.args.self.now.tree in
     let from = c.args.from in
     record { counted = counted_passed kind c.args.block.now from from (passed_none kind c.args.block.now from (omega (arith, c.requires.low, c.requires.high))); same = refl }
 
@@ -18,7 +18,7 @@ line_end-end-requires-clause-whole c = whole_from c.args.block.now c.args.from c
 
 pub lines-preserved : goal.lines-preserved
 lines-preserved c =
-    let kind = λ (finds : List ℕ → Bool). Decides finds c.args.self.now in
+    let kind = λ (finds : List ℕ → Bool). Decides finds c.args.self.now.tree in
     let block = c.args.block.now in
     let at = c.lines.at in
     let end = c.line_end-end.result in

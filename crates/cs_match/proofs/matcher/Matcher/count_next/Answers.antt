@@ -9,7 +9,7 @@ use Rattle.cs_match.proofs.matcher.Matcher.count_next.Goals as goal
 pub returns-then-at-block-clause-counted : goal.returns-then-at-block-clause-counted
 returns-then-at-block-clause-counted c =
     let e = c.skip-at.ensures in
-    counted_passed (λ finds. Decides finds c.args.self.now) c.args.block.now c.args.from c.skip-at.result (record { lines = record { low = e.low; high = e.high; whole = e.whole }; none = e.none })
+    counted_passed (λ finds. Decides finds c.args.self.now.tree) c.args.block.now c.args.from c.skip-at.result (record { lines = record { low = e.low; high = e.high; whole = e.whole }; none = e.none })
 
 pub count_lines-counted-requires-clause-whole : goal.count_lines-counted-requires-clause-whole
 count_lines-counted-requires-clause-whole c = whole_from c.args.block.now c.args.from c.skip-at.result c.skip-at.ensures.low c.requires.whole
@@ -17,7 +17,7 @@ count_lines-counted-requires-clause-whole c = whole_from c.args.block.now c.args
 pub returns-clause-counted : goal.returns-clause-counted
 returns-clause-counted c =
     let e = c.skip-at.ensures in
-    let kind = λ (finds : List ℕ → Bool). Decides finds c.args.self.now in
+    let kind = λ (finds : List ℕ → Bool). Decides finds c.args.self.now.tree in
     let block = c.args.block.now in
     let at = c.skip-at.result in
     let line = c.count_lines-counted.result in

@@ -1,4 +1,5 @@
 use Rattle.std.proofs.Common.{subst, sym}
+use Rattle.cs_match.specs.Automaton.{Automaton}
 use Rattle.cs_match.specs.Finding.{Decides}
 use Rattle.cs_match.specs.Chains.{ShowsLines}
 use Rattle.cs_match.specs.Remembering.{tree_in}
@@ -15,5 +16,5 @@ returns c =
       none = λ finds decides.
           h.none finds (subst (ShowsLines finds) (sym c.deref.ensures.value)
           (table_shows (tree_in table) table.rows.items table.used table.cells.items right.rows.bound right.cells right.rows right.looped finds
-          (subst (Decides finds) (sym c.self.view_is) decides)));
+          (subst (λ (a : Automaton). Decides finds a.tree) (sym c.self.view_is) decides)));
     }

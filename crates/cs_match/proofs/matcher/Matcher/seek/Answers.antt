@@ -1,5 +1,6 @@
 use Rattle.std.proofs.Common.{◌-◌, take, drop, subst, sym}
 use Rattle.std.specs.Prelude.{IfSome}
+use Rattle.cs_match.specs.Automaton.{Automaton}
 use Rattle.cs_match.specs.Finding.{Decides}
 use Rattle.cs_match.specs.Lines.{ended_lines}
 use Rattle.cs_match.specs.Needle.{LineHas}
@@ -16,7 +17,7 @@ returns-then-self c =
       lines = record { low = h.low; high = h.high; whole = h.whole };
       none = λ finds decides.
           none_found (tree_in c.self.inside.table) (λ line. LineHas line c.self.inside.finder) finds (ended_lines (take (to - c.args.from) (drop c.args.from c.args.block.now)))
-          c.self.invariant.0.needed (subst (Decides finds) (sym c.self.view_is) decides) h.none;
+          c.self.invariant.0.needed (subst (λ (a : Automaton). Decides finds a.tree) (sym c.self.view_is) decides) h.none;
     }
 
 pub returns-in-Some : goal.returns-in-Some
@@ -29,5 +30,5 @@ returns-in-Some c =
       lines = record { low = h.low; high = h.high; whole = h.whole };
       none = λ finds decides.
           none_found tree (HasOne c.in-Some.sieve.now) finds (ended_lines (take (to - c.args.from) (drop c.args.from c.args.block.now)))
-          needed (subst (Decides finds) (sym c.self.view_is) decides) h.none;
+          needed (subst (λ (a : Automaton). Decides finds a.tree) (sym c.self.view_is) decides) h.none;
     }

@@ -2,6 +2,7 @@ use Rattle.std.proofs.Common.{◌≡◌, ◌↔◌, sym, ◌∙◌, ap, subst, a
 use Rattle.cs_syntax.specs.Matching.{Tree, HasMatch}
 use Rattle.cs_syntax.specs.Node.{tree_of}
 use Rattle.cs_match.specs.Places.{IsLooped}
+use Rattle.cs_match.specs.Size.{FitsWeight}
 use Rattle.cs_match.specs.Expansion.{expansion}
 use Rattle.cs_match.proofs.PlaceCountLemmas.{places_light, repeats_light}
 use Rattle.cs_match.proofs.ExpansionLemmas.{expansion_found, is_looped}
@@ -11,8 +12,8 @@ pub invariant_of-result : goal.invariant_of-result
 invariant_of-result c =
     ((c.count-count.ensures, c.count_repeats-repeats.ensures, subst IsLooped (sym c.in_ok-root.ensures) (is_looped (tree_of c.tree.result.now))), c.in_ok-needle.ensures, c.in_ok-sieve.ensures, c.in_ok-shifts.ensures)
 
-pub returns : goal.returns
-returns c = λ line.
+pub returns-clause-alike : goal.returns-clause-alike
+returns-clause-alike c = λ line.
     let same : tree_of c.in_ok-root.root ≡ expansion c.args.pattern.now = c.in_ok-root.ensures ∙ ap expansion c.tree.ensures.tree in
     subst (λ (t : Tree). HasMatch t line ↔ HasMatch c.args.pattern.now line) (sym same) (expansion_found c.args.pattern.now line)
 
@@ -21,3 +22,8 @@ count-count-requires c = rw c.in_ok-root.ensures (omega (arith, places_light (tr
 
 pub count_repeats-repeats-requires : goal.count_repeats-repeats-requires
 count_repeats-repeats-requires c = rw c.in_ok-root.ensures (omega (arith, repeats_light (tree_of c.tree.result.now)))
+
+pub returns-clause-small : goal.returns-clause-small
+returns-clause-small c =
+    let same : tree_of c.in_ok-root.root ≡ expansion c.args.pattern.now = c.in_ok-root.ensures ∙ ap expansion c.tree.ensures.tree in
+    subst (λ (t : Tree). FitsWeight t c.args.pattern.now) (sym same) (places_light c.args.pattern.now)

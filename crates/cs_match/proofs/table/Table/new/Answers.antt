@@ -1,4 +1,4 @@
-use Rattle.std.proofs.Common.{◌≡◌, ◌∙◌, ap, sym, subst, length, false}
+use Rattle.std.proofs.Common.{◌≡◌, ◌∙◌, ap, sym, subst, length, false, refl}
 use Rattle.std.specs.Prelude.{replicate, IfSome}
 use Rattle.std.proofs.lemmas.List.{length-replicate}
 use Rattle.cs_syntax.specs.Matching.{Tree}
@@ -26,4 +26,5 @@ returns c =
         room = ap (λ (n : Standing). length n.marks) c.in_ok-now.ensures ∙ length-replicate c.places-places.result false ∙ size;
         loops = c.in_ok-loops.ensures.len ∙ c.repeats.ensures ∙ ap repeats (sym same);
       },
+      refl,
     )

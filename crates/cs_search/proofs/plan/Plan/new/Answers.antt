@@ -19,6 +19,6 @@ returns-clause-plan c =
     let reads = reads_job job c.as_str.result.now pattern c.as_str.ensures.value c.in_ok-pattern.ensures.reads in
     record {
       query = right_query job.brute c.in_ok-query.query (string_bytes job.pattern) job.fold pattern reads c.in_ok-query.ensures;
-      program = (pattern, reads, c.in_ok-pattern.ensures.light, c.in_ok-program.ensures);
+      program = (pattern, reads, c.in_ok-pattern.ensures.light, c.in_ok-program.ensures.alike);
       file = c.in_ok-file.ensures.compiled;
     }

@@ -5,7 +5,8 @@ use Rattle.std.proofs.lemmas.Result.{err_from_is_err_and}
 use Rattle.cs_match.specs.Finding.{Decides}
 use Rattle.cs_words.specs.declared.jobs.Tool.{Tool}
 use Rattle.cs_tree.specs.Snapshot.{Snapshot}
-use Rattle.cs_search.specs.declared.report.TheConstants.{MOST_SEARCHED}
+use Rattle.cs_tree.proofs.Reading.{reads_nothing, reads_on}
+use Rattle.cs_search.specs.InputReport.{most_searched}
 use Rattle.cs_search.specs.Searcher.{Prints, PrintsAllFaults, PrintsFront}
 use Rattle.cs_search.specs.Printed.{Printed, file_printed, all_printed}
 use Rattle.cs_tree.proofs.NameLemmas.{mapped_more}
@@ -15,11 +16,12 @@ use Rattle.cs_search.proofs.searcher.Searcher.search_files.Goals as goal
 
 pub loop-name-init : goal.loop-name-init
 loop-name-init g c = record {
-  prints = λ finds decides. Prints-none (g.T.Tree.snapshot c.args.tree.now) (file_printed MOST_SEARCHED c.args.self.now.tool c.args.self.now.style finds) (g.O.Sink.taken c.args.out.now) (g.E.Sink.taken c.args.err.now);
+  prints = λ finds decides. Prints-none (g.T.Tree.snapshot c.args.tree.now) (file_printed most_searched c.args.self.now.tool c.args.self.now.style finds) (g.O.Sink.taken c.args.out.now) (g.E.Sink.taken c.args.err.now);
   faults = PrintsAllFaults-none c.args.self.now.tool done [] _ _ _ _ refl refl;
   out_failed = refl;
   err_failed = refl;
   kept = record { tool = refl; style = refl; matcher = refl };
+  reads = reads_nothing (most_searched + 1) (g.T.Tree.read_counts c.args.tree.now);
   keeps = refl;
 }
 
@@ -33,10 +35,10 @@ loop-name-preserved g c =
           let names = c.args.names.now in
           let at = c.loop-name.name-index in
           let item = c.name-item.result in
-          let file = λ (s : Snapshot) (name : List ℕ). file_printed MOST_SEARCHED self.tool self.style finds s name in
+          let file = λ (s : Snapshot) (name : List ℕ). file_printed most_searched self.tool self.style finds s name in
           let one = s.prints finds (subst (Decides finds) (sym i.kept.matcher) decides) in
-          let tools = subst (λ t. Prints (option_map (λ (s : Snapshot). file_printed MOST_SEARCHED t c.loop-name.self.style finds s c.as_str.result.now) (g.T.Tree.snapshot c.loop-name.tree)) (g.O.Sink.taken c.loop-name.out) (g.O.Sink.taken c.search_file.new.out) (g.E.Sink.taken c.loop-name.err) (g.E.Sink.taken c.search_file.new.err) c.in_ok-matched.field-0) i.kept.tool one in
-          let styles = subst (λ t. Prints (option_map (λ (s : Snapshot). file_printed MOST_SEARCHED self.tool t finds s c.as_str.result.now) (g.T.Tree.snapshot c.loop-name.tree)) (g.O.Sink.taken c.loop-name.out) (g.O.Sink.taken c.search_file.new.out) (g.E.Sink.taken c.loop-name.err) (g.E.Sink.taken c.search_file.new.err) c.in_ok-matched.field-0) i.kept.style tools in
+          let tools = subst (λ t. Prints (option_map (λ (s : Snapshot). file_printed most_searched t c.loop-name.self.style finds s c.as_str.result.now) (g.T.Tree.snapshot c.loop-name.tree)) (g.O.Sink.taken c.loop-name.out) (g.O.Sink.taken c.search_file.new.out) (g.E.Sink.taken c.loop-name.err) (g.E.Sink.taken c.search_file.new.err) c.in_ok-matched.field-0) i.kept.tool one in
+          let styles = subst (λ t. Prints (option_map (λ (s : Snapshot). file_printed most_searched self.tool t finds s c.as_str.result.now) (g.T.Tree.snapshot c.loop-name.tree)) (g.O.Sink.taken c.loop-name.out) (g.O.Sink.taken c.search_file.new.out) (g.E.Sink.taken c.loop-name.err) (g.E.Sink.taken c.search_file.new.err) c.in_ok-matched.field-0) i.kept.style tools in
           let trees = subst (λ tree. Prints (option_map (λ (s : Snapshot). file s c.as_str.result.now) tree) (g.O.Sink.taken c.loop-name.out) (g.O.Sink.taken c.search_file.new.out) (g.E.Sink.taken c.loop-name.err) (g.E.Sink.taken c.search_file.new.err) c.in_ok-matched.field-0) i.keeps styles in
           let last = subst (λ name. Prints (option_map (λ (s : Snapshot). file s name) (g.T.Tree.snapshot c.args.tree.now)) (g.O.Sink.taken c.loop-name.out) (g.O.Sink.taken c.search_file.new.out) (g.E.Sink.taken c.loop-name.err) (g.E.Sink.taken c.search_file.new.err) c.in_ok-matched.field-0) c.as_str.ensures.value trees in
           Prints-both (g.T.Tree.snapshot c.args.tree.now) (λ s. all_printed (file s) (map string_bytes (take at names))) (λ s. file s (string_bytes item)) (λ s. all_printed (file s) (map string_bytes (take (at + 1) names))) _ _ _ _ _ _ c.loop-name.matched c.in_ok-matched.field-0
@@ -54,6 +56,7 @@ loop-name-preserved g c =
       out_failed = s.writes.0 ∙ i.out_failed;
       err_failed = s.writes.1 ∙ i.err_failed;
       kept = record { tool = s.kept.tool ∙ i.kept.tool; style = s.kept.style ∙ i.kept.style; matcher = s.kept.matcher ∙ i.kept.matcher };
+      reads = reads_on (most_searched + 1) (g.T.Tree.read_counts c.args.tree.now) (g.T.Tree.read_counts c.loop-name.tree) (g.T.Tree.read_counts c.search_file.new.tree) i.reads s.reads;
       keeps = s.keeps ∙ i.keeps;
     }
 
@@ -61,7 +64,7 @@ pub returns-clause-prints : goal.returns-clause-prints
 returns-clause-prints g c = λ finds decides.
     let i = c.loop-name.invariant in
     let names = c.args.names.now in
-    subst (λ (l : List _). Prints (option_map (λ (tree : Snapshot). all_printed (file_printed MOST_SEARCHED c.args.self.now.tool c.args.self.now.style finds tree) (map string_bytes l)) (g.T.Tree.snapshot c.args.tree.now)) (g.O.Sink.taken c.args.out.now) (g.O.Sink.taken c.loop-name.out) (g.E.Sink.taken c.args.err.now) (g.E.Sink.taken c.loop-name.err) c.loop-name.matched)
+    subst (λ (l : List _). Prints (option_map (λ (tree : Snapshot). all_printed (file_printed most_searched c.args.self.now.tool c.args.self.now.style finds tree) (map string_bytes l)) (g.T.Tree.snapshot c.args.tree.now)) (g.O.Sink.taken c.args.out.now) (g.O.Sink.taken c.loop-name.out) (g.E.Sink.taken c.args.err.now) (g.E.Sink.taken c.loop-name.err) c.loop-name.matched)
     (take_all c.loop-name.name-index names c.loop-name-test.false) (i.prints finds decides)
 
 pub returns-in_err-matched-clause-front : goal.returns-in_err-matched-clause-front
@@ -72,11 +75,11 @@ returns-in_err-matched-clause-front g c =
     let names = c.args.names.now in
     let at = c.loop-name.name-index in
     let item = c.name-item.result in
-    let file = λ (s : Snapshot) (name : List ℕ). file_printed MOST_SEARCHED self.tool self.style finds s name in
+    let file = λ (s : Snapshot) (name : List ℕ). file_printed most_searched self.tool self.style finds s name in
     let Holds = λ (printed : Option Printed). PrintsFront printed (g.O.Sink.taken c.loop-name.out) (g.O.Sink.taken c.search_file.new.out) (g.E.Sink.taken c.loop-name.err) (g.E.Sink.taken c.search_file.new.err) in
     let one = c.in_err-matched.ensures.front finds (subst (Decides finds) (sym i.kept.matcher) decides) in
-    let tools = subst (λ t. Holds (option_map (λ (s : Snapshot). file_printed MOST_SEARCHED t c.loop-name.self.style finds s c.as_str.result.now) (g.T.Tree.snapshot c.loop-name.tree))) i.kept.tool one in
-    let styles = subst (λ t. Holds (option_map (λ (s : Snapshot). file_printed MOST_SEARCHED self.tool t finds s c.as_str.result.now) (g.T.Tree.snapshot c.loop-name.tree))) i.kept.style tools in
+    let tools = subst (λ t. Holds (option_map (λ (s : Snapshot). file_printed most_searched t c.loop-name.self.style finds s c.as_str.result.now) (g.T.Tree.snapshot c.loop-name.tree))) i.kept.tool one in
+    let styles = subst (λ t. Holds (option_map (λ (s : Snapshot). file_printed most_searched self.tool t finds s c.as_str.result.now) (g.T.Tree.snapshot c.loop-name.tree))) i.kept.style tools in
     let trees = subst (λ tree. Holds (option_map (λ (s : Snapshot). file s c.as_str.result.now) tree)) i.keeps styles in
     let last = subst (λ name. Holds (option_map (λ (s : Snapshot). file s name) (g.T.Tree.snapshot c.args.tree.now))) c.as_str.ensures.value trees in
     PrintsFront-both (g.T.Tree.snapshot c.args.tree.now) (λ s. all_printed (file s) (map string_bytes (take at names))) (λ s. file s (string_bytes item)) (λ s. all_printed (file s) (map string_bytes (drop (at + 1) names))) (λ s. all_printed (file s) (map string_bytes names)) _ _ _ _ _ _ c.loop-name.matched
@@ -103,3 +106,6 @@ returns-in_err-matched-clause-faults g c =
     PrintsAllFaults-refused tool c.from_residual.result p.0 (map string_bytes names) _ _ _ _ p.1
     (subst (λ l. PrintsAllFaults tool l (g.T.Tree.failed c.args.tree.now) (g.T.Tree.failed c.search_file.new.tree) (g.E.Sink.taken c.args.err.now) (g.E.Sink.taken c.search_file.new.err) undone) (sym (mapped_rest string_bytes names at item c.loop-name-test.true c.name-item.is))
     (PrintsAllFaults-rest tool undone _ (map string_bytes (drop (at + 1) names)) _ _ _ _ told))
+
+pub returns-in_err-matched-clause-reads : goal.returns-in_err-matched-clause-reads
+returns-in_err-matched-clause-reads g c = reads_on (most_searched + 1) (g.T.Tree.read_counts c.args.tree.now) (g.T.Tree.read_counts c.loop-name.tree) (g.T.Tree.read_counts c.search_file.new.tree) c.loop-name.invariant.reads c.in_err-matched.ensures.reads

@@ -1,5 +1,5 @@
 use Rattle.std.proofs.Common.{rules}
 use Rattle.cs_tree.proofs.disk_tree.DiskTreeTree.read.Goals as goal
 
-pub returns-clause-bound : goal.returns-clause-bound
-returns-clause-bound c = search rules
+pub returns-clause-within : goal.returns-clause-within
+returns-clause-within c = search rules

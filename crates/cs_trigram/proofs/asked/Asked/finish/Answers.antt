@@ -10,7 +10,7 @@ use Rattle.cs_trigram.proofs.AskedLemmas.{asked_whole}
 use Rattle.cs_trigram.proofs.asked.Asked.finish.Goals as goal
 
 pub returns : goal.returns
-returns c = λ ts asked.
+returns c = λ ts asked many.
     let front = c.args.self.front.items in
     let needs : (ℕ → Bool) → Bool = λ set. all_hold c.args.self.needs.items set in
     let whole : (ℕ → Bool) → Bool = λ set. holds (And c.add_need.new.needs) set in
@@ -19,6 +19,6 @@ returns c = λ ts asked.
     let right = asked_whole front needs whole ts asked.0 is in
     record {
       holding = right.0;
-      sharp = right.1;
+      sharp = λ set h. (λ few. absurd (many few), right.1 set h);
       numbers = numbers-And c.add_need.new.needs ∙ c.in_ok-add_need.ensures.numbers ∙ and_from (list_all are_trigrams c.args.self.needs.items) _ asked.1 c.in_ok-last.ensures.numbers;
     }

@@ -15,4 +15,4 @@ pub returns-clause-asks : goal.returns-clause-asks
 returns-clause-asks c = λ t ts all counts own others members many.
     let before : AreOwn c.replace-others.result.items ts = subst (λ (v : List Query). AreOwn v ts) (sym (ap (λ v. v.items) c.replace-others.ensures.value)) members in
     subst (λ (qs : List Query). AreRight qs (more t ts)) (sym c.in_ok-push.ensures.items)
-    (right_more _ c.in_ok-query_of_words.field-0 t ts (c.in_ok-query_of_words.ensures t counts own) (c.in_ok-self.ensures ts others before))
+    (right_more _ c.in_ok-query_of_words.field-0 t ts (c.in_ok-query_of_words.ensures.right t counts own) (c.in_ok-self.ensures ts others before))

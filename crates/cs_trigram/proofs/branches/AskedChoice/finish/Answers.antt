@@ -6,5 +6,5 @@ returns c = λ ts known.
     record {
       words = known.words;
       ends = record { prefixes = known.ends.prefixes; suffixes = known.ends.suffixes };
-      query = λ many. right_choice c.args.self.members ts (known.members many);
+      query = λ many. right_choice c.args.self.members ts (known.members many) many;
     }

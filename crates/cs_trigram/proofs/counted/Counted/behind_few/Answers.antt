@@ -4,7 +4,7 @@ use Rattle.cs_syntax.specs.Matching.{cat}
 use Rattle.cs_trigram.specs.Sample.{SamplesTree, with_words, concatenations}
 use Rattle.cs_trigram.specs.Counted.{Counts}
 use Rattle.cs_trigram.specs.declared.counted.Counted.{Counted}
-use Rattle.cs_trigram.proofs.CountLemmas.{many_back, samples_pair, samples_one, only_word, pair}
+use Rattle.cs_trigram.proofs.CountLemmas.{behind_none, many_back, samples_pair, samples_one, only_word, pair}
 use Rattle.cs_trigram.proofs.counted.Counted.behind_few.Goals as goal
 
 pub returns-else-fronts-eq0 : goal.returns-else-fronts-eq0
@@ -32,3 +32,8 @@ returns-then-fronts-eq1 c = λ t u s le h.
           (samples_one front backs t u (subst (λ (ws : List (List ℕ)). SamplesTree ws t) one s) few.0),
       small,
     )
+
+pub returns-then-fronts-eq0 : goal.returns-then-fronts-eq0
+returns-then-fronts-eq0 c = λ t u s le h.
+    let many = subst (λ (x : Counted). Counts x u) c.in-Many.is h in
+    (behind_none t u c.args.fronts.now c.new.result.items s many (omega arith) c.new.ensures.items, omega (arith, ap length c.new.ensures.items))

@@ -1,5 +1,6 @@
 use Rattle.std.proofs.Common.{◌∙◌, ap, sym}
-use Rattle.cs_index.specs.Opening.{opening, read_cut}
+use Rattle.cs_index.specs.Opening.{opening}
+use Rattle.cs_index.specs.SectionsRead.{read_cut}
 use Rattle.cs_index.proofs.reading.index.Index.open.Goals as goal
 
 pub returns-in-Ok : goal.returns-in-Ok

@@ -1,0 +1,220 @@
+// Calls that take no memory, made not at all, once and a thousand times. `tests/runs/refusals.py` sees that the three tests make
+// the same number of allocations. With an `is_match` that also copies its table, the second makes 6 more than the first, and
+// the third 4,334 more.
+use crate::fixtures::{ONE_FILE, PLAIN, strings, tree_of};
+use crate::searching::reports::program_of;
+use cs_index::{Index, Postings, Sections};
+use cs_match::Matcher;
+use cs_search::{GrepFault, grep};
+use cs_syntax::{CharSet, Node, Pattern, parse};
+use cs_tree::{
+    DiskTree, FuseTree, Kind, MemSink, MemSource, MemTree, Sink, Source, StdSink, StdSource, Tree,
+    TreeReader, covers,
+};
+use cs_words::{Style, ToolFault};
+use std::alloc::{AllocError, Global};
+use std::io;
+use std::io::{Read, Write};
+use std::test::Fail;
+
+/// A thousand lines of eleven letters, another one each time, so that a matcher meets ever new sets of places.
+fn lines_of(alloc: Global) -> Result<Vec<u8>, AllocError> {
+    let mut text = Vec::new(alloc);
+    for number in 0..1000u32 {
+        for bit in 0..11u32 {
+            text.push(if number >> bit & 1 == 0 { b'a' } else { b'b' })?;
+        }
+        text.push(b'\n')?;
+    }
+    Ok(text)
+}
+
+/// What gives no bytes, and takes all.
+#[derive(Drop)]
+struct Void;
+
+impl Read for Void {
+    fn read(&mut self, _buf: &mut [u8]) -> io::Result<usize> {
+        Ok(0)
+    }
+}
+
+impl Write for Void {
+    fn write(&mut self, buf: &[u8]) -> io::Result<usize> {
+        Ok(buf.len())
+    }
+
+    fn flush(&mut self) -> io::Result<()> {
+        Ok(())
+    }
+}
+
+const COUNT: Style = Style {
+    count: true,
+    ..PLAIN
+};
+
+/// In how many lines of eleven letters something is found.
+fn hits(matcher: &mut Matcher<'_>, lines: &[u8]) -> u32 {
+    let mut hits = 0u32;
+    for line in lines.chunks(12) {
+        if matcher.is_match(line.get(..11).unwrap_or(line)) {
+            hits = hits.wrapping_add(1);
+        }
+    }
+    hits
+}
+
+/// Whether something is found in the lines, and prints or counts those in which it is.
+fn prints(
+    alloc: Global,
+    matcher: &mut Matcher<'_>,
+    lines: &[u8],
+    style: Style,
+) -> Result<bool, GrepFault> {
+    let mut input = MemSource::new(lines, 1000, false);
+    let mut out = StdSink::new(Void);
+    Ok(grep(alloc, "t", &mut input, matcher, style, &mut out)?.matched)
+}
+
+/// In how many of the lines the pattern finds something. They are also printed, and counted.
+fn found(alloc: Global, pattern: &str, lines: &[u8]) -> Result<u32, ToolFault> {
+    let program = program_of(alloc, pattern)?;
+    let mut matcher = Matcher::new(alloc, &program)?;
+    let _printed = prints(alloc, &mut matcher, lines, PLAIN)?;
+    let _counted = prints(alloc, &mut matcher, lines, COUNT)?;
+    Ok(hits(&mut matcher, lines))
+}
+
+/// Whether sets of characters and of bytes answer.
+fn are_sets(chars: &CharSet, pattern: &Pattern) -> bool {
+    let Node::Set(bytes) = pattern.tree() else {
+        return false;
+    };
+    bytes.contains(b'a')
+        && bytes.len() == 2
+        && bytes.single().is_none()
+        && chars.contains(0xE001)
+        && chars.len() == 42
+        && chars.runs().len() == 2
+}
+
+/// Whether the list has the first file alone.
+fn has_first(ids: Option<Postings<'_>>) -> bool {
+    match ids {
+        Some(mut ids) => ids.next() == Some(Ok(0)) && ids.next().is_none(),
+        None => false,
+    }
+}
+
+/// Whether an index opens and answers.
+fn is_index(bytes: &[u8]) -> bool {
+    let Ok(index) = Index::open(bytes) else {
+        return false;
+    };
+    index.len() == 1
+        && !index.is_empty()
+        && index.in_order()
+        && index.lists() == 3
+        && index.count(0x616263) == 1
+        && index.path(0) == Some("/a")
+        && index.name(0) == Some("/a/x")
+        && index.paths().next() == Some("/a")
+        && index.names().next() == Some("/a/x")
+        && has_first(index.postings(0x616263))
+        && index.list_at(0).is_some()
+}
+
+/// Whether a source and a sink over each kind of thing answer.
+fn are_streams(alloc: Global) -> bool {
+    let mut buf = [0u8; 8];
+    let mut sink = MemSink::new(alloc, 8);
+    let mut source = MemSource::new(b"abc", 2, false);
+    let mut reader = StdSource::new(Void);
+    let mut writer = StdSink::new(Void);
+    source.read(&mut buf) == Ok(2)
+        && source.failures() == 0
+        && sink.flush() == Ok(())
+        && sink.bytes().is_empty()
+        && sink.failures() == 0
+        && reader.read(&mut buf) == Ok(0)
+        && reader.failures() == 0
+        && writer.write(b"abc") == Ok(3)
+        && writer.flush() == Ok(())
+        && writer.failures() == 0
+}
+
+/// Whether a tree with the file `/t/p` answers.
+fn is_tree(tree: &mut MemTree) -> bool {
+    let mut buf = [0u8; 2];
+    let opens = tree.kind("/t") == Ok(Kind::Folder) && tree.open("/t/p") == Ok(());
+    let reads = tree.read(&mut buf) == Ok(2) && TreeReader::new(tree).read(&mut buf) == Ok(1);
+    opens && reads && tree.failures() == 0 && !tree.remove("/x") && covers("/t", "/t/p")
+}
+
+/// In how many of the first lines two patterns find something.
+fn hits_of(alloc: Global, count: usize) -> Result<[u32; 2], ToolFault> {
+    let text = lines_of(alloc)?;
+    let lines = text.get(..count.saturating_mul(12)).unwrap_or(b"");
+    Ok([
+        found(alloc, "a(a|b){9}$", lines)?,
+        found(alloc, "bbabb", lines)?,
+    ])
+}
+
+/// How many of so many rounds of the other calls answer as they should.
+fn rounds(alloc: Global, count: usize, tree: &mut MemTree) -> Result<usize, ToolFault> {
+    let pattern = parse(alloc, "[ab]", false)?;
+    let chars = CharSet::from_ranges(alloc, &[(0xE000, 0xE00F), (0x61, 0x7A)])?;
+    let mut right = 0usize;
+    for _ in 0..count {
+        if are_sets(&chars, &pattern) && is_index(ONE_FILE) && are_streams(alloc) && is_tree(tree) {
+            right = right.wrapping_add(1);
+        }
+    }
+    Ok(right)
+}
+
+/// Whether the calls that use a value up, or need to be made in an order, answer as they should.
+fn ends(rt: HostRuntime, tree: MemTree) -> bool {
+    let mut tree = tree;
+    let disk = FuseTree::new(DiskTree::new(rt), 1);
+    tree.remove("/t") && disk.failures() == 0
+}
+
+/// Begins a list of an index, where calls are made at all.
+fn begin_list(alloc: Global, count: usize) -> Result<(), Fail> {
+    let mut sections = Sections::new(alloc, &strings(alloc, &["/a"])?)?;
+    if count > 0 {
+        sections.list(7);
+    }
+    Ok(())
+}
+
+/// Whether all calls answer as they should, each made so often.
+fn answer(rt: &HostRuntime, count: usize, hits: [u32; 2]) -> Result<bool, Fail> {
+    let alloc = rt.alloc();
+    let mut tree = tree_of(alloc, &[("/t", None), ("/t/p", Some("one"))])?;
+    let other = rt.clone()?;
+    begin_list(alloc, count)?;
+    let is_right = hits_of(alloc, count)? == hits && rounds(alloc, count, &mut tree)? == count;
+    Ok(is_right && (count == 0 || ends(other, tree)))
+}
+
+#[test]
+fn none(rt: HostRuntime) -> Result<(), Fail> {
+    assert!(rt; answer(&rt, 0, [0, 0])?);
+    Ok(())
+}
+
+#[test]
+fn one(rt: HostRuntime) -> Result<(), Fail> {
+    assert!(rt; answer(&rt, 1, [1, 0])?);
+    Ok(())
+}
+
+#[test]
+fn many(rt: HostRuntime) -> Result<(), Fail> {
+    assert!(rt; answer(&rt, 1000, [500, 168])?);
+    Ok(())
+}

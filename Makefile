@@ -1,14 +1,4 @@
-# make check     every proof from nothing, the edits that must fail, the tests, the program built two ways,
-#                and then the program from end to end: as a person runs it, as the manual and docs/USE.md say,
-#                over histories and patterns by chance, with each allocation refused, as of each library's calls,
-#                over damaged indexes, and with its system calls failing
-# make wrong     every wrong program by itself, of which the gate tries those in must-fail/; CRATES='NAME..' gives some crates
-# make trusted   what one has to read to believe cindex, cgrep and csearch: the definitions that their contracts rest on
-# make program   the proved program, crates/codesearch/out/codesearch
-# make bench     measures the tools side by side with their peers over a tree of files: make bench TREE=/usr/src
-# make install   puts codesearch, cindex, csearch and cgrep into PREFIX/bin (PREFIX is /usr/local where it is not given),
-#                their pages and their completion in bash into PREFIX/share
-# make uninstall takes them away
+# `make` alone says what there is.
 
 PREFIX ?= /usr/local
 bin = $(DESTDIR)$(PREFIX)/bin
@@ -19,41 +9,71 @@ sources = crates.txt $(shell find crates -type d \( -name out -o -name must-fail
 tools = cindex csearch cgrep
 pages = $(notdir $(wildcard man/*.[157]))
 
-.PHONY: check wrong trusted program bench install uninstall
+.PHONY: help check quick test wrong trusted program bench install uninstall prefix
+
+help:
+	@echo 'make program    proves the crates and builds crates/codesearch/out/codesearch: 15 to 40 minutes the first time'
+	@echo 'make install    installs codesearch, cindex, csearch and cgrep with their manual under PREFIX (now $(PREFIX))'
+	@echo 'make uninstall  removes them'
+	@echo 'make quick      names and types of all crates, and the end-to-end tests on the built program: minutes'
+	@echo 'make test       all tests, those of the libraries and those of the built program: a quarter of an hour'
+	@echo 'make check      the gate: every proof from nothing, the mutants of must-fail/, and all tests: an hour or two'
+	@echo "make wrong      judges each mutant by itself: hours; CRATES='cs_tree cs_index/NAME' gives some"
+	@echo 'make trusted    what has to be read to believe the contracts of the tools'
+	@echo 'make bench      measures the tools beside their peers over a tree of files: TREE=/usr/src'
 
 check:
 	rt ci
 	@$(MAKE) --silent --no-print-directory program
-	tests/end_to_end.sh $(program)
-	tests/manual.sh $(program)
-	tests/use.sh $(program)
-	tests/histories.py $(program)
-	tests/chance.py $(program)
-	tests/refusals.py crates/cs_tool_tests/out/cs_tool_tests_tests
-	tests/allocations.py $(program)
-	tests/damage.py $(program)
-	tests/failing.py $(program)
+	@$(MAKE) --silent --no-print-directory run-tests
+
+quick: $(program)
+	@for crate in $$(sed -n 's/:.*//p' crates.txt); do \
+	    (cd crates/$$crate && rt check --only= > /tmp/quick.$$$$ 2>&1) || { cat /tmp/quick.$$$$; rm -f /tmp/quick.$$$$; exit 1; }; \
+	    rm -f /tmp/quick.$$$$; \
+	done
+	tests/shell/end_to_end.sh $(program)
+	tests/shell/manual.sh $(program)
+
+test: $(program)
+	cd crates/cs_tests && rt test
+	cd crates/cs_tool_tests && rt test
+	@$(MAKE) --silent --no-print-directory run-tests
+
+# The tests of the built program.
+.PHONY: run-tests
+run-tests:
+	tests/shell/end_to_end.sh $(program)
+	tests/shell/manual.sh $(program)
+	tests/shell/use.sh $(program)
+	tests/runs/histories.py $(program)
+	tests/runs/chance.py $(program)
+	tests/runs/refusals.py crates/cs_tool_tests/out/cs_tool_tests_tests
+	tests/runs/allocations.py $(program)
+	tests/runs/damage.py $(program)
+	tests/runs/failing.py $(program)
 
 wrong:
-	tests/wrong_programs.py $(CRATES)
+	scripts/wrong_programs.py $(CRATES)
 
 trusted:
-	@python3 tests/trusted.py
+	@python3 scripts/trusted.py
 
 program: $(program)
 
-# The toolchain builds a program when it runs it, and builds it only where it is proved.
-# So the build ends with a search that has a match; what the toolchain says is shown where that fails.
 $(program): $(sources)
-	@echo "codesearch: proving and building the program; the first time this takes some minutes" >&2
-	@mkdir -p $(dir $@)
-	@cd crates/codesearch && { printf '\n' | rt run -- cgrep '^$$' > out/build.log 2>&1 || { cat out/build.log >&2; exit 1; }; }
+	@echo 'codesearch: the program is built; it is proved before, which takes 15 to 40 minutes the first time' >&2
+	@scripts/program.sh
 	@touch $@
 
 bench: $(program)
-	@tests/bench.sh $(program) "$(TREE)"
+	@scripts/bench.sh $(program) "$(TREE)"
 
-install: $(program)
+# A folder that is no absolute path would be written into the scripts that call the program.
+prefix:
+	@case '$(PREFIX)' in /*[!A-Za-z0-9/._+-]*|[!/]*|'') echo 'make: PREFIX has to begin with / and may have no space: $(PREFIX)' >&2; exit 1;; esac
+
+install: prefix $(program)
 	mkdir -p $(bin) $(completions)
 	install -m 755 $(program) $(bin)/codesearch
 	for tool in $(tools); do \
@@ -66,6 +86,6 @@ install: $(program)
 	    mkdir -p $(manual)/man$${page##*.} && install -m 644 man/$$page $(manual)/man$${page##*.}/$$page || exit 1; \
 	done
 
-uninstall:
+uninstall: prefix
 	rm -f $(addprefix $(bin)/,codesearch $(tools)) $(addprefix $(completions)/,codesearch $(tools))
 	for page in $(pages); do rm -f $(manual)/man$${page##*.}/$$page; done

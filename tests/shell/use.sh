@@ -1,32 +1,9 @@
 #!/bin/sh
 # Tries what docs/USE.md shows in the real programs, where they are installed: vim, emacs, git, xargs and GNU parallel.
-# usage: tests/use.sh PROGRAM
+# usage: tests/shell/use.sh PROGRAM
 # The settings, functions and commands are those of the page. The last line is 'N passed, M failed'.
 
-program=$(readlink -f -- "$1") || exit 2
-root=$(readlink -f -- "$(dirname -- "$0")/..") || exit 2
-fresh=$(mktemp -d) || exit 2
-trap 'rm -rf "$fresh"' EXIT
-passed=0
-failed=0
-
-skipped() { printf 'skipped: %s\n' "$1"; }
-
-# holds COMMAND: a test of the shell's that has to pass; what it says is shown where it does not
-holds() {
-    if said=$(eval "$1" 2>&1 < /dev/null); then
-        passed=$((passed + 1))
-    else
-        failed=$((failed + 1))
-        printf 'FAILED: %s\n%s\n' "$1" "$said"
-    fi
-}
-
-# gives STATUS COMMAND
-gives() { holds "$2; came=\$?; echo \"status: wanted $1, came \$came\"; [ \$came = $1 ]"; }
-
-# same FILE FILE
-same() { holds "diff '$fresh/$1' '$fresh/$2' | head -n 10; cmp -s '$fresh/$1' '$fresh/$2'"; }
+. "$(dirname -- "$0")/library.sh"
 
 # blocks LANGUAGE: what the page shows in that language
 blocks() { awk -v fence="^\`\`\`$1\$" '/^```$/ { on = 0 } on; $0 ~ fence { on = 1 }' "$root/docs/USE.md"; }
@@ -211,5 +188,4 @@ else
     skipped 'GNU parallel: it is not installed'
 fi
 
-printf '%d passed, %d failed\n' $passed $failed
-[ $failed -eq 0 ]
+summary

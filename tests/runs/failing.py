@@ -1,7 +1,7 @@
 #!/usr/bin/env -S python3 -B
 """Runs the program with its system calls failing in turn, by strace, and compares each run with the one in which none fails; and
 over pipes, and over the deepest folders that paths allow.
-usage: tests/failing.py PROGRAM
+usage: tests/runs/failing.py PROGRAM
 
 For each job and each kind of call the Nth such call fails, N = 1, 2, .., until none is left. A run answers as if nothing had
 failed; or it leaves out one file or folder, with one line that it cannot be read, and the status is as it would be without; or it is

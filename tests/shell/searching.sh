@@ -67,7 +67,7 @@ while IFS=$tab read -r pattern text miss; do
     row=$((row + 1))
     printf '%b' "$text" > trees/table/match-$row
     [ -z "$miss" ] || printf '%b' "$miss" > trees/table/miss-$row
-done < "$root/tests/queries.txt"
+done < "$root/tests/shell/queries.txt"
 try 0 '' '' "cindex -reset -logskip trees/table"
 find "$home/trees/table" -type f | LC_ALL=C sort > results/names
 row=0
@@ -76,7 +76,7 @@ while IFS=$tab read -r pattern text miss; do
     xargs -s 1000000 "$program" cgrep -l -- "$pattern" < results/names > results/listed
     holds "grep -q '/match-$row\$' results/listed && ! grep -q '/miss-$row\$' results/listed"
     same "csearch -l -- '$pattern'" "cat results/listed"
-done < "$root/tests/queries.txt"
+done < "$root/tests/shell/queries.txt"
 
 # ---- the same lines as grep, over a real tree ---------------------------------------------------------------------------
 cindex -reset trees/real

@@ -1,7 +1,7 @@
 #!/usr/bin/env -S python3 -B
 """Searches files of lines by chance for patterns by chance, always the same ones, and compares the lines that `cgrep` and `csearch`
 find with those that Python's `re` finds; then lines whose ends lie around those of the blocks that are passed over at once.
-usage: tests/chance.py PROGRAM"""
+usage: tests/runs/chance.py PROGRAM"""
 import random
 import re
 import sys

@@ -3,7 +3,7 @@
 that a plain program lays at once (docs/FORMAT.md) from the paths that remain and the text last read of each file below them.
 Where each indexed file still reads as it was indexed, `csearch` has to print what `cgrep` prints over those files.
 The same over folders of many files, and over files of many trigrams.
-usage: tests/histories.py PROGRAM"""
+usage: tests/runs/histories.py PROGRAM"""
 import os
 import random
 import shutil

@@ -354,7 +354,7 @@ done
 # ---- a real tree ------------------------------------------------------------------------------------------------------
 mkdir trees/real
 (cd "$root" && tar -cf - --exclude=out --exclude=.git crates docs tests) | tar -xf - -C trees/real
-rm trees/real/tests/refusals.tsv # it has a line of 10000 letters
+rm trees/real/tests/shell/refusals.tsv # it has a line of 10000 letters
 try 0 '' '' "cindex -reset trees/real"
 holds "[ \$(csearch -brute -l '' | wc -l) -gt 100 ]"
 try 0 "$home/trees/real\n" '' "cindex -list"
@@ -441,11 +441,11 @@ if [ -n "$go_csearch" ]; then
     try 0 '' '' 'CSEARCHINDEX=$home/results/old cindex 2>/dev/null && CSEARCHINDEX=$home/results/joined cindex 2>/dev/null && cmp results/old results/joined'
     same "CSEARCHINDEX=\$home/results/old \$go_csearch requires | sort" "csearch requires | sort"
     if command -v perl > /dev/null; then
-        same "perl \$root/tests/lists.pl index" "perl \$root/tests/lists.pl results/go"
+        same "perl \$root/tests/shell/lists.pl index" "perl \$root/tests/shell/lists.pl results/go"
         rm trees/odd/nul # Go's cindex has it
-        same "cindex -reset trees/odd; perl \$root/tests/lists.pl index" "CSEARCHINDEX=\$home/results/go \$go_cindex -reset \$home/trees/odd 2>/dev/null; perl \$root/tests/lists.pl results/go"
+        same "cindex -reset trees/odd; perl \$root/tests/shell/lists.pl index" "CSEARCHINDEX=\$home/results/go \$go_cindex -reset \$home/trees/odd 2>/dev/null; perl \$root/tests/shell/lists.pl results/go"
         cindex -reset trees/real
-        holds "[ \$(perl \$root/tests/lists.pl index | grep -c '^[0-9a-f]\\{6\\}:') -gt 10000 ]"
+        holds "[ \$(perl \$root/tests/shell/lists.pl index | grep -c '^[0-9a-f]\\{6\\}:') -gt 10000 ]"
     else
         skipped 'the same names and posting lists: there is no perl'
     fi

@@ -1,7 +1,7 @@
 #!/bin/sh
 # Measures the tools side by side with their peers that are installed: Go's codesearch, GNU grep and ripgrep. docs/PERFORMANCE.md
 # says what is measured, and how.
-# usage: tests/bench.sh PROGRAM TREE        or: make bench TREE=..
+# usage: scripts/bench.sh PROGRAM TREE        or: make bench TREE=..
 # ROUNDS (5), SUBTREE (the first folder of the tree), PATTERNS (a file, a pattern on each line) and BYTES (of the one file that
 # cgrep searches, 100000000) may be set. It takes room for that file and two indexes in TMPDIR.
 

@@ -1,7 +1,7 @@
 #!/usr/bin/env -S python3 -B
 """Runs the program over random, cut, spliced and flipped indexes, always the same ones, and compares each answer with a plain
 reading of docs/FORMAT.md, "The index as it is read".
-usage: tests/damage.py PROGRAM
+usage: tests/runs/damage.py PROGRAM
 
 Each run has 2 GB of addresses and 5 seconds. Its status is 0 to 2. Where the bytes do not open, each tool is refused by the name
 of the fault, and the file stays as it was. Where they do, `cindex -list` lists their paths, `csearch -brute` is done, `csearch` is

@@ -78,6 +78,15 @@ def refused_run(words, refuse, given=b""):
     return came, was_refused
 
 
+def counted_run(words):
+    """A run, and how many allocations it makes."""
+    if not os.path.exists("refused.so"):
+        build_refuser()
+    write("counted", b"")
+    came = run(words, surroundings={"LD_PRELOAD": home + "/refused.so", "COUNTED": home + "/counted"})
+    return came, len(read("counted"))
+
+
 def complain(what, came):
     """Counts a wrong run, and shows the first ones."""
     global wrong

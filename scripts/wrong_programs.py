@@ -1,13 +1,13 @@
 #!/usr/bin/env python3
 """Judges each wrong program by itself: those that `rt ci` tries, in must-fail/, and the others, in wrong/. A file of several has a
 line `# NAME` before each, and `rt ci` takes it for refused where one of them is.
-usage: tests/wrong_programs.py [CRATE..]
+usage: scripts/wrong_programs.py [CRATE | CRATE/NAME]..
 
 A check says of each function whether it is proved, and proves it by the contracts of those that it calls, whatever their
 bodies do. So many programs are judged in one check, each by a function that it changes; functions of a cycle are proved
 together, and are changed in checks apart. A program that changes something else, as a definition, has a check of its own, and
-so has one whose functions are proved there. This works on a copy of the crates, with what `rt check` has kept of them. Without
-names it judges the programs of all crates."""
+so has one whose functions are proved there. This works on a copy of the crates, with what `rt check` has kept of them. It judges
+all programs of a crate, or those that are named with it; without arguments those of all crates."""
 import re
 import shutil
 import subprocess
@@ -83,10 +83,14 @@ def go_together(crate, chosen):
     return all(it.functions for it in chosen) and len({*proved}) == len(proved) and changed(crate, chosen) is not None
 
 
-def rounds(crate):
-    """The programs of a crate, parted by checks."""
+def rounds(crate, wanted):
+    """The programs of a crate, or those that are wanted, parted by checks."""
     found = []
-    for program in programs(crate):
+    listed = [it for it in programs(crate) if not wanted or it.name in wanted]
+    missing = wanted - {it.name for it in listed}
+    if missing:
+        sys.exit(f"{crate.name}: no wrong program {', '.join(sorted(missing))}")
+    for program in listed:
         chosen = next((it for it in found if go_together(crate, [*it, program])), None)
         if chosen:
             chosen.append(program)
@@ -119,12 +123,12 @@ def refused(crate, chosen):
     return chosen if alone else [it for it in chosen if is_refused(it)]
 
 
-def judge(crate):
-    """Says of each program of a crate whether it is refused, and returns how many are and how many are not."""
+def judge(crate, wanted):
+    """Says of programs of a crate whether each is refused, and returns how many are and how many are not."""
     if "\nlogic=proved" not in check(crate, []):
         sys.exit(f"{crate.name} is not proved")
     counts = [0, 0]
-    for chosen in rounds(crate):
+    for chosen in rounds(crate, wanted):
         found = refused(crate, chosen)
         for program in chosen:
             is_refused = program in found or len(chosen) > 1 and refused(crate, [program])
@@ -134,7 +138,9 @@ def judge(crate):
 
 
 def main():
-    names = sys.argv[1:] or [it.parent.name for it in sorted(top.glob("crates/*/must-fail"))]
+    given = sys.argv[1:] or [it.parent.name for it in sorted(top.glob("crates/*/must-fail"))]
+    names = [*dict.fromkeys(it.partition("/")[0] for it in given)]
+    wanted = lambda name: {it.partition("/")[2] for it in given if it.startswith(name + "/")}
     leave = lambda at, files: {"incremental"} & {*files} if Path(at).parent.name not in names else set()
     with tempfile.TemporaryDirectory(prefix="wrong") as folder:
         copy = Path(folder)
@@ -142,7 +148,7 @@ def main():
         for name in ("crates.txt", "HANDLES"):
             shutil.copy(top / name, copy)
         (copy / ".git").mkdir()
-        counts = [judge(copy / "crates" / name) for name in names]
+        counts = [judge(copy / "crates" / name, wanted(name)) for name in names]
     well, badly = (sum(it) for it in zip(*counts))
     print(f"{well} refused, {badly} not")
     return badly > 0

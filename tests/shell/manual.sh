@@ -1,31 +1,11 @@
 #!/bin/sh
 # Installs the program as a person does, in a fresh folder, and tries what is installed: the pages of man/, the examples in
-# them and in docs/USE.md, and the completion for bash.
-# usage: tests/manual.sh PROGRAM
+# them, in docs/USE.md and in README.md, and the completion for bash.
+# usage: tests/shell/manual.sh PROGRAM
 # A line of an example that begins with '$ ' is a command, one with '> ' goes on with it, and the lines behind it are what it
 # prints. It runs in the home folder of a fresh tree, whose name is /home/ann. The last line is 'N passed, M failed'.
 
-program=$(readlink -f -- "$1") || exit 2
-root=$(readlink -f -- "$(dirname -- "$0")/..") || exit 2
-fresh=$(mktemp -d) || exit 2
-trap 'rm -rf "$fresh"' EXIT
-passed=0
-failed=0
-
-skipped() { printf 'skipped: %s\n' "$1"; }
-
-# holds COMMAND: a test of the shell's that has to pass; what it says is shown where it does not
-holds() {
-    if said=$(eval "$1" 2>&1 < /dev/null); then
-        passed=$((passed + 1))
-    else
-        failed=$((failed + 1))
-        printf 'FAILED: %s\n%s\n' "$1" "$said"
-    fi
-}
-
-# silent COMMAND: a test that passes where the command says nothing
-silent() { holds "said=\$($1 2>&1); printf '%s' \"\$said\"; [ -z \"\$said\" ]"; }
+. "$(dirname -- "$0")/library.sh"
 
 # ---- what is installed ----------------------------------------------------------------------------------------------
 prefix=$fresh/usr
@@ -119,8 +99,10 @@ unset CSEARCHINDEX
 for page in $pages; do
     follow "$root/man/$page"
 done
-page=USE.md
-follow "$root/docs/USE.md"
+for page in docs/USE.md README.md; do
+    follow "$root/$page"
+done
+unset CSEARCHINDEX
 cd "$root" || exit 2
 
 # ---- completion ---------------------------------------------------------------------------------------------------------
@@ -155,11 +137,12 @@ fi
 # ---- what is taken away ---------------------------------------------------------------------------------------------------
 holds 'managed uninstall'
 silent "find '$prefix' -type f"
+# The scripts name PREFIX, so it has to be an absolute path.
+holds "! make -s -C '$root' -o '$program' program='$program' PREFIX=usr install && [ ! -e '$root/usr' ]"
 # A packager's folder: what stands in it is to be moved to PREFIX.
 holds "managed install '$fresh/stage' && [ ! -e '$prefix/bin/codesearch' ] && [ -x '$fresh/stage$prefix/bin/codesearch' ]"
 holds "grep -q 'exec \"$prefix/bin/codesearch\" csearch' '$fresh/stage$prefix/bin/csearch'"
 holds "managed uninstall '$fresh/stage'"
 silent "find '$fresh/stage' -type f"
 
-printf '%d passed, %d failed\n' $passed $failed
-[ $failed -eq 0 ]
+summary

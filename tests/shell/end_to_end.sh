@@ -1,10 +1,10 @@
 #!/bin/sh
 # Runs the program as a person does, in a fresh folder, and compares what it prints and its status.
-# usage: tests/end_to_end.sh PROGRAM
+# usage: tests/shell/end_to_end.sh PROGRAM
 # A case that fails prints its command, what was wanted and what came. The last line is 'N passed, M failed'.
 
 program=$(readlink -f -- "$1") || exit 2
-root=$(dirname -- "$(readlink -f -- "$0")")/..
+root=$(dirname -- "$(readlink -f -- "$0")")/../..
 home=$(mktemp -d) || exit 2
 trap 'rm -rf "$home"' EXIT
 cd "$home" || exit 2
@@ -141,7 +141,7 @@ while IFS=$tab read -r answer pattern line; do
     cgrep -- "$pattern" < files/line > results/out 2> results/err
     came=$?
     verdict "cgrep -- '$pattern', over the line '${line%?}'"
-done < "$root/tests/patterns.tsv"
+done < "$root/tests/shell/patterns.tsv"
 while IFS=$tab read -r words at pattern; do
     case $words in '#'*) continue ;; esac
     : > results/wanted.out
@@ -150,7 +150,7 @@ while IFS=$tab read -r words at pattern; do
     cgrep -- "$pattern" > results/out 2> results/err < /dev/null
     came=$?
     verdict "cgrep -- '$pattern'"
-done < "$root/tests/refusals.tsv"
+done < "$root/tests/shell/refusals.tsv"
 
 # ---- characters -------------------------------------------------------------------------------------------------------
 # Where grep -P takes characters, it is the peer. What PCRE2 makes of \D as machine code (JIT) finds none past ASCII in 10.42.
@@ -285,6 +285,12 @@ awk 'BEGIN { for (i = 10000; i < 20000; i++) { f = "files/many/" i; printf "line
 same "cgrep '7\$' files/many/*" "LC_ALL=C grep -H '7\$' files/many/*"
 same "cgrep -l '^number 1234' files/many/*" "LC_ALL=C grep -l '^number 1234' files/many/*"
 
+# 2^30 bytes are searched, 2^20 lines here. Of an input of one byte more all of these are printed, and none is counted.
+kilo=$(printf '%01023d' 0)
+try 0 '<standard input>: 1048576\n' '' "yes \$kilo | head -c 1073741824 | cgrep -c 0"
+try 0 '' 'cgrep: <standard input>: input too long\n' "yes \$kilo | head -c 1073741825 | cgrep -c 0"
+try 0 '1048576\n' 'cgrep: <standard input>: input too long\n' "yes \$kilo | head -c 1073741825 | cgrep -n -h 0 | tail -n 1 | cut -d : -f 1"
+
 # ---- outputs ----------------------------------------------------------------------------------------------------------
 if [ -w /dev/full ]; then
     try 2 '' 'cgrep: output failed\n' "cgrep one files/p > /dev/full"
@@ -320,8 +326,8 @@ for pattern in 'requires' '^use .*specs' 'fn [a-z_]*\(' '(length|take) [a-z]' '^
     same "xargs -s 1000000 \"\$program\" cgrep -c '$pattern' < results/names" "LC_ALL=C xargs -s 1000000 grep -EHc '$pattern' < results/names | grep -v ':0\$' | sed 's/:\([0-9]*\)\$/: \1/'"
 done
 
-. "$root/tests/indexing.sh"
-. "$root/tests/searching.sh"
+. "$root/tests/shell/indexing.sh"
+. "$root/tests/shell/searching.sh"
 
 printf '%d passed, %d failed\n' "$passed" "$failed"
 [ "$failed" -eq 0 ]

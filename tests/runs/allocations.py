@@ -1,6 +1,6 @@
 #!/usr/bin/env -S python3 -B
 """Runs the program with each of its allocations refused in turn, and compares each run with the one that has ample memory.
-usage: tests/allocations.py PROGRAM
+usage: tests/runs/allocations.py PROGRAM
 
 For each job the Nth allocation is refused, N = 1, 2, .., until a run ends with none refused: first the Nth alone, and then
 the Nth and all behind it, as on a machine that stays short of memory. A run answers as with ample memory; or it is refused: it

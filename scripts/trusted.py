@@ -1,0 +1,111 @@
+#!/usr/bin/env python3
+"""What one has to read to believe the tools: for the contract of each, the files of specs/ that its clauses reach by imports,
+and those that the contracts of the traits reach whose ghosts the clauses name (`T.snapshot` is told by `Tree`). Files are
+counted by lines, and by lines of definitions (without blanks, comments and imports).
+usage: scripts/trusted.py [-q] [--check]
+-q leaves out the files, of which the longest come first; --check fails where a tool is above its limit."""
+import re
+import sys
+from pathlib import Path
+
+crates = Path(__file__).resolve().parent.parent / "crates"
+IMPORT = re.compile(r"^\s*(?:pub )?(?:ghost )?use Rattle\.(cs_\w+)\.specs\.([A-Za-z_.]+?)(?:\.\{([^}]*)\}| as (\S+?))?;?$", re.M)
+
+# the function, the file that it stands in, which of its clauses count (none: all), beside what it requires, and how many
+# lines of definitions one may have to read
+CONTRACTS = [
+    ("cindex", "cs_cindex/src/cindexing.rt", ["indexes"], 520),
+    ("cgrep", "cs_search/src/searching.rt", [], 850),
+    ("csearch_stored", "cs_search/src/stored.rt", [], 1350),
+    ("list_stored", "cs_cindex/src/listing.rt", [], None),
+]
+
+# where the traits stand
+TRAITS = {
+    "Tree": "cs_tree/src/tree.rt",
+    "Source": "cs_tree/src/source.rt",
+    "Sink": "cs_tree/src/sink.rt",
+    "Store": "cs_tree/src/store.rt",
+}
+
+
+def spec(crate, module):
+    """The file of a module of definitions; what the toolchain writes of types of the code has none."""
+    file = crates / crate / "specs" / (module.replace(".", "/") + ".antt")
+    return file if file.exists() else None
+
+
+def clauses(source, name, wanted):
+    """The text of a public function's clauses, and the trait of each of its parameters."""
+    contract = re.search(r"pub fn " + name + r"\b.*?\n\{\n", source, re.S).group(0)
+    parts = re.findall(r"\n\s+(ensures|requires) (\w*) ?\{(.*?)(?=\n\s+ensures|\n\s+requires|\n\{)", contract, re.S)
+    bounds = dict(re.findall(r"(\w+): (\w+)", contract[: contract.index("(")]))
+    return " ".join(text for kind, clause, text in parts if kind == "requires" or not wanted or clause in wanted), bounds
+
+
+def promises(source, trait):
+    """The text of the ghosts and the clauses of a trait."""
+    body = re.search(r"pub trait " + trait + r"\b.*?\n\}\n", source, re.S).group(0)
+    return " ".join(re.findall(r"^ +(?:ghost|ensures)\b(.*?)(?=;$|^ +ensures)", body, re.S | re.M))
+
+
+def words(text):
+    return set(re.findall(r"[^\s(){}.,;∷]+", text))
+
+
+def imports(text, words=None):
+    """The files that the text imports, of those imports that have one of the words, where words are given."""
+    for crate, module, items, alias in IMPORT.findall(text):
+        names = [item.split(" as ")[-1].strip() for item in items.split(",")] if items else [alias or module.split(".")[-1]]
+        if words is None or any(name in words for name in names):
+            file = spec(crate, module)
+            if file:
+                yield file
+
+
+def cited(name, path, wanted):
+    """The files that the clauses of a function cite, or those of a trait whose ghosts they name."""
+    source = (crates / path).read_text()
+    text, bounds = clauses(source, name, wanted)
+    yield from imports(source, words(text))
+    for parameter, trait in bounds.items():
+        if trait in TRAITS and re.search(r"\b" + parameter + r"\.\w", text):
+            source = (crates / TRAITS[trait]).read_text()
+            yield from imports(source, words(promises(source, trait)))
+
+
+def reached(files):
+    """The files, and all that they import."""
+    seen = set()
+    waiting = list(files)
+    while waiting:
+        file = waiting.pop()
+        if file not in seen:
+            seen.add(file)
+            waiting.extend(imports(file.read_text()))
+    return seen
+
+
+def definitions(text):
+    lines = [line.strip() for line in text.splitlines()]
+    return sum(1 for line in lines if line and not line.startswith(("--", "use ", "pub use ")))
+
+
+def main():
+    above = 0
+    for name, path, wanted, most in CONTRACTS:
+        counts = []
+        for file in reached(cited(name, path, wanted)):
+            text = file.read_text()
+            counts.append((definitions(text), len(text.splitlines()), str(file.relative_to(crates))))
+        total = sum(count for count, _, _ in counts)
+        limit = f" (limit {most})" if most else ""
+        print(f"{name}: {len(counts)} files, {sum(lines for _, lines, _ in counts)} lines, {total} of definitions{limit}")
+        above += bool(most and total > most)
+        if "-q" not in sys.argv:
+            for count, lines, file in sorted(counts, key=lambda row: (-row[0], row[2])):
+                print(f"  {lines:5} {count:5}  {file}")
+    return "--check" in sys.argv and above != 0
+
+
+sys.exit(main())

@@ -52,6 +52,9 @@ for at in range(1, len(getqflist()))
     call add(jumps, expand('%:p') . ':' . line('.') . ':' . getline('.'))
 endfor
 call writefile(jumps, $fresh . '/jumps')
+" A bar stands in quotes, as in a shell.
+Search -i 'NEEDLE OF OLD|another needle'
+call writefile([len(getqflist())], $fresh . '/bars')
 " The key, on a word of a line.
 call setqflist([])
 execute 'edit' fnameescape($HOME . '/src/a.c')
@@ -63,6 +66,7 @@ END
     gives 0 "timeout 20 vim -N -es -u '$fresh/settings.vim' -i NONE -n -S '$fresh/jumps.vim'"
     same jumps lines
     same keyed lines
+    holds "[ \"\$(cat '$fresh/bars')\" = 2 ]"
 else
     skipped 'vim: it is not installed, or has no quickfix list'
 fi
